@@ -1,0 +1,49 @@
+//! A list of steps.
+
+ghost use Rattle.std.specs.Prelude.{◌≡◌, List, [], ◌∷◌, ◌++◌, OnOk, OnErr};
+
+use crate::places::Step;
+use std::alloc::{AllocError, Global};
+use std::marker::Model;
+
+/// Steps in the order in which they were made.
+#[derive(Drop)]
+pub struct Steps {
+    items: Vec<Step>,
+}
+
+impl Model for Steps {
+    ghost use Rattle.std.specs.Prelude.{List};
+    ghost use Rattle.sopl_base.specs.declared.places.Step.{Step};
+
+    ghost Value = { List Step };
+
+    ghost view = { λ steps. steps.items.items };
+}
+
+impl Steps {
+    /// No steps; it takes no memory.
+    pub fn new(alloc: Global) -> Self
+        ensures empty { result ≡ [] }
+    {
+        Steps {
+            items: Vec::new(alloc),
+        }
+    }
+
+    /// Adds a step at the end.
+    pub fn push(&mut self, item: Step) -> Result<(), AllocError>
+        ensures ok { OnOk result (self.new ≡ self.old ++ item ∷ []) }
+        ensures err { OnErr result (self.new ≡ self.old) }
+    {
+        self.items.push(item)?;
+        Ok(())
+    }
+
+    /// The steps as a slice.
+    pub fn as_slice(&self) -> &[Step]
+        ensures items { result.now ≡ self.now }
+    {
+        self.items.as_slice()
+    }
+}
