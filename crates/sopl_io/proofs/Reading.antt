@@ -1,0 +1,58 @@
+-- What was read so far of what was left.
+use Rattle.std.proofs.Common.{◌≡◌, ℕ, ◌-◌, ◌^◌, ◌<◌, ◌≤◌, List, [], ◌++◌, length, take, drop, Option, Some, None, unwrap_or, IfSome, sym, ap, ◌∙◌, append_assoc, arith}
+use Rattle.std.proofs.lemmas.List.{append-nil, take_all, take_at}
+use Rattle.std.proofs.Math.Seq.{drop-append_seam}
+use Rattle.std.specs.Io.KnownBytes.{Consumes, IsAtEnd}
+use Rattle.sopl_io.specs.Stock.{Stock, text_of}
+use Rattle.sopl_io.specs.Transfer.{cut_at}
+
+-- one more piece
+pub read_more : (first now next : Option (List ℕ)) (bytes piece : List ℕ) → Consumes first now bytes → Consumes now next piece → Consumes first next (bytes ++ piece)
+read_more None now next bytes piece before more = tt
+read_more (Some xs) None next bytes piece before more = absurd before
+read_more (Some xs) (Some ys) None bytes piece before more = absurd more
+read_more (Some xs) (Some ys) (Some zs) bytes piece before more =
+    before ∙ ap (λ (l : List ℕ). bytes ++ l) more ∙ sym (append_assoc bytes piece zs)
+
+cut_whole : (most : Option ℕ) (text bytes rest : List ℕ) → text ≡ bytes ++ rest → rest ≡ [] → length bytes ≤ unwrap_or most (2 ^ 64 - 1) → bytes ≡ cut_at most text
+cut_whole None text bytes rest split none bound = sym (split ∙ ap (λ (l : List ℕ). bytes ++ l) none ∙ append-nil bytes)
+cut_whole (Some most) text bytes rest split none bound =
+    let whole : text ≡ bytes = split ∙ ap (λ (l : List ℕ). bytes ++ l) none ∙ append-nil bytes in
+    sym (ap (λ (l : List ℕ). take most l) whole ∙ take_all most bytes bound)
+
+cut_full : (most : Option ℕ) (text bytes rest : List ℕ) → text ≡ bytes ++ rest → length bytes ≡ unwrap_or most (2 ^ 64 - 1) → length bytes < 2 ^ 64 - 1 → bytes ≡ cut_at most text
+cut_full None text bytes rest split full small = absurd (omega arith)
+cut_full (Some most) text bytes rest split full small =
+    sym (ap (λ (l : List ℕ). take most l) split ∙ take_at bytes rest most full)
+
+-- at the end of input the text was read
+pub read_to_end : (stock : Option Stock) (name : List ℕ) (first now : Option (List ℕ)) (most : Option ℕ) (bytes : List ℕ) → IfSome stock (λ s. first ≡ Some (text_of s name)) → Consumes first now bytes → IsAtEnd now → length bytes ≤ unwrap_or most (2 ^ 64 - 1) → IfSome stock (λ s. bytes ≡ cut_at most (text_of s name))
+read_to_end None name first now most bytes given read end bound = tt
+read_to_end (Some s) name None now most bytes given read end bound = absurd (cc)
+read_to_end (Some s) name (Some xs) None most bytes given read end bound = absurd read
+read_to_end (Some s) name (Some xs) (Some ys) most bytes given read end bound =
+    let same : text_of s name ≡ xs = cc in
+    cut_whole most (text_of s name) bytes ys (same ∙ read) end bound
+
+-- where the most is held, that much of the text was read
+pub read_to_most : (stock : Option Stock) (name : List ℕ) (first now : Option (List ℕ)) (most : Option ℕ) (bytes : List ℕ) → IfSome stock (λ s. first ≡ Some (text_of s name)) → Consumes first now bytes → length bytes ≡ unwrap_or most (2 ^ 64 - 1) → length bytes < 2 ^ 64 - 1 → IfSome stock (λ s. bytes ≡ cut_at most (text_of s name))
+read_to_most None name first now most bytes given read full small = tt
+read_to_most (Some s) name None now most bytes given read full small = absurd (cc)
+read_to_most (Some s) name (Some xs) None most bytes given read full small = absurd read
+read_to_most (Some s) name (Some xs) (Some ys) most bytes given read full small =
+    let same : text_of s name ≡ xs = cc in
+    cut_full most (text_of s name) bytes ys (same ∙ read) full small
+
+-- as many as the most, and fewer than any number of 64 bits: the most was given
+pub is_full : (most : Option ℕ) (n : ℕ) → n ≡ unwrap_or most (2 ^ 64 - 1) → n < 2 ^ 64 - 1 → most ≡ Some n
+is_full None n full small = absurd (omega arith)
+is_full (Some most) n full small = ap Some (sym full)
+
+-- what was not read of the text is left
+pub rest_left : (stock : Option Stock) (name : List ℕ) (first now : Option (List ℕ)) (bytes : List ℕ) → IfSome stock (λ s. first ≡ Some (text_of s name)) → Consumes first now bytes → IfSome stock (λ s. now ≡ Some (drop (length bytes) (text_of s name)))
+rest_left None name first now bytes given read = tt
+rest_left (Some s) name None now bytes given read = absurd (cc)
+rest_left (Some s) name (Some xs) None bytes given read = absurd read
+rest_left (Some s) name (Some xs) (Some ys) bytes given read =
+    let same : text_of s name ≡ xs = cc in
+    sym (ap (λ (l : List ℕ). Some (drop (length bytes) l)) (same ∙ read) ∙ ap Some (drop-append_seam bytes ys))

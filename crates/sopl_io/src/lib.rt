@@ -1,0 +1,106 @@
+//! Where bytes come from and go to: sources and sinks that count their faults, in memory and over files,
+//! and the two transfers between them and lists of bytes.
+#![tactic(auto)]
+
+mod fault;
+mod fault_plan;
+mod files;
+mod give;
+mod memory_sink;
+mod memory_source;
+mod plain_source;
+mod sink;
+mod source;
+mod transfer;
+
+pub use files::{FileSink, FileSource};
+pub use memory_sink::MemSink;
+pub use memory_source::MemSource;
+pub use plain_source::PlainSource;
+pub use sink::Sink;
+pub use source::{Failed, Source};
+pub use transfer::{ReadStop, read_all, write_all};
+
+#[cfg(test)]
+mod tests {
+    use super::*;
+    use std::alloc::{AllocError, Global};
+    use std::test::Fail;
+
+    fn named_source(alloc: Global, failing: &[u64]) -> Result<MemSource, AllocError> {
+        let name = String::from_str(alloc, "model")?;
+        let text = b"abcde".to_vec(alloc)?;
+        let texts = vec![in alloc; (name, text)]?;
+        Ok(MemSource::new(texts, failing.to_vec(alloc)?))
+    }
+
+    // Where the text is cut, and what is read of it.
+    const CUTS: [(Option<usize>, &str); 4] = [
+        (None, "abcde"),
+        (Some(9), "abcde"),
+        (Some(3), "abc"),
+        (Some(0), ""),
+    ];
+
+    #[test]
+    fn a_text_is_read_and_written(rt: HostRuntime) -> Result<(), Fail> {
+        let alloc = rt.alloc();
+        for (most, expected) in CUTS {
+            let mut source = named_source(alloc, &[])?;
+            let bytes = read_all(alloc, &mut source, "model", most)?;
+            assert_eq!(rt; bytes.as_slice(), expected.as_bytes());
+
+            let mut sink = MemSink::new(alloc, 8, Vec::new(alloc))?;
+            write_all(&mut sink, &bytes)?;
+            assert_eq!(rt; sink.bytes(), expected.as_bytes());
+        }
+        Ok(())
+    }
+
+    // The names that a source of one text is begun with, the calls that fail, and whether it is read.
+    const FAULTS: [(&str, &[u64], bool); 5] = [
+        ("model", &[], true),
+        ("other", &[], false),
+        ("model", &[0], false),
+        ("model", &[2], false),
+        ("model", &[3], true),
+    ];
+
+    #[test]
+    fn listed_calls_of_a_source_fail(rt: HostRuntime) -> Result<(), Fail> {
+        let alloc = rt.alloc();
+        for (name, failing, is_read) in FAULTS {
+            let mut source = named_source(alloc, failing)?;
+            let outcome = read_all(alloc, &mut source, name, None);
+            assert_eq!(rt; outcome.is_ok(), is_read);
+        }
+        Ok(())
+    }
+
+    // How much a sink can hold, the calls that fail, and what it holds of five bytes in the end.
+    const HELD: [(usize, &[u64], &str); 3] = [(5, &[], "abcde"), (3, &[], "abc"), (5, &[0], "")];
+
+    #[test]
+    fn a_sink_holds_what_fits(rt: HostRuntime) -> Result<(), Fail> {
+        let alloc = rt.alloc();
+        for (capacity, failing, held) in HELD {
+            let mut sink = MemSink::new(alloc, capacity, failing.to_vec(alloc)?)?;
+            let outcome = write_all(&mut sink, b"abcde");
+            assert_eq!(rt; outcome.is_ok(), held.len() == 5);
+            assert_eq!(rt; sink.bytes(), held.as_bytes());
+        }
+        Ok(())
+    }
+
+    #[test]
+    fn texts_in_order_ignore_names(rt: HostRuntime) -> Result<(), Fail> {
+        let alloc = rt.alloc();
+        let texts = vec![in alloc; b"one".to_vec(alloc)?, b"two".to_vec(alloc)?]?;
+        let mut source = PlainSource::new(texts);
+        for expected in ["one", "two", "", ""] {
+            let bytes = read_all(alloc, &mut source, "any", None)?;
+            assert_eq!(rt; bytes.as_slice(), expected.as_bytes());
+        }
+        Ok(())
+    }
+}
