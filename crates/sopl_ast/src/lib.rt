@@ -1,0 +1,32 @@
+//! The tokens and the syntax tree of a model text, and what the language means: the definitions in
+//! `specs/` that every contract above cites.
+#![tactic(auto)]
+
+mod binders;
+mod build;
+mod chains;
+mod constraints;
+mod decls;
+mod expr;
+mod exprs;
+mod inits;
+mod mentions;
+mod name;
+mod operators;
+mod token;
+mod whole;
+
+pub use binders::{Binder, Binders, RangeText};
+pub use chains::{Factors, Terms};
+pub use constraints::{Cons, ConsList};
+pub use decls::{Decl, Decls, Dim, Dims, Dist};
+pub use expr::{Expr, Kind};
+pub use exprs::Exprs;
+pub use inits::{Init, Inits};
+pub use name::Name;
+pub use operators::MulOp;
+pub use token::{Token, TokenKind};
+pub use whole::{Goal, Model};
+
+#[cfg(test)]
+mod tests;
