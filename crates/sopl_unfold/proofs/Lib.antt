@@ -1,0 +1,12 @@
+pub mod AllOf
+pub mod Collected
+pub mod RangePush
+pub mod Stages
+pub mod ConditionNumbers
+pub mod Plain
+pub mod Stated
+pub mod Differ
+pub mod SmallTests
+pub mod NameTests
+pub mod PartTests
+pub mod SmallGround
