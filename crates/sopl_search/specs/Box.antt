@@ -1,0 +1,18 @@
+-- Which points a box has.
+use Rattle.std.specs.Prelude.{ℤ, ◌≤ℤ◌, List, [], ◌∷◌}
+use Rattle.sopl_base.specs.declared.places.Interval.{Interval}
+
+-- the point has one value for each interval of the box, and each value lies within its interval
+abbrev pub InBox : List Interval → List ℤ → Type 0
+InBox [] [] = Unit {0}
+InBox [] (cell ∷ cells) = ⊥
+InBox (interval ∷ intervals) [] = ⊥
+InBox (interval ∷ intervals) (cell ∷ cells) =
+    (interval.lo ≤ℤ cell) × (cell ≤ℤ interval.hi) × InBox intervals cells
+
+-- the values are those of the first cells of some point: each lies within its interval
+abbrev pub BeginsIn : List Interval → List ℤ → Type 0
+BeginsIn intervals [] = Unit {0}
+BeginsIn [] (cell ∷ cells) = ⊥
+BeginsIn (interval ∷ intervals) (cell ∷ cells) =
+    (interval.lo ≤ℤ cell) × (cell ≤ℤ interval.hi) × BeginsIn intervals cells
