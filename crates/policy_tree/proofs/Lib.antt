@@ -1,0 +1,9 @@
+pub mod Members
+pub mod Once
+pub mod KeyOrder
+pub mod CellsOf
+pub mod Found
+pub mod Bijection
+pub mod Lifted
+pub mod Values
+pub mod Examples
