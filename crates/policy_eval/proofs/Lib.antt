@@ -1,0 +1,12 @@
+pub mod Places
+pub mod Sizes
+pub mod Truths
+pub mod Steps
+pub mod Scenes
+pub mod Keys
+pub mod Settings
+pub mod Ready
+pub mod Verdicts
+pub mod Stated
+pub mod Names
+pub mod Walks

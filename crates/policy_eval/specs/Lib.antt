@@ -1,0 +1,4 @@
+pub mod Sights
+pub mod Sums
+pub mod Judged
+pub mod Laws
