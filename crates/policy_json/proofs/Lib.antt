@@ -1,0 +1,6 @@
+pub mod Words
+pub mod Branches
+pub mod Found
+pub mod Kept
+pub mod Stages
+pub mod Plain
