@@ -1,0 +1,35 @@
+-- The answers, as JSON data and as the bytes of one line.
+use Rattle.std.specs.Prelude.{ℕ, ℤ, codes, List, [], ◌∷◌, ◌++◌}
+use Rattle.std.specs.Fmt.{signed_decimal}
+use Rattle.serde_json.specs.Data.{Data, string, object, no_members, member}
+use Rattle.serde_json.specs.Written.{compact_text}
+use Rattle.sopl_ast.specs.Instances.{Problem}
+use Rattle.sopl_ast.specs.Policies.{Policy}
+use Rattle.sopl_ast.specs.Optimal.{denominator}
+use Rattle.policy_json.specs.Nodes.{whole_number, policy_data}
+
+-- a numerator over a denominator, never reduced
+abbrev pub fraction : ℤ → ℤ → List ℕ
+fraction numerator denominator = signed_decimal numerator ++ 47 ∷ signed_decimal denominator
+
+-- an answer that is one word
+abbrev pub word_data : List ℕ → Data
+word_data word = object (member (codes "answer") (string word) no_members)
+
+-- a refusal: the place in the text, and the code of the rule
+abbrev pub refused_data : ℤ → ℤ → Data
+refused_data at code =
+    object (member (codes "answer") (string (codes "refused")) (member (codes "at") (whole_number at) (member (codes "code") (whole_number code) no_members)))
+
+-- an optimal policy and its value, as their texts have them
+abbrev pub optimal_object : Data → List ℕ → Data
+optimal_object policy value =
+    object (member (codes "answer") (string (codes "optimal")) (member (codes "policy") policy (member (codes "value") (string value) no_members)))
+
+-- an optimal policy and its value
+abbrev pub optimal_data : Problem → Policy → ℤ → Data
+optimal_data problem policy value = optimal_object (policy_data problem policy) (fraction value (denominator problem))
+
+-- the line of an answer: its compact text and a line feed
+abbrev pub line_of : Data → List ℕ
+line_of answer = compact_text answer ++ 10 ∷ []

@@ -1,0 +1,92 @@
+//! The top call: words, a source and two sinks in, a status out.
+
+ghost use Rattle.std.specs.Prelude.{◌≡◌, ◌⊎◌, ◌≤◌, None, Some, IfOk, IfSome, IsSome, string_bytes, option_map};
+ghost use Rattle.sopl_io.specs.Causes.{Rose};
+ghost use Rattle.sopl_io.specs.Stock.{begun_stock};
+ghost use Rattle.sopl.specs.Words.{model_of};
+ghost use Rattle.sopl.specs.Replies.{model_text, IsReply, Answers, RefusesOthers, RefusesWhen, AnswersAccepted, begun_names};
+
+use crate::lines::word_line;
+use crate::reply::Reply;
+use crate::solve::solve;
+use crate::status::Status;
+use crate::words::{Words, model_word};
+use sopl_io::{ReadStop, Sink, Source, read_all, write_all};
+use std::alloc::{AllocError, Global};
+
+/// The bytes of a model text that are read at most: one more than a text may have.
+const MOST_READ: usize = 1_048_577;
+
+#[tactic(auto, using(crate::proofs::Statuses::write_refused, crate::proofs::Statuses::write_refused_when, crate::proofs::Statuses::write_complete, crate::proofs::Statuses::memory_refused, crate::proofs::Statuses::memory_refused_when, crate::proofs::Statuses::memory_complete))]
+/// Runs the command that the words name: it reads from the source and writes one answer line to the
+/// answer sink. The log sink is not used yet.
+pub fn run<S: Source, K: Sink>(
+    alloc: Global,
+    words: &Words,
+    source: &mut S,
+    answer: &mut K,
+    log: &mut K,
+) -> Status
+    ensures answered { Answers words.now (model_text (S.stock source.old) words.now) result
+        (K.taken answer.old) (K.taken answer.new) }
+
+    // Words that are not of the form, and no others, are answered so.
+    ensures usage { result ≡ Status.Usage → model_of words.now ≡ None }
+    ensures usage_when { model_of words.now ≡ None
+        → (result ≡ Status.Usage) ⊎ (result ≡ Status.WriteFault) ⊎ (result ≡ Status.NoMemory) }
+
+    // A text that is solved today, and no other, is answered; every other text is refused.
+    ensures refused { RefusesOthers (model_text (S.stock source.old) words.now) result }
+    ensures refused_when { RefusesWhen (model_text (S.stock source.old) words.now) result }
+    ensures complete { AnswersAccepted (model_text (S.stock source.old) words.now) result }
+
+    // Faults have their causes.
+    ensures read { result ≡ Status.ReadFault → Rose (S.faults source.old) (S.faults source.new) }
+    ensures write { result ≡ Status.WriteFault → Rose (K.faults answer.old) (K.faults answer.new) }
+    ensures later { (S.faults source.old ≤ S.faults source.new) × (K.faults answer.old ≤ K.faults answer.new) }
+
+    // The source is begun with the file of the model alone, and no sink is begun.
+    ensures names { S.names source.new ≡ begun_names (model_of words.now) (S.names source.old) }
+    ensures answer_names { K.names answer.new ≡ K.names answer.old }
+    ensures log_taken { K.taken log.new ≡ K.taken log.old }
+    ensures log_names { K.names log.new ≡ K.names log.old }
+{
+    let Ok(reply) = reply_for(alloc, words, source) else {
+        return Status::NoMemory;
+    };
+    match write_all(answer, reply.line.as_bytes()) {
+        Ok(()) => reply.status,
+        Err(_) => Status::WriteFault,
+    }
+}
+
+/// The reply to the words, made whole in memory.
+fn reply_for<S: Source>(alloc: Global, words: &Words, source: &mut S) -> Result<Reply, AllocError>
+    ensures reply { IfOk result (λ reply. IsReply words.now (model_text (S.stock source.old) words.now) reply.status
+        (string_bytes reply.line)) }
+    ensures read { IfOk result (λ reply. reply.status ≡ Status.ReadFault → Rose (S.faults source.old) (S.faults source.new)) }
+    ensures refused { IfOk result (λ reply. RefusesOthers (model_text (S.stock source.old) words.now) reply.status) }
+    ensures refused_when { IfOk result (λ reply. RefusesWhen (model_text (S.stock source.old) words.now) reply.status) }
+    ensures complete { IfOk result (λ reply. AnswersAccepted (model_text (S.stock source.old) words.now) reply.status) }
+    ensures later { S.faults source.old ≤ S.faults source.new }
+    ensures names { S.names source.new ≡ begun_names (model_of words.now) (S.names source.old) }
+{
+    let Some(model) = model_word(words) else {
+        let line = word_line(alloc, "usage")?;
+        return Ok(Reply {
+            status: Status::Usage,
+            line,
+        });
+    };
+    match read_all(alloc, source, model, Some(MOST_READ)) {
+        Ok(text) => solve(alloc, text.as_slice()),
+        Err(ReadStop::Fault) => {
+            let line = word_line(alloc, "read fault")?;
+            Ok(Reply {
+                status: Status::ReadFault,
+                line,
+            })
+        }
+        Err(ReadStop::NoMemory) => Err(AllocError),
+    }
+}
