@@ -43,6 +43,12 @@ fn answers(rt: HostRuntime) -> Result<(), Fail> {
         ),
         (
             ["solve", "m"].as_slice(),
+            "dvar int x in 0..5 stage 2; stoch int d in {1:1, 3:1} stage 1; maximize expected(x); subject to { x == d; }",
+            Status::Done,
+            "{\"answer\":\"optimal\",\"policy\":{\"decide\":[],\"next\":[{\"seen\":[[\"d\",[],1]],\"then\":{\"decide\":[[\"x\",[],1]],\"next\":[]}},{\"seen\":[[\"d\",[],3]],\"then\":{\"decide\":[[\"x\",[],3]],\"next\":[]}}]},\"value\":\"4/2\"}\n",
+        ),
+        (
+            ["solve", "m"].as_slice(),
             "dvar int x in 0..9; maximize expected(x); subject to { 3*x <= 20; }",
             Status::Done,
             "{\"answer\":\"optimal\",\"policy\":{\"decide\":[[\"x\",[],6]],\"next\":[]},\"value\":\"6/1\"}\n",
