@@ -1,5 +1,5 @@
-//! A source and a sink over files: the edge to the outside. They tell no content and no names.
-ghost use Rattle.std.specs.Prelude.{◌≡◌, ◌≢◌, ◌<◌, [], false, length, None, Ok, IsOk, IsErr, IfOk, OnOk, OnErr, is_ok};
+//! A source and a sink over files: the edge to the outside. They tell what a file's own type tells, and no names.
+ghost use Rattle.std.specs.Prelude.{◌≡◌, ◌≢◌, ◌<◌, [], false, length, Some, None, Ok, IsOk, IsErr, IfOk, OnOk, OnErr, is_ok};
 ghost use Rattle.std.specs.Io.{ReadsAtMost, WritesAtMost};
 ghost use Rattle.std.specs.Io.KnownBytes.{ReadConsumes, WriteAppends, IsAtEnd};
 ghost use Rattle.sopl_io.specs.Causes.{HasCause};
@@ -15,7 +15,7 @@ use std::rt::Files;
 
 /// Reads files by their names.
 ///
-/// What the files hold is in no clause.
+/// What a file of a given name holds is in no clause.
 #[derive(Drop)]
 pub struct FileSource<'a, R: Files> {
     rt: &'a R,
@@ -25,17 +25,22 @@ pub struct FileSource<'a, R: Files> {
 
 impl<'a, R: Files> Model for FileSource<'a, R> {
     ghost use Rattle.std.specs.Prelude.{is_some};
-    ghost use Rattle.sopl_io.specs.Files.{FileInput};
+    ghost use Rattle.sopl_io.specs.Files.{FileInput, left_of};
 
     ghost Value = { FileInput };
 
-    ghost view = { λ s. record { is_open = is_some s.file; faults = s.faults } };
+    ghost view = { λ s. record {
+      is_open = is_some s.file;
+      left = left_of R.File.remaining s.file;
+      faults = s.faults;
+    } };
 }
 
 impl<'a, R: Files> FileSource<'a, R> {
     /// A source of the files that the runtime opens, of which none is begun.
     pub fn new(rt: &'a R) -> FileSource<'a, R>
         ensures is_open { result.is_open ≡ false }
+        ensures left { result.left ≡ Some [] }
         ensures faults { result.faults ≡ 0 }
     {
         FileSource {
@@ -47,7 +52,7 @@ impl<'a, R: Files> FileSource<'a, R> {
 }
 
 impl<'a, R: Files> Source for FileSource<'a, R> {
-    ghost left = { λ _. None };
+    ghost left = { λ s. s.left };
 
     ghost stock = { λ _. None };
 
@@ -56,10 +61,12 @@ impl<'a, R: Files> Source for FileSource<'a, R> {
     ghost names = { λ _. None };
 
     fn begin(&mut self, name: &str) -> Result<(), Failed>
-        ensures text { OnOk result (GivesText None None name.now) }
-        ensures nothing { OnErr result (IsAtEnd None) }
+        ensures text { OnOk result (GivesText None self.new.left name.now) }
+        ensures nothing { OnErr result (IsAtEnd self.new.left) }
+        ensures closed { OnErr result (self.new.left ≡ Some []) }
         ensures is_open { self.new.is_open ≡ is_ok result }
         ensures cause { HasCause self.old.faults self.new.faults result }
+        ensures kept { OnOk result (self.new.faults ≡ self.old.faults) }
     {
         self.file = None;
         match fs::open(self.rt, name) {
@@ -74,8 +81,9 @@ impl<'a, R: Files> Source for FileSource<'a, R> {
     fn read(&mut self, buf: &mut [u8]) -> Result<usize, Failed>
         requires { 0 < length buf.old }
         ensures bound { ReadsAtMost result buf.new }
-        ensures bytes { ReadConsumes None None result buf.new }
+        ensures bytes { ReadConsumes self.old.left self.new.left result buf.new }
         ensures cause { HasCause self.old.faults self.new.faults result }
+        ensures kept { OnOk result (self.new.faults ≡ self.old.faults) }
 
         // After a `begin` that failed, and before any, it is at the end of input.
         ensures closed { self.old.is_open ≡ false → result ≡ Ok 0 }
@@ -109,11 +117,15 @@ pub struct FileSink<'a, R: Files + Print> {
 }
 
 impl<'a, R: Files + Print> Model for FileSink<'a, R> {
-    ghost use Rattle.sopl_io.specs.Files.{FileOutput, destination_of};
+    ghost use Rattle.sopl_io.specs.Files.{FileOutput, destination_of, held_by};
 
     ghost Value = { FileOutput };
 
-    ghost view = { λ s. record { destination = destination_of s.target; faults = s.faults } };
+    ghost view = { λ s. record {
+      destination = destination_of s.target;
+      held = held_by R.File.contents s.target;
+      faults = s.faults;
+    } };
 }
 
 impl<'a, R: Files + Print> FileSink<'a, R> {
@@ -152,6 +164,7 @@ impl<'a, R: Files + Print> Sink for FileSink<'a, R> {
 
     fn begin(&mut self, name: &str) -> Result<(), Failed>
         ensures cause { HasCause self.old.faults self.new.faults result }
+        ensures kept { OnOk result (self.new.faults ≡ self.old.faults) }
         ensures output { self.old.destination ≡ standard_output → IsOk result }
         ensures stays_output { self.old.destination ≡ standard_output
             → self.new.destination ≡ standard_output }
@@ -179,8 +192,10 @@ impl<'a, R: Files + Print> Sink for FileSink<'a, R> {
     fn write(&mut self, piece: &[u8]) -> Result<usize, Failed>
         ensures bound { WritesAtMost result piece.now }
         ensures bytes { WriteAppends None None result piece.now }
+        ensures held { WriteAppends self.old.held self.new.held result piece.now }
         ensures some { IfOk result (λ n. 0 < length piece.now → 0 < n) }
         ensures cause { HasCause self.old.faults self.new.faults result }
+        ensures kept { OnOk result (self.new.faults ≡ self.old.faults) }
         ensures not_begun { self.old.destination ≡ not_begun → IsErr result }
         ensures dropped { self.old.destination ≡ dropped → result ≡ Ok (length piece.now) }
         ensures destination { self.new.destination ≡ self.old.destination }
