@@ -27,7 +27,10 @@ use Rattle.policy_json.specs.Nodes.{outermost_node, policy_data}
 use Rattle.serde_json.specs.Data.{Data}
 use Rattle.policy_tree.proofs.Lifted.{optimal_from, infeasible_from}
 use Rattle.sopl.specs.Answers.{fraction, word_data, refused_data, optimal_object, optimal_data, line_of}
-use Rattle.sopl.specs.Reading.{IsProblemOf}
+use Rattle.sopl_base.specs.declared.places.Refusal.{Refusal}
+use Rattle.sopl_ast.specs.Refusals.{SolvedText}
+use Rattle.sopl_ast.specs.Refusals.{IsRefusedFor}
+use Rattle.sopl.proofs.Rejected.{refused_rejected}
 use Rattle.sopl.specs.Replies.{IsTextReply, SaysOptimal, SaysInfeasible}
 use Rattle.sopl.specs.Solved.{IsBest}
 use Rattle.sopl.specs.declared.status.Status.TheVariants.{Done, Refused}
@@ -151,14 +154,16 @@ says_infeasible problem (Ok line) infeasible is = inr (record { infeasible = inf
 says_infeasible problem (Err error) infeasible is = tt
 
 -- a problem that a text states is judged
-pub text_judged : (text : List ℕ) (problem : Problem) → IsProblemOf text (Some problem) → IsJudged problem
-text_judged text problem a = stated_judged a.model problem a.accepted.stated a.accepted.small
+pub text_judged : (text : List ℕ) (problem : Problem) → SolvedText text problem → IsJudged problem
+text_judged text problem a = stated_judged a.accepted.model problem a.accepted.accepted.stated a.accepted.accepted.small
 
 -- the line that answers the problem answers the text
-pub text_solved : (text : List ℕ) (problem : Problem) (line : List ℕ) → IsProblemOf text (Some problem)
+pub text_solved : (text : List ℕ) (problem : Problem) (line : List ℕ) → SolvedText text problem
     → SaysOptimal problem line ⊎ SaysInfeasible problem line → IsTextReply text Done line
 text_solved text problem line a says = record { problem = problem; accepted = a; answer = says }
 
--- the line of a refusal answers a text that states no problem
-pub text_refused : (text : List ℕ) (line : List ℕ) → IsProblemOf text None → line ≡ line_of (refused_data (pos 0) (pos 117)) → IsTextReply text Refused line
-text_refused text line none is = record { rejected = none; printed = is }
+-- the line of a refusal answers a text that is refused for it
+pub text_refused : (text : List ℕ) (refusal : Refusal) (line : List ℕ) → IsRefusedFor text refusal
+    → line ≡ line_of (refused_data (pos refusal.at) (pos refusal.code)) → IsTextReply text Refused line
+text_refused text refusal line reason is =
+    record { refusal = refusal; reason = reason; rejected = refused_rejected text refusal reason; printed = is }

@@ -1,7 +1,9 @@
 pub mod WholeText
 pub mod Statuses
 pub mod Reading
+pub mod Texts
+pub mod Rejected
+pub mod NamesFormed
 pub mod Best
 pub mod Simple
-pub mod Lexed
-pub mod Parsed
+pub mod Walked

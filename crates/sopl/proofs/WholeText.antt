@@ -6,8 +6,11 @@ use Rattle.std.specs.Option.{option_and_then}
 use Rattle.std.specs.declared.alloc.AllocError.{AllocError}
 use Rattle.sopl_io.specs.Stock.{Stock, text_of}
 use Rattle.sopl_io.specs.Transfer.{cut_at}
-use Rattle.sopl_ast.specs.Accepted.{AcceptedText}
+use Rattle.sopl_ast.specs.Refusals.{SolvedText}
+use Rattle.sopl_base.specs.declared.places.Refusal.{Refusal}
 use Rattle.sopl_ast.specs.Instances.{Problem}
+use Rattle.sopl_ast.specs.Refusals.{IsRefusedFor, no_tokens, misspelled, mistaken, not_solved}
+use Rattle.sopl_ast.specs.Tokens.{too_long, no_piece, too_large}
 use Rattle.sopl.specs.Words.{model_of}
 use Rattle.sopl.specs.Replies.{IsTextReply, IsReply, model_text}
 use Rattle.sopl.specs.declared.reply.Reply.{Reply}
@@ -23,16 +26,34 @@ front_is_whole : (text : List ℕ) → length (take 1048577 text) ≤ 1048576 �
 front_is_whole text short = take_all 1048577 text (omega (arith, length-take {A = ℕ}))
 
 -- a text is accepted exactly where what is read of it is
-accepted_whole : (text : List ℕ) (problem : Problem) → AcceptedText (take 1048577 text) problem → AcceptedText text problem
-accepted_whole text problem a = subst (λ t. AcceptedText t problem) (front_is_whole text a.read.0) a
+accepted_whole : (text : List ℕ) (problem : Problem) → SolvedText (take 1048577 text) problem → SolvedText text problem
+accepted_whole text problem a = subst (λ t. SolvedText t problem) (front_is_whole text a.accepted.read.0) a
 
-accepted_front : (text : List ℕ) (problem : Problem) → AcceptedText text problem → AcceptedText (take 1048577 text) problem
-accepted_front text problem a = subst (λ t. AcceptedText t problem) (sym (whole_text text a.read.0)) a
+accepted_front : (text : List ℕ) (problem : Problem) → SolvedText text problem → SolvedText (take 1048577 text) problem
+accepted_front text problem a = subst (λ t. SolvedText t problem) (sym (whole_text text a.accepted.read.0)) a
+
+-- what is short enough as it was read is the whole text
+refused_short : (text : List ℕ) (refusal : Refusal) → length (take 1048577 text) ≤ 1048576 → IsRefusedFor (take 1048577 text) refusal → IsRefusedFor text refusal
+refused_short text refusal short r = subst (λ t. IsRefusedFor t refusal) (front_is_whole text short) r
+
+-- a text is refused where what is read of it is
+refused_whole : (text : List ℕ) (refusal : Refusal) → IsRefusedFor (take 1048577 text) refusal → IsRefusedFor text refusal
+refused_whole text refusal (no_tokens (too_long code at long)) =
+    no_tokens (too_long code at (omega (arith, length-take {A = ℕ} 1048577 text)))
+refused_whole text refusal (no_tokens (no_piece rest code short reaches stuck)) =
+    refused_short text refusal short (no_tokens (no_piece rest code short reaches stuck))
+refused_whole text refusal (no_tokens (too_large rest code short reaches large)) =
+    refused_short text refusal short (no_tokens (too_large rest code short reaches large))
+refused_whole text refusal (misspelled tokens read wrong) = refused_short text refusal read.0 (misspelled tokens read wrong)
+refused_whole text refusal (mistaken tokens model read is first) = refused_short text refusal read.0 (mistaken tokens model read is first)
+refused_whole text refusal (not_solved tokens model read is typed none code at) =
+    refused_short text refusal read.0 (not_solved tokens model read is typed none code at)
 
 -- what is answered of what was read holds of the text
 reply_whole : (text : List ℕ) (status : Status) (line : List ℕ) → IsTextReply (take 1048577 text) status line → IsTextReply text status line
 reply_whole text Done line r = record { problem = r.problem; accepted = accepted_whole text r.problem r.accepted; answer = r.answer }
-reply_whole text Refused line r = record { rejected = λ p a. r.rejected p (accepted_front text p a); printed = r.printed }
+reply_whole text Refused line r =
+    record { refusal = r.refusal; reason = refused_whole text r.refusal r.reason; rejected = λ p a. r.rejected p (accepted_front text p a); printed = r.printed }
 reply_whole text Failing line r = r
 reply_whole text Usage line r = r
 reply_whole text Limit line r = r

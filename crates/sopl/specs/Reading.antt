@@ -1,26 +1,26 @@
 -- What is read of a text: its model, and the problem that it states.
-use Rattle.std.specs.Prelude.{◌≡◌, ℕ, List, Option, Some, None, Ok}
+use Rattle.std.specs.Prelude.{ℕ, List, Option, Some, None, Ok}
+use Rattle.sopl_base.specs.declared.places.Fault.{Fault}
+use Rattle.sopl_base.specs.declared.places.Fault.TheVariants as fault
 use Rattle.sopl_ast.specs.declared.token.Token.{Token}
 use Rattle.sopl_ast.specs.Tokens.{Lexes}
 use Rattle.sopl_ast.specs.Whole.{ModelTree}
 use Rattle.sopl_ast.specs.Grammar.{SpellsWithin}
 use Rattle.sopl_ast.specs.Instances.{Problem}
-use Rattle.sopl_ast.specs.Accepted.{AcceptedModel, AcceptedText}
+use Rattle.sopl_ast.specs.Accepted.{AcceptedModel}
+use Rattle.sopl_ast.specs.Refusals.{IsRefusedFor}
 
--- the text has these tokens and no others, or it has none
-abbrev pub AreTokensOf : List ℕ → Option (List Token) → Type 0
-AreTokensOf text None = (tokens : List Token) → ¬ Lexes text (Ok tokens)
-AreTokensOf text (Some tokens) = Lexes text (Ok tokens) × ((others : List Token) → Lexes text (Ok others) → others ≡ tokens)
+-- a fault of a text says why it is refused; no limit is met
+abbrev pub IsTextFault : List ℕ → Fault → Type 0
+IsTextFault text (fault.Text refusal) = IsRefusedFor text refusal
+IsTextFault text (fault.Limit excess) = ⊥
+IsTextFault text fault.NoMemory = Unit {0}
 
--- the tokens spell this model and no other, or they spell none
-abbrev pub IsModelOf : List Token → Option ModelTree → Type 0
-IsModelOf tokens None = (model : ModelTree) → ¬ SpellsWithin tokens model
-IsModelOf tokens (Some model) = SpellsWithin tokens model × ((other : ModelTree) → SpellsWithin tokens other → other ≡ model)
-
--- the text states this problem and no other, and it is one that is solved today; or it states none
-abbrev pub IsProblemOf : List ℕ → Option Problem → Type 0
-IsProblemOf text None = (problem : Problem) → ¬ AcceptedText text problem
-IsProblemOf text (Some problem) = AcceptedText text problem
+-- the text spells the model
+pub record HasModel (text : List ℕ) (model : ModelTree) : Type 0 where
+  pub tokens : List Token
+  pub read : Lexes text (Ok tokens)
+  pub spelled : SpellsWithin tokens model
 
 -- the model states this problem, and it is one that is solved today; or it states none
 abbrev pub IsSmallProblemOf : ModelTree → Option Problem → Type 0

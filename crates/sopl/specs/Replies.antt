@@ -6,7 +6,9 @@ use Rattle.sopl_io.specs.Transfer.{AppendsPrefix}
 use Rattle.sopl_ast.specs.Instances.{Problem}
 use Rattle.sopl_ast.specs.Policies.{Policy}
 use Rattle.sopl_ast.specs.Optimal.{IsOptimal, IsInfeasible}
-use Rattle.sopl_ast.specs.Accepted.{AcceptedText}
+use Rattle.sopl_ast.specs.Refusals.{SolvedText}
+use Rattle.sopl_ast.specs.Refusals.{IsRefusedFor}
+use Rattle.sopl_base.specs.declared.places.Refusal.{Refusal}
 use Rattle.sopl.specs.Words.{model_of}
 use Rattle.sopl.specs.Answers.{word_data, refused_data, optimal_data, line_of}
 use Rattle.sopl.specs.declared.status.Status.{Status}
@@ -31,13 +33,15 @@ pub record SaysInfeasible (problem : Problem) (line : List ℕ) : Type 0 where
 -- the text is one that is solved, and the line answers it
 pub record IsSolved (text line : List ℕ) : Type 0 where
   pub problem : Problem
-  pub accepted : AcceptedText text problem
+  pub accepted : SolvedText text problem
   pub answer : SaysOptimal problem line ⊎ SaysInfeasible problem line
 
--- the text is none that is solved, and the line says so at its first byte
+-- the text is none that is solved, and the line says where and by which code it is refused
 pub record IsRefused (text line : List ℕ) : Type 0 where
-  pub rejected : (problem : Problem) → AcceptedText text problem → ⊥
-  pub printed : line ≡ line_of (refused_data (pos 0) (pos 117))
+  pub refusal : Refusal
+  pub reason : IsRefusedFor text refusal
+  pub rejected : (problem : Problem) → SolvedText text problem → ⊥
+  pub printed : line ≡ line_of (refused_data (pos refusal.at) (pos refusal.code))
 
 -- the line that goes with a status, for the text of the model
 abbrev pub IsTextReply : List ℕ → Status → List ℕ → Type 0
@@ -71,7 +75,7 @@ EndedEarly status = (status ≡ ReadFault) ⊎ (status ≡ WriteFault) ⊎ (stat
 
 -- the text is none that is solved today
 abbrev pub IsNotAccepted : List ℕ → Type 0
-IsNotAccepted text = (problem : Problem) → ¬ AcceptedText text problem
+IsNotAccepted text = (problem : Problem) → ¬ SolvedText text problem
 
 -- a text is refused only where it is none that is solved today
 abbrev pub RefusesOthers : Option (List ℕ) → Status → Type 0
@@ -83,7 +87,7 @@ RefusesWhen text status = IfSome text (λ t. IsNotAccepted t → (status ≡ Ref
 
 -- a text that is solved today is answered, unless the run ended early
 abbrev pub AnswersAccepted : Option (List ℕ) → Status → Type 0
-AnswersAccepted text status = IfSome text (λ t. (problem : Problem) → AcceptedText t problem → (status ≡ Done) ⊎ EndedEarly status)
+AnswersAccepted text status = IfSome text (λ t. (problem : Problem) → SolvedText t problem → (status ≡ Done) ⊎ EndedEarly status)
 
 -- a line that goes with some status was taken in part
 pub record TakesPart (words : List (List ℕ)) (text : Option (List ℕ)) (old new : Option (List ℕ)) : Type 0 where
@@ -115,3 +119,7 @@ Answers words text Unreadable old new = ⊥
 abbrev pub begun_names : Option (List ℕ) → Option (List (List ℕ)) → Option (List (List ℕ))
 begun_names None names = names
 begun_names (Some name) names = with_name names name
+
+-- a source gives what it gave before, and has not failed since: the bytes that are left, its stock, its count of faults
+abbrev pub IsUntouched : Option (List ℕ) → Option Stock → ℕ → Option (List ℕ) → Option Stock → ℕ → Type 0
+IsUntouched old_left old_stock old_faults left stock faults = (left ≡ old_left) × (stock ≡ old_stock) × (faults ≡ old_faults)

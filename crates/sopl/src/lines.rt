@@ -6,6 +6,7 @@ ghost use Rattle.serde_json.specs.Written.{has_float};
 ghost use Rattle.sopl.specs.Answers.{word_data, refused_data, optimal_object, fraction, line_of};
 
 use serde_json::{Value, json};
+use sopl_base::Refusal;
 use std::alloc::{AllocError, Global};
 
 /// The line of an answer: its text in compact form, and a line feed.
@@ -32,17 +33,17 @@ pub fn word_line(alloc: Global, word: &str) -> Result<String, AllocError>
     line(alloc, &answer)
 }
 
-fn refused_answer(alloc: Global, at: i64, code: i64) -> Result<Value, AllocError>
-    ensures answer { IfOk result (λ value. view value ≡ refused_data at code) }
+fn refused_answer(alloc: Global, at: usize, code: u16) -> Result<Value, AllocError>
+    ensures answer { IfOk result (λ value. view value ≡ refused_data (pos at) (pos code)) }
 {
     json!(in alloc; {"answer": "refused", "at": at, "code": code})
 }
 
 /// The line of a refusal: the code of the rule, and the offset of the byte that breaks it.
-pub fn refused_line(alloc: Global, at: i64, code: i64) -> Result<String, AllocError>
-    ensures text { IfOk result (λ text. string_bytes text ≡ line_of (refused_data at code)) }
+pub fn refused_line(alloc: Global, refusal: Refusal) -> Result<String, AllocError>
+    ensures text { IfOk result (λ text. string_bytes text ≡ line_of (refused_data (pos refusal.at) (pos refusal.code))) }
 {
-    let answer = refused_answer(alloc, at, code)?;
+    let answer = refused_answer(alloc, refusal.at, refusal.code)?;
     line(alloc, &answer)
 }
 

@@ -1,8 +1,20 @@
 //! The program `sopl`: words in, one answer line out.
 #![tactic(auto)]
 
+#[cfg(test)]
+mod expression_texts;
+#[cfg(test)]
+mod grammar_tests;
+#[cfg(test)]
+mod kind_tests;
 mod laws;
 mod lines;
+#[cfg(test)]
+mod model_texts;
+#[cfg(test)]
+mod nesting_texts;
+#[cfg(test)]
+mod printed;
 mod read;
 mod reply;
 mod run;
@@ -12,10 +24,13 @@ mod status;
 mod tests;
 mod words;
 
+ghost use Rattle.std.specs.Prelude.{◌≡◌};
+ghost use Rattle.sopl_io.specs.Files.{standard_output, not_begun};
+
 use run::run;
 use sopl_io::{FileSink, FileSource};
 use status::Status;
-use std::alloc::AllocError;
+use std::alloc::{AllocError, Global};
 use std::env;
 use std::process::ExitCode;
 use std::rt::{Env, Files};
@@ -30,13 +45,27 @@ fn words_given<R: Env + AllocGlobal>(rt: &R) -> Result<Words, AllocError> {
     Ok(words)
 }
 
-/// Runs the command that the words name, over files and standard output.
+/// Runs the command that the words name, with the answer on standard output and the log in a file.
+fn run_over<'a, R: Files + Print>(
+    alloc: Global,
+    words: &Words,
+    source: &mut FileSource<'a, R>,
+    answer: &mut FileSink<'a, R>,
+    log: &mut FileSink<'a, R>,
+) -> Status
+    requires answer { answer.old.destination ≡ standard_output }
+    requires log { log.old.destination ≡ not_begun }
+{
+    run(alloc, words, source, answer, log)
+}
+
+/// Runs the command that the words of the command line name, over files and standard output.
 fn run_given<R: Env + Files + Print + AllocGlobal>(rt: &R) -> Result<Status, AllocError> {
     let words = words_given(rt)?;
     let mut source = FileSource::new(rt);
     let mut answer = FileSink::output(rt);
     let mut log = FileSink::file(rt);
-    Ok(run(rt.alloc(), &words, &mut source, &mut answer, &mut log))
+    Ok(run_over(rt.alloc(), &words, &mut source, &mut answer, &mut log))
 }
 
 fn main(rt: HostRuntime) -> ExitCode {

@@ -1,41 +1,51 @@
-//! From the bytes of a text to the problem that it states.
+//! From the bytes of a text to the problem that it states, or to its refusal.
 
-ghost use Rattle.std.specs.Prelude.{◌≡◌, Some, None, IfOk, option_map};
+ghost use Rattle.std.specs.Prelude.{◌≡◌, Ok, IfOk, IfErr};
+ghost use Rattle.sopl_base.specs.declared.places.Fault.TheVariants.{Text};
+ghost use Rattle.sopl_ast.specs.Refusals.{SolvedText};
+ghost use Rattle.sopl_ast.specs.Tokens.{Lexes};
 ghost use Rattle.sopl_ast.specs.WholeModel.{whole};
-ghost use Rattle.sopl.specs.Reading.{AreTokensOf, IsModelOf, IsSmallProblemOf, IsProblemOf};
+ghost use Rattle.sopl.specs.Reading.{IsTextFault, IsSmallProblemOf, HasModel};
 ghost use Rattle.sopl.specs.Shown.{tokens_shown};
 
 use sopl_ast::{Model, Token};
-use sopl_base::Fault;
+use sopl_base::{Fault, Refusal};
 use sopl_lex::lex;
 use sopl_parse::parse;
+use sopl_types::{Typed, check_types};
 use sopl_unfold::{Ground, scalars};
 use std::alloc::{AllocError, Global};
 
-/// The tokens of a text; none where it has none.
-#[tactic(auto, using(crate::proofs::Lexed::tokens_found))]
-fn tokens_of(alloc: Global, text: &[u8]) -> Result<Option<Vec<Token>>, AllocError>
-    ensures tokens { IfOk result (λ found. AreTokensOf text.now (option_map tokens_shown found)) }
+/// The code of a text that is of no form that is solved today.
+const NOT_YET: u16 = 117;
+
+/// The tokens of a text.
+#[tactic(auto, using(crate::proofs::Texts::tokens_found, crate::proofs::Texts::tokens_refused))]
+fn tokens_of(alloc: Global, text: &[u8]) -> Result<Vec<Token>, Fault>
+    ensures tokens { IfOk result (λ tokens. Lexes text.now (Ok (tokens_shown tokens))) }
+    ensures refused { IfErr result (IsTextFault text.now) }
 {
-    match lex(alloc, text) {
-        Ok(tokens) => Ok(Some(tokens)),
-        Err(Fault::Text(_)) => Ok(None),
-        // The lexer meets no limit, so memory was wanting.
-        Err(_) => Err(AllocError),
-    }
+    lex(alloc, text)
 }
 
-/// The model that tokens spell; none where they spell none. `length` is the length of the text.
-#[tactic(auto, using(crate::proofs::Parsed::model_found))]
-fn model_of(alloc: Global, tokens: &[Token], length: usize) -> Result<Option<Model>, AllocError>
-    ensures model { IfOk result (λ found. IsModelOf tokens.now (option_map whole found)) }
+/// The model that a text spells.
+#[tactic(auto, using(crate::proofs::Texts::model_found, crate::proofs::Texts::model_refused))]
+fn model_of(alloc: Global, text: &[u8]) -> Result<Model, Fault>
+    ensures model { IfOk result (λ model. HasModel text.now (whole model)) }
+    ensures refused { IfErr result (IsTextFault text.now) }
 {
-    match parse(alloc, tokens, length) {
-        Ok(model) => Ok(Some(model)),
-        Err(Fault::Text(_)) => Ok(None),
-        // The reader meets no limit, so memory was wanting.
-        Err(_) => Err(AllocError),
-    }
+    let tokens = tokens_of(alloc, text)?;
+    parse(alloc, tokens.as_slice(), text.len())
+}
+
+/// The model that a text spells, without mistakes.
+#[tactic(auto, using(crate::proofs::Texts::typed_found, crate::proofs::Texts::typed_refused, crate::proofs::NamesFormed::model_from_tokens))]
+pub fn typed_in(alloc: Global, text: &[u8]) -> Result<Typed, Fault>
+    ensures model { IfOk result (λ typed. HasModel text.now (whole typed.model)) }
+    ensures refused { IfErr result (IsTextFault text.now) }
+{
+    let model = model_of(alloc, text)?;
+    check_types(alloc, model)
 }
 
 /// The problem that a model states, where it is one that is solved today.
@@ -55,16 +65,26 @@ fn small_problem(alloc: Global, model: Model) -> Result<Option<Ground>, AllocErr
     }
 }
 
-/// The problem that a text states, where it is one that is solved today.
-#[tactic(auto, using(crate::proofs::Reading::no_tokens, crate::proofs::Reading::no_model, crate::proofs::Reading::problem_made))]
-pub fn problem_in(alloc: Global, text: &[u8]) -> Result<Option<Ground>, AllocError>
-    ensures problem { IfOk result (λ found. IsProblemOf text.now found) }
+/// The refusal of a text that is of no form that is solved today.
+fn not_yet() -> Fault
+    ensures { result ≡ Text (record { code = 117; at = 0 }) }
 {
-    let Some(tokens) = tokens_of(alloc, text)? else {
-        return Ok(None);
-    };
-    match model_of(alloc, tokens.as_slice(), text.len())? {
-        Some(model) => small_problem(alloc, model),
-        None => Ok(None),
+    Fault::Text(Refusal {
+        code: NOT_YET,
+        at: 0,
+    })
+}
+
+/// The problem that a text states, where it is one that is solved today.
+#[tactic(auto, using(crate::proofs::Texts::problem_read, crate::proofs::Texts::none_read))]
+pub fn problem_in(alloc: Global, text: &[u8]) -> Result<Ground, Fault>
+    ensures problem { IfOk result (SolvedText text.now) }
+    ensures refused { IfErr result (IsTextFault text.now) }
+{
+    let typed = typed_in(alloc, text)?;
+    let model = typed.into_model();
+    match small_problem(alloc, model)? {
+        Some(ground) => Ok(ground),
+        None => Err(not_yet()),
     }
 }

@@ -2,9 +2,8 @@
 
 ghost use Rattle.std.specs.Prelude.{◌≡◌, ◌⊎◌, ◌≤◌, None, Some, IfOk, IfSome, IsSome, string_bytes, option_map};
 ghost use Rattle.sopl_io.specs.Causes.{Rose};
-ghost use Rattle.sopl_io.specs.Stock.{begun_stock};
 ghost use Rattle.sopl.specs.Words.{model_of};
-ghost use Rattle.sopl.specs.Replies.{model_text, IsReply, Answers, RefusesOthers, RefusesWhen, AnswersAccepted, begun_names};
+ghost use Rattle.sopl.specs.Replies.{model_text, IsReply, Answers, RefusesOthers, RefusesWhen, AnswersAccepted, begun_names, IsUntouched};
 
 use crate::lines::word_line;
 use crate::reply::Reply;
@@ -45,6 +44,10 @@ pub fn run<S: Source, K: Sink>(
     ensures write { result ≡ Status.WriteFault → Rose (K.faults answer.old) (K.faults answer.new) }
     ensures later { (S.faults source.old ≤ S.faults source.new) × (K.faults answer.old ≤ K.faults answer.new) }
 
+    // Where the words are not of the form the source stays as it was.
+    ensures untouched { model_of words.now ≡ None → IsUntouched (S.left source.old) (S.stock source.old) (S.faults source.old)
+        (S.left source.new) (S.stock source.new) (S.faults source.new) }
+
     // The source is begun with the file of the model alone, and no sink is begun.
     ensures names { S.names source.new ≡ begun_names (model_of words.now) (S.names source.old) }
     ensures answer_names { K.names answer.new ≡ K.names answer.old }
@@ -69,6 +72,8 @@ fn reply_for<S: Source>(alloc: Global, words: &Words, source: &mut S) -> Result<
     ensures refused_when { IfOk result (λ reply. RefusesWhen (model_text (S.stock source.old) words.now) reply.status) }
     ensures complete { IfOk result (λ reply. AnswersAccepted (model_text (S.stock source.old) words.now) reply.status) }
     ensures later { S.faults source.old ≤ S.faults source.new }
+    ensures untouched { model_of words.now ≡ None → IsUntouched (S.left source.old) (S.stock source.old) (S.faults source.old)
+        (S.left source.new) (S.stock source.new) (S.faults source.new) }
     ensures names { S.names source.new ≡ begun_names (model_of words.now) (S.names source.old) }
 {
     let Some(model) = model_word(words) else {

@@ -14,13 +14,11 @@ use crate::reply::Reply;
 use crate::status::Status;
 use policy_eval::PointJudge;
 use policy_json::policy_value;
+use sopl_base::Fault;
 use sopl_scen::{Tree, scenarios};
 use sopl_search::{Found, best_point};
 use sopl_unfold::Ground;
 use std::alloc::{AllocError, Global};
-
-/// Refused as a form that is not solved yet.
-const NOT_YET: i64 = 117;
 
 /// The scenarios and the cells of a problem.
 #[tactic(auto, using(crate::proofs::Best::small_tree))]
@@ -87,20 +85,22 @@ fn solved_line(alloc: Global, ground: &Ground) -> Result<String, AllocError>
 pub fn solve(alloc: Global, text: &[u8]) -> Result<Reply, AllocError>
     ensures reply { IfOk result (λ reply. IsTextReply text.now reply.status (string_bytes reply.line)) }
 {
-    match problem_in(alloc, text)? {
-        Some(ground) => {
+    match problem_in(alloc, text) {
+        Ok(ground) => {
             let line = solved_line(alloc, &ground)?;
             Ok(Reply {
                 status: Status::Done,
                 line,
             })
         }
-        None => {
-            let line = refused_line(alloc, 0, NOT_YET)?;
+        Err(Fault::Text(refusal)) => {
+            let line = refused_line(alloc, refusal)?;
             Ok(Reply {
                 status: Status::Refused,
                 line,
             })
         }
+        // A text meets no limit yet, so memory was wanting.
+        Err(_) => Err(AllocError),
     }
 }

@@ -5,7 +5,12 @@ ghost use Rattle.std.specs.Prelude.{None};
 use crate::run::run;
 use crate::status::Status;
 use crate::words::{Word, Words};
-use sopl_io::{Failed, MemSink, MemSource, Sink, Source};
+use sopl_ast::Name;
+use sopl_base::{Reason, Side, Step, Steps};
+use sopl_io::{
+    Failed, FileSink, FileSource, MemSink, MemSource, Sink, Source, read_all, write_all,
+};
+use sopl_unfold::{Env, Index};
 use std::alloc::{AllocError, Global};
 use std::test::Fail;
 
@@ -30,48 +35,79 @@ fn source_of(alloc: Global, text: &str, failing: &[u64]) -> Result<MemSource, Al
     Ok(MemSource::new(texts, Vec::from_slice(alloc, failing)?))
 }
 
+/// A run: its words, the text of `m`, and the status and the line that must come.
+type Case = (&'static [&'static str], &'static str, Status, &'static str);
+
+/// Runs that end with an answer.
+const CASES: &[Case] = &[
+    (&["solve", "m"], ORDER, Status::Done, ORDER_ANSWER),
+    (
+        &["solve", "m"],
+        "dvar int x in 0..5 stage 1; stoch int d in {1:1, 3:1} stage 1; maximize expected(x); subject to { x == d; }",
+        Status::Done,
+        "{\"answer\":\"infeasible\"}\n",
+    ),
+    (
+        &["solve", "m"],
+        "dvar int x in 0..5 stage 2; stoch int d in {1:1, 3:1} stage 1; maximize expected(x); subject to { x == d; }",
+        Status::Done,
+        "{\"answer\":\"optimal\",\"policy\":{\"decide\":[],\"next\":[{\"seen\":[[\"d\",[],1]],\"then\":{\"decide\":[[\"x\",[],1]],\"next\":[]}},{\"seen\":[[\"d\",[],3]],\"then\":{\"decide\":[[\"x\",[],3]],\"next\":[]}}]},\"value\":\"4/2\"}\n",
+    ),
+    (
+        &["solve", "m"],
+        "dvar int x in 0..9; maximize expected(x); subject to { 3*x <= 20; }",
+        Status::Done,
+        "{\"answer\":\"optimal\",\"policy\":{\"decide\":[[\"x\",[],6]],\"next\":[]},\"value\":\"6/1\"}\n",
+    ),
+    (
+        &["solve", "m"],
+        "",
+        Status::Refused,
+        "{\"answer\":\"refused\",\"at\":0,\"code\":104}\n",
+    ),
+    (
+        &["solve", "m"],
+        "subject to { z <= 1; }",
+        Status::Refused,
+        "{\"answer\":\"refused\",\"at\":13,\"code\":105}\n",
+    ),
+    (
+        &["solve", "m"],
+        "subject to { }",
+        Status::Refused,
+        "{\"answer\":\"refused\",\"at\":0,\"code\":117}\n",
+    ),
+    (
+        &["solve", "m"],
+        "dvar int x in 0..1; minimize worst(x); subject to { }",
+        Status::Refused,
+        "{\"answer\":\"refused\",\"at\":0,\"code\":117}\n",
+    ),
+    (
+        &["solve", "m"],
+        "dvar int x in 0..1; maximize expected(-x); subject to { }",
+        Status::Refused,
+        "{\"answer\":\"refused\",\"at\":0,\"code\":117}\n",
+    ),
+    (
+        &["solve", "m"],
+        "dvar int x in 0..1; maximize expected(0 - (1*x)); subject to { (x >= (1)); }",
+        Status::Done,
+        "{\"answer\":\"optimal\",\"policy\":{\"decide\":[[\"x\",[],1]],\"next\":[]},\"value\":\"-1/1\"}\n",
+    ),
+    (&["solve"], "", Status::Usage, "{\"answer\":\"usage\"}\n"),
+];
+
 #[test]
 fn answers(rt: HostRuntime) -> Result<(), Fail> {
     let alloc = rt.alloc();
-    for (words, text, status, want) in [
-        (["solve", "m"].as_slice(), ORDER, Status::Done, ORDER_ANSWER),
-        (
-            ["solve", "m"].as_slice(),
-            "dvar int x in 0..5 stage 1; stoch int d in {1:1, 3:1} stage 1; maximize expected(x); subject to { x == d; }",
-            Status::Done,
-            "{\"answer\":\"infeasible\"}\n",
-        ),
-        (
-            ["solve", "m"].as_slice(),
-            "dvar int x in 0..5 stage 2; stoch int d in {1:1, 3:1} stage 1; maximize expected(x); subject to { x == d; }",
-            Status::Done,
-            "{\"answer\":\"optimal\",\"policy\":{\"decide\":[],\"next\":[{\"seen\":[[\"d\",[],1]],\"then\":{\"decide\":[[\"x\",[],1]],\"next\":[]}},{\"seen\":[[\"d\",[],3]],\"then\":{\"decide\":[[\"x\",[],3]],\"next\":[]}}]},\"value\":\"4/2\"}\n",
-        ),
-        (
-            ["solve", "m"].as_slice(),
-            "dvar int x in 0..9; maximize expected(x); subject to { 3*x <= 20; }",
-            Status::Done,
-            "{\"answer\":\"optimal\",\"policy\":{\"decide\":[[\"x\",[],6]],\"next\":[]},\"value\":\"6/1\"}\n",
-        ),
-        (
-            ["solve", "m"].as_slice(),
-            "",
-            Status::Refused,
-            "{\"answer\":\"refused\",\"at\":0,\"code\":117}\n",
-        ),
-        (
-            ["solve"].as_slice(),
-            "",
-            Status::Usage,
-            "{\"answer\":\"usage\"}\n",
-        ),
-    ] {
+    for (words, text, status, want) in CASES {
         let words = words_of(alloc, words)?;
         let mut source = source_of(alloc, text, &[])?;
         let mut answer = MemSink::new(alloc, 1000, Vec::new(alloc))?;
         let mut log = MemSink::new(alloc, 10, Vec::new(alloc))?;
         let ended = run(alloc, &words, &mut source, &mut answer, &mut log);
-        assert_eq!(rt; ended, status, "{text}");
+        assert_eq!(rt; ended, *status, "{text}");
         assert_eq!(rt; answer.bytes(), want.as_bytes(), "{text}");
         assert_eq!(rt; log.bytes().len(), 0);
     }
@@ -100,6 +136,30 @@ fn faults(rt: HostRuntime) -> Result<(), Fail> {
         assert_eq!(rt; log.bytes().len(), 0);
     }
     Ok(())
+}
+
+/// How a run on the ordering text ends, and what it answers.
+fn ordered(alloc: Global) -> Result<(Status, MemSink), AllocError> {
+    let words = words_of(alloc, &["solve", "m"])?;
+    let mut source = source_of(alloc, ORDER, &[])?;
+    let mut answer = MemSink::new(alloc, 1000, Vec::new(alloc))?;
+    let mut log = MemSink::new(alloc, 10, Vec::new(alloc))?;
+    let ended = run(alloc, &words, &mut source, &mut answer, &mut log);
+    Ok((ended, answer))
+}
+
+/// The right line is answered, or nothing where memory is wanting: also where any one allocation fails.
+#[test]
+fn line_or_nothing(rt: HostRuntime) {
+    let Ok((ended, answer)) = ordered(rt.alloc()) else {
+        return;
+    };
+    if ended == Status::NoMemory {
+        assert_eq!(rt; answer.bytes().len(), 0);
+    } else {
+        assert_eq!(rt; ended, Status::Done);
+        assert_eq!(rt; answer.bytes(), ORDER_ANSWER.as_bytes());
+    }
 }
 
 /// A source that gives one byte at a time.
@@ -184,5 +244,50 @@ fn one_byte_at_a_time(rt: HostRuntime) -> Result<(), Fail> {
     assert_eq!(rt; ended, Status::Done);
     assert_eq!(rt; answer.taken.as_slice(), ORDER_ANSWER.as_bytes());
     assert_eq!(rt; log.taken.len(), 0);
+    Ok(())
+}
+
+/// What the lists hold that no command fills yet.
+#[test]
+fn names_and_indices(rt: HostRuntime) -> Result<(), Fail> {
+    let alloc = rt.alloc();
+    let mut name = Name::new(alloc);
+    let mut index = Index::new(alloc);
+    for (byte, number) in [(b'd', 3), (b'2', -5)] {
+        name.push(byte)?;
+        index.push(number)?;
+    }
+    assert_eq!(rt; name.as_slice(), b"d2".as_slice());
+    assert_eq!(rt; index.as_slice(), [3, -5].as_slice());
+    let mut env = Env::new(alloc);
+    env.push((name, 4))?;
+    assert_eq!(rt; env.as_slice().len(), 1);
+    Ok(())
+}
+
+#[test]
+fn steps_in_order(rt: HostRuntime) -> Result<(), Fail> {
+    let mut steps = Steps::new(rt.alloc());
+    for (cell, side, k) in [(0, Side::Le, 3), (7, Side::Ge, -1)] {
+        steps.push(Step {
+            reason: Reason::Bound,
+            cell,
+            side,
+            k,
+        })?;
+    }
+    assert_eq!(rt; steps.as_slice().len(), 2);
+    assert_eq!(rt; steps.as_slice()[1].cell, 7);
+    Ok(())
+}
+
+#[test]
+fn files_hold_what_was_written(rt: HostRuntime) -> Result<(), Fail> {
+    let mut sink = FileSink::file(&rt);
+    sink.begin("written")?;
+    write_all(&mut sink, b"abc")?;
+    let mut source = FileSource::new(&rt);
+    let bytes = read_all(rt.alloc(), &mut source, "written", None)?;
+    assert_eq!(rt; bytes.as_slice(), b"abc".as_slice());
     Ok(())
 }

@@ -3,6 +3,9 @@ pub mod Tokens
 pub mod Tree
 pub mod Whole
 pub mod Grammar
+pub mod Misspelled
+pub mod Mistakes
+pub mod Origin
 pub mod Instances
 pub mod Problems
 pub mod Scenarios
@@ -13,6 +16,7 @@ pub mod Optimal
 pub mod Simple
 pub mod Small
 pub mod Accepted
+pub mod Refusals
 pub mod Cells
 pub mod Codes
 pub mod Constraints

@@ -1,7 +1,8 @@
 //! Ways to build expressions and constraints.
 
 ghost use Rattle.std.specs.Prelude.{◌≡◌, IfOk};
-ghost use Rattle.sopl_ast.specs.Tree.{Node, Lit, Name as NameTree, Index, Neg, Add, Mul, Cmp, Not, And, Or, Implies, place_of, shape_of};
+ghost use Rattle.sopl_ast.specs.Tree.{Node, Lit, Name as NameTree, Index, Neg, Add, Mul, Cmp, Not, And, Or, Implies, Sum, Abs, AllDifferent, Cumulative, place_of, shape_of};
+ghost use Rattle.sopl_ast.specs.Grammar.{extreme_of};
 ghost use Rattle.sopl_ast.specs.Lists.{trees, terms, factors, binders};
 ghost use Rattle.sopl_ast.specs.Whole.{ForallTree, BlockTree, HardTree, ChanceTree, conses};
 ghost use Rattle.sopl_ast.specs.Constraints.{cons_tree, cons_trees};
@@ -14,6 +15,15 @@ use crate::exprs::Exprs;
 use crate::name::Name;
 use sopl_base::CmpOp;
 use std::alloc::{AllocError, Global};
+
+/// Both expressions, each in a box.
+fn boxed(alloc: Global, a: Expr, b: Expr) -> Result<(Box<Expr>, Box<Expr>), AllocError>
+    ensures { IfOk result (λ pair. (pair.0.value ≡ a) × (pair.1.value ≡ b)) }
+{
+    let a = Box::new(alloc, a)?;
+    let b = Box::new(alloc, b)?;
+    Ok((a, b))
+}
 
 impl Expr {
     /// The whole number `value`.
@@ -131,6 +141,76 @@ impl Expr {
         Ok(Expr {
             at,
             kind: Kind::Implies(premise, conclusion),
+        })
+    }
+
+    /// The sum of the operand over all values of the binders.
+    pub fn total(alloc: Global, at: usize, over: Binders, operand: Expr) -> Result<Expr, AllocError>
+        ensures built { IfOk result (λ e. e ≡ Node at (Sum (binders over) operand)) }
+    {
+        let operand = Box::new(alloc, operand)?;
+        Ok(Expr {
+            at,
+            kind: Kind::Sum(over, operand),
+        })
+    }
+
+    /// The greatest of the parts, or the least.
+    pub fn extreme(at: usize, greatest: bool, parts: Exprs) -> Expr
+        ensures built { result ≡ Node at (extreme_of greatest (trees parts)) }
+    {
+        let kind = if greatest {
+            Kind::Greatest(parts)
+        } else {
+            Kind::Least(parts)
+        };
+        Expr { at, kind }
+    }
+
+    /// The size of the operand.
+    pub fn absolute(alloc: Global, at: usize, operand: Expr) -> Result<Expr, AllocError>
+        ensures built { IfOk result (λ e. e ≡ Node at (Abs operand)) }
+    {
+        let operand = Box::new(alloc, operand)?;
+        Ok(Expr {
+            at,
+            kind: Kind::Abs(operand),
+        })
+    }
+
+    /// True where the operand differs for any two values of the binders.
+    pub fn all_different(
+        alloc: Global,
+        at: usize,
+        over: Binders,
+        operand: Expr,
+    ) -> Result<Expr, AllocError>
+        ensures built { IfOk result (λ e. e ≡ Node at (AllDifferent (binders over) operand)) }
+    {
+        let operand = Box::new(alloc, operand)?;
+        Ok(Expr {
+            at,
+            kind: Kind::AllDifferent(over, operand),
+        })
+    }
+
+    /// True where the tasks, one for each value of the binders, never demand more than the capacity
+    /// at one time. A task is its start, with its length and its demand.
+    pub fn cumulative(
+        alloc: Global,
+        at: usize,
+        over: Binders,
+        task: (Expr, (Expr, Expr)),
+        capacity: Expr,
+    ) -> Result<Expr, AllocError>
+        ensures built { IfOk result (λ e. e ≡ Node at (Cumulative (binders over) task.0 task.1.0 task.1.1 capacity)) }
+    {
+        let (start, (duration, demand)) = task;
+        let (start, duration) = boxed(alloc, start, duration)?;
+        let (demand, capacity) = boxed(alloc, demand, capacity)?;
+        Ok(Expr {
+            at,
+            kind: Kind::Cumulative(over, start, duration, demand, capacity),
         })
     }
 

@@ -1,12 +1,2 @@
-pub mod Coded
-pub mod Chains
-pub mod Faults
-pub mod Ends
-pub mod Items
 pub mod Parts
-pub mod Shorter
-pub mod Complete
-pub mod CompleteWhole
-pub mod Sound
-pub mod SoundWhole
-pub mod Whole
+pub mod Refused

@@ -1,4 +1,2 @@
-pub mod Answers
-pub mod Heads
-pub mod Reading
-pub mod Phrases
+pub mod Faults
+pub mod Parts

@@ -1,176 +1,209 @@
 //! Declarations.
 
-ghost use Rattle.std.specs.Prelude.{◌≡◌, [], ◌∷◌, length, option_map};
+ghost use Rattle.std.specs.Prelude.{◌≡◌, false, [], ◌∷◌, length, option_map};
 ghost use Rattle.sopl_ast.specs.Decls.{declaration};
-ghost use Rattle.sopl_ast.specs.Ranges.{range_of};
-ghost use Rattle.sopl_parse.specs.Answers.{Answers};
-ghost use Rattle.sopl_parse.specs.Reading.{chain};
-ghost use Rattle.sopl_parse.specs.Phrases as phrase;
+ghost use Rattle.sopl_ast.specs.Inits.{init_tree};
+ghost use Rattle.sopl_grammar.specs.Reading.{chain};
+ghost use Rattle.sopl_grammar.specs.Phrases as phrase;
+ghost use Rattle.sopl_grammar.specs.Phrases.{way};
+ghost use Rattle.sopl_expr.specs.Answers.{Answers};
+ghost use Rattle.sopl_parse.specs.Parts as piece;
 
-use crate::marks::{Mark, has_mark, peek, rest};
-use crate::reader::{Next, Read, Reader};
-use sopl_ast::{Decl, Decls, Dims, Dist, Expr, Name, RangeText, Token, TokenKind};
+use crate::dims::{dims, stage};
+use crate::inits::init;
+use crate::lists::{distribution, elements};
+use sopl_ast::{Decl, Decls, Dims, Expr, Exprs, Init, Name, Token};
+use sopl_expr::{Next, Read, Reader};
+use sopl_grammar::{Mark, has_mark, rest};
 
-impl Reader {
-    /// A range by its two ends.
-    #[tactic(auto, unfolding(crate::specs::Phrases::range))]
-    pub fn range<'a>(&self, tokens: &'a [Token]) -> Read<'a, RangeText>
-        ensures { Answers (λ x. (range_of x.0, x.1.now)) result
-            (phrase.range self.now.length tokens.now) }
-    {
-        let (lo, left) = self.sum(tokens)?;
-        let left = self.past(Mark::DotDot, left)?;
-        let (hi, left) = self.sum(left)?;
-        Ok((RangeText::Ends { lo, hi }, left))
+/// The name of a variable behind its keyword, with its place and dimensions.
+#[tactic(auto, unfolding(sopl_grammar::specs::Phrases::variable))]
+fn variable<'a>(reader: &Reader, tokens: &'a [Token]) -> Read<'a, ((Name, usize), Dims)>
+    ensures { Answers (λ x. (x.0, x.1.now)) result
+        (phrase.variable (way false reader.now.depth) tokens.now) }
+{
+    let left = reader.past(Mark::Int, tokens)?;
+    let (named, left) = reader.name(left)?;
+    let (dims, left) = dims(reader, left)?;
+    let left = reader.past(Mark::Inside, left)?;
+    Ok(((named, dims), left))
+}
+
+/// The initial value of an `int`, between its marks.
+#[tactic(auto, unfolding(crate::specs::Parts::assigned))]
+fn assigned<'a>(reader: &Reader, tokens: &'a [Token]) -> Read<'a, Init>
+    ensures { Answers (λ x. (init_tree x.0, x.1.now)) result
+        (piece.assigned (way false reader.now.depth) tokens.now) }
+{
+    let left = reader.past(Mark::Assign, tokens)?;
+    let (value, left) = init(reader, left)?;
+    let left = reader.past(Mark::Semi, left)?;
+    Ok((value, left))
+}
+
+/// A stage or none, and the end of its declaration.
+#[tactic(auto, unfolding(crate::specs::Parts::staged))]
+fn staged<'a>(reader: &Reader, tokens: &'a [Token]) -> Read<'a, Option<Expr>>
+    ensures { Answers (λ x. (x.0, x.1.now)) result
+        (piece.staged (way false reader.now.depth) tokens.now) }
+{
+    let (stage, left) = stage(reader, tokens)?;
+    let left = reader.past(Mark::Semi, left)?;
+    Ok((stage, left))
+}
+
+/// An `int`, behind its keyword.
+#[tactic(auto, using(crate::proofs::Parts::integer_parts))]
+fn integer<'a>(reader: &Reader, tokens: &'a [Token]) -> Read<'a, Decl>
+    ensures { Answers (λ x. (declaration x.0, x.1.now)) result
+        (phrase.integer (way false reader.now.depth) tokens.now) }
+{
+    let ((name, at), left) = reader.name(tokens)?;
+    let (dims, left) = dims(reader, left)?;
+    let (init, left) = assigned(reader, left)?;
+    let decl = Decl::Int {
+        name,
+        at,
+        dims,
+        init,
+    };
+    Ok((decl, left))
+}
+
+/// A `range`, behind its keyword.
+#[tactic(auto, unfolding(sopl_grammar::specs::Phrases::range_declaration))]
+fn range_declaration<'a>(reader: &Reader, tokens: &'a [Token]) -> Read<'a, Decl>
+    ensures { Answers (λ x. (declaration x.0, x.1.now)) result
+        (phrase.range_declaration (way false reader.now.depth) tokens.now) }
+{
+    let ((name, at), left) = reader.name(tokens)?;
+    let left = reader.past(Mark::Assign, left)?;
+    let (lo, left) = reader.sum(left)?;
+    let left = reader.past(Mark::DotDot, left)?;
+    let (hi, left) = reader.sum(left)?;
+    let left = reader.past(Mark::Semi, left)?;
+    Ok((Decl::Range { name, at, lo, hi }, left))
+}
+
+/// The elements of a set in braces, and the end of its declaration.
+#[tactic(auto, unfolding(sopl_grammar::specs::Phrases::set_value, sopl_grammar::specs::Phrases::inner_of))]
+fn set_value<'a>(reader: &Reader, tokens: &'a [Token]) -> Read<'a, Exprs>
+    ensures { Answers (λ x. (x.0, x.1.now)) result
+        (phrase.set_value (way false reader.now.depth) tokens.now) }
+{
+    let (inner, left) = reader.enter(Mark::BraceOpen, tokens)?;
+    let (found, left) = elements(&inner, left)?;
+    let left = reader.past(Mark::BraceClose, left)?;
+    let left = reader.past(Mark::Semi, left)?;
+    Ok((found, left))
+}
+
+/// A set, behind the brace of its type.
+#[tactic(auto, unfolding(sopl_grammar::specs::Phrases::set))]
+fn set<'a>(reader: &Reader, tokens: &'a [Token]) -> Read<'a, Decl>
+    ensures { Answers (λ x. (declaration x.0, x.1.now)) result
+        (phrase.set (way false reader.now.depth) tokens.now) }
+{
+    let left = reader.past(Mark::Int, tokens)?;
+    let left = reader.past(Mark::BraceClose, left)?;
+    let ((name, at), left) = reader.name(left)?;
+    let left = reader.past(Mark::Assign, left)?;
+    let (elements, left) = set_value(reader, left)?;
+    Ok((Decl::Set { name, at, elements }, left))
+}
+
+/// A set's type, and the set.
+#[tactic(auto, unfolding(sopl_grammar::specs::Phrases::braced_set))]
+fn braced_set<'a>(reader: &Reader, tokens: &'a [Token]) -> Read<'a, Decl>
+    ensures { Answers (λ x. (declaration x.0, x.1.now)) result
+        (phrase.braced_set (way false reader.now.depth) tokens.now) }
+{
+    let _inner = reader.inside(tokens)?;
+    set(reader, rest(tokens))
+}
+
+/// A decision, behind its keyword.
+#[tactic(auto, using(crate::proofs::Parts::decision_parts))]
+fn decision<'a>(reader: &Reader, tokens: &'a [Token]) -> Read<'a, Decl>
+    ensures { Answers (λ x. (declaration x.0, x.1.now)) result
+        (phrase.decision (way false reader.now.depth) tokens.now) }
+{
+    let (((name, at), dims), left) = variable(reader, tokens)?;
+    let (range, left) = reader.range(left)?;
+    let (stage, left) = staged(reader, left)?;
+    let decl = Decl::Dvar {
+        name,
+        at,
+        dims,
+        range,
+        stage,
+    };
+    Ok((decl, left))
+}
+
+/// A stochastic variable, behind its keyword.
+#[tactic(auto, using(crate::proofs::Parts::stochastic_parts))]
+fn stochastic<'a>(reader: &Reader, tokens: &'a [Token]) -> Read<'a, Decl>
+    ensures { Answers (λ x. (declaration x.0, x.1.now)) result
+        (phrase.stochastic (way false reader.now.depth) tokens.now) }
+{
+    let (((name, at), dims), left) = variable(reader, tokens)?;
+    let (dist, left) = distribution(reader, left)?;
+    let (stage, left) = staged(reader, left)?;
+    let decl = Decl::Stoch {
+        name,
+        at,
+        dims,
+        dist,
+        stage,
+    };
+    Ok((decl, left))
+}
+
+/// A declaration, if there is one.
+#[tactic(auto, unfolding(sopl_grammar::specs::Phrases::next_declaration))]
+fn next_declaration<'a>(reader: &Reader, tokens: &'a [Token]) -> Next<'a, Decl>
+    ensures { Answers (λ x. (option_map declaration x.0, x.1.now)) result
+        (phrase.next_declaration (way false reader.now.depth) tokens.now) }
+{
+    if has_mark(Mark::Int, tokens) {
+        let (decl, left) = integer(reader, rest(tokens))?;
+        return Ok((Some(decl), left));
     }
-
-    /// A stage, or none.
-    #[tactic(auto, unfolding(crate::specs::Phrases::stage))]
-    pub fn stage<'a>(&self, tokens: &'a [Token]) -> Read<'a, Option<Expr>>
-        ensures { Answers (λ x. (x.0, x.1.now)) result (phrase.stage self.now.length tokens.now) }
-    {
-        if !has_mark(Mark::Stage, tokens) {
-            return Ok((None, tokens));
-        }
-        let (stage, left) = self.sum(rest(tokens))?;
-        Ok((Some(stage), left))
+    if has_mark(Mark::Range, tokens) {
+        let (decl, left) = range_declaration(reader, rest(tokens))?;
+        return Ok((Some(decl), left));
     }
-
-    /// A value and its weight.
-    #[tactic(auto, unfolding(crate::specs::Phrases::outcome))]
-    pub fn outcome<'a>(&self, tokens: &'a [Token]) -> Read<'a, (Expr, Expr)>
-        ensures { Answers (λ x. (x.0, x.1.now)) result (phrase.outcome self.now.length tokens.now) }
-    {
-        let (value, left) = self.sum(tokens)?;
-        let left = self.past(Mark::Colon, left)?;
-        let (weight, left) = self.sum(left)?;
-        Ok(((value, weight), left))
+    if has_mark(Mark::BraceOpen, tokens) {
+        let (decl, left) = braced_set(reader, tokens)?;
+        return Ok((Some(decl), left));
     }
-
-    /// A comma and an outcome, if there are any.
-    #[tactic(auto, unfolding(crate::specs::Phrases::next_outcome))]
-    fn next_outcome<'a>(&self, tokens: &'a [Token]) -> Next<'a, (Expr, Expr)>
-        ensures { Answers (λ o. option_map (λ x. (x.0, x.1.now)) o) result
-            (phrase.next_outcome self.now.length tokens.now) }
-    {
-        if has_mark(Mark::Comma, tokens) {
-            Ok(Some(self.outcome(rest(tokens))?))
-        } else {
-            Ok(None)
-        }
+    if has_mark(Mark::Dvar, tokens) {
+        let (decl, left) = decision(reader, rest(tokens))?;
+        return Ok((Some(decl), left));
     }
-
-    /// Outcomes behind the first one.
-    #[tactic(auto, unfolding(crate::specs::Phrases::more_outcomes))]
-    fn more_outcomes<'a>(&self, first: (Expr, Expr), tokens: &'a [Token]) -> Read<'a, Dist>
-        ensures { Answers (λ x. (x.0, x.1.now)) result
-            (phrase.more_outcomes self.now.length first tokens.now) }
-    {
-        let mut outcomes = Dist::new(self.alloc);
-        outcomes.push(first)?;
-        let mut left = tokens;
-        'outcomes: for _turn in 0..tokens.len() {
-            let Some((outcome, behind)) = self.next_outcome(left)? else {
-                break;
-            };
-            outcomes.push(outcome)?;
-            left = behind;
-        }
-        Ok((outcomes, left))
+    if has_mark(Mark::Stoch, tokens) {
+        let (decl, left) = stochastic(reader, rest(tokens))?;
+        return Ok((Some(decl), left));
     }
+    Ok((None, tokens))
+}
 
-    /// A distribution: one or more outcomes in braces.
-    #[tactic(auto, unfolding(crate::specs::Phrases::distribution))]
-    pub fn distribution<'a>(&self, tokens: &'a [Token]) -> Read<'a, Dist>
-        ensures { Answers (λ x. (x.0, x.1.now)) result (phrase.distribution self.now.length tokens.now) }
-    {
-        let left = self.past(Mark::BraceOpen, tokens)?;
-        let (first, left) = self.outcome(left)?;
-        let (outcomes, left) = self.more_outcomes(first, left)?;
-        let left = self.past(Mark::BraceClose, left)?;
-        Ok((outcomes, left))
-    }
-
-    /// The type, the name and `in` of a declaration: the name and its place.
-    #[tactic(auto, unfolding(crate::specs::Phrases::declared))]
-    fn declared<'a>(&self, tokens: &'a [Token]) -> Read<'a, (Name, usize)>
-        ensures { Answers (λ x. (x.0, x.1.now)) result (phrase.declared self.now.length tokens.now) }
-    {
-        let named = self.past(Mark::Int, tokens)?;
-        let (name, left) = self.name(named)?;
-        let left = self.past(Mark::Inside, left)?;
-        Ok(((name, self.place(named)), left))
-    }
-
-    /// A decision, behind its keyword.
-    #[tactic(auto, unfolding(crate::specs::Phrases::decision))]
-    fn decision<'a>(&self, tokens: &'a [Token]) -> Read<'a, Decl>
-        ensures { Answers (λ x. (declaration x.0, x.1.now)) result
-            (phrase.decision self.now.length tokens.now) }
-    {
-        let ((name, at), left) = self.declared(tokens)?;
-        let (range, left) = self.range(left)?;
-        let (stage, left) = self.stage(left)?;
-        let left = self.past(Mark::Semi, left)?;
-        let dims = Dims::new(self.alloc);
-        let decl = Decl::Dvar {
-            name,
-            at,
-            dims,
-            range,
-            stage,
+/// Declarations in order.
+#[tactic(auto, unfolding(sopl_grammar::specs::Phrases::declarations))]
+pub fn declarations<'a>(reader: &Reader, tokens: &'a [Token]) -> Read<'a, Decls>
+    ensures { Answers (λ x. (x.0, x.1.now)) result
+        (phrase.declarations (way false reader.now.depth) tokens.now) }
+{
+    let mut parts = Decls::new(reader.alloc);
+    let mut left = tokens;
+    'parts: for _turn in 0..tokens.len() {
+        let (part, behind) = next_declaration(reader, left)?;
+        left = behind;
+        let Some(part) = part else {
+            break;
         };
-        Ok((decl, left))
+        parts.push(part)?;
     }
-
-    /// A stochastic variable, behind its keyword.
-    #[tactic(auto, unfolding(crate::specs::Phrases::stochastic))]
-    fn stochastic<'a>(&self, tokens: &'a [Token]) -> Read<'a, Decl>
-        ensures { Answers (λ x. (declaration x.0, x.1.now)) result
-            (phrase.stochastic self.now.length tokens.now) }
-    {
-        let ((name, at), left) = self.declared(tokens)?;
-        let (dist, left) = self.distribution(left)?;
-        let (stage, left) = self.stage(left)?;
-        let left = self.past(Mark::Semi, left)?;
-        let dims = Dims::new(self.alloc);
-        let decl = Decl::Stoch {
-            name,
-            at,
-            dims,
-            dist,
-            stage,
-        };
-        Ok((decl, left))
-    }
-
-    /// A declaration, if there is one.
-    #[tactic(auto, unfolding(crate::specs::Phrases::next_declaration))]
-    fn next_declaration<'a>(&self, tokens: &'a [Token]) -> Next<'a, Decl>
-        ensures { Answers (λ o. option_map (λ x. (declaration x.0, x.1.now)) o) result
-            (phrase.next_declaration self.now.length tokens.now) }
-    {
-        match peek(tokens) {
-            Some(TokenKind::Dvar) => Ok(Some(self.decision(rest(tokens))?)),
-            Some(TokenKind::Stoch) => Ok(Some(self.stochastic(rest(tokens))?)),
-            _ => Ok(None),
-        }
-    }
-
-    /// Declarations in order.
-    #[tactic(auto, unfolding(crate::specs::Phrases::declarations))]
-    pub fn declarations<'a>(&self, tokens: &'a [Token]) -> Read<'a, Decls>
-        ensures { Answers (λ x. (x.0, x.1.now)) result (phrase.declarations self.now.length tokens.now) }
-    {
-        let mut decls = Decls::new(self.alloc);
-        let mut left = tokens;
-        'decls: for _turn in 0..tokens.len() {
-            let Some((decl, behind)) = self.next_declaration(left)? else {
-                break;
-            };
-            decls.push(decl)?;
-            left = behind;
-        }
-        Ok((decls, left))
-    }
+    Ok((parts, left))
 }

@@ -1,33 +1,42 @@
 //! The model that the tokens of a text spell.
 #![tactic(auto)]
 
+mod constraints;
 mod declarations;
-mod expressions;
-mod marks;
+mod dims;
+mod inits;
+mod lists;
 mod models;
-mod reader;
-#[cfg(test)]
-mod tests;
 
 ghost use Rattle.std.specs.Prelude.{◌≡◌, IfErr, IfOk, MatchResult};
-ghost use Rattle.sopl_base.specs.declared.places.Fault.{Fault};
 ghost use Rattle.sopl_base.specs.declared.places.Fault.TheVariants.{NoMemory};
-ghost use Rattle.sopl_ast.specs.Grammar.{Spells, SpellsWithin};
+ghost use Rattle.sopl_ast.specs.Grammar.{SpellsWithin};
+ghost use Rattle.sopl_ast.specs.Misspelled.{place_in};
 ghost use Rattle.sopl_ast.specs.Whole.{ModelTree};
 ghost use Rattle.sopl_ast.specs.WholeModel.{whole};
-ghost use Rattle.sopl_parse.specs.Answers.{IsSyntaxFault};
+ghost use Rattle.sopl_grammar.specs.Phrases.{model as model_of};
+ghost use Rattle.sopl_expr.specs.Answers.{Answers};
+ghost use Rattle.sopl_parse.specs.Faults.{fault_of, IsSpellingFault, IsFaultOf};
 
-use reader::Reader;
+use models::model;
 use sopl_ast::{Model, Token};
-use sopl_base::Fault;
+use sopl_base::{Fault, Refusal};
+use sopl_expr::{Halt, Reader};
 use std::alloc::Global;
+
+/// The code of a token that opens one bracket or prefix too many.
+pub const DEPTH: u16 = 103;
 
 /// The code of tokens that spell no model.
 pub const SYNTAX: u16 = 104;
 
+/// How many brackets and prefixes may be open at once.
+const OPENINGS: usize = 64;
+
 /// The model that the tokens of a text spell; `length` is the length of the text. The offset of a
 /// refusal is that of the token where reading stopped, or the length of the text where no token was
 /// left.
+#[tactic(auto, using(crate::proofs::Refused::read_spelled, crate::proofs::Refused::read_only, crate::proofs::Refused::halts_only, crate::proofs::Refused::halts_refused, crate::proofs::Refused::halts_there))]
 pub fn parse(alloc: Global, tokens: &[Token], length: usize) -> Result<Model, Fault>
     // What is read is what the tokens spell ..
     ensures spelled { IfOk result (λ model. SpellsWithin tokens.now (whole model)) }
@@ -35,12 +44,53 @@ pub fn parse(alloc: Global, tokens: &[Token], length: usize) -> Result<Model, Fa
     // .. and what they spell is read, unless memory runs out.
     ensures complete { (tree : ModelTree) → SpellsWithin tokens.now tree →
         MatchResult result (λ model. whole model ≡ tree) (λ fault. fault ≡ NoMemory) }
-    ensures fault { IfErr result IsSyntaxFault }
+
+    // A refusal stands where no model goes on, or where one nests too deep ..
+    ensures refused { IfErr result (IsSpellingFault length tokens.now) }
+
+    // .. and there the reading along the productions stops, at no other token.
+    ensures stopped { IfErr result (IsFaultOf length (model_of 64 tokens.now)) }
 {
-    Reader { alloc, length }.model(tokens)
+    match read(alloc, tokens) {
+        Ok(model) => Ok(model),
+        Err(halt) => Err(fault(&halt, length)),
+    }
 }
 
-/// Tokens spell at most one model. It does nothing when it runs.
-pub fn one_model(tokens: &[Token])
-    ensures { (a b : ModelTree) → Spells tokens.now a → Spells tokens.now b → a ≡ b }
-{}
+/// The model that the tokens spell, or where reading stops.
+fn read<'a>(alloc: Global, tokens: &'a [Token]) -> Result<Model, Halt<'a>>
+    ensures { Answers whole result (model_of 64 tokens.now) }
+{
+    let reader = Reader {
+        alloc,
+        depth: OPENINGS,
+    };
+    model(&reader, tokens)
+}
+
+/// Where the tokens begin, or the length of the text where there is none.
+fn start(tokens: &[Token], length: usize) -> usize
+    ensures { result ≡ place_in length tokens.now }
+{
+    match tokens {
+        [first, ..] => first.span.start,
+        [] => length,
+    }
+}
+
+/// The fault of a reader that halts, in a text of this length.
+fn fault(halt: &Halt<'_>, length: usize) -> Fault
+    ensures { result ≡ fault_of length halt.now }
+{
+    match halt {
+        Halt::Syntax(left) => Fault::Text(Refusal {
+            code: SYNTAX,
+            at: start(left, length),
+        }),
+        Halt::Depth(left) => Fault::Text(Refusal {
+            code: DEPTH,
+            at: start(left, length),
+        }),
+        Halt::NoMemory => Fault::NoMemory,
+    }
+}

@@ -1,0 +1,41 @@
+-- Where tokens that spell no model are refused.
+use Rattle.std.specs.Prelude.{◌≡◌, ℕ, ◌+◌, List, [], ◌∷◌, ◌++◌}
+use Rattle.sopl_base.specs.declared.places.Refusal.{Refusal}
+use Rattle.sopl_ast.specs.declared.token.Token.{Token}
+use Rattle.sopl_ast.specs.Whole.{ModelTree}
+use Rattle.sopl_ast.specs.Grammar.{Spells, SpellsWithin, IsFront, max_nesting}
+
+-- where the first of these tokens stands; the end of the text, where there is none
+abbrev pub place_in : ℕ → List Token → ℕ
+place_in length [] = length
+place_in length (u ∷ us) = u.span.start
+
+-- no model's tokens begin with these and the first of those behind them; where none stands behind them, these spell no model
+abbrev pub NoneGoesOn : List Token → List Token → Type 0
+NoneGoesOn before [] = (whole : ModelTree) → Spells before whole → ⊥
+NoneGoesOn before (u ∷ us) = (others : List Token) (whole : ModelTree) → Spells (before ++ u ∷ others) whole → ⊥
+
+-- the tokens go along the productions up to a place, and with what stands there no model goes on
+pub record IsMisplaced (length : ℕ) (tokens : List Token) (at : ℕ) : Type 0 where
+  pub before : List Token
+  pub behind : List Token
+  pub split : tokens ≡ before ++ behind
+  pub place : at ≡ place_in length behind
+  pub front : IsFront max_nesting before
+  pub stuck : NoneGoesOn before behind
+
+-- the tokens go along the productions up to a token that opens one bracket or prefix too many, and with it no model goes on within the greatest nesting
+pub record IsTooDeep (tokens : List Token) (at : ℕ) : Type 0 where
+  pub before : List Token
+  pub token : Token
+  pub behind : List Token
+  pub split : tokens ≡ before ++ token ∷ behind
+  pub place : at ≡ token.span.start
+  pub front : IsFront max_nesting before
+  pub deeper : IsFront (max_nesting + 1) (before ++ token ∷ [])
+  pub none : (others : List Token) (whole : ModelTree) → SpellsWithin (before ++ token ∷ others) whole → ⊥
+
+-- tokens that spell no model within the greatest nesting, refused by 104 where no model goes on, and by 103 where one nests too deep
+pub data IsMisspelled (length : ℕ) (tokens : List Token) (refusal : Refusal) : Type 0 where
+  misplaced : refusal.code ≡ 104 → IsMisplaced length tokens refusal.at → IsMisspelled length tokens refusal
+  too_deep : refusal.code ≡ 103 → IsTooDeep tokens refusal.at → IsMisspelled length tokens refusal

@@ -1,0 +1,16 @@
+-- What a reader's result says of the outcome that is computed for its tokens.
+use Rattle.std.specs.Prelude.{◌≡◌, Result, Ok, Err}
+use Rattle.sopl_grammar.specs.Reading.{Stop}
+use Rattle.sopl_expr.specs.declared.reader.Halt.{Halt}
+use Rattle.sopl_expr.specs.declared.reader.Halt.TheVariants as halt
+
+-- the outcome is the stop that is answered; want of memory says nothing
+abbrev pub Fails : {B : Type 0} → Halt → Result B Stop → Type 0
+Fails (halt.Syntax left) outcome = outcome ≡ Err (Stop.Syntax left.now)
+Fails (halt.Depth left) outcome = outcome ≡ Err (Stop.Depth left.now)
+Fails halt.NoMemory outcome = Unit {0}
+
+-- the outcome is the value, as `view` shows it, or it is where the reader halts
+abbrev pub Answers : {A B : Type 0} → (A → B) → Result A Halt → Result B Stop → Type 0
+Answers view (Ok value) outcome = outcome ≡ Ok (view value)
+Answers view (Err h) outcome = Fails h outcome

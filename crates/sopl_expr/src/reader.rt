@@ -1,0 +1,117 @@
+//! A reader of tokens: each of its methods reads a phrase at the front of tokens.
+
+ghost use Rattle.std.specs.Prelude.{◌≡◌, ◌<◌, Ok, Some, false, OnOk, IfOk};
+ghost use Rattle.sopl_grammar.specs.Phrases.{way, inner_of, is_over as over};
+ghost use Rattle.sopl_grammar.specs.Reading.{past as past_of, name as name_of, opening as opening_of};
+ghost use Rattle.sopl_expr.specs.Answers.{Answers};
+
+use sopl_ast::{Name, Token};
+use sopl_grammar::{Mark, has_mark, named, place, rest};
+use std::alloc::{AllocError, Global};
+
+/// Why reading stops: no phrase goes on with these tokens, the first of them opens one bracket or
+/// prefix too many, or no memory is left.
+#[derive(Debug, Drop)]
+pub enum Halt<'a> {
+    Syntax(&'a [Token]),
+    Depth(&'a [Token]),
+    NoMemory,
+}
+
+impl<'a> From<AllocError> for Halt<'a> {
+    ghost use Rattle.std.specs.Prelude.{◌≡◌};
+    ghost use Rattle.sopl_expr.specs.declared.reader.Halt.{Halt};
+    ghost use Rattle.sopl_expr.specs.declared.reader.Halt.TheVariants.{NoMemory};
+
+    ghost from_gives = { λ _ halt. halt ≡ NoMemory };
+
+    fn from(_error: AllocError) -> Halt<'a> {
+        Halt::NoMemory
+    }
+}
+
+/// What was read, and the tokens that are left.
+pub type Read<'a, T> = Result<(T, &'a [Token]), Halt<'a>>;
+
+/// What was read if the front of the tokens begins it, and the tokens that are left.
+pub type Next<'a, T> = Result<(Option<T>, &'a [Token]), Halt<'a>>;
+
+/// A reader of tokens: where its trees are made, and how many more brackets and prefixes may be
+/// opened.
+#[derive(Clone, Copy)]
+pub struct Reader {
+    pub alloc: Global,
+    pub depth: usize,
+}
+
+/// Whether a list in brackets or braces ends before the tokens: at its closing mark, and where no
+/// token is left.
+pub fn is_over(closes: bool, tokens: &[Token]) -> bool
+    ensures { result ≡ over closes tokens.now }
+{
+    match tokens {
+        [] => true,
+        [..] => closes,
+    }
+}
+
+impl Reader {
+    /// The reader inside a bracket or behind a prefix, which stands at the front of the tokens.
+    #[tactic(auto, using(crate::proofs::Ways::ways))]
+    pub fn inside<'a>(&self, tokens: &'a [Token]) -> Result<Reader, Halt<'a>>
+        ensures inner { Answers (λ reader. inner_of (way false reader.depth)) result
+            ((way false self.now.depth).inside tokens.now) }
+        ensures less { IfOk result (λ reader. reader.depth < self.now.depth) }
+    {
+        if self.depth == 0 {
+            return Err(Halt::Depth(tokens));
+        }
+        let inner = Reader {
+            alloc: self.alloc,
+            depth: self.depth - 1,
+        };
+        Ok(inner)
+    }
+
+    /// The tokens behind a mark.
+    #[tactic(auto, unfolding(sopl_grammar::specs::Reading::past))]
+    pub fn past<'a>(&self, mark: Mark, tokens: &'a [Token]) -> Result<&'a [Token], Halt<'a>>
+        ensures { Answers (λ left. left.now) result (past_of (way false self.now.depth) mark tokens.now) }
+    {
+        if has_mark(mark, tokens) {
+            Ok(rest(tokens))
+        } else {
+            Err(Halt::Syntax(tokens))
+        }
+    }
+
+    /// The reader inside a bracket, and the tokens behind the bracket.
+    #[tactic(auto, unfolding(sopl_grammar::specs::Reading::opening))]
+    pub fn enter<'a>(
+        &self,
+        mark: Mark,
+        tokens: &'a [Token],
+    ) -> Result<(Reader, &'a [Token]), Halt<'a>>
+        ensures inner { Answers (λ x. Some (inner_of (way false x.0.depth), x.1.now)) result
+            (opening_of (way false self.now.depth) mark tokens.now) }
+        ensures less { IfOk result (λ x. x.0.depth < self.now.depth) }
+    {
+        if !has_mark(mark, tokens) {
+            return Err(Halt::Syntax(tokens));
+        }
+        let inner = self.inside(tokens)?;
+        Ok((inner, rest(tokens)))
+    }
+
+    /// A name, and its place.
+    #[tactic(auto, unfolding(sopl_grammar::specs::Reading::name))]
+    pub fn name<'a>(&self, tokens: &'a [Token]) -> Read<'a, (Name, usize)>
+        ensures { Answers (λ x. (x.0, x.1.now)) result (name_of (way false self.now.depth) tokens.now) }
+    {
+        let Some(name) = named(tokens) else {
+            return Err(Halt::Syntax(tokens));
+        };
+        let name = name.copy(self.alloc)?;
+        Ok(((name, place(tokens)), rest(tokens)))
+    }
+}

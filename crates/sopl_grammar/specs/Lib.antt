@@ -1,0 +1,4 @@
+pub mod Heads
+pub mod Reading
+pub mod Expressions
+pub mod Phrases

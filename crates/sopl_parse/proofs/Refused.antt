@@ -1,0 +1,66 @@
+-- What the reader's answer says of the models that the tokens spell.
+use Rattle.std.proofs.Common.{◌≡◌, ◌⊎◌, inl, inr, ℕ, List, Result, Ok, Err, refl, sym, subst, ◌∙◌}
+use Rattle.sopl_base.specs.declared.places.Fault.TheVariants as fault
+use Rattle.sopl_ast.specs.declared.token.Token.{Token}
+use Rattle.sopl_ast.specs.Grammar.{SpellsWithin}
+use Rattle.sopl_ast.specs.Misspelled.{IsMisspelled, misplaced, too_deep}
+use Rattle.sopl_ast.specs.Whole.{ModelTree}
+use Rattle.sopl_grammar.specs.Phrases as phrase
+use Rattle.sopl_grammar.specs.Reading.{Stop}
+use Rattle.sopl_grammar.proofs.CompleteWhole.{model_read}
+use Rattle.sopl_grammar.proofs.Refused.{misplaced_at, too_deep_at}
+use Rattle.sopl_grammar.proofs.SoundWhole.{model_sound}
+use Rattle.sopl_expr.specs.Answers.{Fails}
+use Rattle.sopl_parse.specs.Faults.{fault_of, stop_fault, IsSpellingFault, IsFaultOf}
+use Rattle.sopl_expr.specs.declared.reader.Halt.{Halt}
+use Rattle.sopl_expr.specs.declared.reader.Halt.TheVariants as halt
+
+-- a model that is read
+abbrev read : ModelTree → Result ModelTree Stop
+read tree = Ok tree
+
+-- where reading stops
+abbrev stopped : Stop → Result ModelTree Stop
+stopped stop = Err stop
+
+same_model : (a b : ModelTree) → read a ≡ read b → a ≡ b
+same_model a b e = cc
+
+never_both : (a : ModelTree) (stop : Stop) → read a ≡ stopped stop → ⊥
+never_both a stop e = cc
+
+-- a model that is read is spelled
+pub read_spelled : (tokens : List Token) (tree : ModelTree) → phrase.model 64 tokens ≡ Ok tree → SpellsWithin tokens tree
+read_spelled tokens tree e = model_sound 64 tokens tree e
+
+-- a model that is spelled is the one that is read
+pub read_only : (tokens : List Token) (tree other : ModelTree) → phrase.model 64 tokens ≡ Ok tree → SpellsWithin tokens other → tree ≡ other
+read_only tokens tree other e is = same_model tree other (sym e ∙ model_read 64 tokens other is)
+
+-- where a model is spelled, the reader halts for want of memory alone
+pub halts_only : (tokens : List Token) (length : ℕ) (h : Halt) (other : ModelTree) → Fails h (phrase.model 64 tokens) → SpellsWithin tokens other
+    → fault_of length h ≡ fault.NoMemory
+halts_only tokens length (halt.Syntax left) other e is = absurd (never_both other (Stop.Syntax left.now) (sym (model_read 64 tokens other is) ∙ e))
+halts_only tokens length (halt.Depth left) other e is = absurd (never_both other (Stop.Depth left.now) (sym (model_read 64 tokens other is) ∙ e))
+halts_only tokens length halt.NoMemory other e is = refl
+
+-- the fault says where the tokens go wrong
+pub halts_refused : (tokens : List Token) (length : ℕ) (h : Halt) → Fails h (phrase.model 64 tokens) → IsSpellingFault length tokens (fault_of length h)
+halts_refused tokens length (halt.Syntax left) e = misplaced refl (misplaced_at length tokens left.now e)
+halts_refused tokens length (halt.Depth left) e = too_deep refl (too_deep_at length tokens left.now e)
+halts_refused tokens length halt.NoMemory e = tt
+
+-- the fault is where reading stops
+stopped_there : (length : ℕ) (outcome : Result ModelTree Stop) (stop : Stop) → outcome ≡ stopped stop → IsFaultOf length outcome (stop_fault length stop)
+stopped_there length outcome stop e = subst (λ r. IsFaultOf length r (stop_fault length stop)) (sym e) (inl refl)
+
+-- where memory runs out nothing is said
+out_of_memory : (length : ℕ) (outcome : Result ModelTree Stop) → IsFaultOf length outcome fault.NoMemory
+out_of_memory length (Ok tree) = refl
+out_of_memory length (Err stop) = inr refl
+
+-- a reader's fault is where reading stops
+pub halts_there : (tokens : List Token) (length : ℕ) (h : Halt) → Fails h (phrase.model 64 tokens) → IsFaultOf length (phrase.model 64 tokens) (fault_of length h)
+halts_there tokens length (halt.Syntax left) e = stopped_there length (phrase.model 64 tokens) (Stop.Syntax left.now) e
+halts_there tokens length (halt.Depth left) e = stopped_there length (phrase.model 64 tokens) (Stop.Depth left.now) e
+halts_there tokens length halt.NoMemory e = out_of_memory length (phrase.model 64 tokens)

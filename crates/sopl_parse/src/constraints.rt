@@ -1,0 +1,165 @@
+//! Constraints.
+
+ghost use Rattle.std.specs.Prelude.{◌≡◌, false, [], ◌∷◌, length, option_map};
+ghost use Rattle.sopl_ast.specs.Constraints.{cons_tree, cons_trees};
+ghost use Rattle.sopl_grammar.specs.Reading.{chain};
+ghost use Rattle.sopl_grammar.specs.Phrases as phrase;
+ghost use Rattle.sopl_grammar.specs.Phrases.{way};
+ghost use Rattle.sopl_expr.specs.Answers.{Answers};
+ghost use Rattle.sopl_parse.specs.Parts as piece;
+
+use sopl_ast::{Binders, Cons, ConsList, Expr, Token};
+use sopl_expr::{Next, Read, Reader, is_over};
+use sopl_grammar::{Mark, has_mark, rest};
+
+/// The condition of a chance constraint, and the mark behind it.
+#[tactic(auto, unfolding(crate::specs::Parts::condition, sopl_grammar::specs::Phrases::inner_of))]
+fn condition<'a>(reader: &Reader, tokens: &'a [Token]) -> Read<'a, Expr>
+    ensures { Answers (λ x. (x.0, x.1.now)) result
+        (piece.condition (way false reader.now.depth) tokens.now) }
+{
+    let (inner, left) = reader.enter(Mark::ParenOpen, tokens)?;
+    let (cond, left) = inner.expression(left)?;
+    let left = reader.past(Mark::ParenClose, left)?;
+    let left = reader.past(Mark::GreaterEq, left)?;
+    Ok((cond, left))
+}
+
+/// The probability of a chance constraint, and its end.
+#[tactic(auto, unfolding(crate::specs::Parts::share))]
+fn share<'a>(reader: &Reader, tokens: &'a [Token]) -> Read<'a, (Expr, Expr)>
+    ensures { Answers (λ x. (x.0, x.1.now)) result
+        (piece.share (way false reader.now.depth) tokens.now) }
+{
+    let (p, left) = reader.sum(tokens)?;
+    let left = reader.past(Mark::Slash, left)?;
+    let (q, left) = reader.sum(left)?;
+    let left = reader.past(Mark::Semi, left)?;
+    Ok(((p, q), left))
+}
+
+/// A chance constraint, behind its keyword.
+#[tactic(auto, using(crate::proofs::Parts::chance_parts))]
+fn chance<'a>(reader: &Reader, tokens: &'a [Token]) -> Read<'a, Cons>
+    ensures { Answers (λ x. (cons_tree x.0, x.1.now)) result
+        (phrase.chance (way false reader.now.depth) tokens.now) }
+{
+    let (cond, left) = condition(reader, tokens)?;
+    let ((p, q), left) = share(reader, left)?;
+    Ok((Cons::chance(cond, p, q), left))
+}
+
+/// A hard constraint.
+#[tactic(auto, unfolding(sopl_grammar::specs::Phrases::hard))]
+fn hard<'a>(reader: &Reader, tokens: &'a [Token]) -> Read<'a, Cons>
+    ensures { Answers (λ x. (cons_tree x.0, x.1.now)) result
+        (phrase.hard (way false reader.now.depth) tokens.now) }
+{
+    let (cond, left) = reader.expression(tokens)?;
+    let left = reader.past(Mark::Semi, left)?;
+    Ok((Cons::hard(cond), left))
+}
+
+/// A constraint for each value of its binders.
+#[cycle(constraint)]
+#[tactic(auto, unfolding(sopl_grammar::specs::Phrases::forall_values, sopl_grammar::specs::Phrases::inner_of))]
+fn forall_values<'a>(reader: &Reader, tokens: &'a [Token]) -> Read<'a, Cons>
+    ensures { Answers (λ x. (cons_tree x.0, x.1.now)) result
+        (phrase.forall_values (way false reader.now.depth) tokens.now) }
+{
+    let inner = reader.inside(tokens)?;
+    let ((over, each), left) = quantified(&inner, rest(tokens))?;
+    Ok((Cons::forall(reader.alloc, over, each)?, left))
+}
+
+/// A block of constraints.
+#[cycle(constraint)]
+#[tactic(auto, unfolding(sopl_grammar::specs::Phrases::block, sopl_grammar::specs::Phrases::inner_of))]
+fn block<'a>(reader: &Reader, tokens: &'a [Token]) -> Read<'a, Cons>
+    ensures { Answers (λ x. (cons_tree x.0, x.1.now)) result
+        (phrase.block (way false reader.now.depth) tokens.now) }
+{
+    let inner = reader.inside(tokens)?;
+    let (parts, left) = constraints(&inner, rest(tokens))?;
+    let left = reader.past(Mark::BraceClose, left)?;
+    Ok((Cons::block(parts), left))
+}
+
+/// A constraint.
+#[cycle(constraint)]
+#[tactic(auto, unfolding(sopl_grammar::specs::Phrases::constraint))]
+fn constraint<'a>(reader: &Reader, tokens: &'a [Token]) -> Read<'a, Cons>
+    ensures { Answers (λ x. (cons_tree x.0, x.1.now)) result
+        (phrase.constraint (way false reader.now.depth) tokens.now) }
+{
+    if has_mark(Mark::Forall, tokens) {
+        return forall_values(reader, tokens);
+    }
+    if has_mark(Mark::BraceOpen, tokens) {
+        return block(reader, tokens);
+    }
+    if has_mark(Mark::Prob, tokens) {
+        return chance(reader, rest(tokens));
+    }
+    hard(reader, tokens)
+}
+
+/// What stands behind `forall`.
+#[cycle(constraint)]
+#[tactic(auto, unfolding(sopl_grammar::specs::Phrases::quantified))]
+fn quantified<'a>(reader: &Reader, tokens: &'a [Token]) -> Read<'a, (Binders, Cons)>
+    ensures { Answers (λ x. ((x.0.0, cons_tree x.0.1), x.1.now)) result
+        (phrase.quantified (way false reader.now.depth) tokens.now) }
+{
+    let (over, left) = reader.bindings(tokens)?;
+    let (each, left) = constraint(reader, left)?;
+    Ok(((over, each), left))
+}
+
+/// A constraint, unless the list is over.
+#[cycle(constraint)]
+#[tactic(auto, unfolding(sopl_grammar::specs::Phrases::next_constraint))]
+fn next_constraint<'a>(reader: &Reader, tokens: &'a [Token]) -> Next<'a, Cons>
+    ensures { Answers (λ x. (option_map cons_tree x.0, x.1.now)) result
+        (phrase.next_constraint (way false reader.now.depth) tokens.now) }
+{
+    if is_over(has_mark(Mark::BraceClose, tokens), tokens) {
+        return Ok((None, tokens));
+    }
+    let (constraint, left) = constraint(reader, tokens)?;
+    Ok((Some(constraint), left))
+}
+
+/// Constraints in order.
+#[cycle(constraint)]
+#[tactic(auto, unfolding(sopl_grammar::specs::Phrases::constraints))]
+fn constraints<'a>(reader: &Reader, tokens: &'a [Token]) -> Read<'a, ConsList>
+    ensures { Answers (λ x. (cons_trees x.0, x.1.now)) result
+        (phrase.constraints (way false reader.now.depth) tokens.now) }
+{
+    let mut parts = ConsList::new(reader.alloc);
+    let mut left = tokens;
+    'parts: for _turn in 0..tokens.len() {
+        let (part, behind) = next_constraint(reader, left)?;
+        left = behind;
+        let Some(part) = part else {
+            break;
+        };
+        parts.push(part)?;
+    }
+    Ok((parts, left))
+}
+
+/// `subject to` and the constraints in braces.
+#[tactic(auto, unfolding(sopl_grammar::specs::Phrases::body, sopl_grammar::specs::Phrases::inner_of))]
+pub fn body<'a>(reader: &Reader, tokens: &'a [Token]) -> Read<'a, ConsList>
+    ensures { Answers (λ x. (cons_trees x.0, x.1.now)) result
+        (phrase.body (way false reader.now.depth) tokens.now) }
+{
+    let left = reader.past(Mark::Subject, tokens)?;
+    let left = reader.past(Mark::To, left)?;
+    let (inner, left) = reader.enter(Mark::BraceOpen, left)?;
+    let (found, left) = constraints(&inner, left)?;
+    let left = reader.past(Mark::BraceClose, left)?;
+    Ok((found, left))
+}

@@ -1,0 +1,101 @@
+//! Stages and dimensions of declarations.
+
+ghost use Rattle.std.specs.Prelude.{◌≡◌, false, [], ◌∷◌, length, option_map, option_copied};
+ghost use Rattle.sopl_ast.specs.Grammar.{range_place as range_place_of};
+ghost use Rattle.sopl_ast.specs.Ranges.{range_of};
+ghost use Rattle.sopl_grammar.specs.Reading.{chain};
+ghost use Rattle.sopl_grammar.specs.Phrases as phrase;
+ghost use Rattle.sopl_grammar.specs.Phrases.{way};
+ghost use Rattle.sopl_expr.specs.Answers.{Answers};
+
+use sopl_ast::{Dim, Dims, Expr, Name, RangeText, Token};
+use sopl_expr::{Next, Read, Reader};
+use sopl_grammar::{Mark, has_mark, named, place, rest};
+
+/// The name that goes over a dimension, by two tokens.
+#[tactic(auto, unfolding(sopl_grammar::specs::Phrases::dim_name))]
+fn dim_name(tokens: &[Token]) -> Option<&Name>
+    ensures { option_copied result ≡ phrase.dim_name tokens.now }
+{
+    let name = named(tokens)?;
+    if has_mark(Mark::Inside, rest(tokens)) {
+        Some(name)
+    } else {
+        None
+    }
+}
+
+/// Where a range begins.
+fn range_place(range: &RangeText) -> usize
+    ensures { result ≡ range_place_of (range_of range.now) }
+{
+    match range {
+        RangeText::Named { at, .. } => *at,
+        RangeText::Ends { lo, .. } => lo.at,
+    }
+}
+
+/// A stage, or none.
+#[tactic(auto, unfolding(sopl_grammar::specs::Phrases::stage))]
+pub fn stage<'a>(reader: &Reader, tokens: &'a [Token]) -> Read<'a, Option<Expr>>
+    ensures { Answers (λ x. (x.0, x.1.now)) result
+        (phrase.stage (way false reader.now.depth) tokens.now) }
+{
+    if !has_mark(Mark::Stage, tokens) {
+        return Ok((None, tokens));
+    }
+    let (e, left) = reader.sum(rest(tokens))?;
+    Ok((Some(e), left))
+}
+
+/// A dimension, inside its bracket.
+#[tactic(auto, unfolding(sopl_grammar::specs::Phrases::dim))]
+fn dim<'a>(reader: &Reader, tokens: &'a [Token]) -> Read<'a, Dim>
+    ensures { Answers (λ x. (x.0, x.1.now)) result
+        (phrase.dim (way false reader.now.depth) tokens.now) }
+{
+    let Some(name) = dim_name(tokens) else {
+        let (range, left) = reader.range(tokens)?;
+        let at = range_place(&range);
+        let binder = None;
+        return Ok((Dim { binder, at, range }, left));
+    };
+    let (range, left) = reader.range(rest(rest(tokens)))?;
+    let binder = Some(name.copy(reader.alloc)?);
+    let at = place(tokens);
+    Ok((Dim { binder, at, range }, left))
+}
+
+/// A dimension in brackets, if there is one.
+#[tactic(auto, unfolding(sopl_grammar::specs::Phrases::next_dim, sopl_grammar::specs::Phrases::inner_of))]
+fn next_dim<'a>(reader: &Reader, tokens: &'a [Token]) -> Next<'a, Dim>
+    ensures { Answers (λ x. (x.0, x.1.now)) result
+        (phrase.next_dim (way false reader.now.depth) tokens.now) }
+{
+    if !has_mark(Mark::BracketOpen, tokens) {
+        return Ok((None, tokens));
+    }
+    let inner = reader.inside(tokens)?;
+    let (dim, left) = dim(&inner, rest(tokens))?;
+    let left = reader.past(Mark::BracketClose, left)?;
+    Ok((Some(dim), left))
+}
+
+/// Dimensions one behind the other.
+#[tactic(auto, unfolding(sopl_grammar::specs::Phrases::dims))]
+pub fn dims<'a>(reader: &Reader, tokens: &'a [Token]) -> Read<'a, Dims>
+    ensures { Answers (λ x. (x.0, x.1.now)) result
+        (phrase.dims (way false reader.now.depth) tokens.now) }
+{
+    let mut parts = Dims::new(reader.alloc);
+    let mut left = tokens;
+    'parts: for _turn in 0..tokens.len() {
+        let (part, behind) = next_dim(reader, left)?;
+        left = behind;
+        let Some(part) = part else {
+            break;
+        };
+        parts.push(part)?;
+    }
+    Ok((parts, left))
+}

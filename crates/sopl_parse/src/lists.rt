@@ -1,0 +1,124 @@
+//! Elements of sets, and outcomes of distributions.
+
+ghost use Rattle.std.specs.Prelude.{◌≡◌, false, [], ◌∷◌, length, option_map};
+ghost use Rattle.sopl_grammar.specs.Reading.{chain};
+ghost use Rattle.sopl_grammar.specs.Phrases as phrase;
+ghost use Rattle.sopl_grammar.specs.Phrases.{way};
+ghost use Rattle.sopl_expr.specs.Answers.{Answers};
+
+use sopl_ast::{Dist, Expr, Exprs, Token};
+use sopl_expr::{Next, Read, Reader, is_over};
+use sopl_grammar::{Mark, has_mark, rest};
+
+/// A comma and an element, if there are any.
+#[tactic(auto, unfolding(sopl_grammar::specs::Phrases::next_element))]
+fn next_element<'a>(reader: &Reader, tokens: &'a [Token]) -> Next<'a, Expr>
+    ensures { Answers (λ x. (x.0, x.1.now)) result
+        (phrase.next_element (way false reader.now.depth) tokens.now) }
+{
+    if !has_mark(Mark::Comma, tokens) {
+        return Ok((None, tokens));
+    }
+    let (e, left) = reader.sum(rest(tokens))?;
+    Ok((Some(e), left))
+}
+
+/// Elements behind the first one.
+#[tactic(auto, unfolding(sopl_grammar::specs::Phrases::more_elements))]
+fn more_elements<'a>(reader: &Reader, first: Expr, tokens: &'a [Token]) -> Read<'a, Exprs>
+    ensures { Answers (λ x. (x.0, x.1.now)) result
+        (phrase.more_elements (way false reader.now.depth) first tokens.now) }
+{
+    let mut parts = Exprs::new(reader.alloc);
+    parts.push(first)?;
+    let mut left = tokens;
+    'parts: for _turn in 0..tokens.len() {
+        let (part, behind) = next_element(reader, left)?;
+        left = behind;
+        let Some(part) = part else {
+            break;
+        };
+        parts.push(part)?;
+    }
+    Ok((parts, left))
+}
+
+/// The elements of a set, inside its braces.
+#[tactic(auto, unfolding(sopl_grammar::specs::Phrases::elements))]
+pub fn elements<'a>(reader: &Reader, tokens: &'a [Token]) -> Read<'a, Exprs>
+    ensures { Answers (λ x. (x.0, x.1.now)) result
+        (phrase.elements (way false reader.now.depth) tokens.now) }
+{
+    if is_over(has_mark(Mark::BraceClose, tokens), tokens) {
+        return Ok((Exprs::new(reader.alloc), tokens));
+    }
+    let (first, left) = reader.sum(tokens)?;
+    more_elements(reader, first, left)
+}
+
+/// A value and its weight.
+#[tactic(auto, unfolding(sopl_grammar::specs::Phrases::outcome))]
+fn outcome<'a>(reader: &Reader, tokens: &'a [Token]) -> Read<'a, (Expr, Expr)>
+    ensures { Answers (λ x. (x.0, x.1.now)) result
+        (phrase.outcome (way false reader.now.depth) tokens.now) }
+{
+    let (value, left) = reader.sum(tokens)?;
+    let left = reader.past(Mark::Colon, left)?;
+    let (weight, left) = reader.sum(left)?;
+    Ok(((value, weight), left))
+}
+
+/// A comma and an outcome, if there are any.
+#[tactic(auto, unfolding(sopl_grammar::specs::Phrases::next_outcome))]
+fn next_outcome<'a>(reader: &Reader, tokens: &'a [Token]) -> Next<'a, (Expr, Expr)>
+    ensures { Answers (λ x. (x.0, x.1.now)) result
+        (phrase.next_outcome (way false reader.now.depth) tokens.now) }
+{
+    if !has_mark(Mark::Comma, tokens) {
+        return Ok((None, tokens));
+    }
+    let (outcome, left) = outcome(reader, rest(tokens))?;
+    Ok((Some(outcome), left))
+}
+
+/// Outcomes behind the first one.
+#[tactic(auto, unfolding(sopl_grammar::specs::Phrases::more_outcomes))]
+fn more_outcomes<'a>(reader: &Reader, first: (Expr, Expr), tokens: &'a [Token]) -> Read<'a, Dist>
+    ensures { Answers (λ x. (x.0, x.1.now)) result
+        (phrase.more_outcomes (way false reader.now.depth) first tokens.now) }
+{
+    let mut parts = Dist::new(reader.alloc);
+    parts.push(first)?;
+    let mut left = tokens;
+    'parts: for _turn in 0..tokens.len() {
+        let (part, behind) = next_outcome(reader, left)?;
+        left = behind;
+        let Some(part) = part else {
+            break;
+        };
+        parts.push(part)?;
+    }
+    Ok((parts, left))
+}
+
+/// The outcomes of a distribution, inside its braces.
+#[tactic(auto, unfolding(sopl_grammar::specs::Phrases::outcomes))]
+fn outcomes<'a>(reader: &Reader, tokens: &'a [Token]) -> Read<'a, Dist>
+    ensures { Answers (λ x. (x.0, x.1.now)) result
+        (phrase.outcomes (way false reader.now.depth) tokens.now) }
+{
+    let (first, left) = outcome(reader, tokens)?;
+    more_outcomes(reader, first, left)
+}
+
+/// A distribution.
+#[tactic(auto, unfolding(sopl_grammar::specs::Phrases::distribution, sopl_grammar::specs::Phrases::inner_of))]
+pub fn distribution<'a>(reader: &Reader, tokens: &'a [Token]) -> Read<'a, Dist>
+    ensures { Answers (λ x. (x.0, x.1.now)) result
+        (phrase.distribution (way false reader.now.depth) tokens.now) }
+{
+    let (inner, left) = reader.enter(Mark::BraceOpen, tokens)?;
+    let (found, left) = outcomes(&inner, left)?;
+    let left = reader.past(Mark::BraceClose, left)?;
+    Ok((found, left))
+}

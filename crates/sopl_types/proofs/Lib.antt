@@ -1,0 +1,11 @@
+pub mod EarliestLemmas
+pub mod Scopes
+pub mod Walks
+pub mod DepthLemmas
+pub mod InitWalks
+pub mod DeclLemmas
+pub mod DeclWalks
+pub mod Same
+pub mod ConsWalks
+pub mod FirstLemmas
+pub mod Whole

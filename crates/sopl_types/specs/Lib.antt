@@ -1,0 +1,5 @@
+pub mod Earliest
+pub mod Known
+pub mod Depths
+pub mod ConsWeight
+pub mod Outcome

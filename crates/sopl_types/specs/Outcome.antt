@@ -1,0 +1,11 @@
+-- What a refusal of a model says.
+use Rattle.sopl_base.specs.declared.places.Fault.{Fault}
+use Rattle.sopl_base.specs.declared.places.Fault.TheVariants.{Text, Limit, NoMemory}
+use Rattle.sopl_ast.specs.Whole.{ModelTree}
+use Rattle.sopl_ast.specs.Mistakes.{IsFirstMistake}
+
+-- a refusal of the text is the model's first mistake, no limit is broken, and want of memory says nothing of the model
+abbrev pub IsFirstFault : ModelTree → Fault → Type 0
+IsFirstFault model (Text refusal) = IsFirstMistake model refusal
+IsFirstFault model (Limit excess) = ⊥
+IsFirstFault model NoMemory = Unit {0}

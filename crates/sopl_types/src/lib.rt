@@ -1,0 +1,12 @@
+//! The types of a model: which names are known where, what they stand for, and the first mistake.
+#![tactic(auto)]
+
+mod check;
+mod constraints;
+mod declarations;
+mod expressions;
+mod inits;
+mod mistakes;
+mod names;
+
+pub use check::{Typed, check_types};
