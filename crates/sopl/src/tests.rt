@@ -120,6 +120,12 @@ fn faults(rt: HostRuntime) -> Result<(), Fail> {
     for (failing, capacity, status, want) in [
         ([9].as_slice(), 10, Status::WriteFault, "{\"answer\":"),
         (
+            [0].as_slice(),
+            1000,
+            Status::ReadFault,
+            "{\"answer\":\"read fault\"}\n",
+        ),
+        (
             [1].as_slice(),
             1000,
             Status::ReadFault,
