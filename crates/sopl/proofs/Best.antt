@@ -28,8 +28,7 @@ use Rattle.serde_json.specs.Data.{Data}
 use Rattle.policy_tree.proofs.Lifted.{optimal_from, infeasible_from}
 use Rattle.sopl.specs.Answers.{fraction, word_data, refused_data, optimal_object, optimal_data, line_of}
 use Rattle.sopl_base.specs.declared.places.Refusal.{Refusal}
-use Rattle.sopl_ast.specs.Refusals.{SolvedText}
-use Rattle.sopl_ast.specs.Refusals.{IsRefusedFor}
+use Rattle.sopl_ast.specs.Refusals.{SolvedText, IsRefusedFor}
 use Rattle.sopl.proofs.Rejected.{refused_rejected}
 use Rattle.sopl.specs.Replies.{IsTextReply, SaysOptimal, SaysInfeasible}
 use Rattle.sopl.specs.Solved.{IsBest}

@@ -11,8 +11,7 @@ use Rattle.sopl_ast.specs.Misspelled.{IsMisspelled, misplaced, too_deep, NoneGoe
 use Rattle.sopl_ast.specs.Mistakes.{of_model}
 use Rattle.sopl_ast.specs.Instances.{Problem}
 use Rattle.sopl_ast.specs.Accepted.{AcceptedModel}
-use Rattle.sopl_ast.specs.Refusals.{SolvedText}
-use Rattle.sopl_ast.specs.Refusals.{IsRefusedFor, no_tokens, misspelled, mistaken, not_solved}
+use Rattle.sopl_ast.specs.Refusals.{SolvedText, IsRefusedFor, no_tokens, misspelled, mistaken, not_solved}
 use Rattle.sopl_lex.proofs.Meet.{lexes_one}
 use Rattle.sopl_grammar.proofs.Stops.{spells_one}
 

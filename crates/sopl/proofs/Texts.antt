@@ -11,8 +11,7 @@ use Rattle.sopl_ast.specs.WholeModel.{whole}
 use Rattle.sopl_ast.specs.Grammar.{SpellsWithin}
 use Rattle.sopl_ast.specs.Mistakes.{IsWellTyped}
 use Rattle.sopl_ast.specs.Instances.{Problem}
-use Rattle.sopl_ast.specs.Refusals.{SolvedText}
-use Rattle.sopl_ast.specs.Refusals.{no_tokens, misspelled, mistaken, not_solved}
+use Rattle.sopl_ast.specs.Refusals.{SolvedText, no_tokens, misspelled, mistaken, not_solved}
 use Rattle.sopl_lex.specs.Answers.{Answers}
 use Rattle.sopl_parse.specs.Faults.{IsSpellingFault}
 use Rattle.sopl_types.specs.Outcome.{IsFirstFault}

@@ -6,10 +6,9 @@ use Rattle.std.specs.Option.{option_and_then}
 use Rattle.std.specs.declared.alloc.AllocError.{AllocError}
 use Rattle.sopl_io.specs.Stock.{Stock, text_of}
 use Rattle.sopl_io.specs.Transfer.{cut_at}
-use Rattle.sopl_ast.specs.Refusals.{SolvedText}
+use Rattle.sopl_ast.specs.Refusals.{SolvedText, IsRefusedFor, no_tokens, misspelled, mistaken, not_solved}
 use Rattle.sopl_base.specs.declared.places.Refusal.{Refusal}
 use Rattle.sopl_ast.specs.Instances.{Problem}
-use Rattle.sopl_ast.specs.Refusals.{IsRefusedFor, no_tokens, misspelled, mistaken, not_solved}
 use Rattle.sopl_ast.specs.Tokens.{too_long, no_piece, too_large}
 use Rattle.sopl.specs.Words.{model_of}
 use Rattle.sopl.specs.Replies.{IsTextReply, IsReply, model_text}

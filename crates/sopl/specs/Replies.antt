@@ -6,8 +6,7 @@ use Rattle.sopl_io.specs.Transfer.{AppendsPrefix}
 use Rattle.sopl_ast.specs.Instances.{Problem}
 use Rattle.sopl_ast.specs.Policies.{Policy}
 use Rattle.sopl_ast.specs.Optimal.{IsOptimal, IsInfeasible}
-use Rattle.sopl_ast.specs.Refusals.{SolvedText}
-use Rattle.sopl_ast.specs.Refusals.{IsRefusedFor}
+use Rattle.sopl_ast.specs.Refusals.{SolvedText, IsRefusedFor}
 use Rattle.sopl_base.specs.declared.places.Refusal.{Refusal}
 use Rattle.sopl.specs.Words.{model_of}
 use Rattle.sopl.specs.Answers.{word_data, refused_data, optimal_data, line_of}

@@ -1,6 +1,6 @@
 -- The mistakes of a model that is well spelled: names that are unknown or stand twice, wrong kinds, wrong numbers of indices, and variables where a
 -- constant is asked for. A mistake is its code and its place. A model is well typed where it has none; else its first mistake is refused.
-use Rattle.std.specs.Prelude.{◌≡◌, ℕ, ◌+◌, ◌<◌, ◌≤◌, nat_eq, nat_le, Bool, true, false, ◌&&◌, ◌||◌, List, [], ◌∷◌, ◌++◌, length, Option, Some, None, if◌then◌else◌}
+use Rattle.std.specs.Prelude.{◌≡◌, ℕ, ◌+◌, ◌<◌, ◌≤◌, nat_eq, nat_le, Bool, true, false, ◌||◌, List, [], ◌∷◌, ◌++◌, length, Option, Some, None, if◌then◌else◌}
 use Rattle.std.specs.List.{Contains}
 use Rattle.std.specs.Str.{bytes_eq}
 use Rattle.sopl_base.specs.declared.places.Refusal.{Refusal}

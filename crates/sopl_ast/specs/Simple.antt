@@ -6,7 +6,7 @@ use Rattle.sopl_base.specs.declared.places.CmpOp.TheVariants.{Eq, Ne, Lt, Le, Gt
 use Rattle.sopl_ast.specs.declared.operators.MulOp.{MulOp}
 use Rattle.sopl_ast.specs.declared.operators.MulOp.TheVariants.{Times, Div, Mod}
 use Rattle.sopl_ast.specs.Tree as t
-use Rattle.sopl_ast.specs.Tree.{Tree, Shape, Terms, Factors, Node, no_term, term, no_factor, factor}
+use Rattle.sopl_ast.specs.Tree.{Tree, Terms, Factors, Node, no_term, term, no_factor, factor}
 
 -- a literal
 abbrev pub is_literal : (ℤ → Bool) → Tree → Bool

@@ -7,7 +7,6 @@ use Rattle.std.specs.Int.RustNames.{unsigned_abs}
 use Rattle.sopl_base.specs.declared.places.Direction.{Direction}
 use Rattle.sopl_base.specs.declared.places.Direction.TheVariants.{Minimize, Maximize, Nothing}
 use Rattle.sopl_ast.specs.Pieces.{is_word}
-use Rattle.sopl_ast.specs.Tree.{Tree}
 use Rattle.sopl_ast.specs.Instances.{Outcome, Decision, Stochastic, Objective, Problem}
 use Rattle.sopl_ast.specs.Simple.{is_sum, is_comparison}
 

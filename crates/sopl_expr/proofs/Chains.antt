@@ -1,5 +1,5 @@
 -- How a loop over the items of a chain goes on, and how it ends.
-use Rattle.std.proofs.Common.{◌≡◌, ℕ, zero, suc, ◌+◌, ◌-◌, ◌<◌, ◌≤◌, List, [], ◌∷◌, ◌++◌, Option, Some, None, Result, Ok, Err, refl, sym, ap, ◌∙◌, arith}
+use Rattle.std.proofs.Common.{◌≡◌, ℕ, zero, suc, ◌+◌, ◌-◌, ◌<◌, ◌≤◌, List, [], ◌∷◌, ◌++◌, Option, Some, None, Ok, Err, sym, ap, ◌∙◌, arith}
 use Rattle.sopl_ast.specs.declared.token.Token.{Token}
 use Rattle.sopl_grammar.specs.Reading.{Stop, Read, Next, ◌>>=◌, chain, chain_on}
 

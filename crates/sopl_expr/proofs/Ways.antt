@@ -1,5 +1,5 @@
 -- How tokens are read where none is missing, by the number of openings that are left.
-use Rattle.std.proofs.Common.{◌≡◌, ℕ, zero, suc, ◌-◌, ◌<◌, false, Ok, Err, refl, sym, ap, List, Result, arith}
+use Rattle.std.proofs.Common.{◌≡◌, ℕ, zero, suc, ◌-◌, ◌<◌, false, Ok, Err, refl, sym, ap, List, arith}
 use Rattle.sopl_ast.specs.declared.token.Token.{Token}
 use Rattle.sopl_grammar.specs.Reading.{Depth}
 use Rattle.sopl_grammar.specs.Phrases.{way, inner_of, deeper}

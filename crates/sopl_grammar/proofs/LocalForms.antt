@@ -4,7 +4,7 @@ use Rattle.sopl_ast.specs.declared.token.Token.{Token}
 use Rattle.sopl_ast.specs.declared.token.TokenKind.{TokenKind}
 use Rattle.sopl_grammar.specs.declared.marks.Mark.{Mark}
 use Rattle.sopl_grammar.specs.Heads as h
-use Rattle.sopl_grammar.specs.Heads.{head, rest, place, is_mark}
+use Rattle.sopl_grammar.specs.Heads.{head, is_mark}
 use Rattle.sopl_grammar.specs.Reading.{Stop, Syntax, Depth, Read, ◌>>=◌, Inner, absent, past, passed, opening, opened, content_of, enter, name, name_at}
 use Rattle.sopl_grammar.specs.Phrases as p
 use Rattle.sopl_grammar.specs.Phrases.{way, inner_of}

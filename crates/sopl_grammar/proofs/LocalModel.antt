@@ -7,7 +7,7 @@ use Rattle.sopl_ast.specs.Lists.{trees, binders}
 use Rattle.sopl_ast.specs.Whole.{IntDecl, RangeDecl, SetDecl, DvarDecl, StochDecl, ConsTree, ForallTree, BlockTree, HardTree, ChanceTree, conses, GoalTree}
 use Rattle.sopl_grammar.specs.declared.marks.Mark.TheVariants as mark
 use Rattle.sopl_grammar.specs.Heads as h
-use Rattle.sopl_grammar.specs.Heads.{head, rest, is_mark}
+use Rattle.sopl_grammar.specs.Heads.{head, is_mark}
 use Rattle.sopl_grammar.specs.Reading.{Read, ◌>>=◌, absent, past, enter, name}
 use Rattle.sopl_grammar.specs.Expressions as expressions
 use Rattle.sopl_grammar.specs.Phrases as p

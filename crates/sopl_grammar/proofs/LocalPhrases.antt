@@ -9,7 +9,7 @@ use Rattle.sopl_ast.specs.Tree as t
 use Rattle.sopl_ast.specs.Tree.{Tree, Node, place_of, shape_of}
 use Rattle.sopl_grammar.specs.declared.marks.Mark.TheVariants as mark
 use Rattle.sopl_grammar.specs.Heads as h
-use Rattle.sopl_grammar.specs.Heads.{head, rest, is_mark}
+use Rattle.sopl_grammar.specs.Heads.{head, is_mark}
 use Rattle.sopl_grammar.specs.Reading.{◌>>=◌, absent, past, enter, chain}
 use Rattle.sopl_grammar.specs.Expressions as expressions
 use Rattle.sopl_grammar.specs.Phrases as p

@@ -8,10 +8,10 @@ use Rattle.sopl_ast.specs.Lists.{trees, terms, factors, binders}
 use Rattle.sopl_ast.specs.Tree as t
 use Rattle.sopl_ast.specs.Tree.{Tree, Node, place_of, shape_of}
 use Rattle.sopl_ast.specs.Grammar as g
-use Rattle.sopl_ast.specs.Grammar.{Is, IsPrimary, MoreIndices, IsOperand, IsProduct, IsSum, IsComparison, IsNegation, IsConjunction, IsDisjunction, IsExpression, AreArguments, IsAll, AreBinders}
+use Rattle.sopl_ast.specs.Grammar.{IsPrimary, MoreIndices, IsOperand, IsProduct, IsSum, IsComparison, IsNegation, IsConjunction, IsDisjunction, IsExpression, AreArguments}
 use Rattle.sopl_grammar.specs.declared.marks.Mark.TheVariants as m
 use Rattle.sopl_grammar.specs.Heads as h
-use Rattle.sopl_grammar.specs.Heads.{head, rest, place, is_mark, at_kind, literal_value, name_bytes}
+use Rattle.sopl_grammar.specs.Heads.{head, at_kind, literal_value, name_bytes}
 use Rattle.sopl_grammar.specs.Reading.{past, enter, chain}
 use Rattle.sopl_grammar.specs.Expressions as expressions
 use Rattle.sopl_grammar.specs.Phrases as p

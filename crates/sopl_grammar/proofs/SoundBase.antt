@@ -8,7 +8,7 @@ use Rattle.sopl_ast.specs.Grammar as g
 use Rattle.sopl_ast.specs.Grammar.{Is, Opens, IsName}
 use Rattle.sopl_grammar.specs.declared.marks.Mark.{Mark}
 use Rattle.sopl_grammar.specs.Heads as h
-use Rattle.sopl_grammar.specs.Heads.{head, rest, place, kind_of, is_mark, at_kind}
+use Rattle.sopl_grammar.specs.Heads.{head, rest, kind_of, is_mark, at_kind}
 use Rattle.sopl_grammar.specs.Reading.{Stop, Depth, Read, Next, Inner, ◌>>=◌, absent, past, passed, opening, opened, content_of, enter, name, name_at, chain, chain_on}
 use Rattle.sopl_grammar.specs.Phrases.{way, deeper, inner_of, some_read}
 use Rattle.sopl_grammar.proofs.Items.{Items, no_item, an_item, IsBehind, behind}

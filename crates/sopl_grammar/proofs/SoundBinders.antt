@@ -5,10 +5,10 @@ use Rattle.sopl_ast.specs.declared.token.TokenKind.TheVariants as k
 use Rattle.sopl_ast.specs.Lists.{BinderTree}
 use Rattle.sopl_ast.specs.Tree.{Tree, Range, Named, Ends}
 use Rattle.sopl_ast.specs.Grammar as g
-use Rattle.sopl_ast.specs.Grammar.{IsExpression, AreArguments, IsRange, IsBinder, AreBinders, IsAll, IsTask}
+use Rattle.sopl_ast.specs.Grammar.{IsExpression, AreArguments, IsRange, IsBinder, AreBinders, IsAll}
 use Rattle.sopl_grammar.specs.declared.marks.Mark.TheVariants as m
 use Rattle.sopl_grammar.specs.Heads as h
-use Rattle.sopl_grammar.specs.Heads.{head, rest, place, at_kind, name_bytes}
+use Rattle.sopl_grammar.specs.Heads.{head, name_bytes}
 use Rattle.sopl_grammar.specs.Reading.{past, enter, name}
 use Rattle.sopl_grammar.specs.Expressions as expressions
 use Rattle.sopl_grammar.specs.Phrases as p

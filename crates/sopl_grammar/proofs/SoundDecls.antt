@@ -6,10 +6,10 @@ use Rattle.sopl_ast.specs.Lists.{trees}
 use Rattle.sopl_ast.specs.Tree.{Tree}
 use Rattle.sopl_ast.specs.Whole.{DimTree, InitTree, One, Many, inits, Declaration, IntDecl, RangeDecl, SetDecl, DvarDecl, StochDecl}
 use Rattle.sopl_ast.specs.Grammar as g
-use Rattle.sopl_ast.specs.Grammar.{Is, Opens, IsSum, IsExpression, IsStage, IsDim, AreDims, IsInit, AreInits, AreElements, IsOutcome, IsDistribution, IsVariable, IsDeclaration, AreDeclarations}
+use Rattle.sopl_ast.specs.Grammar.{Is, Opens, IsSum, IsStage, IsDim, AreDims, IsInit, AreInits, AreElements, IsOutcome, IsDistribution, IsVariable, IsDeclaration, AreDeclarations}
 use Rattle.sopl_grammar.specs.declared.marks.Mark.TheVariants as m
 use Rattle.sopl_grammar.specs.Heads as h
-use Rattle.sopl_grammar.specs.Heads.{head, rest, place, is_mark, at_kind, name_bytes}
+use Rattle.sopl_grammar.specs.Heads.{head, is_mark, name_bytes}
 use Rattle.sopl_grammar.specs.Reading.{past, enter, name}
 use Rattle.sopl_grammar.specs.Expressions as expressions
 use Rattle.sopl_grammar.specs.Phrases as p

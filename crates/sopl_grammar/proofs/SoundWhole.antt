@@ -6,10 +6,10 @@ use Rattle.sopl_ast.specs.declared.token.TokenKind.TheVariants as k
 use Rattle.sopl_ast.specs.Lists.{BinderTree, binders}
 use Rattle.sopl_ast.specs.Whole.{ConsTree, ForallTree, BlockTree, HardTree, ChanceTree, conses, GoalTree, ModelTree}
 use Rattle.sopl_ast.specs.Grammar as g
-use Rattle.sopl_ast.specs.Grammar.{Is, Opens, IsMeasure, MayBeGoal, IsConstraint, AreConstraints, AreDeclarations, IsModel}
+use Rattle.sopl_ast.specs.Grammar.{Is, Opens, IsMeasure, MayBeGoal, IsConstraint, AreConstraints, IsModel}
 use Rattle.sopl_grammar.specs.declared.marks.Mark.TheVariants as m
 use Rattle.sopl_grammar.specs.Heads as h
-use Rattle.sopl_grammar.specs.Heads.{head, rest, is_mark}
+use Rattle.sopl_grammar.specs.Heads.{head, is_mark}
 use Rattle.sopl_grammar.specs.Reading.{past, enter}
 use Rattle.sopl_grammar.specs.Expressions as expressions
 use Rattle.sopl_grammar.specs.Phrases as p

@@ -6,7 +6,7 @@ use Rattle.sopl_ast.specs.Grammar as g
 use Rattle.sopl_ast.specs.Grammar.{Is, Opens, IsName, IsMeasure}
 use Rattle.sopl_grammar.specs.declared.marks.Mark.{Mark}
 use Rattle.sopl_grammar.specs.Heads as h
-use Rattle.sopl_grammar.specs.Heads.{head, rest, place, is_mark, kind_of}
+use Rattle.sopl_grammar.specs.Heads.{is_mark, kind_of}
 use Rattle.sopl_grammar.specs.Reading.{Way, past, passed, opening, name}
 use Rattle.sopl_grammar.specs.Phrases as p
 use Rattle.sopl_grammar.proofs.MarkLaws.{mark_is}

@@ -1,9 +1,9 @@
 -- What the reader's answer says of the models that the tokens spell.
-use Rattle.std.proofs.Common.{◌≡◌, ◌⊎◌, inl, inr, ℕ, List, Result, Ok, Err, refl, sym, subst, ◌∙◌}
+use Rattle.std.proofs.Common.{◌≡◌, inl, inr, ℕ, List, Result, Ok, Err, refl, sym, subst, ◌∙◌}
 use Rattle.sopl_base.specs.declared.places.Fault.TheVariants as fault
 use Rattle.sopl_ast.specs.declared.token.Token.{Token}
 use Rattle.sopl_ast.specs.Grammar.{SpellsWithin}
-use Rattle.sopl_ast.specs.Misspelled.{IsMisspelled, misplaced, too_deep}
+use Rattle.sopl_ast.specs.Misspelled.{misplaced, too_deep}
 use Rattle.sopl_ast.specs.Whole.{ModelTree}
 use Rattle.sopl_grammar.specs.Phrases as phrase
 use Rattle.sopl_grammar.specs.Reading.{Stop}

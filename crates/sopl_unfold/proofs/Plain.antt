@@ -1,8 +1,7 @@
 -- Constraints of which each is a hard one, and their instances.
 use Rattle.std.proofs.Common.{◌≡◌, ℕ, suc, ◌+◌, ◌<◌, ◌≤◌, true, false, List, [], ◌∷◌, ◌++◌, length, get_or, drop, map, refl, sym, ap, ◌∙◌, arith, Option, Some, None, is_some}
-use Rattle.std.proofs.lemmas.List.{at_drop_more, at_drop_all}
+use Rattle.std.proofs.lemmas.List.{at_drop_more, at_drop_all, map-append}
 use Rattle.std.specs.List.{range_with_len}
-use Rattle.std.proofs.lemmas.List.{map-append}
 use Rattle.sopl_unfold.proofs.RangePush.{range_push}
 use Rattle.sopl_ast.specs.Instances.{Hard}
 use Rattle.sopl_ast.specs.Problems.{both_of, all_of, hards_of}

@@ -1,11 +1,10 @@
 -- What a model states, from what is found of its declarations and its constraints.
-use Rattle.std.proofs.Common.{◌≡◌, ℕ, suc, Bool, true, false, List, [], ◌∷◌, length, map, refl, sym, ap, ◌∙◌, Option, Some, None, is_some, IsSome, option_map}
+use Rattle.std.proofs.Common.{◌≡◌, ℕ, suc, Bool, true, false, List, [], ◌∷◌, length, map, refl, sym, ap, ◌∙◌, Option, Some, None, is_some, IsSome, option_map, Result, Ok, Err, IfOk}
 use Rattle.sopl_ast.specs.Tree.{Tree}
 use Rattle.sopl_ast.specs.Whole.{Declaration, ConsTree, ForallTree, BlockTree, HardTree, ChanceTree, ModelTree}
 use Rattle.sopl_ast.specs.Instances.{Stochastic, Hard, Problem}
 use Rattle.sopl_ast.specs.Problems.{both_of, all_of, Variable, variable_of, condition_of, stochastics_among, by_stage, hards_of, objective_of, problem_with, problem_of}
 use Rattle.std.specs.declared.alloc.AllocError.{AllocError}
-use Rattle.std.proofs.Common.{Result, Ok, Err, IfOk}
 use Rattle.sopl_ast.specs.Constraints.{cons_tree}
 use Rattle.sopl_ast.specs.declared.constraints.Cons.{Cons}
 use Rattle.sopl_unfold.specs.declared.scalar_models.Variables.{Variables}
