@@ -1,0 +1,14 @@
+pub mod Quotients
+pub mod Maps
+pub mod Bindings
+pub mod Folds
+pub mod Distinct
+pub mod Upward
+pub mod Fronts
+pub mod Steps
+pub mod Gathered
+pub mod Agreement
+pub mod HowMany
+pub mod Body
+pub mod WalkAgreement
+pub mod Outcomes

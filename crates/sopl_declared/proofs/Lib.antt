@@ -1,0 +1,4 @@
+pub mod Parts
+pub mod Indices
+pub mod DeclaringAgreement
+pub mod Values

@@ -1,0 +1,15 @@
+use Rattle.sopl_ast.specs.Lists.{trees}
+use Rattle.sopl_constant.specs.Tables.{items}
+use Rattle.sopl_constant.proofs.Outcomes.{walks_so, worth_so}
+use Rattle.sopl_declared.specs.Entries.{table_known}
+use Rattle.sopl_declared.proofs.DeclaringAgreement.{agree_set}
+use Rattle.sopl_declared.proofs.Values.{value_is}
+use Rattle.sopl_declared.proofs.declare.element_numbers.Goals as goal
+
+pub returns-clause-met : goal.returns-clause-met
+returns-clause-met c = walks_so items _ _ c.set_numbers.result (agree_set (table_known c.args.table.now) (trees c.args.elements.now)) (rw c.new-known.ensures at c.set_numbers.ensures)
+
+pub returns-clause-numbers : goal.returns-clause-numbers
+returns-clause-numbers c =
+    value_is items _ c.set_numbers.result
+    (worth_so items _ _ c.set_numbers.result (agree_set (table_known c.args.table.now) (trees c.args.elements.now)) (rw c.new-known.ensures at c.set_numbers.ensures))

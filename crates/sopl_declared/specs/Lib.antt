@@ -1,0 +1,4 @@
+pub mod Declarations
+pub mod DeclarationMarks
+pub mod Declaring
+pub mod Entries

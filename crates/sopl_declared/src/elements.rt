@@ -1,0 +1,262 @@
+//! The elements of constants.
+
+ghost use Rattle.std.specs.Prelude.{◌≡◌, ℕ, [], ◌∷◌, ◌++◌, map, option_map, IfOk, OnOk};
+ghost use Rattle.sopl_ast.specs.Inits.{init_tree};
+ghost use Rattle.sopl_ast.specs.Whole.{inits, Many};
+ghost use Rattle.sopl_constant.specs.Answers.{Answers};
+ghost use Rattle.sopl_constant.specs.Tables.{known_in};
+ghost use Rattle.sopl_constant.specs.Walked as test;
+ghost use Rattle.sopl_declared.specs.Declarations.{taking as taking_in};
+ghost use Rattle.sopl_declared.specs.Declaring as spec;
+ghost use Rattle.sopl_declared.specs.Entries.{dimension_in, dimensions_in, entries_in};
+
+use crate::arrays::{Dimension, dimensions, taking};
+use sopl_ast::{Dim, Expr, Init};
+use sopl_base::Fault;
+use sopl_constant::{Count, Known, refused};
+use std::alloc::{AllocError, Global};
+
+/// The code of a bracket with another number of parts than its index set has elements.
+pub const LENGTH: u16 = 112;
+
+/// An index of a constant, and the value there.
+#[derive(Debug, Drop)]
+pub struct Entry {
+    pub index: Vec<i64>,
+    pub value: i64,
+}
+
+/// Where elements of an array are evaluated: what is known there, and the front of their indices.
+#[derive(Drop)]
+struct Front<'a> {
+    alloc: Global,
+    known: Known<'a>,
+    index: Vec<i64>,
+}
+
+impl<'a> Front<'a> {
+    /// The same with one number more of a dimension, for which the dimension's name stands, if it has one.
+    fn longer(&self, dimension: &Dimension<'a>, number: i64) -> Result<Front<'a>, AllocError>
+        ensures known { IfOk result (λ front. known_in front.known ≡ taking_in (option_map (λ n. n.now) dimension.now.name) number (known_in self.now.known)) }
+        ensures index { IfOk result (λ front. front.index.items ≡ self.now.index.items ++ number ∷ []) }
+    {
+        let known = taking(&self.known, dimension.name, number)?;
+        let mut index = Vec::from_slice(self.alloc, self.index.as_slice())?;
+        index.push(number)?;
+        Ok(Front {
+            alloc: self.alloc,
+            known,
+            index,
+        })
+    }
+}
+
+/// Refuses the text with this code at this place, unless a test holds.
+fn unless(holds: bool, code: u16, at: usize) -> Result<(), Fault>
+    ensures { (count : ℕ) → Answers (λ u. u) count result (test.unless holds code at count) }
+{
+    if holds {
+        Ok(())
+    } else {
+        Err(refused(code, at))
+    }
+}
+
+/// The elements of a constant, in lexicographic order of their indices.
+pub fn entries<'a>(
+    alloc: Global,
+    known: &Known<'a>,
+    count: &mut Count,
+    dims: &'a [Dim],
+    init: &'a Init,
+) -> Result<Vec<Entry>, Fault>
+    ensures { Answers (λ found. entries_in found.items) count.new.counted result
+        (spec.entries (known_in known.now) dims.now (init_tree init.now) count.old.counted) }
+{
+    let left = dimensions(alloc, known, count, dims)?;
+    let front = Front {
+        alloc,
+        known: known.copy()?,
+        index: Vec::new(alloc),
+    };
+    let mut found = Vec::new(alloc);
+    part(&front, count, left.as_slice(), init, &mut found)?;
+    Ok(found)
+}
+
+/// Adds the elements that initial values give to the indices with this front.
+#[tactic(auto, using(crate::proofs::Parts::parts))]
+#[cycle(part)]
+fn part<'a>(
+    front: &Front<'a>,
+    count: &mut Count,
+    left: &[Dimension<'a>],
+    init: &'a Init,
+    found: &mut Vec<Entry>,
+) -> Result<(), Fault>
+    ensures { Answers (λ u. entries_in found.new.items) count.new.counted result
+        (spec.part (known_in front.now.known) (dimensions_in left.now) front.now.index.items (init_tree init.now)
+        (entries_in found.old.items) count.old.counted) }
+{
+    match init {
+        Init::One(e) => fill(front, count, left, e, found),
+        Init::Many { at, parts } => match left {
+            [] => Ok(()),
+            [first, later @ ..] => {
+                let parts = parts.as_slice();
+                bracket(front, count, first, later, *at, parts, found)
+            }
+        },
+    }
+}
+
+/// The same for a bracket, which has a part for each number of a dimension.
+#[tactic(auto, using(crate::proofs::Parts::parts))]
+#[cycle(part)]
+fn bracket<'a>(
+    front: &Front<'a>,
+    count: &mut Count,
+    first: &Dimension<'a>,
+    later: &[Dimension<'a>],
+    at: usize,
+    parts: &'a [Init],
+    found: &mut Vec<Entry>,
+) -> Result<(), Fault>
+    ensures { Answers (λ u. entries_in found.new.items) count.new.counted result
+        (spec.part (known_in front.now.known) (dimension_in first.now ∷ dimensions_in later.now) front.now.index.items (Many at (inits (map init_tree parts.now)))
+        (entries_in found.old.items) count.old.counted) }
+{
+    unless(parts.len() == first.numbers.len(), LENGTH, at)?;
+    parts_in(front, count, first, later, parts, found)
+}
+
+/// The same for the parts of a bracket, one for each number of a dimension.
+#[tactic(auto, using(crate::proofs::Parts::parts))]
+#[cycle(part)]
+fn parts_in<'a>(
+    front: &Front<'a>,
+    count: &mut Count,
+    first: &Dimension<'a>,
+    later: &[Dimension<'a>],
+    parts: &'a [Init],
+    found: &mut Vec<Entry>,
+) -> Result<(), Fault>
+    ensures { Answers (λ u. entries_in found.new.items) count.new.counted result
+        (spec.parts_in (known_in front.now.known) (option_map (λ n. n.now) first.now.name) (dimensions_in later.now) first.now.numbers.items
+        front.now.index.items (inits (map init_tree parts.now))
+        (entries_in found.old.items) count.old.counted) }
+{
+    let mut left = first.numbers.as_slice();
+    'parts: for x in parts {
+        let [number, behind @ ..] = left else {
+            break;
+        };
+        part_at(front, count, first, *number, later, x, found)?;
+        left = behind;
+    }
+    Ok(())
+}
+
+/// The same for one part of a bracket, and the number that it belongs to.
+#[cycle(part)]
+fn part_at<'a>(
+    front: &Front<'a>,
+    count: &mut Count,
+    first: &Dimension<'a>,
+    number: i64,
+    later: &[Dimension<'a>],
+    x: &'a Init,
+    found: &mut Vec<Entry>,
+) -> Result<(), Fault>
+    ensures { Answers (λ u. entries_in found.new.items) count.new.counted result
+        (spec.part_at (known_in front.now.known) (option_map (λ n. n.now) first.now.name) number (dimensions_in later.now) front.now.index.items
+        (init_tree x.now)
+        (entries_in found.old.items) count.old.counted) }
+{
+    let here = front.longer(first, number)?;
+    part(&here, count, later, x, found)
+}
+
+/// Adds an element for each index with this front.
+#[cycle(fill)]
+fn fill<'a>(
+    front: &Front<'a>,
+    count: &mut Count,
+    left: &[Dimension<'a>],
+    e: &'a Expr,
+    found: &mut Vec<Entry>,
+) -> Result<(), Fault>
+    ensures { Answers (λ u. entries_in found.new.items) count.new.counted result
+        (spec.fill (known_in front.now.known) (dimensions_in left.now) e.now front.now.index.items
+        (entries_in found.old.items) count.old.counted) }
+{
+    match left {
+        [] => add_entry(front, count, e, found),
+        [first, later @ ..] => fill_through(front, count, first, later, e, found),
+    }
+}
+
+/// The same for the numbers of a dimension, and the dimensions behind it.
+#[cycle(fill)]
+fn fill_through<'a>(
+    front: &Front<'a>,
+    count: &mut Count,
+    first: &Dimension<'a>,
+    later: &[Dimension<'a>],
+    e: &'a Expr,
+    found: &mut Vec<Entry>,
+) -> Result<(), Fault>
+    ensures { Answers (λ u. entries_in found.new.items) count.new.counted result
+        (spec.fill (known_in front.now.known) (dimension_in first.now ∷ dimensions_in later.now) e.now front.now.index.items
+        (entries_in found.old.items) count.old.counted) }
+{
+    'numbers: for number in first.numbers.iter() {
+        fill_at(front, count, first, *number, later, e, found)?;
+    }
+    Ok(())
+}
+
+/// The same for one number of a dimension.
+#[cycle(fill)]
+fn fill_at<'a>(
+    front: &Front<'a>,
+    count: &mut Count,
+    first: &Dimension<'a>,
+    number: i64,
+    later: &[Dimension<'a>],
+    e: &'a Expr,
+    found: &mut Vec<Entry>,
+) -> Result<(), Fault>
+    ensures { Answers (λ u. entries_in found.new.items) count.new.counted result
+        (spec.fill_at (known_in front.now.known) (option_map (λ n. n.now) first.now.name) number (dimensions_in later.now) e.now front.now.index.items
+        (entries_in found.old.items) count.old.counted) }
+{
+    let here = front.longer(first, number)?;
+    fill(&here, count, later, e, found)
+}
+
+/// Adds an element, which is counted.
+fn add_entry<'a>(
+    front: &Front<'a>,
+    count: &mut Count,
+    e: &'a Expr,
+    found: &mut Vec<Entry>,
+) -> Result<(), Fault>
+    ensures { Answers (λ u. entries_in found.new.items) count.new.counted result
+        (spec.entry (known_in front.now.known) e.now front.now.index.items
+        (entries_in found.old.items) count.old.counted) }
+{
+    count.add()?;
+    let value = front.known.constant(count, e)?;
+    let index = Vec::from_slice(front.alloc, front.index.as_slice())?;
+    add(found, index, value)?;
+    Ok(())
+}
+
+/// Adds an element at the end.
+fn add(found: &mut Vec<Entry>, index: Vec<i64>, value: i64) -> Result<(), AllocError>
+    ensures { OnOk result (entries_in found.new.items ≡ entries_in found.old.items ++ (index.items, value) ∷ []) }
+{
+    found.push(Entry { index, value })?;
+    Ok(())
+}
