@@ -1,6 +1,6 @@
 //! The constants of a text, and its ranges and sets.
 
-ghost use Rattle.std.specs.Prelude.{◌≡◌, IfOk, OnOk, option_map};
+ghost use Rattle.std.specs.Prelude.{◌≡◌, IfOk, OnOk, OnErr, option_map};
 ghost use Rattle.std.specs.FinMap.{empty, get, insert};
 ghost use Rattle.sopl_constant.specs.Tables.{constants_in, sets_in, items};
 
@@ -33,6 +33,7 @@ impl Table {
     pub fn add_element(&mut self, name: &Name, index: &[i64], value: i64) -> Result<(), AllocError>
         ensures constants { OnOk result (constants_in self.new ≡ insert (constants_in self.old) (name.now, index.now) value) }
         ensures sets { sets_in self.new ≡ sets_in self.old }
+        ensures kept { OnErr result (constants_in self.new ≡ constants_in self.old) }
     {
         let name = Vec::from_slice(self.alloc, name.as_slice())?;
         let index = Vec::from_slice(self.alloc, index)?;
@@ -44,6 +45,7 @@ impl Table {
     pub fn add_set(&mut self, name: &Name, numbers: Vec<i64>) -> Result<(), AllocError>
         ensures sets { OnOk result (sets_in self.new ≡ insert (sets_in self.old) name.now numbers.items) }
         ensures constants { constants_in self.new ≡ constants_in self.old }
+        ensures kept { OnErr result (sets_in self.new ≡ sets_in self.old) }
     {
         let name = Vec::from_slice(self.alloc, name.as_slice())?;
         self.sets.insert(name, numbers)?;

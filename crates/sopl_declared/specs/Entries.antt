@@ -1,6 +1,8 @@
 -- What dimensions and entries show.
-use Rattle.std.specs.Prelude.{ℕ, ℤ, List, [], option_map, map}
+use Rattle.std.specs.Prelude.{ℕ, ℤ, List, [], option_map, map, Result, Ok, Err}
 use Rattle.std.specs.Borrow.{Bor}
+use Rattle.sopl_base.specs.declared.places.Fault.{Fault}
+use Rattle.sopl_base.specs.declared.places.Fault.TheVariants as fault
 use Rattle.sopl_constant.specs.declared.table.Table.{Table}
 use Rattle.sopl_constant.specs.Named.{Element}
 use Rattle.sopl_constant.specs.Constants.{Known}
@@ -32,3 +34,10 @@ table_known table = record { bound = []; constants = constants_in table; sets = 
 -- entries under a name
 abbrev pub named : List ℕ → List (List ℤ × ℤ) → List (Element × ℤ)
 named name entries = map (λ (entry : List ℤ × ℤ). ((name, entry.0), entry.1)) entries
+
+-- what holds where a result is a refusal or a limit; of want of memory it says nothing
+abbrev pub OnRefusal : {T : Type 0} → Result T Fault → Type 0 → Type 0
+OnRefusal (Ok x) holds = Unit {0}
+OnRefusal (Err (fault.Text refusal)) holds = holds
+OnRefusal (Err (fault.Limit excess)) holds = holds
+OnRefusal (Err fault.NoMemory) holds = Unit {0}

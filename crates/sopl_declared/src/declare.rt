@@ -1,6 +1,6 @@
 //! What declarations of constants, ranges and sets add to a table.
 
-ghost use Rattle.std.specs.Prelude.{◌≡◌, None, IfOk, OnOk};
+ghost use Rattle.std.specs.Prelude.{◌≡◌, None, IfOk, OnOk, OnErr};
 ghost use Rattle.sopl_ast.specs.Inits.{init_tree};
 ghost use Rattle.sopl_ast.specs.Lists.{trees};
 ghost use Rattle.sopl_ast.specs.Tree.{Ends};
@@ -10,7 +10,7 @@ ghost use Rattle.sopl_constant.specs.Tables.{constants_in, sets_in};
 ghost use Rattle.sopl_constant.specs.Walks.{Walks};
 ghost use Rattle.sopl_declared.specs.Declarations.{dimensions_of, set_of, values_from, with_constant, with_range, with_set};
 ghost use Rattle.sopl_declared.specs.DeclarationMarks.{int_marks, set_marks};
-ghost use Rattle.sopl_declared.specs.Entries.{entries_in, table_known, named};
+ghost use Rattle.sopl_declared.specs.Entries.{entries_in, table_known, named, OnRefusal};
 
 use crate::elements::{Entry, entries};
 use crate::sets::set_numbers;
@@ -30,6 +30,7 @@ pub fn declare_constant(
 ) -> Result<(), Fault>
     ensures met { Walks count.old.counted count.new.counted (int_marks (table_known table.old) dims.now (init_tree init.now)) result }
     ensures declared { OnOk result (table_known table.new ≡ with_constant name.now dims.now (init_tree init.now) (table_known table.old)) }
+    ensures kept { OnRefusal result (table_known table.new ≡ table_known table.old) }
 {
     let found = constant_entries(alloc, table, count, dims, init)?;
     enter(table, name, found.as_slice())?;
@@ -75,6 +76,7 @@ pub fn declare_range(
 ) -> Result<(), Fault>
     ensures met { Walks count.old.counted count.new.counted (range_marks (table_known table.old) None (Ends lo.now hi.now)) result }
     ensures declared { OnOk result (table_known table.new ≡ with_range name.now lo.now hi.now (table_known table.old)) }
+    ensures kept { OnErr result (table_known table.new ≡ table_known table.old) }
 {
     let numbers = range_numbers(alloc, table, count, lo, hi)?;
     table.add_set(name, numbers)?;
@@ -106,6 +108,7 @@ pub fn declare_set(
 ) -> Result<(), Fault>
     ensures met { Walks count.old.counted count.new.counted (set_marks (table_known table.old) (trees elements.now)) result }
     ensures declared { OnOk result (table_known table.new ≡ with_set name.now (trees elements.now) (table_known table.old)) }
+    ensures kept { OnErr result (table_known table.new ≡ table_known table.old) }
 {
     let numbers = element_numbers(alloc, table, count, elements)?;
     table.add_set(name, numbers)?;
