@@ -4,3 +4,6 @@ pub mod Found
 pub mod Kept
 pub mod Stages
 pub mod Plain
+pub mod Chosen
+pub mod Held
+pub mod Staged

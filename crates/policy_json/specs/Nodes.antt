@@ -21,7 +21,8 @@ list_of items = array (items_of items)
 abbrev pub entry_of : List ℕ → List ℤ → ℤ → Data
 entry_of name index value = list_of (string name ∷ list_of (map whole_number index) ∷ whole_number value ∷ [])
 
--- what a policy decides for the decision with this number, counted from 0, at a history; 0 where it decides nothing
+-- what a policy decides for the decision with this number, counted from 0, at a history; 0 where it decides nothing. No node of a policy
+-- of a problem that comes by stage shows that 0: this is the law `held_throughout`
 abbrev pub decided_at : Policy → ℕ → List ℤ → ℤ
 decided_at policy place seen = unwrap_or (get policy (place, seen)) (pos 0)
 

@@ -1,13 +1,27 @@
 //! What holds of the JSON of any policy.
 
-ghost use Rattle.std.specs.Prelude.{◌≡◌, false};
+ghost use Rattle.std.specs.Prelude.{◌≡◌, Some, false};
 ghost use Rattle.serde_json.specs.Written.{has_float};
+ghost use Rattle.sopl_ast.specs.Accepted.{AcceptedModel};
 ghost use Rattle.sopl_ast.specs.Instances.{Problem};
-ghost use Rattle.sopl_ast.specs.Policies.{Policy};
+ghost use Rattle.sopl_ast.specs.Policies.{Policy, IsPolicy};
+ghost use Rattle.sopl_ast.specs.Whole.{ModelTree};
+ghost use Rattle.policy_json.specs.Held.{held_data};
 ghost use Rattle.policy_json.specs.Nodes.{policy_data};
+ghost use Rattle.policy_json.specs.Staged.{IsStaged};
 
 /// The JSON of a policy has no float.
 pub fn no_float()
     ensures { (problem : Problem) (policy : Policy)
         → has_float (policy_data problem policy) ≡ false }
+{}
+
+/// Where a problem comes by stage, its policies hold a value for each decision of each node, and their
+/// JSON has these values: no 0 stands for one that is not there. So comes the problem of each text that is
+/// solved today. A printing that shows other values is refused by the clause `held` of `policy_value`.
+pub fn held_throughout()
+    ensures held { (problem : Problem) (policy : Policy) → IsStaged problem → IsPolicy problem policy
+        → held_data problem policy ≡ Some (policy_data problem policy) }
+    ensures staged { (model : ModelTree) (problem : Problem) → AcceptedModel model problem
+        → IsStaged problem }
 {}

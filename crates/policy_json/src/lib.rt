@@ -8,5 +8,5 @@ mod policy;
 mod seen;
 
 pub use entries::value_of;
-pub use laws::no_float;
+pub use laws::{held_throughout, no_float};
 pub use policy::policy_value;

@@ -1,12 +1,13 @@
 //! The nodes of a policy.
 
-ghost use Rattle.std.specs.Prelude.{◌≡◌, ◌+◌, ◌<◌, ◌≤◌, ◌^◌, ◌++◌, [], map, IsTrue, IfOk, false};
+ghost use Rattle.std.specs.Prelude.{◌≡◌, ◌+◌, ◌<◌, ◌≤◌, ◌^◌, ◌++◌, [], map, IsTrue, IfOk, IfSome, false};
 ghost use Rattle.std.specs.List.{list_all};
 ghost use Rattle.serde_json.specs.View.{view};
 ghost use Rattle.serde_json.specs.Written.{has_float};
 ghost use Rattle.sopl_ast.specs.Cells.{policy_at};
 ghost use Rattle.sopl_ast.specs.Pieces.{is_word};
 ghost use Rattle.sopl_ast.specs.Small.{names_in};
+ghost use Rattle.policy_json.specs.Held.{held_outermost};
 ghost use Rattle.policy_json.specs.Nodes.{branch_of, last_stage, node_at, node_of, outermost_node};
 
 use crate::entries::decide_list;
@@ -28,6 +29,8 @@ pub fn policy_value(
     requires names { IsTrue (list_all is_word (names_in decisions.now stochs.now)) }
     ensures node { IfOk result (λ value. view value
         ≡ outermost_node decisions.now stochs.now (policy_at cells.now values.now)) }
+    ensures held { IfOk result (λ value. IfSome (held_outermost decisions.now stochs.now (policy_at cells.now values.now))
+        (λ node. view value ≡ node)) }
     ensures whole { IfOk result (λ value. has_float (view value) ≡ false) }
 {
     let later = greatest_stage(decisions) - 1;

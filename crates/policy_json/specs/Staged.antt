@@ -1,0 +1,13 @@
+-- Problems whose stochastic variables come stage by stage.
+use Rattle.std.specs.Prelude.{ℕ, ◌≤◌, List, [], ◌∷◌, All, length}
+use Rattle.sopl_ast.specs.Instances.{Stochastic, Problem}
+
+-- the stages of stochastic variables ascend, from this stage on
+abbrev pub Ascend : ℕ → List Stochastic → Type 0
+Ascend from [] = Unit {0}
+Ascend from (first ∷ later) = (from ≤ first.stage) × Ascend first.stage later
+
+-- the stochastic variables come by stage, from stage 1 on, and each has an outcome
+pub record IsStaged (problem : Problem) : Type 0 where
+  pub ascending : Ascend 1 problem.stochastics
+  pub outcomes : All (λ (s : Stochastic). 1 ≤ length s.outcomes) problem.stochastics
