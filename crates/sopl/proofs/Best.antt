@@ -1,5 +1,5 @@
 -- From the outcome of the search to the answer.
-use Rattle.std.proofs.Common.{◌≡◌, ◌⊎◌, inl, inr, ℕ, ℤ, pos, Bool, true, false, not, ◌&&◌, List, Option, Some, None, Result, Ok, Err, IfOk, IfSome, IsTrue, string_bytes, codes, refl, sym, ap, subst, ◌∙◌, map, String, if◌then◌else◌}
+use Rattle.std.proofs.Common.{◌≡◌, ℕ, ℤ, pos, Bool, true, false, not, ◌&&◌, List, Option, Some, None, Result, Ok, Err, IfOk, IfSome, IsTrue, string_bytes, codes, refl, sym, ap, subst, ◌∙◌, map, String, if◌then◌else◌}
 use Rattle.std.specs.Option.{option_map_or}
 use Rattle.std.specs.declared.alloc.Global.{Global}
 use Rattle.std.specs.List.{list_all}
@@ -30,8 +30,8 @@ use Rattle.sopl.specs.Answers.{fraction, word_data, refused_data, optimal_object
 use Rattle.sopl_base.specs.declared.places.Refusal.{Refusal}
 use Rattle.sopl_ast.specs.Refusals.{SolvedText, IsRefusedFor}
 use Rattle.sopl.proofs.Rejected.{refused_rejected}
-use Rattle.sopl.specs.Replies.{IsTextReply, SaysOptimal, SaysInfeasible}
-use Rattle.sopl.specs.Solved.{IsBest}
+use Rattle.sopl.specs.Replies.{IsReply, optimal, infeasible, refused}
+use Rattle.sopl.specs.Solved.{IsBest, AnswersProblem, AnswersText}
 use Rattle.sopl.specs.declared.status.Status.TheVariants.{Done, Refused}
 
 -- a judged problem is small enough to be laid out
@@ -136,33 +136,38 @@ printed problem layout found policy line judged laid is written =
     let same_total : layout.total ≡ denominator problem = laid.total ∙ sym (judged_denominator problem judged) in
     written ∙ (λ i. line_of (optimal_object (same_policy i) (fraction found.value (same_total i))))
 
--- the line of an optimal policy says so
+-- the line of an optimal policy answers the problem
 pub says_optimal : (problem : Problem) (found : Found) (result : Result (String Global) AllocError)
     → IsOptimal problem (policy_of problem found.cells) found.value
     → IfOk result (λ line. string_bytes line ≡ line_of (optimal_data problem (policy_of problem found.cells) found.value))
-    → IfOk result (λ line. SaysOptimal problem (string_bytes line) ⊎ SaysInfeasible problem (string_bytes line))
-says_optimal problem found (Ok line) optimal is =
-    inl (record { policy = policy_of problem found.cells; value = found.value; optimal = optimal; printed = is })
-says_optimal problem found (Err error) optimal is = tt
+    → IfOk result (λ line. AnswersProblem problem (string_bytes line))
+says_optimal problem found (Ok line) best is =
+    λ text solved words stock before now given.
+    subst (λ l. IsReply words stock before now Done l) (sym is)
+    (optimal text problem (policy_of problem found.cells) found.value given solved best)
+says_optimal problem found (Err error) best is = tt
 
--- the line of a problem that no policy satisfies says so
+-- the line of a problem that no policy satisfies answers it
 pub says_infeasible : (problem : Problem) (result : Result (String Global) AllocError) → IsInfeasible problem
     → IfOk result (λ line. string_bytes line ≡ line_of (word_data (codes "infeasible")))
-    → IfOk result (λ line. SaysOptimal problem (string_bytes line) ⊎ SaysInfeasible problem (string_bytes line))
-says_infeasible problem (Ok line) infeasible is = inr (record { infeasible = infeasible; printed = is })
-says_infeasible problem (Err error) infeasible is = tt
+    → IfOk result (λ line. AnswersProblem problem (string_bytes line))
+says_infeasible problem (Ok line) none is =
+    λ text solved words stock before now given.
+    subst (λ l. IsReply words stock before now Done l) (sym is) (infeasible text problem given solved none)
+says_infeasible problem (Err error) none is = tt
 
 -- a problem that a text states is judged
 pub text_judged : (text : List ℕ) (problem : Problem) → SolvedText text problem → IsJudged problem
 text_judged text problem a = stated_judged a.accepted.model problem a.accepted.accepted.stated a.accepted.accepted.small
 
 -- the line that answers the problem answers the text
-pub text_solved : (text : List ℕ) (problem : Problem) (line : List ℕ) → SolvedText text problem
-    → SaysOptimal problem line ⊎ SaysInfeasible problem line → IsTextReply text Done line
-text_solved text problem line a says = record { problem = problem; accepted = a; answer = says }
+pub text_solved : (text : List ℕ) (problem : Problem) (line : List ℕ) → SolvedText text problem → AnswersProblem problem line → AnswersText text Done line
+text_solved text problem line solved answers = answers text solved
 
 -- the line of a refusal answers a text that is refused for it
 pub text_refused : (text : List ℕ) (refusal : Refusal) (line : List ℕ) → IsRefusedFor text refusal
-    → line ≡ line_of (refused_data (pos refusal.at) (pos refusal.code)) → IsTextReply text Refused line
+    → line ≡ line_of (refused_data (pos refusal.at) (pos refusal.code)) → AnswersText text Refused line
 text_refused text refusal line reason is =
-    record { refusal = refusal; reason = reason; rejected = refused_rejected text refusal reason; printed = is }
+    λ words stock before now given.
+    subst (λ l. IsReply words stock before now Refused l) (sym is)
+    (refused text refusal given (refused_rejected text refusal reason) reason)

@@ -1,80 +1,63 @@
--- Which status goes with which line, and why.
+-- Which reply goes with which words and why, and what a sink took of it.
 use Rattle.std.specs.Prelude.{◌≡◌, ◌⊎◌, ℕ, ℤ, pos, codes, List, Option, Some, None, IsSome, IfSome, option_map, option_and_then}
 use Rattle.std.specs.Io.KnownBytes.{Keeps, Appends}
+use Rattle.sopl_io.specs.Causes.{Rose}
 use Rattle.sopl_io.specs.Stock.{Stock, text_of, with_name}
 use Rattle.sopl_io.specs.Transfer.{AppendsPrefix}
+use Rattle.sopl_base.specs.declared.places.Refusal.{Refusal}
 use Rattle.sopl_ast.specs.Instances.{Problem}
 use Rattle.sopl_ast.specs.Policies.{Policy}
 use Rattle.sopl_ast.specs.Optimal.{IsOptimal, IsInfeasible}
 use Rattle.sopl_ast.specs.Refusals.{SolvedText, IsRefusedFor}
-use Rattle.sopl_base.specs.declared.places.Refusal.{Refusal}
 use Rattle.sopl.specs.Words.{model_of}
 use Rattle.sopl.specs.Answers.{word_data, refused_data, optimal_data, line_of}
 use Rattle.sopl.specs.declared.status.Status.{Status}
-use Rattle.sopl.specs.declared.status.Status.TheVariants.{Done, Failing, Usage, Refused, Limit, Bounded, ReadFault, WriteFault, NoMemory, Unreadable}
+use Rattle.sopl.specs.declared.status.Status.TheVariants.{Done, Usage, Refused, ReadFault, WriteFault, NoMemory}
+
+-- the words name the file of the model, and this is its text: the one that the source's stock gives for it, where the stock is told
+pub record IsModelText (words : List (List ℕ)) (stock : Option Stock) (text : List ℕ) : Type 0 where
+  pub name : List ℕ
+  pub named : model_of words ≡ Some name
+  pub given : IfSome stock (λ s. text ≡ text_of s name)
+
+-- the text is none that is solved today
+abbrev pub IsNotAccepted : List ℕ → Type 0
+IsNotAccepted text = (problem : Problem) → ¬ SolvedText text problem
+
+-- a reply to the words: the status that it ends with, its line, and why it comes; the stock is the source's, and the counts are those of its faults
+pub data IsReply (words : List (List ℕ)) (stock : Option Stock) (before now : ℕ) : Status → List ℕ → Type 0 where
+  -- the text states a problem, and this policy of it is optimal and has this value
+  optimal : (text : List ℕ) (problem : Problem) (policy : Policy) (value : ℤ) → IsModelText words stock text → SolvedText text problem
+      → IsOptimal problem policy value → IsReply words stock before now Done (line_of (optimal_data problem policy value))
+  -- the text states a problem, and no policy of it satisfies
+  infeasible : (text : List ℕ) (problem : Problem) → IsModelText words stock text → SolvedText text problem → IsInfeasible problem
+      → IsReply words stock before now Done (line_of (word_data (codes "infeasible")))
+  -- the text is none that is solved, and is refused by this code at this place
+  refused : (text : List ℕ) (refusal : Refusal) → IsModelText words stock text → IsNotAccepted text → IsRefusedFor text refusal
+      → IsReply words stock before now Refused (line_of (refused_data (pos refusal.at) (pos refusal.code)))
+  -- the words are not of the form
+  usage : model_of words ≡ None → IsReply words stock before now Usage (line_of (word_data (codes "usage")))
+  -- the words name a file, and the source failed
+  read_fault : IsSome (model_of words) → Rose before now → IsReply words stock before now ReadFault (line_of (word_data (codes "read fault")))
+
+-- what a sink took, and the status after it
+pub data Answers (words : List (List ℕ)) (stock : Option Stock) (before now : ℕ) (old new : Option (List ℕ)) : Status → Type 0 where
+  -- the whole line of a reply with this status
+  whole : (status : Status) (line : List ℕ) → IsReply words stock before now status line → Appends old new line
+      → Answers words stock before now old new status
+  -- a front of the line of some reply, where the sink failed
+  front : (meant : Status) (line : List ℕ) → IsReply words stock before now meant line → AppendsPrefix old new line
+      → Answers words stock before now old new WriteFault
+  -- nothing, where memory ran out
+  nothing : Keeps old new → Answers words stock before now old new NoMemory
 
 -- the text of the model: what the source's stock gives for the model's file, where it is told
 abbrev pub model_text : Option Stock → List (List ℕ) → Option (List ℕ)
 model_text stock words = option_and_then (λ name. option_map (λ s. text_of s name) stock) (model_of words)
 
--- an optimal policy with its value
-pub record SaysOptimal (problem : Problem) (line : List ℕ) : Type 0 where
-  pub policy : Policy
-  pub value : ℤ
-  pub optimal : IsOptimal problem policy value
-  pub printed : line ≡ line_of (optimal_data problem policy value)
-
--- that no policy satisfies
-pub record SaysInfeasible (problem : Problem) (line : List ℕ) : Type 0 where
-  pub infeasible : IsInfeasible problem
-  pub printed : line ≡ line_of (word_data (codes "infeasible"))
-
--- the text is one that is solved, and the line answers it
-pub record IsSolved (text line : List ℕ) : Type 0 where
-  pub problem : Problem
-  pub accepted : SolvedText text problem
-  pub answer : SaysOptimal problem line ⊎ SaysInfeasible problem line
-
--- the text is none that is solved, and the line says where and by which code it is refused
-pub record IsRefused (text line : List ℕ) : Type 0 where
-  pub refusal : Refusal
-  pub reason : IsRefusedFor text refusal
-  pub rejected : (problem : Problem) → SolvedText text problem → ⊥
-  pub printed : line ≡ line_of (refused_data (pos refusal.at) (pos refusal.code))
-
--- the line that goes with a status, for the text of the model
-abbrev pub IsTextReply : List ℕ → Status → List ℕ → Type 0
-IsTextReply text Done line = IsSolved text line
-IsTextReply text Refused line = IsRefused text line
-IsTextReply text Failing line = ⊥
-IsTextReply text Usage line = ⊥
-IsTextReply text Limit line = ⊥
-IsTextReply text Bounded line = ⊥
-IsTextReply text ReadFault line = ⊥
-IsTextReply text WriteFault line = ⊥
-IsTextReply text NoMemory line = ⊥
-IsTextReply text Unreadable line = ⊥
-
--- the line that goes with a status, for these words and the text of the model, where that is told
-abbrev pub IsReply : List (List ℕ) → Option (List ℕ) → Status → List ℕ → Type 0
-IsReply words text Done line = IsSome (model_of words) × IfSome text (λ t. IsTextReply t Done line)
-IsReply words text Refused line = IsSome (model_of words) × IfSome text (λ t. IsTextReply t Refused line)
-IsReply words text Usage line = (model_of words ≡ None) × (line ≡ line_of (word_data (codes "usage")))
-IsReply words text ReadFault line = IsSome (model_of words) × (line ≡ line_of (word_data (codes "read fault")))
-IsReply words text Failing line = ⊥
-IsReply words text Limit line = ⊥
-IsReply words text Bounded line = ⊥
-IsReply words text WriteFault line = ⊥
-IsReply words text NoMemory line = ⊥
-IsReply words text Unreadable line = ⊥
-
 -- the run ended early: the source failed, the answer sink failed, or memory was wanting
 abbrev pub EndedEarly : Status → Type 0
 EndedEarly status = (status ≡ ReadFault) ⊎ (status ≡ WriteFault) ⊎ (status ≡ NoMemory)
-
--- the text is none that is solved today
-abbrev pub IsNotAccepted : List ℕ → Type 0
-IsNotAccepted text = (problem : Problem) → ¬ SolvedText text problem
 
 -- a text is refused only where it is none that is solved today
 abbrev pub RefusesOthers : Option (List ℕ) → Status → Type 0
@@ -87,32 +70,6 @@ RefusesWhen text status = IfSome text (λ t. IsNotAccepted t → (status ≡ Ref
 -- a text that is solved today is answered, unless the run ended early
 abbrev pub AnswersAccepted : Option (List ℕ) → Status → Type 0
 AnswersAccepted text status = IfSome text (λ t. (problem : Problem) → SolvedText t problem → (status ≡ Done) ⊎ EndedEarly status)
-
--- a line that goes with some status was taken in part
-pub record TakesPart (words : List (List ℕ)) (text : Option (List ℕ)) (old new : Option (List ℕ)) : Type 0 where
-  pub meant : Status
-  pub line : List ℕ
-  pub reply : IsReply words text meant line
-  pub taken : AppendsPrefix old new line
-
--- the line that goes with the status was taken whole
-pub record TakesLine (words : List (List ℕ)) (text : Option (List ℕ)) (status : Status) (old new : Option (List ℕ)) : Type 0 where
-  pub line : List ℕ
-  pub reply : IsReply words text status line
-  pub taken : Appends old new line
-
--- what a sink took of the answer: its whole line, a front of one where the sink failed, and nothing where memory ran out
-abbrev pub Answers : List (List ℕ) → Option (List ℕ) → Status → Option (List ℕ) → Option (List ℕ) → Type 0
-Answers words text WriteFault old new = TakesPart words text old new
-Answers words text NoMemory old new = Keeps old new
-Answers words text Done old new = TakesLine words text Done old new
-Answers words text Refused old new = TakesLine words text Refused old new
-Answers words text Usage old new = TakesLine words text Usage old new
-Answers words text ReadFault old new = TakesLine words text ReadFault old new
-Answers words text Failing old new = ⊥
-Answers words text Limit old new = ⊥
-Answers words text Bounded old new = ⊥
-Answers words text Unreadable old new = ⊥
 
 -- the names with which a source was begun, after it was begun with the file of the model, where there is one
 abbrev pub begun_names : Option (List ℕ) → Option (List (List ℕ)) → Option (List (List ℕ))

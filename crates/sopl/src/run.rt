@@ -1,6 +1,7 @@
 //! The top call: words, a source and two sinks in, a status out.
 
 ghost use Rattle.std.specs.Prelude.{◌≡◌, ◌⊎◌, ◌≤◌, None, Some, IfOk, IfSome, IsSome, string_bytes, option_map};
+ghost use Rattle.std.specs.Io.KnownBytes.{IsAtEnd};
 ghost use Rattle.sopl_io.specs.Causes.{Rose};
 ghost use Rattle.sopl.specs.Words.{model_of};
 ghost use Rattle.sopl.specs.Replies.{model_text, IsReply, Answers, RefusesOthers, RefusesWhen, AnswersAccepted, begun_names, IsUntouched};
@@ -16,7 +17,7 @@ use std::alloc::{AllocError, Global};
 /// The bytes of a model text that are read at most: one more than a text may have.
 const MOST_READ: usize = 1_048_577;
 
-#[tactic(auto, using(crate::proofs::Statuses::write_refused, crate::proofs::Statuses::write_refused_when, crate::proofs::Statuses::write_complete, crate::proofs::Statuses::memory_refused, crate::proofs::Statuses::memory_refused_when, crate::proofs::Statuses::memory_complete))]
+#[tactic(auto, using(crate::proofs::Statuses::taken_whole, crate::proofs::Statuses::taken_front, crate::proofs::Statuses::taken_nothing, crate::proofs::Statuses::reply_usage, crate::proofs::Statuses::reply_usage_when, crate::proofs::Statuses::reply_refused, crate::proofs::Statuses::reply_refused_when, crate::proofs::Statuses::reply_complete, crate::proofs::Statuses::reply_read, crate::proofs::Statuses::reply_written, crate::proofs::Statuses::write_refused, crate::proofs::Statuses::write_refused_when, crate::proofs::Statuses::write_complete, crate::proofs::Statuses::memory_refused, crate::proofs::Statuses::memory_refused_when, crate::proofs::Statuses::memory_complete))]
 /// Runs the command that the words name: it reads from the source and writes one answer line to the
 /// answer sink. The log sink is not used yet.
 pub fn run<S: Source, K: Sink>(
@@ -26,8 +27,8 @@ pub fn run<S: Source, K: Sink>(
     answer: &mut K,
     log: &mut K,
 ) -> Status
-    ensures answered { Answers words.now (model_text (S.stock source.old) words.now) result
-        (K.taken answer.old) (K.taken answer.new) }
+    ensures answered { Answers words.now (S.stock source.old) (S.faults source.old) (S.faults source.new)
+        (K.taken answer.old) (K.taken answer.new) result }
 
     // Words that are not of the form, and no others, are answered so.
     ensures usage { result ≡ Status.Usage → model_of words.now ≡ None }
@@ -38,6 +39,9 @@ pub fn run<S: Source, K: Sink>(
     ensures refused { RefusesOthers (model_text (S.stock source.old) words.now) result }
     ensures refused_when { RefusesWhen (model_text (S.stock source.old) words.now) result }
     ensures complete { AnswersAccepted (model_text (S.stock source.old) words.now) result }
+
+    // A text that is answered was read to its end.
+    ensures ended { result ≡ Status.Done → IsAtEnd (S.left source.new) }
 
     // Faults have their causes.
     ensures read { result ≡ Status.ReadFault → Rose (S.faults source.old) (S.faults source.new) }
@@ -64,13 +68,11 @@ pub fn run<S: Source, K: Sink>(
 }
 
 /// The reply to the words, made whole in memory.
+#[tactic(auto, using(crate::proofs::WholeText::usage_reply, crate::proofs::WholeText::fault_reply))]
 fn reply_for<S: Source>(alloc: Global, words: &Words, source: &mut S) -> Result<Reply, AllocError>
-    ensures reply { IfOk result (λ reply. IsReply words.now (model_text (S.stock source.old) words.now) reply.status
-        (string_bytes reply.line)) }
-    ensures read { IfOk result (λ reply. reply.status ≡ Status.ReadFault → Rose (S.faults source.old) (S.faults source.new)) }
-    ensures refused { IfOk result (λ reply. RefusesOthers (model_text (S.stock source.old) words.now) reply.status) }
-    ensures refused_when { IfOk result (λ reply. RefusesWhen (model_text (S.stock source.old) words.now) reply.status) }
-    ensures complete { IfOk result (λ reply. AnswersAccepted (model_text (S.stock source.old) words.now) reply.status) }
+    ensures reply { IfOk result (λ reply. IsReply words.now (S.stock source.old) (S.faults source.old) (S.faults source.new)
+        reply.status (string_bytes reply.line)) }
+    ensures ended { IfOk result (λ reply. reply.status ≡ Status.Done → IsAtEnd (S.left source.new)) }
     ensures later { S.faults source.old ≤ S.faults source.new }
     ensures untouched { model_of words.now ≡ None → IsUntouched (S.left source.old) (S.stock source.old) (S.faults source.old)
         (S.left source.new) (S.stock source.new) (S.faults source.new) }

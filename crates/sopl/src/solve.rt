@@ -1,12 +1,10 @@
 //! From the text of a model to the reply.
 
-ghost use Rattle.std.specs.Prelude.{◌≡◌, ◌⊎◌, codes, string_bytes, IfOk};
+ghost use Rattle.std.specs.Prelude.{◌≡◌, string_bytes, IfOk};
 ghost use Rattle.sopl_scen.specs.Layout.{IsLayoutOf};
 ghost use Rattle.policy_eval.specs.Judged.{IsJudged, policy_of};
-ghost use Rattle.sopl_ast.specs.Optimal.{IsOptimal};
-ghost use Rattle.sopl.specs.Answers.{word_data, optimal_data, line_of};
-ghost use Rattle.sopl.specs.Replies.{IsTextReply, SaysOptimal, SaysInfeasible};
-ghost use Rattle.sopl.specs.Solved.{IsBest};
+ghost use Rattle.sopl.specs.Answers.{optimal_data, line_of};
+ghost use Rattle.sopl.specs.Solved.{IsBest, AnswersProblem, AnswersText};
 
 use crate::lines::{optimal_line, refused_line, word_line};
 use crate::read::problem_in;
@@ -71,7 +69,7 @@ fn line_of_found(
 #[tactic(auto, using(crate::proofs::Best::says_optimal, crate::proofs::Best::says_infeasible))]
 fn solved_line(alloc: Global, ground: &Ground) -> Result<String, AllocError>
     requires judged { IsJudged ground.now }
-    ensures answer { IfOk result (λ line. SaysOptimal ground.now (string_bytes line) ⊎ SaysInfeasible ground.now (string_bytes line)) }
+    ensures answer { IfOk result (λ line. AnswersProblem ground.now (string_bytes line)) }
 {
     let tree = tree_of(alloc, ground)?;
     match best_of(alloc, ground, &tree)? {
@@ -83,7 +81,7 @@ fn solved_line(alloc: Global, ground: &Ground) -> Result<String, AllocError>
 /// Solves the problem that a text states, or refuses the text.
 #[tactic(auto, using(crate::proofs::Best::text_judged, crate::proofs::Best::text_solved, crate::proofs::Best::text_refused))]
 pub fn solve(alloc: Global, text: &[u8]) -> Result<Reply, AllocError>
-    ensures reply { IfOk result (λ reply. IsTextReply text.now reply.status (string_bytes reply.line)) }
+    ensures reply { IfOk result (λ reply. AnswersText text.now reply.status (string_bytes reply.line)) }
 {
     match problem_in(alloc, text) {
         Ok(ground) => {

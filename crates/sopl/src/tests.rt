@@ -79,6 +79,12 @@ const CASES: &[Case] = &[
     ),
     (
         &["solve", "m"],
+        "dvar int x in 0..5 stage 1; stoch int d in {1:1, 3:1} stage 1; subject to { x == d; }",
+        Status::Refused,
+        "{\"answer\":\"refused\",\"at\":0,\"code\":117}\n",
+    ),
+    (
+        &["solve", "m"],
         "dvar int x in 0..1; minimize worst(x); subject to { }",
         Status::Refused,
         "{\"answer\":\"refused\",\"at\":0,\"code\":117}\n",
