@@ -1,3 +1,5 @@
 pub mod Ways
-pub mod Chains
+pub mod Turns
 pub mod Faults
+pub mod Plain
+mod Nesting

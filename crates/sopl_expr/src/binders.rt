@@ -1,15 +1,19 @@
 //! Ranges, and the binders that go over them.
 
-ghost use Rattle.std.specs.Prelude.{◌≡◌, false, [], ◌∷◌, length, option_map, option_copied};
+ghost use Rattle.std.specs.Prelude.{◌≡◌, ◌+◌, false, [], ◌∷◌, length, option_map, option_copied};
 ghost use Rattle.sopl_ast.specs.Ranges.{range_of};
-ghost use Rattle.sopl_grammar.specs.Reading.{chain};
+ghost use Rattle.sopl_grammar.specs.Reading.{chain as chain_of};
 ghost use Rattle.sopl_grammar.specs.Expressions as phrase;
 ghost use Rattle.sopl_grammar.specs.Phrases.{way};
 ghost use Rattle.sopl_expr.specs.Answers.{Answers};
+ghost use Rattle.sopl_expr.specs.Nests.{Nests};
 
-use crate::reader::{Next, Read, Reader};
+use crate::chains::chain;
+use crate::level::Below;
+use crate::reader::{Ask, Next, Read};
 use sopl_ast::{Binder, Binders, Expr, Name, RangeText, Token};
 use sopl_grammar::{Mark, has_mark, named, place, range_end, rest};
+use std::alloc::Global;
 
 /// The name of a range that is one name, by two tokens.
 #[tactic(auto, unfolding(sopl_grammar::specs::Expressions::range_name))]
@@ -21,56 +25,56 @@ fn range_name(tokens: &[Token]) -> Option<&Name>
     Some(name)
 }
 
-impl Reader {
+impl<F: Fn(Global, usize, Ask, &[Token]) -> Read<'_, Expr> + Copy> Below<F> {
     /// A range by its two ends.
-    #[cycle(expr)]
     #[tactic(auto, unfolding(sopl_grammar::specs::Expressions::ends))]
     fn ends<'a>(&self, tokens: &'a [Token]) -> Read<'a, RangeText>
+        requires { Nests (self.now.here.depth + 1) (F.pre self.now.read) (F.post self.now.read) }
         ensures { Answers (λ x. (range_of x.0, x.1.now)) result
-            (phrase.ends (way false self.now.depth) tokens.now) }
+            (phrase.ends (way false self.now.here.depth) tokens.now) }
     {
         let (lo, left) = self.sum(tokens)?;
-        let left = self.past(Mark::DotDot, left)?;
+        let left = self.here.past(Mark::DotDot, left)?;
         let (hi, left) = self.sum(left)?;
         Ok((RangeText::Ends { lo, hi }, left))
     }
 
     /// A range by its name, or by its two ends.
-    #[cycle(expr)]
     #[tactic(auto, unfolding(sopl_grammar::specs::Expressions::range))]
-    pub fn range<'a>(&self, tokens: &'a [Token]) -> Read<'a, RangeText>
+    pub(crate) fn range<'a>(&self, tokens: &'a [Token]) -> Read<'a, RangeText>
+        requires { Nests (self.now.here.depth + 1) (F.pre self.now.read) (F.post self.now.read) }
         ensures { Answers (λ x. (range_of x.0, x.1.now)) result
-            (phrase.range (way false self.now.depth) tokens.now) }
+            (phrase.range (way false self.now.here.depth) tokens.now) }
     {
         let Some(name) = range_name(tokens) else {
             return self.ends(tokens);
         };
         let range = RangeText::Named {
-            name: name.copy(self.alloc)?,
+            name: name.copy(self.here.alloc)?,
             at: place(tokens),
         };
         Ok((range, rest(tokens)))
     }
 
     /// A name that goes over a range.
-    #[cycle(expr)]
     #[tactic(auto, unfolding(sopl_grammar::specs::Expressions::binder))]
     fn binder<'a>(&self, tokens: &'a [Token]) -> Read<'a, Binder>
+        requires { Nests (self.now.here.depth + 1) (F.pre self.now.read) (F.post self.now.read) }
         ensures { Answers (λ x. (x.0, x.1.now)) result
-            (phrase.binder (way false self.now.depth) tokens.now) }
+            (phrase.binder (way false self.now.here.depth) tokens.now) }
     {
-        let ((name, at), left) = self.name(tokens)?;
-        let left = self.past(Mark::Inside, left)?;
+        let ((name, at), left) = self.here.name(tokens)?;
+        let left = self.here.past(Mark::Inside, left)?;
         let (range, left) = self.range(left)?;
         Ok((Binder { name, at, range }, left))
     }
 
     /// A comma and a binder, if there are any.
-    #[cycle(expr)]
     #[tactic(auto, unfolding(sopl_grammar::specs::Expressions::next_binder))]
     fn next_binder<'a>(&self, tokens: &'a [Token]) -> Next<'a, Binder>
+        requires { Nests (self.now.here.depth + 1) (F.pre self.now.read) (F.post self.now.read) }
         ensures { Answers (λ x. (x.0, x.1.now)) result
-            (phrase.next_binder (way false self.now.depth) tokens.now) }
+            (phrase.next_binder (way false self.now.here.depth) tokens.now) }
     {
         if !has_mark(Mark::Comma, tokens) {
             return Ok((None, tokens));
@@ -80,56 +84,47 @@ impl Reader {
     }
 
     /// Binders behind the first one.
-    #[cycle(expr)]
     #[tactic(auto, unfolding(sopl_grammar::specs::Expressions::more_binders))]
     fn more_binders<'a>(&self, first: Binder, tokens: &'a [Token]) -> Read<'a, Binders>
+        requires { Nests (self.now.here.depth + 1) (F.pre self.now.read) (F.post self.now.read) }
         ensures { Answers (λ x. (x.0, x.1.now)) result
-            (phrase.more_binders (way false self.now.depth) first tokens.now) }
+            (phrase.more_binders (way false self.now.here.depth) first tokens.now) }
     {
-        let mut parts = Binders::new(self.alloc);
+        let mut parts = Binders::new(self.here.alloc);
         parts.push(first)?;
-        let mut left = tokens;
-        'parts: for _turn in 0..tokens.len() {
-            let (part, behind) = self.next_binder(left)?;
-            left = behind;
-            let Some(part) = part else {
-                break;
-            };
-            parts.push(part)?;
-        }
-        Ok((parts, left))
+        chain(parts, tokens, |left| self.next_binder(left))
     }
 
     /// Binders, inside their parentheses.
-    #[cycle(expr)]
     #[tactic(auto, unfolding(sopl_grammar::specs::Expressions::bound))]
     fn bound<'a>(&self, tokens: &'a [Token]) -> Read<'a, Binders>
+        requires { Nests (self.now.here.depth + 1) (F.pre self.now.read) (F.post self.now.read) }
         ensures { Answers (λ x. (x.0, x.1.now)) result
-            (phrase.bound (way false self.now.depth) tokens.now) }
+            (phrase.bound (way false self.now.here.depth) tokens.now) }
     {
         let (first, left) = self.binder(tokens)?;
         self.more_binders(first, left)
     }
 
     /// Binders in parentheses.
-    #[cycle(expr)]
     #[tactic(auto, unfolding(sopl_grammar::specs::Expressions::bindings, sopl_grammar::specs::Phrases::inner_of))]
-    pub fn bindings<'a>(&self, tokens: &'a [Token]) -> Read<'a, Binders>
+    pub(crate) fn bindings<'a>(&self, tokens: &'a [Token]) -> Read<'a, Binders>
+        requires { Nests (self.now.here.depth + 1) (F.pre self.now.read) (F.post self.now.read) }
         ensures { Answers (λ x. (x.0, x.1.now)) result
-            (phrase.bindings (way false self.now.depth) tokens.now) }
+            (phrase.bindings (way false self.now.here.depth) tokens.now) }
     {
         let (inner, left) = self.enter(Mark::ParenOpen, tokens)?;
         let (over, left) = inner.bound(left)?;
-        let left = self.past(Mark::ParenClose, left)?;
+        let left = self.here.past(Mark::ParenClose, left)?;
         Ok((over, left))
     }
 
     /// What stands behind `sum`.
-    #[cycle(expr)]
     #[tactic(auto, unfolding(sopl_grammar::specs::Expressions::summed))]
     pub(crate) fn summed<'a>(&self, tokens: &'a [Token]) -> Read<'a, (Binders, Expr)>
+        requires { Nests (self.now.here.depth + 1) (F.pre self.now.read) (F.post self.now.read) }
         ensures { Answers (λ x. (x.0, x.1.now)) result
-            (phrase.summed (way false self.now.depth) tokens.now) }
+            (phrase.summed (way false self.now.here.depth) tokens.now) }
     {
         let (over, left) = self.bindings(tokens)?;
         let (e, left) = self.product(left)?;

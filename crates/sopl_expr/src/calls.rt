@@ -1,58 +1,53 @@
 //! Literals, names, parentheses and functions of expressions.
 
 ghost use Rattle.std.specs.Prelude.{◌≡◌, false, [], ◌∷◌, length, option_map};
-ghost use Rattle.sopl_grammar.specs.Reading.{chain};
+ghost use Rattle.sopl_grammar.specs.Reading.{chain as chain_of};
 ghost use Rattle.sopl_grammar.specs.Expressions as phrase;
 ghost use Rattle.sopl_grammar.specs.Phrases.{way};
 ghost use Rattle.sopl_expr.specs.Answers.{Answers};
+ghost use Rattle.sopl_expr.specs.Nests.{Nests};
 
-use crate::reader::{Halt, Next, Read, Reader};
+use crate::chains::chain;
+use crate::level::Level;
+use crate::reader::{Ask, Halt, Next, Read};
 use sopl_ast::{Expr, Exprs, Name, Token};
 use sopl_grammar::{Mark, extreme_function, has_mark, literal, named, place, rest};
+use std::alloc::Global;
 
-impl Reader {
+impl<F: Fn(Global, usize, Ask, &[Token]) -> Read<'_, Expr> + Copy> Level<F> {
     /// An index in brackets, if there is one.
-    #[cycle(expr)]
     #[tactic(auto, unfolding(sopl_grammar::specs::Expressions::next_index, sopl_grammar::specs::Phrases::inner_of))]
     fn next_index<'a>(&self, tokens: &'a [Token]) -> Next<'a, Expr>
+        requires { Nests self.now.here.depth (F.pre self.now.read) (F.post self.now.read) }
         ensures { Answers (λ x. (x.0, x.1.now)) result
-            (phrase.next_index (way false self.now.depth) tokens.now) }
+            (phrase.next_index (way false self.now.here.depth) tokens.now) }
     {
         if !has_mark(Mark::BracketOpen, tokens) {
             return Ok((None, tokens));
         }
         let inner = self.inside(tokens)?;
         let (e, left) = inner.expression(rest(tokens))?;
-        let left = self.past(Mark::BracketClose, left)?;
+        let left = self.here.past(Mark::BracketClose, left)?;
         Ok((Some(e), left))
     }
 
     /// Indices one behind the other.
-    #[cycle(expr)]
     #[tactic(auto, unfolding(sopl_grammar::specs::Expressions::indices))]
     fn indices<'a>(&self, tokens: &'a [Token]) -> Read<'a, Exprs>
+        requires { Nests self.now.here.depth (F.pre self.now.read) (F.post self.now.read) }
         ensures { Answers (λ x. (x.0, x.1.now)) result
-            (phrase.indices (way false self.now.depth) tokens.now) }
+            (phrase.indices (way false self.now.here.depth) tokens.now) }
     {
-        let mut parts = Exprs::new(self.alloc);
-        let mut left = tokens;
-        'parts: for _turn in 0..tokens.len() {
-            let (part, behind) = self.next_index(left)?;
-            left = behind;
-            let Some(part) = part else {
-                break;
-            };
-            parts.push(part)?;
-        }
-        Ok((parts, left))
+        let parts = Exprs::new(self.here.alloc);
+        chain(parts, tokens, |left| self.next_index(left))
     }
 
     /// A name with its indices.
-    #[cycle(expr)]
     #[tactic(auto, unfolding(sopl_grammar::specs::Expressions::element))]
     fn element<'a>(&self, name: Name, tokens: &'a [Token]) -> Read<'a, Expr>
+        requires { Nests self.now.here.depth (F.pre self.now.read) (F.post self.now.read) }
         ensures { Answers (λ x. (x.0, x.1.now)) result
-            (phrase.element (way false self.now.depth) name tokens.now) }
+            (phrase.element (way false self.now.here.depth) name tokens.now) }
     {
         let (found, left) = self.indices(rest(tokens))?;
         if found.as_slice().is_empty() {
@@ -62,82 +57,82 @@ impl Reader {
     }
 
     /// An expression in parentheses.
-    #[cycle(expr)]
     #[tactic(auto, unfolding(sopl_grammar::specs::Expressions::parentheses, sopl_grammar::specs::Phrases::inner_of))]
     fn parentheses<'a>(&self, tokens: &'a [Token]) -> Read<'a, Expr>
+        requires { Nests self.now.here.depth (F.pre self.now.read) (F.post self.now.read) }
         ensures { Answers (λ x. (x.0, x.1.now)) result
-            (phrase.parentheses (way false self.now.depth) tokens.now) }
+            (phrase.parentheses (way false self.now.here.depth) tokens.now) }
     {
         let inner = self.inside(tokens)?;
         let (e, left) = inner.expression(rest(tokens))?;
-        let left = self.past(Mark::ParenClose, left)?;
+        let left = self.here.past(Mark::ParenClose, left)?;
         Ok((e.moved(place(tokens)), left))
     }
 
     /// The size of an expression.
-    #[cycle(expr)]
     #[tactic(auto, unfolding(sopl_grammar::specs::Expressions::absolute, sopl_grammar::specs::Phrases::inner_of))]
     fn absolute<'a>(&self, tokens: &'a [Token]) -> Read<'a, Expr>
+        requires { Nests self.now.here.depth (F.pre self.now.read) (F.post self.now.read) }
         ensures { Answers (λ x. (x.0, x.1.now)) result
-            (phrase.absolute (way false self.now.depth) tokens.now) }
+            (phrase.absolute (way false self.now.here.depth) tokens.now) }
     {
         let (inner, left) = self.enter(Mark::ParenOpen, rest(tokens))?;
         let (e, left) = inner.expression(left)?;
-        let left = self.past(Mark::ParenClose, left)?;
-        Ok((Expr::absolute(self.alloc, place(tokens), e)?, left))
+        let left = self.here.past(Mark::ParenClose, left)?;
+        Ok((Expr::absolute(self.here.alloc, place(tokens), e)?, left))
     }
 
     /// The least or the greatest of some expressions.
-    #[cycle(expr)]
     #[tactic(auto, unfolding(sopl_grammar::specs::Expressions::extreme, sopl_grammar::specs::Phrases::inner_of))]
     fn extreme<'a>(&self, greatest: bool, tokens: &'a [Token]) -> Read<'a, Expr>
+        requires { Nests self.now.here.depth (F.pre self.now.read) (F.post self.now.read) }
         ensures { Answers (λ x. (x.0, x.1.now)) result
-            (phrase.extreme (way false self.now.depth) greatest tokens.now) }
+            (phrase.extreme (way false self.now.here.depth) greatest tokens.now) }
     {
         let (inner, left) = self.enter(Mark::ParenOpen, rest(tokens))?;
         let (parts, left) = inner.arguments(left)?;
-        let left = self.past(Mark::ParenClose, left)?;
+        let left = self.here.past(Mark::ParenClose, left)?;
         Ok((Expr::extreme(place(tokens), greatest, parts), left))
     }
 
     /// Terms that all differ.
-    #[cycle(expr)]
     #[tactic(auto, unfolding(sopl_grammar::specs::Expressions::all_different, sopl_grammar::specs::Phrases::inner_of))]
     fn all_different<'a>(&self, tokens: &'a [Token]) -> Read<'a, Expr>
+        requires { Nests self.now.here.depth (F.pre self.now.read) (F.post self.now.read) }
         ensures { Answers (λ x. (x.0, x.1.now)) result
-            (phrase.all_different (way false self.now.depth) tokens.now) }
+            (phrase.all_different (way false self.now.here.depth) tokens.now) }
     {
         let (inner, left) = self.enter(Mark::ParenOpen, rest(tokens))?;
         let ((over, e), left) = inner.compared(left)?;
-        let left = self.past(Mark::ParenClose, left)?;
+        let left = self.here.past(Mark::ParenClose, left)?;
         Ok((
-            Expr::all_different(self.alloc, place(tokens), over, e)?,
+            Expr::all_different(self.here.alloc, place(tokens), over, e)?,
             left,
         ))
     }
 
     /// Tasks below a capacity.
-    #[cycle(expr)]
     #[tactic(auto, unfolding(sopl_grammar::specs::Expressions::cumulative, sopl_grammar::specs::Phrases::inner_of))]
     fn cumulative<'a>(&self, tokens: &'a [Token]) -> Read<'a, Expr>
+        requires { Nests self.now.here.depth (F.pre self.now.read) (F.post self.now.read) }
         ensures { Answers (λ x. (x.0, x.1.now)) result
-            (phrase.cumulative (way false self.now.depth) tokens.now) }
+            (phrase.cumulative (way false self.now.here.depth) tokens.now) }
     {
         let (inner, left) = self.enter(Mark::ParenOpen, rest(tokens))?;
         let ((over, (task, capacity)), left) = inner.tasks(left)?;
-        let left = self.past(Mark::ParenClose, left)?;
+        let left = self.here.past(Mark::ParenClose, left)?;
         Ok((
-            Expr::cumulative(self.alloc, place(tokens), over, task, capacity)?,
+            Expr::cumulative(self.here.alloc, place(tokens), over, task, capacity)?,
             left,
         ))
     }
 
     /// A function of expressions, or one in parentheses.
-    #[cycle(expr)]
     #[tactic(auto, unfolding(sopl_grammar::specs::Expressions::call))]
     fn call<'a>(&self, tokens: &'a [Token]) -> Read<'a, Expr>
+        requires { Nests self.now.here.depth (F.pre self.now.read) (F.post self.now.read) }
         ensures { Answers (λ x. (x.0, x.1.now)) result
-            (phrase.call (way false self.now.depth) tokens.now) }
+            (phrase.call (way false self.now.here.depth) tokens.now) }
     {
         if has_mark(Mark::ParenOpen, tokens) {
             return self.parentheses(tokens);
@@ -159,17 +154,17 @@ impl Reader {
 
     /// A literal, a name with its indices, an expression in parentheses, or a function of
     /// expressions.
-    #[cycle(expr)]
     #[tactic(auto, unfolding(sopl_grammar::specs::Expressions::primary))]
     pub(crate) fn primary<'a>(&self, tokens: &'a [Token]) -> Read<'a, Expr>
+        requires { Nests self.now.here.depth (F.pre self.now.read) (F.post self.now.read) }
         ensures { Answers (λ x. (x.0, x.1.now)) result
-            (phrase.primary (way false self.now.depth) tokens.now) }
+            (phrase.primary (way false self.now.here.depth) tokens.now) }
     {
         if let Some(value) = literal(tokens) {
             return Ok((Expr::literal(place(tokens), value), rest(tokens)));
         }
         if let Some(name) = named(tokens) {
-            return self.element(name.copy(self.alloc)?, tokens);
+            return self.element(name.copy(self.here.alloc)?, tokens);
         }
         self.call(tokens)
     }

@@ -4,8 +4,14 @@
 mod arguments;
 mod binders;
 mod calls;
+mod chains;
 mod expressions;
+mod knot;
+mod level;
+mod parts;
 mod reader;
 mod sums;
 
+pub use chains::chain;
+pub use parts::Parts;
 pub use reader::{Halt, Next, Read, Reader, is_over};

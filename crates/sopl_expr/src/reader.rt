@@ -36,6 +36,16 @@ pub type Read<'a, T> = Result<(T, &'a [Token]), Halt<'a>>;
 /// What was read if the front of the tokens begins it, and the tokens that are left.
 pub type Next<'a, T> = Result<(Option<T>, &'a [Token]), Halt<'a>>;
 
+/// Which phrase is read at a level below.
+#[derive(Clone, Copy)]
+pub(crate) enum Ask {
+    Expression,
+    Negation,
+    Sum,
+    Product,
+    Operand,
+}
+
 /// A reader of tokens: where its trees are made, and how many more brackets and prefixes may be
 /// opened.
 #[derive(Clone, Copy)]

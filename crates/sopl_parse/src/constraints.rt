@@ -2,14 +2,14 @@
 
 ghost use Rattle.std.specs.Prelude.{◌≡◌, false, [], ◌∷◌, length, option_map};
 ghost use Rattle.sopl_ast.specs.Constraints.{cons_tree, cons_trees};
-ghost use Rattle.sopl_grammar.specs.Reading.{chain};
+ghost use Rattle.sopl_grammar.specs.Reading.{chain as chain_of};
 ghost use Rattle.sopl_grammar.specs.Phrases as phrase;
 ghost use Rattle.sopl_grammar.specs.Phrases.{way};
 ghost use Rattle.sopl_expr.specs.Answers.{Answers};
 ghost use Rattle.sopl_parse.specs.Parts as piece;
 
 use sopl_ast::{Binders, Cons, ConsList, Expr, Token};
-use sopl_expr::{Next, Read, Reader, is_over};
+use sopl_expr::{Next, Read, Reader, chain, is_over};
 use sopl_grammar::{Mark, has_mark, rest};
 
 /// The condition of a chance constraint, and the mark behind it.
@@ -137,17 +137,15 @@ fn constraints<'a>(reader: &Reader, tokens: &'a [Token]) -> Read<'a, ConsList>
     ensures { Answers (λ x. (cons_trees x.0, x.1.now)) result
         (phrase.constraints (way false reader.now.depth) tokens.now) }
 {
-    let mut parts = ConsList::new(reader.alloc);
-    let mut left = tokens;
-    'parts: for _turn in 0..tokens.len() {
-        let (part, behind) = next_constraint(reader, left)?;
-        left = behind;
-        let Some(part) = part else {
-            break;
-        };
-        parts.push(part)?;
-    }
-    Ok((parts, left))
+    let parts = ConsList::new(reader.alloc);
+    chain(
+        parts,
+        tokens,
+        |left|
+            ensures { Answers (λ x. (option_map cons_tree x.0, x.1.now)) result
+                (phrase.next_constraint (way false reader.entry.now.depth) left.now) }
+        { next_constraint(reader, left) },
+    )
 }
 
 /// `subject to` and the constraints in braces.

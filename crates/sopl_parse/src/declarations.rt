@@ -3,7 +3,7 @@
 ghost use Rattle.std.specs.Prelude.{◌≡◌, false, [], ◌∷◌, length, option_map};
 ghost use Rattle.sopl_ast.specs.Decls.{declaration};
 ghost use Rattle.sopl_ast.specs.Inits.{init_tree};
-ghost use Rattle.sopl_grammar.specs.Reading.{chain};
+ghost use Rattle.sopl_grammar.specs.Reading.{chain as chain_of};
 ghost use Rattle.sopl_grammar.specs.Phrases as phrase;
 ghost use Rattle.sopl_grammar.specs.Phrases.{way};
 ghost use Rattle.sopl_expr.specs.Answers.{Answers};
@@ -13,7 +13,7 @@ use crate::dims::{dims, stage};
 use crate::inits::init;
 use crate::lists::{distribution, elements};
 use sopl_ast::{Decl, Decls, Dims, Expr, Exprs, Init, Name, Token};
-use sopl_expr::{Next, Read, Reader};
+use sopl_expr::{Next, Read, Reader, chain};
 use sopl_grammar::{Mark, has_mark, rest};
 
 /// The name of a variable behind its keyword, with its place and dimensions.
@@ -195,15 +195,6 @@ pub fn declarations<'a>(reader: &Reader, tokens: &'a [Token]) -> Read<'a, Decls>
     ensures { Answers (λ x. (x.0, x.1.now)) result
         (phrase.declarations (way false reader.now.depth) tokens.now) }
 {
-    let mut parts = Decls::new(reader.alloc);
-    let mut left = tokens;
-    'parts: for _turn in 0..tokens.len() {
-        let (part, behind) = next_declaration(reader, left)?;
-        left = behind;
-        let Some(part) = part else {
-            break;
-        };
-        parts.push(part)?;
-    }
-    Ok((parts, left))
+    let parts = Decls::new(reader.alloc);
+    chain(parts, tokens, |left| next_declaration(reader, left))
 }

@@ -3,13 +3,13 @@
 ghost use Rattle.std.specs.Prelude.{◌≡◌, false, [], ◌∷◌, length, option_map, option_copied};
 ghost use Rattle.sopl_ast.specs.Grammar.{range_place as range_place_of};
 ghost use Rattle.sopl_ast.specs.Ranges.{range_of};
-ghost use Rattle.sopl_grammar.specs.Reading.{chain};
+ghost use Rattle.sopl_grammar.specs.Reading.{chain as chain_of};
 ghost use Rattle.sopl_grammar.specs.Phrases as phrase;
 ghost use Rattle.sopl_grammar.specs.Phrases.{way};
 ghost use Rattle.sopl_expr.specs.Answers.{Answers};
 
 use sopl_ast::{Dim, Dims, Expr, Name, RangeText, Token};
-use sopl_expr::{Next, Read, Reader};
+use sopl_expr::{Next, Read, Reader, chain};
 use sopl_grammar::{Mark, has_mark, named, place, rest};
 
 /// The name that goes over a dimension, by two tokens.
@@ -87,15 +87,6 @@ pub fn dims<'a>(reader: &Reader, tokens: &'a [Token]) -> Read<'a, Dims>
     ensures { Answers (λ x. (x.0, x.1.now)) result
         (phrase.dims (way false reader.now.depth) tokens.now) }
 {
-    let mut parts = Dims::new(reader.alloc);
-    let mut left = tokens;
-    'parts: for _turn in 0..tokens.len() {
-        let (part, behind) = next_dim(reader, left)?;
-        left = behind;
-        let Some(part) = part else {
-            break;
-        };
-        parts.push(part)?;
-    }
-    Ok((parts, left))
+    let parts = Dims::new(reader.alloc);
+    chain(parts, tokens, |left| next_dim(reader, left))
 }

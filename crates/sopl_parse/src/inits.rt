@@ -2,13 +2,13 @@
 
 ghost use Rattle.std.specs.Prelude.{◌≡◌, false, [], ◌∷◌, length, option_map};
 ghost use Rattle.sopl_ast.specs.Inits.{init_tree};
-ghost use Rattle.sopl_grammar.specs.Reading.{chain};
+ghost use Rattle.sopl_grammar.specs.Reading.{chain as chain_of};
 ghost use Rattle.sopl_grammar.specs.Phrases as phrase;
 ghost use Rattle.sopl_grammar.specs.Phrases.{way};
 ghost use Rattle.sopl_expr.specs.Answers.{Answers};
 
 use sopl_ast::{Init, Inits, Token};
-use sopl_expr::{Next, Read, Reader, is_over};
+use sopl_expr::{Next, Read, Reader, chain, is_over};
 use sopl_grammar::{Mark, has_mark, place, rest};
 
 /// One initial value.
@@ -71,16 +71,14 @@ fn more_inits<'a>(reader: &Reader, first: Init, tokens: &'a [Token]) -> Read<'a,
 {
     let mut parts = Inits::new(reader.alloc);
     parts.push(first)?;
-    let mut left = tokens;
-    'parts: for _turn in 0..tokens.len() {
-        let (part, behind) = next_init(reader, left)?;
-        left = behind;
-        let Some(part) = part else {
-            break;
-        };
-        parts.push(part)?;
-    }
-    Ok((parts, left))
+    chain(
+        parts,
+        tokens,
+        |left|
+            ensures { Answers (λ x. (option_map init_tree x.0, x.1.now)) result
+                (phrase.next_init (way false reader.entry.now.depth) left.now) }
+        { next_init(reader, left) },
+    )
 }
 
 /// The initial values inside a bracket.

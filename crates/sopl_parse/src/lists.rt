@@ -1,13 +1,13 @@
 //! Elements of sets, and outcomes of distributions.
 
 ghost use Rattle.std.specs.Prelude.{◌≡◌, false, [], ◌∷◌, length, option_map};
-ghost use Rattle.sopl_grammar.specs.Reading.{chain};
+ghost use Rattle.sopl_grammar.specs.Reading.{chain as chain_of};
 ghost use Rattle.sopl_grammar.specs.Phrases as phrase;
 ghost use Rattle.sopl_grammar.specs.Phrases.{way};
 ghost use Rattle.sopl_expr.specs.Answers.{Answers};
 
 use sopl_ast::{Dist, Expr, Exprs, Token};
-use sopl_expr::{Next, Read, Reader, is_over};
+use sopl_expr::{Next, Read, Reader, chain, is_over};
 use sopl_grammar::{Mark, has_mark, rest};
 
 /// A comma and an element, if there are any.
@@ -31,16 +31,7 @@ fn more_elements<'a>(reader: &Reader, first: Expr, tokens: &'a [Token]) -> Read<
 {
     let mut parts = Exprs::new(reader.alloc);
     parts.push(first)?;
-    let mut left = tokens;
-    'parts: for _turn in 0..tokens.len() {
-        let (part, behind) = next_element(reader, left)?;
-        left = behind;
-        let Some(part) = part else {
-            break;
-        };
-        parts.push(part)?;
-    }
-    Ok((parts, left))
+    chain(parts, tokens, |left| next_element(reader, left))
 }
 
 /// The elements of a set, inside its braces.
@@ -89,16 +80,7 @@ fn more_outcomes<'a>(reader: &Reader, first: (Expr, Expr), tokens: &'a [Token]) 
 {
     let mut parts = Dist::new(reader.alloc);
     parts.push(first)?;
-    let mut left = tokens;
-    'parts: for _turn in 0..tokens.len() {
-        let (part, behind) = next_outcome(reader, left)?;
-        left = behind;
-        let Some(part) = part else {
-            break;
-        };
-        parts.push(part)?;
-    }
-    Ok((parts, left))
+    chain(parts, tokens, |left| next_outcome(reader, left))
 }
 
 /// The outcomes of a distribution, inside its braces.

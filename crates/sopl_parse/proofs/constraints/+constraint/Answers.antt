@@ -1,36 +1,12 @@
-use Rattle.std.proofs.Common.{◌≡◌, None, Some, Ok, false, [], ◌∷◌, ◌++◌, arith, rules}
-use Rattle.std.proofs.lemmas.Result.{err_from_is_err_and}
+-- What follows is read as the chain of its items is.
+use Rattle.std.proofs.Common.{false, arith, rules}
 use Rattle.sopl_grammar.specs.Phrases as phrase
 use Rattle.sopl_grammar.specs.Phrases.{way}
-use Rattle.sopl_ast.specs.Constraints.{cons_tree, cons_trees}
-use Rattle.sopl_expr.proofs.Chains.{chain_kept, chain_refused, chain_stopped, chain_over}
-use Rattle.sopl_expr.proofs.Faults.{fails_on}
 use Rattle.sopl_parse.proofs.constraints.+constraint.Goals as goal
-use Rattle.sopl_parse.proofs.constraints.+constraint.Goals.{constraints-else-parts-test, constraints-then-parts-test+in_ok-part+in_default}
-
-pub constraints-parts-preserved : goal.constraints-parts-preserved
-constraints-parts-preserved t c =
-    let next = phrase.next_constraint (way false c.args.reader.now.depth) in
-    let found : next c.parts.left.now ≡ Ok (Some (cons_tree c.in-Some.part), c.in_ok-part.behind.now) = first_of (search rules, grind arith) in
-    let pushed : cons_trees c.push.new.self ≡ cons_trees c.parts.parts ++ (cons_tree c.in-Some.part) ∷ [] = first_of (search rules, grind arith) in
-    chain_kept next _ c.parts._turn _ _ _ _ _ _ c.parts-test.true found pushed c.parts.invariant
-
-pub constraints-returns-in_err-part : goal.constraints-returns-in_err-part
-unfolding phrase.constraints
-constraints-returns-in_err-part t c =
-    let p = err_from_is_err_and c.from_residual.result c.from_residual.ensures.1 in
-    rw (p.1, p.2) (fails_on c.in_err-part.field-0.0 (phrase.next_constraint (way false c.args.reader.now.depth) c.parts.left.now) (phrase.constraints (way false c.args.reader.now.depth) c.args.tokens.now)
-    (λ stop e. let over = chain_refused _ _ _ _ _ _ _ c.parts-test.true e c.parts.invariant in first_of (search rules, grind arith))
-    c.in_err-part.ensures)
 
 pub constraints-returns : goal.constraints-returns
 unfolding phrase.constraints
 constraints-returns t c =
-    elim c.parts-test.branch [
-      | constraints-else-parts-test w ↦
-          let over = chain_over _ _ _ _ _ _ w.parts-test.false c.parts.invariant in first_of (search rules, grind arith)
-      | constraints-then-parts-test+in_ok-part+in_default w ↦
-          let next = phrase.next_constraint (way false c.args.reader.now.depth) in
-          let none : next c.parts.left.now ≡ Ok (None, c.parts-test.left.now) = first_of (search rules, grind arith) in
-          let over = chain_stopped _ _ _ _ _ _ _ w.parts-test.true none c.parts.invariant in first_of (search rules, grind arith)
-    ]
+    let next = phrase.next_constraint (way false c.args.reader.now.depth) in
+    let all = c.chain.ensures next (λ ts r p. search rules) in
+    first_of (search rules, grind arith)

@@ -1,35 +1,13 @@
-use Rattle.std.proofs.Common.{◌≡◌, None, Some, Ok, false, [], ◌∷◌, ◌++◌, arith, rules}
-use Rattle.std.proofs.lemmas.Result.{err_from_is_err_and}
+-- What follows is read as the chain of its items is.
+use Rattle.std.proofs.Common.{false, arith, rules}
 use Rattle.sopl_grammar.specs.Phrases as phrase
 use Rattle.sopl_grammar.specs.Phrases.{way}
-use Rattle.sopl_expr.proofs.Chains.{chain_kept, chain_refused, chain_stopped, chain_over}
-use Rattle.sopl_expr.proofs.Faults.{fails_on}
+use Rattle.sopl_expr.proofs.Plain.{plain}
 use Rattle.sopl_parse.proofs.lists.more_outcomes.Goals as goal
-use Rattle.sopl_parse.proofs.lists.more_outcomes.Goals.{else-parts-test, then-parts-test+in_ok-part+in_default}
-
-pub parts-preserved : goal.parts-preserved
-parts-preserved c =
-    let next = phrase.next_outcome (way false c.args.reader.now.depth) in
-    let found : next c.parts.left.now ≡ Ok (Some c.in-Some.part, c.in_ok-part.behind.now) = first_of (search rules, grind arith) in
-    let pushed : c.push-in-parts.new.self ≡ c.parts.parts ++ c.in-Some.part ∷ [] = first_of (search rules, grind arith) in
-    chain_kept next _ c.parts._turn _ _ _ _ _ _ c.parts-test.true found pushed c.parts.invariant
-
-pub returns-in_err-part : goal.returns-in_err-part
-unfolding phrase.more_outcomes
-returns-in_err-part c =
-    let p = err_from_is_err_and c.from_residual-in_err-part.result c.from_residual-in_err-part.ensures.1 in
-    rw (p.1, p.2) (fails_on c.in_err-part.field-0.0 (phrase.next_outcome (way false c.args.reader.now.depth) c.parts.left.now) (phrase.more_outcomes (way false c.args.reader.now.depth) c.args.first c.args.tokens.now)
-    (λ stop e. let over = chain_refused _ _ _ _ _ _ _ c.parts-test.true e c.parts.invariant in first_of (search rules, grind arith))
-    c.in_err-part.ensures)
 
 pub returns : goal.returns
 unfolding phrase.more_outcomes
 returns c =
-    elim c.parts-test.branch [
-      | else-parts-test w ↦
-          let over = chain_over _ _ _ _ _ _ w.parts-test.false c.parts.invariant in first_of (search rules, grind arith)
-      | then-parts-test+in_ok-part+in_default w ↦
-          let next = phrase.next_outcome (way false c.args.reader.now.depth) in
-          let none : next c.parts.left.now ≡ Ok (None, c.parts-test.left.now) = first_of (search rules, grind arith) in
-          let over = chain_stopped _ _ _ _ _ _ _ w.parts-test.true none c.parts.invariant in first_of (search rules, grind arith)
-    ]
+    let next = phrase.next_outcome (way false c.args.reader.now.depth) in
+    let all = c.chain.ensures next (λ ts r p. plain r (next ts.now) (search rules)) in
+    first_of (search rules, grind arith)
