@@ -1,0 +1,7 @@
+mod Integers
+mod ScenarioLaws
+mod Ascending
+mod Times
+mod Holding
+mod Satisfied
+mod Distinct

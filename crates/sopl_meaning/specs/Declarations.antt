@@ -1,0 +1,167 @@
+-- What each declaration states, and what is met in it.
+use Rattle.std.specs.Prelude.{ℕ, nat_eq, ℤ, pos, int_le, not, ◌&&◌, List, [], ◌∷◌, ◌++◌, length, map, Option, Some, None}
+use Rattle.std.specs.BTreeSet.{insert_key}
+use Rattle.std.specs.List.{flat_map, fold, list_any}
+use Rattle.std.specs.Ordering.{int_cmp, int_eq}
+use Rattle.sopl_ast.specs.Tree.{Tree, Trees, no_tree, tree, Range, Named, Ends, place_of}
+use Rattle.sopl_ast.specs.Lists.{trees_list}
+use Rattle.sopl_ast.specs.Whole.{DimTree, InitTree, InitTrees, One, Many, no_init, init, inits_list, Declaration, IntDecl, RangeDecl, SetDecl, DvarDecl, StochDecl}
+use Rattle.sopl_meaning.specs.Numbers.{natural, count_between}
+use Rattle.sopl_meaning.specs.Known.{Constant, Between, Listed, Known, nothing_known, set_named, ends_of}
+use Rattle.sopl_meaning.specs.Constants.{value_or_zero}
+use Rattle.sopl_meaning.specs.Occurrences.{Occurrence, Counted, refused_unless, too_many, constant_place, range_occurrences}
+use Rattle.sopl_meaning.specs.Instances.{Decision, Outcome, Stochastic}
+use Rattle.sopl_meaning.specs.Arrays.{Dimension, dimensions_of, indices, taking, with_index, array_of, dimension_occurrences, array_occurrences}
+
+-- what was found in the declarations so far: what is known, the decisions, and the stochastic variables, each in text order
+pub record Declared : Type 0 where
+  pub known : Known
+  pub decisions : List Decision
+  pub stochastics : List Stochastic
+
+-- nothing was found yet
+abbrev pub nothing_declared : Declared
+nothing_declared = record { known = nothing_known; decisions = []; stochastics = [] }
+
+-- Constants.
+
+abbrev mutual
+  -- the indices of an array with the initial values there: one expression gives all of them, and a bracket gives them in order
+  pub values_from : Known → List Dimension → InitTree → List (List ℤ × ℤ)
+  values_from known ds (One e) = map (λ index. (index, value_or_zero (with_index ds index known) e)) (indices ds)
+  values_from known [] (Many at parts) = []
+  values_from known (d ∷ ds) (Many at parts) = values_in known d.name ds d.numbers parts
+
+  -- the parts of a bracket go with the numbers of its index set, side by side
+  pub values_in : Known → Option (List ℕ) → List Dimension → List ℤ → InitTrees → List (List ℤ × ℤ)
+  values_in known name ds numbers no_init = []
+  values_in known name ds [] (init x xs) = []
+  values_in known name ds (number ∷ numbers) (init x xs) =
+      map (λ (entry : List ℤ × ℤ). (number ∷ entry.0, entry.1)) (values_from (taking name number known) ds x) ++ values_in known name ds numbers xs
+
+-- the elements of a constant
+abbrev pub constants_of : Known → List ℕ → List DimTree → InitTree → List Constant
+constants_of known name dims x =
+    map (λ (entry : List ℤ × ℤ). record { name = name; index = entry.0; value = entry.1 }) (values_from known (dimensions_of known dims) x)
+
+abbrev mutual
+  -- initial values: each element is counted; a bracket is refused by 112 where it has another number of parts than its index set has elements
+  pub init_occurrences : Known → List Dimension → InitTree → List Occurrence
+  init_occurrences known ds (One e) = flat_map (λ index. Counted ∷ constant_place (with_index ds index known) e) (indices ds)
+  init_occurrences known [] (Many at parts) = []
+  init_occurrences known (d ∷ ds) (Many at parts) =
+      refused_unless (nat_eq (length (inits_list parts)) (length d.numbers)) 112 at ++ inits_occurrences known d.name ds d.numbers parts
+
+  -- the parts of a bracket
+  pub inits_occurrences : Known → Option (List ℕ) → List Dimension → List ℤ → InitTrees → List Occurrence
+  inits_occurrences known name ds numbers no_init = []
+  inits_occurrences known name ds [] (init x xs) = []
+  inits_occurrences known name ds (number ∷ numbers) (init x xs) = init_occurrences (taking name number known) ds x ++ inits_occurrences known name ds numbers xs
+
+-- the declaration of a constant
+abbrev pub int_occurrences : Known → List DimTree → InitTree → List Occurrence
+int_occurrences known dims x = dimension_occurrences known dims ++ init_occurrences known (dimensions_of known dims) x
+
+-- Ranges and sets.
+
+-- the elements of a set, in ascending order, each once
+abbrev pub set_of : Known → Trees → List ℤ
+set_of known elements = fold (insert_key int_cmp) [] (map (value_or_zero known) (trees_list elements))
+
+-- expressions that are constant places of their own
+abbrev pub constant_places : Known → Trees → List Occurrence
+constant_places known no_tree = []
+constant_places known (tree e es) = constant_place known e ++ constant_places known es
+
+-- the declaration of a set, which has 65536 elements at most (208)
+abbrev pub set_occurrences : Known → Trees → List Occurrence
+set_occurrences known elements = constant_places known elements ++ too_many 208 (length (set_of known elements))
+
+-- Decisions and stochastic variables.
+
+-- a stage, which is 1 where none is written
+abbrev pub stage_of : Known → Option Tree → ℕ
+stage_of known None = 1
+stage_of known (Some e) = natural (value_or_zero known e)
+
+-- 114: a stage is not 1 to 24
+abbrev pub stage_occurrences : Known → Option Tree → List Occurrence
+stage_occurrences known None = []
+stage_occurrences known (Some e) =
+    constant_place known e ++ refused_unless (int_le (pos 1) (value_or_zero known e) && int_le (value_or_zero known e) (pos 24)) 114 (place_of e)
+
+-- the ends of a domain
+abbrev pub domain_of : Known → Range → ℤ × ℤ
+domain_of known (Named name at) = ends_of (set_named name known.sets)
+domain_of known (Ends lo hi) = (value_or_zero known lo, value_or_zero known hi)
+
+-- 111: a domain is empty; 203: it has too many values; a range that is named was looked at where it was declared
+abbrev pub domain_occurrences : Known → Range → List Occurrence
+domain_occurrences known (Named name at) =
+    refused_unless (int_le (domain_of known (Named name at)).0 (domain_of known (Named name at)).1) 111 at
+domain_occurrences known (Ends lo hi) =
+    constant_place known lo
+    ++ (constant_place known hi
+    ++ (refused_unless (int_le (value_or_zero known lo) (value_or_zero known hi)) 111 (place_of lo)
+    ++ too_many 203 (count_between (value_or_zero known lo) (value_or_zero known hi))))
+
+-- a value and its weight
+abbrev pub outcome_of : Known → Tree × Tree → Outcome
+outcome_of known pair = record { value = value_or_zero known pair.0; weight = value_or_zero known pair.1 }
+
+-- 113: a value stands earlier in its distribution, or a weight is below 1
+abbrev pub outcome_occurrences : Known → List ℤ → List (Tree × Tree) → List Occurrence
+outcome_occurrences known earlier [] = []
+outcome_occurrences known earlier (pair ∷ later) =
+    constant_place known pair.0
+    ++ (refused_unless (not (list_any (int_eq (value_or_zero known pair.0)) earlier)) 113 (place_of pair.0)
+    ++ (constant_place known pair.1
+    ++ (refused_unless (int_le (pos 1) (value_or_zero known pair.1)) 113 (place_of pair.1)
+    ++ outcome_occurrences known (earlier ++ value_or_zero known pair.0 ∷ []) later)))
+
+-- the decisions of a declaration, in the order of their indices
+abbrev pub decisions_of : Known → List ℕ → List DimTree → Range → Option Tree → List Decision
+decisions_of known name dims range stage =
+    array_of known dims (λ index here.
+    record { name = name; index = index; lo = (domain_of here range).0; hi = (domain_of here range).1; stage = stage_of here stage })
+
+-- the stochastic variables of a declaration, in the order of their indices
+abbrev pub stochastics_of : Known → List ℕ → List DimTree → List (Tree × Tree) → Option Tree → List Stochastic
+stochastics_of known name dims dist stage =
+    array_of known dims (λ index here.
+    record { name = name; index = index; outcomes = map (outcome_of here) dist; stage = stage_of here stage })
+
+-- Declarations in order.
+
+-- what was found behind a declaration
+abbrev pub behind : Declaration → Declared → Declared
+behind (IntDecl name at dims x) found =
+    record found { known = record found.known { constants = found.known.constants ++ constants_of found.known name dims x } }
+behind (RangeDecl name at lo hi) found =
+    record found { known = record found.known { sets = found.known.sets ++ (record { name = name; numbers = Between (value_or_zero found.known lo) (value_or_zero found.known hi) }) ∷ [] } }
+behind (SetDecl name at elements) found =
+    record found { known = record found.known { sets = found.known.sets ++ (record { name = name; numbers = Listed (set_of found.known elements) }) ∷ [] } }
+behind (DvarDecl name at dims range stage) found =
+    record found { decisions = found.decisions ++ decisions_of found.known name dims range stage }
+behind (StochDecl name at dims dist stage) found =
+    record found { stochastics = found.stochastics ++ stochastics_of found.known name dims dist stage }
+
+-- what is met in a declaration
+abbrev pub declaration_occurrences : Declared → Declaration → List Occurrence
+declaration_occurrences found (IntDecl name at dims x) = int_occurrences found.known dims x
+declaration_occurrences found (RangeDecl name at lo hi) = range_occurrences found.known None (Ends lo hi)
+declaration_occurrences found (SetDecl name at elements) = set_occurrences found.known elements
+declaration_occurrences found (DvarDecl name at dims range stage) =
+    array_occurrences found.known dims (λ here. domain_occurrences here range ++ stage_occurrences here stage)
+declaration_occurrences found (StochDecl name at dims dist stage) =
+    array_occurrences found.known dims (λ here. outcome_occurrences here [] dist ++ stage_occurrences here stage)
+
+-- what was found behind declarations
+abbrev pub behind_all : List Declaration → Declared → Declared
+behind_all [] found = found
+behind_all (d ∷ ds) found = behind_all ds (behind d found)
+
+-- what is met in declarations, each with what was found before it
+abbrev pub declarations_occurrences : Declared → List Declaration → List Occurrence
+declarations_occurrences found [] = []
+declarations_occurrences found (d ∷ ds) = declaration_occurrences found d ++ declarations_occurrences (behind d found) ds

@@ -1,0 +1,76 @@
+-- The limits of what an unfolded text asks for: the weight of all scenarios, their number, instances times scenarios, the bits of all decisions (each
+-- decided once for each history of its stage), and term nodes.
+use Rattle.std.specs.Prelude.{ℕ, ◌+◌, ◌-◌, ◌*◌, ◌^◌, ℤ, pos, int_le, List, [], ◌∷◌, length, map, Option, Some, None, if◌then◌else◌}
+use Rattle.std.specs.List.{sum_by}
+use Rattle.std.specs.Int.{int_min, int_gap}
+use Rattle.sopl_base.specs.declared.places.Excess.{Excess}
+use Rattle.sopl_meaning.specs.Numbers.{or_else, binary_digits}
+use Rattle.sopl_meaning.specs.Occurrences.{excess}
+use Rattle.sopl_meaning.specs.Instances.{Decision, Stochastic, Problem}
+use Rattle.sopl_meaning.specs.Scenarios.{scenarios, total_weight}
+use Rattle.sopl_meaning.specs.Histories.{histories}
+use Rattle.sopl_meaning.specs.TermNodes.{text_nodes}
+
+-- the greatest numbers that are allowed: the weight of all scenarios, their number, instances times scenarios, bits, and term nodes
+pub record Limits : Type 0 where
+  pub weight : ℕ
+  pub scenarios : ℕ
+  pub copies : ℕ
+  pub bits : ℕ
+  pub nodes : ℕ
+
+-- the limits of the language
+abbrev pub usual_limits : Limits
+usual_limits = record { weight = 2 ^ 100; scenarios = 16384; copies = 1048576; bits = 1024; nodes = 4194304 }
+
+-- the first of these numbers that passes a limit; a number past 2^127 - 1 is given as that
+abbrev pub first_above : ℕ → ℕ → List ℤ → Option Excess
+first_above code limit [] = None
+first_above code limit (n ∷ later) =
+    if int_le n (pos limit) then first_above code limit later else Some (excess code (int_min n (pos (2 ^ 127 - 1))) (pos limit))
+
+-- the fronts of a list that are not empty, from the shortest to the whole
+abbrev pub fronts : {A : Type 0} → List A → List (List A)
+fronts [] = []
+fronts (x ∷ xs) = (x ∷ []) ∷ map (λ front. x ∷ front) (fronts xs)
+
+-- 201: the weight of all scenarios of the stochastic variables up to one of them
+abbrev pub weight_excess : Limits → Problem → Option Excess
+weight_excess limits problem = first_above 201 limits.weight (map total_weight (fronts problem.stochastics))
+
+-- 202: how many scenarios the stochastic variables up to one of them have
+abbrev pub scenario_excess : Limits → Problem → Option Excess
+scenario_excess limits problem =
+    first_above 202 limits.scenarios (map (λ front. pos (length (scenarios front))) (fronts problem.stochastics))
+
+-- how many instances there are: decisions, stochastic variables and constraints
+abbrev pub instance_count : Problem → ℕ
+instance_count problem = length problem.decisions + (length problem.stochastics + (length problem.hards + length problem.chances))
+
+-- 209: instances times scenarios
+abbrev pub copy_excess : Limits → Problem → Option Excess
+copy_excess limits problem =
+    first_above 209 limits.copies (pos (instance_count problem * length (scenarios problem.stochastics)) ∷ [])
+
+-- the bits of a decision, which is decided once for each history of its stage: as many bits in each as its greatest number less its least has binary
+-- digits
+abbrev pub bits_of : List Stochastic → Decision → ℕ
+bits_of stochastics d = binary_digits (int_gap d.lo d.hi) * length (histories d.stage stochastics)
+
+-- 204: the bits of all decisions, one value for each history
+abbrev pub bit_excess : Limits → Problem → Option Excess
+bit_excess limits problem = first_above 204 limits.bits (pos (sum_by (bits_of problem.stochastics) problem.decisions) ∷ [])
+
+-- 206: the term nodes, which are asked for from the compiler on, behind the sizes
+abbrev pub node_excess : Limits → Problem → Option Excess
+node_excess limits problem = first_above 206 limits.nodes (pos (text_nodes problem) ∷ [])
+
+-- the first limit on scenarios and decisions that is passed, in the order 201, 202, 209, 204
+abbrev pub size_excess : Limits → Problem → Option Excess
+size_excess limits problem =
+    or_else (weight_excess limits problem)
+    (or_else (scenario_excess limits problem) (or_else (copy_excess limits problem) (bit_excess limits problem)))
+
+-- the first limit that is passed, where the term nodes come last
+abbrev pub first_passed : Limits → Problem → Option Excess
+first_passed limits problem = or_else (size_excess limits problem) (node_excess limits problem)

@@ -1,0 +1,41 @@
+-- The scenarios of an unfolded text and their weights.
+use Rattle.std.specs.Prelude.{ℕ, ℤ, pos, ◌*ℤ◌, List, [], ◌∷◌, ◌++◌, map}
+use Rattle.std.specs.List.{flat_map, enumerate_from}
+use Rattle.sopl_meaning.specs.Numbers.{total}
+use Rattle.sopl_meaning.specs.Instances.{Outcome, Stochastic}
+
+-- a scenario: one outcome of each stochastic variable, in their order, by its place in the written distribution and by its value; and the product of
+-- these outcomes' weights
+pub record Scenario : Type 0 where
+  pub places : List ℕ
+  pub values : List ℤ
+  pub weight : ℤ
+
+-- a scenario of the later variables, after this outcome of the first, which stands at this place
+abbrev pub preceded_by : ℕ × Outcome → Scenario → Scenario
+preceded_by drawn later =
+    record { places = drawn.0 ∷ later.places; values = drawn.1.value ∷ later.values; weight = drawn.1.weight *ℤ later.weight }
+
+-- the outcomes of a variable where the variables before it took these places; the places are not looked at yet, since variables are independent
+abbrev pub outcomes_after : List ℕ → Stochastic → List Outcome
+outcomes_after places s = s.outcomes
+
+-- the scenarios of variables where those before them took these places, in lexicographic order of places
+abbrev pub scenarios_after : List ℕ → List Stochastic → List Scenario
+scenarios_after places [] = (record { places = []; values = []; weight = pos 1 }) ∷ []
+scenarios_after places (first ∷ later) =
+    flat_map (λ (drawn : ℕ × Outcome). map (preceded_by drawn) (scenarios_after (places ++ drawn.0 ∷ []) later))
+    (enumerate_from 0 (outcomes_after places first))
+
+-- all scenarios
+abbrev pub scenarios : List Stochastic → List Scenario
+scenarios stochastics = scenarios_after [] stochastics
+
+-- the total of a distribution's weights
+abbrev pub total_of : List Outcome → ℤ
+total_of outcomes = total (map (λ (outcome : Outcome). outcome.weight) outcomes)
+
+-- the weight of all scenarios together: the product of the distributions' totals
+abbrev pub total_weight : List Stochastic → ℤ
+total_weight [] = pos 1
+total_weight (first ∷ later) = total_of first.outcomes *ℤ total_weight later
