@@ -3,3 +3,4 @@ pub mod Turns
 pub mod Faults
 pub mod Plain
 mod Nesting
+pub mod Grouped

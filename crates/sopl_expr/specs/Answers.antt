@@ -14,3 +14,8 @@ Fails halt.NoMemory outcome = Unit {0}
 abbrev pub Answers : {A B : Type 0} → (A → B) → Result A Halt → Result B Stop → Type 0
 Answers view (Ok value) outcome = outcome ≡ Ok (view value)
 Answers view (Err h) outcome = Fails h outcome
+
+-- what was read before and what is read now, as one
+abbrev pub with_first : {A B C : Type 0} → A → Result (B × C) Halt → Result ((A × B) × C) Halt
+with_first first (Ok x) = Ok ((first, x.0), x.1)
+with_first first (Err h) = Err h

@@ -5,11 +5,12 @@ ghost use Rattle.sopl_grammar.specs.Reading.{chain as chain_of};
 ghost use Rattle.sopl_grammar.specs.Expressions as phrase;
 ghost use Rattle.sopl_grammar.specs.Phrases.{way};
 ghost use Rattle.sopl_expr.specs.Answers.{Answers};
+ghost use Rattle.sopl_expr.specs.Tasks as piece;
 ghost use Rattle.sopl_expr.specs.Nests.{Nests};
 
 use crate::chains::chain;
 use crate::level::Below;
-use crate::reader::{Ask, Next, Read};
+use crate::reader::{Ask, Next, Read, joined};
 use sopl_ast::{Binders, Expr, Exprs, Token};
 use sopl_grammar::{Mark, has_mark, rest};
 use std::alloc::Global;
@@ -49,9 +50,9 @@ impl<F: Fn(Global, usize, Ask, &[Token]) -> Read<'_, Expr> + Copy> Below<F> {
         ensures { Answers (λ x. (x.0, x.1.now)) result
             (phrase.arguments (way false self.now.here.depth) tokens.now) }
     {
-        let (first, left) = self.expression(tokens)?;
-        let left = self.here.past(Mark::Comma, left)?;
-        let (second, left) = self.expression(left)?;
+        let read = self.expression(tokens)?;
+        let (first, left) = self.here.closed(Mark::Comma, read)?;
+        let ((first, second), left) = joined(first, self.expression(left))?;
         self.more_arguments(first, second, left)
     }
 
@@ -74,8 +75,7 @@ impl<F: Fn(Global, usize, Ask, &[Token]) -> Read<'_, Expr> + Copy> Below<F> {
             (phrase.compared (way false self.now.here.depth) tokens.now) }
     {
         let (over, left) = self.all(tokens)?;
-        let (e, left) = self.expression(left)?;
-        Ok(((over, e), left))
+        joined(over, self.expression(left))
     }
 
     /// The start, the length and the demand of a task.
@@ -85,16 +85,40 @@ impl<F: Fn(Global, usize, Ask, &[Token]) -> Read<'_, Expr> + Copy> Below<F> {
         ensures { Answers (λ x. (x.0, x.1.now)) result
             (phrase.task (way false self.now.here.depth) tokens.now) }
     {
-        let (start, left) = self.expression(tokens)?;
-        let left = self.here.past(Mark::Comma, left)?;
-        let (duration, left) = self.expression(left)?;
-        let left = self.here.past(Mark::Comma, left)?;
-        let (demand, left) = self.expression(left)?;
+        let read = self.expression(tokens)?;
+        let (start, left) = self.here.closed(Mark::Comma, read)?;
+        let read = joined(start, self.expression(left))?;
+        let (first, left) = self.here.closed(Mark::Comma, read)?;
+        let (((start, duration), demand), left) = joined(first, self.expression(left))?;
         Ok(((start, (duration, demand)), left))
     }
 
+    /// A task in parentheses.
+    #[tactic(auto, unfolding(crate::specs::Tasks::enclosed_task, sopl_grammar::specs::Phrases::inner_of))]
+    fn enclosed_task<'a>(&self, tokens: &'a [Token]) -> Read<'a, (Expr, (Expr, Expr))>
+        requires { Nests (self.now.here.depth + 1) (F.pre self.now.read) (F.post self.now.read) }
+        ensures { Answers (λ x. (x.0, x.1.now)) result
+            (piece.enclosed_task (way false self.now.here.depth) tokens.now) }
+    {
+        let (inner, left) = self.enter(Mark::ParenOpen, tokens)?;
+        let read = inner.task(left)?;
+        self.here.closed(Mark::ParenClose, read)
+    }
+
+    /// A task in parentheses, and the capacity.
+    #[tactic(auto, unfolding(crate::specs::Tasks::limited_task))]
+    fn limited_task<'a>(&self, tokens: &'a [Token]) -> Read<'a, ((Expr, (Expr, Expr)), Expr)>
+        requires { Nests (self.now.here.depth + 1) (F.pre self.now.read) (F.post self.now.read) }
+        ensures { Answers (λ x. (x.0, x.1.now)) result
+            (piece.limited_task (way false self.now.here.depth) tokens.now) }
+    {
+        let read = self.enclosed_task(tokens)?;
+        let (task, left) = self.here.closed(Mark::Comma, read)?;
+        joined(task, self.expression(left))
+    }
+
     /// What stands inside `cumulative`: the binders, the task and the capacity.
-    #[tactic(auto, unfolding(sopl_grammar::specs::Expressions::tasks, sopl_grammar::specs::Phrases::inner_of))]
+    #[tactic(auto, using(crate::proofs::Grouped::tasks_parts))]
     pub(crate) fn tasks<'a>(
         &self,
         tokens: &'a [Token],
@@ -104,11 +128,6 @@ impl<F: Fn(Global, usize, Ask, &[Token]) -> Read<'_, Expr> + Copy> Below<F> {
             (phrase.tasks (way false self.now.here.depth) tokens.now) }
     {
         let (over, left) = self.all(tokens)?;
-        let (inner, left) = self.enter(Mark::ParenOpen, left)?;
-        let (task, left) = inner.task(left)?;
-        let left = self.here.past(Mark::ParenClose, left)?;
-        let left = self.here.past(Mark::Comma, left)?;
-        let (capacity, left) = self.expression(left)?;
-        Ok(((over, (task, capacity)), left))
+        joined(over, self.limited_task(left))
     }
 }

@@ -10,7 +10,7 @@ ghost use Rattle.sopl_expr.specs.Nests.{Nests};
 
 use crate::chains::chain;
 use crate::level::Below;
-use crate::reader::{Ask, Next, Read};
+use crate::reader::{Ask, Next, Read, joined};
 use sopl_ast::{Binder, Binders, Expr, Name, RangeText, Token};
 use sopl_grammar::{Mark, has_mark, named, place, range_end, rest};
 use std::alloc::Global;
@@ -33,9 +33,9 @@ impl<F: Fn(Global, usize, Ask, &[Token]) -> Read<'_, Expr> + Copy> Below<F> {
         ensures { Answers (λ x. (range_of x.0, x.1.now)) result
             (phrase.ends (way false self.now.here.depth) tokens.now) }
     {
-        let (lo, left) = self.sum(tokens)?;
-        let left = self.here.past(Mark::DotDot, left)?;
-        let (hi, left) = self.sum(left)?;
+        let read = self.sum(tokens)?;
+        let (lo, left) = self.here.closed(Mark::DotDot, read)?;
+        let ((lo, hi), left) = joined(lo, self.sum(left))?;
         Ok((RangeText::Ends { lo, hi }, left))
     }
 
@@ -63,9 +63,9 @@ impl<F: Fn(Global, usize, Ask, &[Token]) -> Read<'_, Expr> + Copy> Below<F> {
         ensures { Answers (λ x. (x.0, x.1.now)) result
             (phrase.binder (way false self.now.here.depth) tokens.now) }
     {
-        let ((name, at), left) = self.here.name(tokens)?;
-        let left = self.here.past(Mark::Inside, left)?;
-        let (range, left) = self.range(left)?;
+        let read = self.here.name(tokens)?;
+        let ((name, at), left) = self.here.closed(Mark::Inside, read)?;
+        let ((name, range), left) = joined(name, self.range(left))?;
         Ok((Binder { name, at, range }, left))
     }
 
@@ -114,9 +114,8 @@ impl<F: Fn(Global, usize, Ask, &[Token]) -> Read<'_, Expr> + Copy> Below<F> {
             (phrase.bindings (way false self.now.here.depth) tokens.now) }
     {
         let (inner, left) = self.enter(Mark::ParenOpen, tokens)?;
-        let (over, left) = inner.bound(left)?;
-        let left = self.here.past(Mark::ParenClose, left)?;
-        Ok((over, left))
+        let read = inner.bound(left)?;
+        self.here.closed(Mark::ParenClose, read)
     }
 
     /// What stands behind `sum`.
@@ -127,7 +126,6 @@ impl<F: Fn(Global, usize, Ask, &[Token]) -> Read<'_, Expr> + Copy> Below<F> {
             (phrase.summed (way false self.now.here.depth) tokens.now) }
     {
         let (over, left) = self.bindings(tokens)?;
-        let (e, left) = self.product(left)?;
-        Ok(((over, e), left))
+        joined(over, self.product(left))
     }
 }

@@ -26,8 +26,8 @@ impl<F: Fn(Global, usize, Ask, &[Token]) -> Read<'_, Expr> + Copy> Level<F> {
             return Ok((None, tokens));
         }
         let inner = self.inside(tokens)?;
-        let (e, left) = inner.expression(rest(tokens))?;
-        let left = self.here.past(Mark::BracketClose, left)?;
+        let read = inner.expression(rest(tokens))?;
+        let (e, left) = self.here.closed(Mark::BracketClose, read)?;
         Ok((Some(e), left))
     }
 
@@ -64,8 +64,8 @@ impl<F: Fn(Global, usize, Ask, &[Token]) -> Read<'_, Expr> + Copy> Level<F> {
             (phrase.parentheses (way false self.now.here.depth) tokens.now) }
     {
         let inner = self.inside(tokens)?;
-        let (e, left) = inner.expression(rest(tokens))?;
-        let left = self.here.past(Mark::ParenClose, left)?;
+        let read = inner.expression(rest(tokens))?;
+        let (e, left) = self.here.closed(Mark::ParenClose, read)?;
         Ok((e.moved(place(tokens)), left))
     }
 
@@ -77,8 +77,8 @@ impl<F: Fn(Global, usize, Ask, &[Token]) -> Read<'_, Expr> + Copy> Level<F> {
             (phrase.absolute (way false self.now.here.depth) tokens.now) }
     {
         let (inner, left) = self.enter(Mark::ParenOpen, rest(tokens))?;
-        let (e, left) = inner.expression(left)?;
-        let left = self.here.past(Mark::ParenClose, left)?;
+        let read = inner.expression(left)?;
+        let (e, left) = self.here.closed(Mark::ParenClose, read)?;
         Ok((Expr::absolute(self.here.alloc, place(tokens), e)?, left))
     }
 
@@ -90,8 +90,8 @@ impl<F: Fn(Global, usize, Ask, &[Token]) -> Read<'_, Expr> + Copy> Level<F> {
             (phrase.extreme (way false self.now.here.depth) greatest tokens.now) }
     {
         let (inner, left) = self.enter(Mark::ParenOpen, rest(tokens))?;
-        let (parts, left) = inner.arguments(left)?;
-        let left = self.here.past(Mark::ParenClose, left)?;
+        let read = inner.arguments(left)?;
+        let (parts, left) = self.here.closed(Mark::ParenClose, read)?;
         Ok((Expr::extreme(place(tokens), greatest, parts), left))
     }
 
@@ -103,8 +103,8 @@ impl<F: Fn(Global, usize, Ask, &[Token]) -> Read<'_, Expr> + Copy> Level<F> {
             (phrase.all_different (way false self.now.here.depth) tokens.now) }
     {
         let (inner, left) = self.enter(Mark::ParenOpen, rest(tokens))?;
-        let ((over, e), left) = inner.compared(left)?;
-        let left = self.here.past(Mark::ParenClose, left)?;
+        let read = inner.compared(left)?;
+        let ((over, e), left) = self.here.closed(Mark::ParenClose, read)?;
         Ok((
             Expr::all_different(self.here.alloc, place(tokens), over, e)?,
             left,
@@ -119,8 +119,8 @@ impl<F: Fn(Global, usize, Ask, &[Token]) -> Read<'_, Expr> + Copy> Level<F> {
             (phrase.cumulative (way false self.now.here.depth) tokens.now) }
     {
         let (inner, left) = self.enter(Mark::ParenOpen, rest(tokens))?;
-        let ((over, (task, capacity)), left) = inner.tasks(left)?;
-        let left = self.here.past(Mark::ParenClose, left)?;
+        let read = inner.tasks(left)?;
+        let ((over, (task, capacity)), left) = self.here.closed(Mark::ParenClose, read)?;
         Ok((
             Expr::cumulative(self.here.alloc, place(tokens), over, task, capacity)?,
             left,

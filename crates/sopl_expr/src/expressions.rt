@@ -9,7 +9,7 @@ ghost use Rattle.sopl_expr.specs.Nests.{Nests};
 
 use crate::chains::chain;
 use crate::level::Level;
-use crate::reader::{Ask, Next, Read};
+use crate::reader::{Ask, Next, Read, joined};
 use sopl_ast::{Expr, Exprs, Token};
 use sopl_grammar::{Mark, comparison_operator, has_mark, place, rest};
 use std::alloc::Global;
@@ -26,7 +26,7 @@ impl<F: Fn(Global, usize, Ask, &[Token]) -> Read<'_, Expr> + Copy> Level<F> {
         let Some(op) = comparison_operator(left) else {
             return Ok((first, left));
         };
-        let (second, left) = self.sum(rest(left))?;
+        let ((first, second), left) = joined(first, self.sum(rest(left)))?;
         Ok((Expr::compare(self.here.alloc, op, first, second)?, left))
     }
 
@@ -101,7 +101,7 @@ impl<F: Fn(Global, usize, Ask, &[Token]) -> Read<'_, Expr> + Copy> Level<F> {
             (phrase.conjunction (way false self.now.here.depth) tokens.now) }
     {
         let (first, left) = self.negation(tokens)?;
-        let (second, left) = self.next_conjunct(left)?;
+        let ((first, second), left) = joined(first, self.next_conjunct(left))?;
         match second {
             None => Ok((first, left)),
             Some(second) => self.more_conjuncts(first, second, left),
@@ -154,7 +154,7 @@ impl<F: Fn(Global, usize, Ask, &[Token]) -> Read<'_, Expr> + Copy> Level<F> {
             (phrase.disjunction (way false self.now.here.depth) tokens.now) }
     {
         let (first, left) = self.conjunction(tokens)?;
-        let (second, left) = self.next_disjunct(left)?;
+        let ((first, second), left) = joined(first, self.next_disjunct(left))?;
         match second {
             None => Ok((first, left)),
             Some(second) => self.more_disjuncts(first, second, left),

@@ -3,7 +3,7 @@
 ghost use Rattle.std.specs.Prelude.{◌≡◌, ◌<◌, Ok, Some, false, OnOk, IfOk};
 ghost use Rattle.sopl_grammar.specs.Phrases.{way, inner_of, is_over as over};
 ghost use Rattle.sopl_grammar.specs.Reading.{past as past_of, name as name_of, opening as opening_of};
-ghost use Rattle.sopl_expr.specs.Answers.{Answers};
+ghost use Rattle.sopl_expr.specs.Answers.{Answers, with_first};
 
 use sopl_ast::{Name, Token};
 use sopl_grammar::{Mark, has_mark, named, place, rest};
@@ -65,6 +65,15 @@ pub fn is_over(closes: bool, tokens: &[Token]) -> bool
     }
 }
 
+/// What was read before and what is read now, as one. What was read is handed in, so that the caller
+/// has nothing to drop where reading stops.
+pub(crate) fn joined<'a, A: Drop, B: Drop>(first: A, read: Read<'a, B>) -> Read<'a, (A, B)>
+    ensures { result ≡ with_first first read.entry }
+{
+    let (second, left) = read?;
+    Ok(((first, second), left))
+}
+
 impl Reader {
     /// The reader inside a bracket or behind a prefix, which stands at the front of the tokens.
     #[tactic(auto, using(crate::proofs::Ways::ways))]
@@ -93,6 +102,17 @@ impl Reader {
         } else {
             Err(Halt::Syntax(tokens))
         }
+    }
+
+    /// What was read, where a mark follows it, and the tokens behind the mark. What was read is handed
+    /// in, so that the caller has nothing to drop where the mark is missing.
+    pub(crate) fn closed<'a, T: Drop>(&self, mark: Mark, read: (T, &'a [Token])) -> Read<'a, T>
+        ensures past { Answers (λ x. x.1.now) result (past_of (way false self.now.depth) mark read.entry.1.now) }
+        ensures kept { IfOk result (λ x. x.0 ≡ read.entry.0) }
+    {
+        let (value, left) = read;
+        let left = self.past(mark, left)?;
+        Ok((value, left))
     }
 
     /// The reader inside a bracket, and the tokens behind the bracket.

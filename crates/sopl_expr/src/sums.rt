@@ -9,7 +9,7 @@ ghost use Rattle.sopl_expr.specs.Nests.{Nests};
 
 use crate::chains::chain;
 use crate::level::Level;
-use crate::reader::{Ask, Next, Read};
+use crate::reader::{Ask, Next, Read, joined};
 use sopl_ast::{Expr, Factors, MulOp, Terms, Token};
 use sopl_grammar::{Mark, factor_operator, has_mark, place, rest, term_operator};
 use std::alloc::Global;
@@ -104,7 +104,7 @@ impl<F: Fn(Global, usize, Ask, &[Token]) -> Read<'_, Expr> + Copy> Level<F> {
             (phrase.product (way false self.now.here.depth) tokens.now) }
     {
         let (first, left) = self.operand(tokens)?;
-        let (second, left) = self.next_factor(left)?;
+        let ((first, second), left) = joined(first, self.next_factor(left))?;
         match second {
             None => Ok((first, left)),
             Some(second) => self.more_factors(first, second, left),
@@ -162,7 +162,7 @@ impl<F: Fn(Global, usize, Ask, &[Token]) -> Read<'_, Expr> + Copy> Level<F> {
             (phrase.sum (way false self.now.here.depth) tokens.now) }
     {
         let (first, left) = self.product(tokens)?;
-        let (second, left) = self.next_term(left)?;
+        let ((first, second), left) = joined(first, self.next_term(left))?;
         match second {
             None => Ok((first, left)),
             Some(second) => self.more_terms(first, second, left),
