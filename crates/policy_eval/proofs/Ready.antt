@@ -66,7 +66,7 @@ pub here_shows : (problem : Problem) (layout : Layout) (point : List ℤ) (i : �
     → slice_get (scenarios problem.stochastics) i ≡ Some s → Shows here (place_in problem (policy_of problem point) [] s)
 here_shows problem layout point i here s ready at is =
     let P : Sight → Type 0 = λ sight. Shows sight (place_in problem (policy_of problem point) [] s) in
-    subst P (sym (at s is)) (shows_in problem point s ready.inside)
+    subst P (sym (at s is)) (shows_in problem point s ready.judged ready.inside)
 
 -- there are few scenarios, each of a weight that is not large
 pub few_scenarios : (problem : Problem) (layout : Layout) (point : List ℤ) → IsReady problem layout point → length (scenarios problem.stochastics) ≤ 16

@@ -8,6 +8,7 @@ use Rattle.std.proofs.lemmas.List.Folds.{list_any-append}
 use Rattle.std.specs.List.{list_all, list_any, flat_map, enumerate_from}
 use Rattle.std.specs.Str.{bytes_eq}
 use Rattle.std.specs.FinMap.{get}
+use Rattle.sopl_ast.specs.Known.{Known}
 use Rattle.sopl_ast.specs.Instances.{Decision, Stochastic, Problem}
 use Rattle.sopl_ast.specs.Scenarios.{Scenario, scenarios}
 use Rattle.sopl_ast.specs.Histories.{history, histories}
@@ -49,12 +50,12 @@ chosen_some problem point i s j d inside is at =
     ap is_some (ap (option_and_then (slice_get point)) (numbered problem.decisions problem.stochastics s j d at) ∙ given.1)
 
 -- the place of evaluation is shown
-pub shows_in : (problem : Problem) (point : List ℤ) (s : Scenario) → IsPoint (cells problem) point
+pub shows_in : (problem : Problem) (point : List ℤ) (s : Scenario) → IsJudged problem → IsPoint (cells problem) point
     → Shows (sight_in problem point s (numbers_for problem s)) (place_in problem (policy_at (cells problem) point) [] s)
-shows_in problem point s inside =
+shows_in problem point s judged inside =
     record {
       unbound = refl;
-      no_constants = refl;
+      no_constants = ap (λ (known : Known). known.constants) judged.unknown;
       decisions = refl;
       stochastics = refl;
       seen = refl;

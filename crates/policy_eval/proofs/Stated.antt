@@ -7,7 +7,7 @@ use Rattle.std.proofs.lemmas.Option.{same_Some}
 use Rattle.sopl_ast.specs.Tree.{Tree, Range, Named, Ends}
 use Rattle.sopl_ast.specs.Whole.{DimTree, Declaration, IntDecl, RangeDecl, SetDecl, DvarDecl, StochDecl, ModelTree}
 use Rattle.sopl_ast.specs.Instances.{Outcome, Decision, Stochastic, Hard, Problem}
-use Rattle.sopl_ast.specs.Problems.{Variable, decided, observed, both_of, all_of, literal_value, stage_of, outcome_of, decision_of, stochastic_of, variable_of, decisions_among, stochastics_among, by_stage, condition_of, problem_with}
+use Rattle.sopl_ast.specs.Problems.{Variable, decided, observed, both_of, all_of, literal_value, stage_of, outcome_of, decision_of, stochastic_of, variable_of, decisions_among, stochastics_among, by_stage, condition_of, scalar_problem_with}
 use Rattle.sopl_ast.specs.Small.{IsSmall}
 use Rattle.policy_eval.specs.Judged.{IsJudged}
 use Rattle.policy_eval.specs.Laws.{StatedIsJudged}
@@ -91,10 +91,11 @@ unfolding by_stage
 all_by_stage P ss all = all_staged P ss (range_with_len 1 24) all
 
 -- a problem with scalar variables is judged
-judged_with : (model : ModelTree) (vs : List Variable) (conditions : List Tree) → All IsScalar vs → IsSmall (problem_with model vs conditions) → IsJudged (problem_with model vs conditions)
+judged_with : (model : ModelTree) (vs : List Variable) (conditions : List Tree) → All IsScalar vs → IsSmall (scalar_problem_with model vs conditions) → IsJudged (scalar_problem_with model vs conditions)
 judged_with model vs conditions scalars small =
     record {
       small = small;
+      unknown = refl;
       decisions = scalar_decisions vs scalars;
       stochastics = all_by_stage (λ (s : Stochastic). s.index ≡ []) (stochastics_among vs) (scalar_stochastics vs scalars);
       hards = All-map (λ (h : Hard). h.bound ≡ []) (λ (text : ℕ). record { text = text; bound = [] }) (range_with_len 0 (length conditions)) (λ k d below. refl);
@@ -102,11 +103,11 @@ judged_with model vs conditions scalars small =
     }
 
 judged_from : (model : ModelTree) (vs : Option (List Variable)) (conditions : Option (List Tree)) (problem : Problem) → IfSome vs (All IsScalar)
-    → both_of (problem_with model) vs conditions ≡ Some problem → IsSmall problem → IsJudged problem
+    → both_of (scalar_problem_with model) vs conditions ≡ Some problem → IsSmall problem → IsJudged problem
 judged_from model None conditions problem scalars stated small = absurd (cc (stated))
 judged_from model (Some vs) None problem scalars stated small = absurd (cc (stated))
 judged_from model (Some vs) (Some conditions) problem scalars stated small =
-    let same : problem_with model vs conditions ≡ problem = same_Some _ _ stated in
+    let same : scalar_problem_with model vs conditions ≡ problem = same_Some _ _ stated in
     subst IsJudged same (judged_with model vs conditions scalars (subst IsSmall (sym same) small))
 
 pub stated_judged : StatedIsJudged

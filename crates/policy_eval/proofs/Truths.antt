@@ -5,9 +5,10 @@ use Rattle.std.specs.FinMap.{get}
 use Rattle.sopl_ast.specs.declared.operators.MulOp.TheVariants.{Times, Div, Mod}
 use Rattle.sopl_ast.specs.Tree as t
 use Rattle.sopl_ast.specs.Tree.{Tree, Terms, Factors, Node, no_term, term, no_factor, factor}
+use Rattle.sopl_ast.specs.Numbers.{both_of}
 use Rattle.sopl_ast.specs.Instances.{Decision}
 use Rattle.sopl_ast.specs.Histories.{history}
-use Rattle.sopl_ast.specs.Meanings.{Place, is_at, decision_at, decided_value, named_value, meaning, sum_value, product_value, both, compared}
+use Rattle.sopl_ast.specs.Meanings.{Place, is_at, decision_at, decided_value, named_value, meaning, sum_value, product_value, compared}
 use Rattle.sopl_ast.specs.Simple.{is_literal, is_times_name, is_part, are_parts, is_sum, is_plain, is_comparison}
 use Rattle.sopl_ast.specs.Small.{is_small_number}
 use Rattle.policy_eval.specs.Sights.{Sight, Shows, cell_value, chosen_value, shown_value, is_shown, value_of}
@@ -60,7 +61,7 @@ times-meaning : (sight : Sight) (place : Place) (before : ℤ) (fs : Factors) �
     → product_value place (Some before) fs ≡ Some (before *ℤ factor_value (value_of sight) fs)
 times-meaning sight place before no_factor shows h = absurd (cc (h))
 times-meaning sight place before (factor Times (Node at (t.Name name)) no_factor) shows h =
-    ap (λ o. both ◌*ℤ◌ (Some before) o) (meaning-name sight place name shows h)
+    ap (λ o. both_of ◌*ℤ◌ (Some before) o) (meaning-name sight place name shows h)
 times-meaning sight place before (factor Times (Node at _) no_factor) shows h = absurd (cc (h))
 times-meaning sight place before (factor Div e no_factor) shows h = absurd (cc (h))
 times-meaning sight place before (factor Mod e no_factor) shows h = absurd (cc (h))
@@ -86,8 +87,8 @@ chain-meaning sight place no_term shows h = refl
 chain-meaning sight place (term minus e later) shows h =
     let first : IsTrue (is_part is_small_number (is_shown sight) e) = and_left (is_part is_small_number (is_shown sight) e) (are_parts is_small_number (is_shown sight) later) h in
     let rest : IsTrue (are_parts is_small_number (is_shown sight) later) = and_right (is_part is_small_number (is_shown sight) e) (are_parts is_small_number (is_shown sight) later) h in
-    ap (λ o. both (λ x y. (cond minus (neg_ℤ x) x) +ℤ y) o (sum_value place later)) (part-meaning sight place e shows first)
-    ∙ ap (λ o. both (λ x y. (cond minus (neg_ℤ x) x) +ℤ y) (Some (part_value (value_of sight) e)) o) (chain-meaning sight place later shows rest)
+    ap (λ o. both_of (λ x y. (cond minus (neg_ℤ x) x) +ℤ y) o (sum_value place later)) (part-meaning sight place e shows first)
+    ∙ ap (λ o. both_of (λ x y. (cond minus (neg_ℤ x) x) +ℤ y) (Some (part_value (value_of sight) e)) o) (chain-meaning sight place later shows rest)
     ∙ ap Some (elim minus as (λ b. (cond b (neg_ℤ (part_value (value_of sight) e)) (part_value (value_of sight) e)) +ℤ chain_value (value_of sight) later ≡ (cond b (neg_ℤ (part_value (value_of sight) e)) (part_value (value_of sight) e)) +ℤ chain_value (value_of sight) later) [ true ↦ refl | false ↦ refl ])
 
 -- the value of a sum at each place that is shown

@@ -6,10 +6,10 @@ use Rattle.std.specs.Option.{option_map_or}
 use Rattle.std.proofs.lemmas.Bool.{and_parts, not-true}
 use Rattle.std.proofs.lemmas.List.Elements.{All-nil, All-head, All-tail}
 use Rattle.sopl_base.specs.declared.places.Interval.{Interval}
+use Rattle.sopl_ast.specs.Numbers.{both_of}
 use Rattle.sopl_ast.specs.Instances.{Hard, Chance, Objective, Problem}
 use Rattle.sopl_ast.specs.Scenarios.{Scenario, scenarios, total_weight}
 use Rattle.sopl_ast.specs.Policies.{Policy}
-use Rattle.sopl_ast.specs.Meanings.{both}
 use Rattle.sopl_ast.specs.Cells.{Cell, cells, IsPoint}
 use Rattle.sopl_ast.specs.Optimal.{holds, value_in, weight_of, expected, worst, worse, numerator, objective_value, Satisfies}
 use Rattle.sopl_ast.specs.Small.{is_small_objective, names_of}
@@ -87,7 +87,7 @@ expected_some value (s ∷ xs) all =
     joined (λ x y. (s.weight *ℤ x) +ℤ y) (value s) (expected value xs) (All-head (λ s. IsSome (value s)) s xs all)
     (expected_some value xs (All-tail (λ s. IsSome (value s)) s xs all))
   where
-    joined : (make : ℤ → ℤ → ℤ) (a b : Option ℤ) → IsSome a → IsSome b → IsSome (both make a b)
+    joined : (make : ℤ → ℤ → ℤ) (a b : Option ℤ) → IsSome a → IsSome b → IsSome (both_of make a b)
     joined make (Some x) (Some y) h k = refl
     joined make (Some x) None h k = absurd (cc (k))
     joined make None b h k = absurd (cc (h))

@@ -8,8 +8,8 @@ use Rattle.std.proofs.lemmas.List.{at_drop_more, at_drop_all}
 use Rattle.std.proofs.lemmas.List.Elements.{All-nil, All-cons, All-head, All-tail}
 use Rattle.std.proofs.lemmas.Option.{slice_get-get_or, same_Some}
 use Rattle.std.proofs.lemmas.List.Sums.{AllPass-from_list_all, list_all-from_AllPass}
+use Rattle.sopl_ast.specs.Numbers.{both_of}
 use Rattle.sopl_ast.specs.Scenarios.{Scenario}
-use Rattle.sopl_ast.specs.Meanings.{both}
 use Rattle.sopl_ast.specs.Optimal.{expected}
 use Rattle.policy_eval.specs.Judged.{IsWeighted}
 
@@ -70,7 +70,7 @@ expected_next value xs i s v total next whole same below valued added so_far =
     so_far
     ∙ ap (plus total) (at_drop_more (expected value) xs i s below
     ∙ ap (λ t. expected value (t ∷ drop (i + 1) xs)) (sym same)
-    ∙ ap (λ o. both (λ x y. (s.weight *ℤ x) +ℤ y) o (expected value (drop (i + 1) xs))) valued)
+    ∙ ap (λ o. both_of (λ x y. (s.weight *ℤ x) +ℤ y) o (expected value (drop (i + 1) xs))) valued)
     ∙ plus_twice total (s.weight *ℤ v) (expected value (drop (i + 1) xs))
     ∙ ap (λ z. plus z (expected value (drop (i + 1) xs))) (sym added)
 
@@ -89,7 +89,7 @@ expected_end value xs i total whole past so_far =
     so_far ∙ ap (plus total) (at_drop_all (expected value) xs i past) ∙ ap Some (+ℤ_idr total)
 
 -- where the whole sum is defined, each value is
-some_first : (make : ℤ → ℤ → ℤ) (a b : Option ℤ) (z : ℤ) → both make a b ≡ Some z → IsSome a × (w : ℤ) × (b ≡ Some w)
+some_first : (make : ℤ → ℤ → ℤ) (a b : Option ℤ) (z : ℤ) → both_of make a b ≡ Some z → IsSome a × (w : ℤ) × (b ≡ Some w)
 some_first make None b z h = absurd (cc (h))
 some_first make (Some x) None z h = absurd (cc (h))
 some_first make (Some x) (Some y) z h = (refl, y, refl)

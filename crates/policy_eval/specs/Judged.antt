@@ -1,6 +1,7 @@
 -- The problems whose points are judged, and what stands at hand in each scenario.
 use Rattle.std.specs.Prelude.{◌≡◌, ℕ, ℤ, pos, ◌*ℤ◌, Bool, List, [], map, All, Option, Some, slice_get, unwrap_or}
 use Rattle.sopl_base.specs.declared.places.Interval.{Interval}
+use Rattle.sopl_ast.specs.Known.{nothing_known}
 use Rattle.sopl_ast.specs.Instances.{Decision, Stochastic, Hard, Problem}
 use Rattle.sopl_ast.specs.Scenarios.{Scenario, scenarios}
 use Rattle.sopl_ast.specs.Policies.{Policy}
@@ -11,9 +12,10 @@ use Rattle.sopl_scen.specs.Layout.{Layout, IsLayoutOf, numbers_in}
 use Rattle.sopl_scen.specs.Ends.{cell_ends, interval_ends}
 use Rattle.policy_eval.specs.Sights.{Sight}
 
--- the problem is one of those that are solved today: small, and of scalars and of hard constraints without binders
+-- the problem is one of those that are solved today: small, with no constants, and of scalars and of hard constraints without binders
 pub record IsJudged (problem : Problem) : Type 0 where
   pub small : IsSmall problem
+  pub unknown : problem.known ≡ nothing_known
   pub decisions : All (λ (d : Decision). d.index ≡ []) problem.decisions
   pub stochastics : All (λ (s : Stochastic). s.index ≡ []) problem.stochastics
   pub hards : All (λ (h : Hard). h.bound ≡ []) problem.hards

@@ -2,7 +2,7 @@
 use Rattle.std.specs.Prelude.{◌≡◌, ◌↔◌, ℤ, List, Some}
 use Rattle.sopl_base.specs.declared.places.Interval.{Interval}
 use Rattle.sopl_ast.specs.Whole.{ModelTree}
-use Rattle.sopl_ast.specs.Problems.{problem_of}
+use Rattle.sopl_ast.specs.Problems.{scalar_problem_of}
 use Rattle.sopl_ast.specs.Small.{IsSmall}
 use Rattle.sopl_ast.specs.Instances.{Problem}
 use Rattle.sopl_ast.specs.Cells.{cells, IsPoint}
@@ -22,4 +22,4 @@ SatisfyingHasValue =
 
 -- a small problem that a model states is judged
 abbrev pub StatedIsJudged : Type 0
-StatedIsJudged = (model : ModelTree) (problem : Problem) → problem_of model ≡ Some problem → IsSmall problem → IsJudged problem
+StatedIsJudged = (model : ModelTree) (problem : Problem) → scalar_problem_of model ≡ Some problem → IsSmall problem → IsJudged problem

@@ -51,8 +51,8 @@ pub record IsSmallSight (sight : Sight) : Type 0 where
 -- the place has no binders and no constants, and these instances and this scenario; and its policy gives each decision, at what
 -- has been seen before its stage, what the point gives it
 pub record Shows (sight : Sight) (place : Place) : Type 0 where
-  pub unbound : place.bound ≡ []
-  pub no_constants : place.constants ≡ []
+  pub unbound : place.known.bound ≡ []
+  pub no_constants : place.known.constants ≡ []
   pub decisions : place.decisions ≡ sight.decisions
   pub stochastics : place.stochastics ≡ sight.stochastics
   pub seen : place.scenario ≡ sight.seen

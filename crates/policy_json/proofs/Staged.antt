@@ -8,9 +8,9 @@ use Rattle.std.proofs.lemmas.Option.{same_Some}
 use Rattle.sopl_ast.specs.Tree.{Tree}
 use Rattle.sopl_ast.specs.Whole.{ModelTree}
 use Rattle.sopl_ast.specs.Instances.{Stochastic, Problem}
-use Rattle.sopl_ast.specs.Problems.{Variable, all_of, both_of, by_stage, condition_of, problem_with, stochastics_among, variable_of}
+use Rattle.sopl_ast.specs.Problems.{Variable, all_of, both_of, by_stage, condition_of, scalar_problem_with, stochastics_among, variable_of}
 use Rattle.sopl_ast.specs.Small.{is_small_stochastic}
-use Rattle.sopl_ast.specs.Accepted.{AcceptedModel}
+use Rattle.sopl_ast.specs.SmallTexts.{SmallModel}
 use Rattle.policy_json.specs.Nodes.{seen_after}
 use Rattle.policy_json.specs.Staged.{Ascend, IsStaged}
 
@@ -42,12 +42,12 @@ unfolding by_stage
 by_stage_ascends ss = stages_ascend ss 1 24
 
 -- the stochastic variables of a problem that a model states
-stated_ascends : (model : ModelTree) (vs : Option (List Variable)) (conditions : Option (List Tree)) (problem : Problem) → both_of (problem_with model) vs conditions ≡ Some problem
+stated_ascends : (model : ModelTree) (vs : Option (List Variable)) (conditions : Option (List Tree)) (problem : Problem) → both_of (scalar_problem_with model) vs conditions ≡ Some problem
     → Ascend 1 problem.stochastics
 stated_ascends model None conditions problem stated = absurd (cc (stated))
 stated_ascends model (Some vs) None problem stated = absurd (cc (stated))
 stated_ascends model (Some vs) (Some conditions) problem stated =
-    let is : problem_with model vs conditions ≡ problem = same_Some _ _ stated in
+    let is : scalar_problem_with model vs conditions ≡ problem = same_Some _ _ stated in
     subst (λ (p : Problem). Ascend 1 p.stochastics) is (by_stage_ascends (stochastics_among vs))
 
 -- small stochastic variables have outcomes
@@ -61,7 +61,7 @@ small_outcomes (s ∷ ss) small =
     at_least n h = grind (arith, nat_tests)
 
 -- the problem of an accepted model comes stage by stage
-pub accepted_staged : (model : ModelTree) (problem : Problem) → AcceptedModel model problem → IsStaged problem
+pub accepted_staged : (model : ModelTree) (problem : Problem) → SmallModel model problem → IsStaged problem
 accepted_staged model problem accepted =
     record {
       ascending = stated_ascends model (all_of variable_of model.decls) (all_of condition_of model.body) problem accepted.stated;

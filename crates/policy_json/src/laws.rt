@@ -2,7 +2,7 @@
 
 ghost use Rattle.std.specs.Prelude.{◌≡◌, Some, false};
 ghost use Rattle.serde_json.specs.Written.{has_float};
-ghost use Rattle.sopl_ast.specs.Accepted.{AcceptedModel};
+ghost use Rattle.sopl_ast.specs.SmallTexts.{SmallModel};
 ghost use Rattle.sopl_ast.specs.Instances.{Problem};
 ghost use Rattle.sopl_ast.specs.Policies.{Policy, IsPolicy};
 ghost use Rattle.sopl_ast.specs.Whole.{ModelTree};
@@ -22,6 +22,6 @@ pub fn no_float()
 pub fn held_throughout()
     ensures held { (problem : Problem) (policy : Policy) → IsStaged problem → IsPolicy problem policy
         → held_data problem policy ≡ Some (policy_data problem policy) }
-    ensures staged { (model : ModelTree) (problem : Problem) → AcceptedModel model problem
+    ensures staged { (model : ModelTree) (problem : Problem) → SmallModel model problem
         → IsStaged problem }
 {}

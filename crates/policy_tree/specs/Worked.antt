@@ -5,6 +5,7 @@ use Rattle.sopl_base.specs.declared.places.Direction.TheVariants.{Maximize}
 use Rattle.sopl_ast.specs.declared.operators.MulOp.TheVariants.{Times}
 use Rattle.sopl_ast.specs.Tree as t
 use Rattle.sopl_ast.specs.Tree.{Tree, Node, no_term, term, no_factor, factor}
+use Rattle.sopl_ast.specs.Known.{nothing_known}
 use Rattle.sopl_ast.specs.Instances.{Decision, Stochastic, Hard, Problem}
 use Rattle.sopl_ast.specs.Policies.{Key}
 use Rattle.sopl_ast.specs.Cells.{cells, policy_at}
@@ -48,6 +49,7 @@ hard number = record { text = number; bound = [] }
 -- y <= d, y <= x, maximize expected 4*y - 3*x
 abbrev pub ordering : Problem
 ordering = record {
+  known = nothing_known;
   decisions = x_decision ∷ y_decision ∷ [];
   stochastics = d_stochastic ∷ [];
   conditions = Node 0 (t.Cmp Le y_tree d_tree) ∷ Node 0 (t.Cmp Le y_tree x_tree) ∷ [];
@@ -71,6 +73,7 @@ ordering_worth x after_one after_three = numerator ordering (policy_at (cells or
 -- x == d, where x is chosen before d is seen
 abbrev pub guessing : Problem
 guessing = record {
+  known = nothing_known;
   decisions = x_decision ∷ [];
   stochastics = d_stochastic ∷ [];
   conditions = Node 0 (t.Cmp Eq x_tree d_tree) ∷ [];

@@ -28,7 +28,7 @@ use Rattle.serde_json.specs.Data.{Data}
 use Rattle.policy_tree.proofs.Lifted.{optimal_from, infeasible_from}
 use Rattle.sopl.specs.Answers.{fraction, word_data, refused_data, optimal_object, optimal_data, line_of}
 use Rattle.sopl_base.specs.declared.places.Refusal.{Refusal}
-use Rattle.sopl_ast.specs.Refusals.{SolvedText, IsRefusedFor}
+use Rattle.sopl_ast.specs.Refusals.{SolvedText, IsRefusedToday}
 use Rattle.sopl.proofs.Rejected.{refused_rejected}
 use Rattle.sopl.specs.Replies.{IsReply, optimal, infeasible, refused}
 use Rattle.sopl.specs.Solved.{IsBest, AnswersProblem, AnswersText}
@@ -165,7 +165,7 @@ pub text_solved : (text : List ℕ) (problem : Problem) (line : List ℕ) → So
 text_solved text problem line solved answers = answers text solved
 
 -- the line of a refusal answers a text that is refused for it
-pub text_refused : (text : List ℕ) (refusal : Refusal) (line : List ℕ) → IsRefusedFor text refusal
+pub text_refused : (text : List ℕ) (refusal : Refusal) (line : List ℕ) → IsRefusedToday text refusal
     → line ≡ line_of (refused_data (pos refusal.at) (pos refusal.code)) → AnswersText text Refused line
 text_refused text refusal line reason is =
     λ words stock before now given.

@@ -2,7 +2,7 @@
 use Rattle.std.proofs.Common.{◌≡◌, Some, None, Bool, false, IsTrue, sym, subst, ◌∙◌}
 use Rattle.sopl_ast.specs.Whole.{ModelTree}
 use Rattle.sopl_ast.specs.Instances.{Problem}
-use Rattle.sopl_ast.specs.Problems.{problem_of}
+use Rattle.sopl_ast.specs.Problems.{scalar_problem_of}
 use Rattle.sopl_ast.specs.Small.{IsSmall}
 use Rattle.sopl.specs.Reading.{IsSmallProblemOf}
 
@@ -13,20 +13,20 @@ same_problem : (p q : Problem) → Some p ≡ Some q → p ≡ q
 same_problem p q e = cc
 
 -- the model states no problem
-pub states_none : (model : ModelTree) → None ≡ problem_of model → IsSmallProblemOf model None
+pub states_none : (model : ModelTree) → None ≡ scalar_problem_of model → IsSmallProblemOf model None
 states_none model none = λ problem a. never_some (none ∙ a.stated)
 
 -- the model states a problem that is not solved today
-pub states_larger : (model : ModelTree) (stated : Problem) → Some stated ≡ problem_of model → (IsSmall stated → ⊥) → IsSmallProblemOf model None
+pub states_larger : (model : ModelTree) (stated : Problem) → Some stated ≡ scalar_problem_of model → (IsSmall stated → ⊥) → IsSmallProblemOf model None
 states_larger model stated is large =
     λ problem a. large (subst IsSmall (sym (same_problem stated problem (is ∙ a.stated))) a.small)
 
 -- the model states a problem that is solved today
-pub states_small : (model : ModelTree) (stated : Problem) → Some stated ≡ problem_of model → IsSmall stated → IsSmallProblemOf model (Some stated)
+pub states_small : (model : ModelTree) (stated : Problem) → Some stated ≡ scalar_problem_of model → IsSmall stated → IsSmallProblemOf model (Some stated)
 states_small model stated is small = record { stated = sym is; small = small }
 
 -- the same, by the test of the program
-pub states_tested : (model : ModelTree) (stated : Problem) (small : Bool) → Some stated ≡ problem_of model
+pub states_tested : (model : ModelTree) (stated : Problem) (small : Bool) → Some stated ≡ scalar_problem_of model
     → (IsTrue small → IsSmall stated) × (IsSmall stated → IsTrue small) → small ≡ false → IsSmallProblemOf model None
 states_tested model stated small is test failed =
     states_larger model stated is (λ s. no_test (subst IsTrue failed (test.1 s)))

@@ -10,8 +10,8 @@ use Rattle.sopl_ast.specs.Grammar.{Spells, SpellsWithin}
 use Rattle.sopl_ast.specs.Misspelled.{IsMisspelled, misplaced, too_deep, NoneGoesOn}
 use Rattle.sopl_ast.specs.Mistakes.{of_model}
 use Rattle.sopl_ast.specs.Instances.{Problem}
-use Rattle.sopl_ast.specs.Accepted.{AcceptedModel}
-use Rattle.sopl_ast.specs.Refusals.{SolvedText, IsRefusedFor, no_tokens, misspelled, mistaken, not_solved}
+use Rattle.sopl_ast.specs.SmallTexts.{SmallModel}
+use Rattle.sopl_ast.specs.Refusals.{SolvedText, IsRefusedToday, no_tokens, misspelled, mistaken, not_solved}
 use Rattle.sopl_lex.proofs.Meet.{lexes_one}
 use Rattle.sopl_grammar.proofs.Stops.{spells_one}
 
@@ -65,11 +65,11 @@ model_same text tokens model problem read is a =
     (spells tokens a.accepted.model (subst (λ l. SpellsWithin l a.accepted.model) (tokens_same text tokens problem read a) a.accepted.spelled)) (spells tokens model is)
 
 -- a text that is refused is not accepted
-pub refused_rejected : (text : List ℕ) (refusal : Refusal) → IsRefusedFor text refusal → (problem : Problem) → SolvedText text problem → ⊥
+pub refused_rejected : (text : List ℕ) (refusal : Refusal) → IsRefusedToday text refusal → (problem : Problem) → SolvedText text problem → ⊥
 refused_rejected text refusal (no_tokens read) problem a = no_refusal refusal a.accepted.tokens (lexes_one text (Err refusal) (Ok a.accepted.tokens) read a.accepted.read)
 refused_rejected text refusal (misspelled tokens read wrong) problem a =
     not_spelled (length text) tokens refusal a.accepted.model wrong (subst (λ l. SpellsWithin l a.accepted.model) (tokens_same text tokens problem read a) a.accepted.spelled)
 refused_rejected text refusal (mistaken tokens model read is first) problem a =
     none_among (of_model model) refusal (subst (λ m. of_model m ≡ []) (model_same text tokens model problem read is a) a.typed) first.among
 refused_rejected text refusal (not_solved tokens model read is typed none code at) problem a =
-    none problem (subst (λ m. AcceptedModel m problem) (model_same text tokens model problem read is a) a.accepted.accepted)
+    none problem (subst (λ m. SmallModel m problem) (model_same text tokens model problem read is a) a.accepted.accepted)

@@ -7,7 +7,7 @@ use Rattle.std.specs.declared.alloc.AllocError.{AllocError}
 use Rattle.sopl_io.specs.Causes.{Rose}
 use Rattle.sopl_io.specs.Stock.{Stock, in_order, text_of}
 use Rattle.sopl_io.specs.Transfer.{cut_at}
-use Rattle.sopl_ast.specs.Refusals.{SolvedText, IsRefusedFor, no_tokens, misspelled, mistaken, not_solved}
+use Rattle.sopl_ast.specs.Refusals.{SolvedText, IsRefusedToday, no_tokens, misspelled, mistaken, not_solved}
 use Rattle.sopl_base.specs.declared.places.Refusal.{Refusal}
 use Rattle.sopl_ast.specs.Instances.{Problem}
 use Rattle.sopl_ast.specs.Tokens.{too_long, no_piece, too_large}
@@ -35,11 +35,11 @@ accepted_front : (most : ℕ) → 1048576 < most → (text : List ℕ) (problem 
 accepted_front most more text problem a = subst (λ t. SolvedText t problem) (sym (whole_text most more text a.accepted.read.0)) a
 
 -- what is short enough as it was read is the whole text
-refused_short : (most : ℕ) → 1048576 < most → (text : List ℕ) (refusal : Refusal) → length (take most text) ≤ 1048576 → IsRefusedFor (take most text) refusal → IsRefusedFor text refusal
-refused_short most more text refusal short r = subst (λ t. IsRefusedFor t refusal) (front_is_whole most more text short) r
+refused_short : (most : ℕ) → 1048576 < most → (text : List ℕ) (refusal : Refusal) → length (take most text) ≤ 1048576 → IsRefusedToday (take most text) refusal → IsRefusedToday text refusal
+refused_short most more text refusal short r = subst (λ t. IsRefusedToday t refusal) (front_is_whole most more text short) r
 
 -- a text is refused where what is read of it is
-refused_whole : (most : ℕ) → 1048576 < most → (text : List ℕ) (refusal : Refusal) → IsRefusedFor (take most text) refusal → IsRefusedFor text refusal
+refused_whole : (most : ℕ) → 1048576 < most → (text : List ℕ) (refusal : Refusal) → IsRefusedToday (take most text) refusal → IsRefusedToday text refusal
 refused_whole most more text refusal (no_tokens (too_long code at long)) =
     no_tokens (too_long code at (omega (arith, long, length-take {A = ℕ} most text)))
 refused_whole most more text refusal (no_tokens (no_piece rest code short reaches stuck)) =
@@ -68,14 +68,14 @@ solved_read words None bytes name most is problem a = (bytes, record { name = na
 solved_read words (Some s) bytes name most is problem a =
     (text_of s name, record { name = name; named = is.named; given = refl }, accepted_whole most is.more (text_of s name) problem (subst (λ b. SolvedText b problem) is.read a))
 
-refused_read : (words : List (List ℕ)) (stock : Option Stock) (bytes name : List ℕ) (most : ℕ) → IsRead words stock bytes name most → (refusal : Refusal) → IsNotAccepted bytes → IsRefusedFor bytes refusal
-    → (text : List ℕ) × IsModelText words stock text × IsNotAccepted text × IsRefusedFor text refusal
+refused_read : (words : List (List ℕ)) (stock : Option Stock) (bytes name : List ℕ) (most : ℕ) → IsRead words stock bytes name most → (refusal : Refusal) → IsNotAccepted bytes → IsRefusedToday bytes refusal
+    → (text : List ℕ) × IsModelText words stock text × IsNotAccepted text × IsRefusedToday text refusal
 refused_read words None bytes name most is refusal none reason = (bytes, record { name = name; named = is.named; given = tt }, none, reason)
 refused_read words (Some s) bytes name most is refusal none reason = (
   text_of s name,
   record { name = name; named = is.named; given = refl },
   (λ p a. none p (subst (λ b. SolvedText b p) (sym is.read) (accepted_front most is.more (text_of s name) p a))),
-  refused_whole most is.more (text_of s name) refusal (subst (λ b. IsRefusedFor b refusal) is.read reason),
+  refused_whole most is.more (text_of s name) refusal (subst (λ b. IsRefusedToday b refusal) is.read reason),
 )
 
 reply_read : (words : List (List ℕ)) (stock : Option Stock) (before now : ℕ) (bytes name : List ℕ) (most : ℕ) → IsRead words stock bytes name most → (status : Status) (line : List ℕ)
@@ -87,7 +87,7 @@ reply_read words stock before now bytes name most is status line (infeasible tex
     let read = solved_read words stock bytes name most is problem (subst (λ t. SolvedText t problem) given.given solved) in
     infeasible read.0 problem read.1 read.2 none
 reply_read words stock before now bytes name most is status line (refused text refusal given none reason) =
-    let read = refused_read words stock bytes name most is refusal (subst IsNotAccepted given.given none) (subst (λ t. IsRefusedFor t refusal) given.given reason) in
+    let read = refused_read words stock bytes name most is refusal (subst IsNotAccepted given.given none) (subst (λ t. IsRefusedToday t refusal) given.given reason) in
     refused read.0 refusal read.1 read.2 read.3
 reply_read words stock before now bytes name most is status line (usage none) = usage none
 reply_read words stock before now bytes name most is status line (read_fault named rose) = read_fault named rose

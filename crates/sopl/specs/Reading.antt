@@ -7,12 +7,12 @@ use Rattle.sopl_ast.specs.Tokens.{Lexes}
 use Rattle.sopl_ast.specs.Whole.{ModelTree}
 use Rattle.sopl_ast.specs.Grammar.{SpellsWithin}
 use Rattle.sopl_ast.specs.Instances.{Problem}
-use Rattle.sopl_ast.specs.Accepted.{AcceptedModel}
-use Rattle.sopl_ast.specs.Refusals.{IsRefusedFor}
+use Rattle.sopl_ast.specs.SmallTexts.{SmallModel}
+use Rattle.sopl_ast.specs.Refusals.{IsRefusedToday}
 
 -- a fault of a text says why it is refused; no limit is met
 abbrev pub IsTextFault : List ℕ → Fault → Type 0
-IsTextFault text (fault.Text refusal) = IsRefusedFor text refusal
+IsTextFault text (fault.Text refusal) = IsRefusedToday text refusal
 IsTextFault text (fault.Limit excess) = ⊥
 IsTextFault text fault.NoMemory = Unit {0}
 
@@ -24,5 +24,5 @@ pub record HasModel (text : List ℕ) (model : ModelTree) : Type 0 where
 
 -- the model states this problem, and it is one that is solved today; or it states none
 abbrev pub IsSmallProblemOf : ModelTree → Option Problem → Type 0
-IsSmallProblemOf model None = (problem : Problem) → ¬ AcceptedModel model problem
-IsSmallProblemOf model (Some problem) = AcceptedModel model problem
+IsSmallProblemOf model None = (problem : Problem) → ¬ SmallModel model problem
+IsSmallProblemOf model (Some problem) = SmallModel model problem

@@ -8,7 +8,7 @@ use Rattle.sopl_base.specs.declared.places.Refusal.{Refusal}
 use Rattle.sopl_ast.specs.Instances.{Problem}
 use Rattle.sopl_ast.specs.Policies.{Policy}
 use Rattle.sopl_ast.specs.Optimal.{IsOptimal, IsInfeasible}
-use Rattle.sopl_ast.specs.Refusals.{SolvedText, IsRefusedFor}
+use Rattle.sopl_ast.specs.Refusals.{SolvedText, IsRefusedToday}
 use Rattle.sopl.specs.Words.{model_of}
 use Rattle.sopl.specs.Answers.{word_data, refused_data, optimal_data, line_of}
 use Rattle.sopl.specs.declared.status.Status.{Status}
@@ -33,7 +33,7 @@ pub data IsReply (words : List (List ℕ)) (stock : Option Stock) (before now : 
   infeasible : (text : List ℕ) (problem : Problem) → IsModelText words stock text → SolvedText text problem → IsInfeasible problem
       → IsReply words stock before now Done (line_of (word_data (codes "infeasible")))
   -- the text is none that is solved, and is refused by this code at this place
-  refused : (text : List ℕ) (refusal : Refusal) → IsModelText words stock text → IsNotAccepted text → IsRefusedFor text refusal
+  refused : (text : List ℕ) (refusal : Refusal) → IsModelText words stock text → IsNotAccepted text → IsRefusedToday text refusal
       → IsReply words stock before now Refused (line_of (refused_data (pos refusal.at) (pos refusal.code)))
   -- the words are not of the form
   usage : model_of words ≡ None → IsReply words stock before now Usage (line_of (word_data (codes "usage")))

@@ -1,22 +1,69 @@
--- The texts that are solved today.
-use Rattle.std.specs.Prelude.{◌≡◌, ℕ, List, Some, Ok}
+-- The texts that are accepted, with the problem that each states, and why another text is not. The limit on the sizes of terms (207) comes with the
+-- terms, behind these; and which forms of expressions the program has yet is said apart, since it is no matter of what a text means.
+use Rattle.std.specs.Prelude.{◌≡◌, ℕ, List, length, Some, None, Ok, Err, IsOk}
+use Rattle.sopl_base.specs.declared.places.Refusal.{Refusal}
+use Rattle.sopl_base.specs.declared.places.Excess.{Excess}
+use Rattle.sopl_base.specs.declared.places.Fault.TheVariants.{Text, Limit}
 use Rattle.sopl_ast.specs.declared.token.Token.{Token}
 use Rattle.sopl_ast.specs.Tokens.{Lexes}
 use Rattle.sopl_ast.specs.Whole.{ModelTree}
 use Rattle.sopl_ast.specs.Grammar.{SpellsWithin}
+use Rattle.sopl_ast.specs.Misspelled.{IsMisspelled}
+use Rattle.sopl_ast.specs.Mistakes.{IsWellTyped, IsFirstMistake}
+use Rattle.sopl_ast.specs.Occurrences.{met}
 use Rattle.sopl_ast.specs.Instances.{Problem}
-use Rattle.sopl_ast.specs.Problems.{problem_of}
-use Rattle.sopl_ast.specs.Small.{IsSmall}
+use Rattle.sopl_ast.specs.Unfolding.{problem_of, text_occurrences}
+use Rattle.sopl_ast.specs.Limits.{Limits, size_excess, node_excess}
 
--- the model states a problem that is solved today
-pub record AcceptedModel (model : ModelTree) (problem : Problem) : Type 0 where
-  pub stated : problem_of model ≡ Some problem
-  pub small : IsSmall problem
+-- the model has no mistake, nothing stops its unfolding, it states this problem, and neither its scenarios nor its decisions pass a limit
+pub record AcceptedModel (limits : Limits) (model : ModelTree) (problem : Problem) : Type 0 where
+  pub typed : IsWellTyped model
+  pub unfolded : IsOk (met 0 (text_occurrences model))
+  pub stated : problem_of model ≡ problem
+  pub allowed : size_excess limits problem ≡ None
 
--- the text has tokens, they spell a model, and it states a problem that is solved today
-pub record AcceptedText (text : List ℕ) (problem : Problem) : Type 0 where
+-- the model is accepted, and its term nodes do not pass their limit either: from the compiler on, such models are taken
+pub record SolvableModel (limits : Limits) (model : ModelTree) (problem : Problem) : Type 0 where
+  pub accepted : AcceptedModel limits model problem
+  pub counted : node_excess limits problem ≡ None
+
+-- the tokens of the text spell this model
+pub record IsTextOf (text : List ℕ) (model : ModelTree) : Type 0 where
   pub tokens : List Token
   pub read : Lexes text (Ok tokens)
-  pub model : ModelTree
   pub spelled : SpellsWithin tokens model
-  pub accepted : AcceptedModel model problem
+
+-- the text spells a model, which is accepted
+pub record AcceptedText (limits : Limits) (text : List ℕ) (problem : Problem) : Type 0 where
+  pub model : ModelTree
+  pub spelled : IsTextOf text model
+  pub accepted : AcceptedModel limits model problem
+
+-- the text spells a model, which is accepted and has no more term nodes than are allowed
+pub record SolvableText (limits : Limits) (text : List ℕ) (problem : Problem) : Type 0 where
+  pub model : ModelTree
+  pub spelled : IsTextOf text model
+  pub solvable : SolvableModel limits model problem
+
+-- the text is refused by this code at this place
+pub data IsRefusedFor (text : List ℕ) (refusal : Refusal) : Type 0 where
+  -- it has no tokens
+  no_tokens : Lexes text (Err refusal) → IsRefusedFor text refusal
+  -- its tokens spell no model
+  misspelled : (tokens : List Token) → Lexes text (Ok tokens) → IsMisspelled (length text) tokens refusal → IsRefusedFor text refusal
+  -- its model has a mistake of names or kinds
+  mistaken : (model : ModelTree) → IsTextOf text model → IsFirstMistake model refusal → IsRefusedFor text refusal
+  -- its model has none, and its unfolding is stopped by a refusal
+  stopped : (model : ModelTree) → IsTextOf text model → IsWellTyped model → met 0 (text_occurrences model) ≡ Err (Text refusal) → IsRefusedFor text refusal
+
+-- the text is not taken since it passes this limit
+pub data IsLimitedFor (limits : Limits) (text : List ℕ) (excess : Excess) : Type 0 where
+  -- its unfolding passes it
+  unfolding_passes : (model : ModelTree) → IsTextOf text model → IsWellTyped model → met 0 (text_occurrences model) ≡ Err (Limit excess)
+      → IsLimitedFor limits text excess
+  -- nothing stops its unfolding, and its scenarios or its decisions pass it
+  sizes_pass : (model : ModelTree) → IsTextOf text model → IsWellTyped model → IsOk (met 0 (text_occurrences model))
+      → size_excess limits (problem_of model) ≡ Some excess → IsLimitedFor limits text excess
+  -- from the compiler on: these do not, and its term nodes pass it
+  nodes_pass : (model : ModelTree) → IsTextOf text model → IsWellTyped model → IsOk (met 0 (text_occurrences model))
+      → size_excess limits (problem_of model) ≡ None → node_excess limits (problem_of model) ≡ Some excess → IsLimitedFor limits text excess

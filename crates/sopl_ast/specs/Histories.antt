@@ -1,8 +1,7 @@
 -- What has been seen when a stage is chosen.
-use Rattle.std.specs.Prelude.{ℕ, ℤ, Bool, not, List, [], ◌∷◌, map, filter, nat_lt, Option, if◌then◌else◌}
+use Rattle.std.specs.Prelude.{ℕ, ℤ, not, List, [], ◌∷◌, map, filter, nat_lt, Option, if◌then◌else◌}
 use Rattle.std.specs.List.{position}
-use Rattle.std.specs.Cmp.Lexicographic.{pointwise}
-use Rattle.std.specs.Ordering.{int_eq}
+pub use Rattle.sopl_ast.specs.Known.{same_values}
 use Rattle.sopl_ast.specs.Instances.{Stochastic}
 use Rattle.sopl_ast.specs.Scenarios.{Scenario, scenarios}
 
@@ -12,10 +11,6 @@ history stage [] values = []
 history stage (first ∷ later) [] = []
 history stage (first ∷ later) (value ∷ values) =
     if nat_lt first.stage stage then value ∷ history stage later values else history stage later values
-
--- whether two lists of whole numbers are the same
-abbrev pub same_values : List ℤ → List ℤ → Bool
-same_values xs ys = pointwise int_eq xs ys
 
 -- each list once, where it stands first
 abbrev pub distinct : List (List ℤ) → List (List ℤ)

@@ -2,6 +2,8 @@
 use Rattle.std.specs.Prelude.{ℕ, ℤ, Bool, List, Option}
 use Rattle.sopl_base.specs.declared.places.Direction.{Direction}
 use Rattle.sopl_ast.specs.Tree.{Tree}
+use Rattle.sopl_ast.specs.Known.{Known}
+pub use Rattle.sopl_ast.specs.Known.{Binding}
 
 -- a decision: its name and index (no index for a scalar), the ends of its domain, and the stage at which it is chosen
 pub record Decision : Type 0 where
@@ -23,17 +25,12 @@ pub record Stochastic : Type 0 where
   pub outcomes : List Outcome
   pub stage : ℕ
 
--- a name and the number that a binder gives it
-pub record Binding : Type 0 where
-  pub name : List ℕ
-  pub value : ℤ
-
 -- a constraint that holds in every scenario: the number of its condition, and what its binders give
 pub record Hard : Type 0 where
   pub text : ℕ
   pub bound : List Binding
 
--- a constraint whose scenarios weigh at least p / q of all: the number of its condition, what its binders give, and p and q
+-- a constraint that is true in scenarios that weigh at least p / q of all: the number of its condition, what its binders give, and p and q
 pub record Chance : Type 0 where
   pub text : ℕ
   pub bound : List Binding
@@ -46,9 +43,10 @@ pub record Objective : Type 0 where
   pub worst : Bool
   pub value : Tree
 
--- an unfolded text: decisions in text order, stochastic variables by stage and then in text order, the conditions of the text's
--- constraints in text order, the constraints' instances, and the objective where there is one
+-- an unfolded text: what is known behind its declarations, decisions in text order, stochastic variables by stage and then in text order, the
+-- conditions of the text's constraints in text order, the constraints' instances, and the objective where there is one
 pub record Problem : Type 0 where
+  pub known : Known
   pub decisions : List Decision
   pub stochastics : List Stochastic
   pub conditions : List Tree

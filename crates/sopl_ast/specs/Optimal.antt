@@ -5,17 +5,18 @@ use Rattle.std.specs.Int.{int_min, int_max}
 use Rattle.sopl_base.specs.declared.places.Direction.{Direction}
 use Rattle.sopl_base.specs.declared.places.Direction.TheVariants.{Minimize, Maximize, Nothing}
 use Rattle.sopl_base.specs.Better.{IsBetter}
-use Rattle.sopl_ast.specs.Instances.{Binding, Hard, Chance, Objective, Problem}
-use Rattle.sopl_ast.specs.Scenarios.{Scenario, scenarios, total, total_weight}
+use Rattle.sopl_ast.specs.Known.{Binding}
+use Rattle.sopl_ast.specs.Instances.{Hard, Chance, Objective, Problem}
+use Rattle.sopl_ast.specs.Numbers.{both_of, total}
+use Rattle.sopl_ast.specs.Scenarios.{Scenario, scenarios, total_weight}
 use Rattle.sopl_ast.specs.Policies.{Policy, IsPolicy}
-use Rattle.sopl_ast.specs.Meanings.{Place, meaning, both}
+use Rattle.sopl_ast.specs.Meanings.{Place, meaning}
 
 -- where the problem's expressions are evaluated, under a policy and in a scenario
 abbrev pub place_in : Problem → Policy → List Binding → Scenario → Place
 place_in problem policy bound scenario =
     record {
-      bound = bound;
-      constants = [];
+      known = record problem.known { bound = bound };
       decisions = problem.decisions;
       stochastics = problem.stochastics;
       scenario = scenario.values;
@@ -48,13 +49,13 @@ pub record Satisfies (problem : Problem) (policy : Policy) : Type 0 where
 -- the sum over the scenarios of weight times value
 abbrev pub expected : (Scenario → Option ℤ) → List Scenario → Option ℤ
 expected value [] = Some (pos 0)
-expected value (first ∷ later) = both (λ x y. (first.weight *ℤ x) +ℤ y) (value first) (expected value later)
+expected value (first ∷ later) = both_of (λ x y. (first.weight *ℤ x) +ℤ y) (value first) (expected value later)
 
 -- the least or the greatest value over the scenarios; there is at least one
 abbrev pub worst : (ℤ → ℤ → ℤ) → (Scenario → Option ℤ) → List Scenario → Option ℤ
 worst choose value [] = None
 worst choose value (last ∷ []) = value last
-worst choose value (first ∷ second ∷ later) = both choose (value first) (worst choose value (second ∷ later))
+worst choose value (first ∷ second ∷ later) = both_of choose (value first) (worst choose value (second ∷ later))
 
 -- the worse of two values: the greater one when minimizing, the lesser one when maximizing
 abbrev pub worse : Direction → ℤ → ℤ → ℤ

@@ -1,10 +1,14 @@
 -- The problem that a model states, where every declaration is a scalar with literals.
-use Rattle.std.specs.Prelude.{ℕ, ℤ, pos, negsuc, Bool, List, [], ◌∷◌, length, map, filter, nat_eq, nat_le, ◌&&◌, if◌then◌else◌, Option, Some, None, option_map, option_and_then}
-use Rattle.std.specs.List.{flat_map, range_with_len}
+use Rattle.std.specs.Prelude.{ℕ, ℤ, pos, negsuc, Bool, List, [], ◌∷◌, length, map, nat_le, ◌&&◌, if◌then◌else◌, Option, Some, None, option_map, option_and_then}
+use Rattle.std.specs.List.{range_with_len}
 use Rattle.sopl_ast.specs.Tree as t
 use Rattle.sopl_ast.specs.Tree.{Tree, Range, Node, Named, Ends}
-use Rattle.sopl_ast.specs.Whole.{DimTree, Declaration, IntDecl, RangeDecl, SetDecl, DvarDecl, StochDecl, ConsTree, ForallTree, BlockTree, HardTree, ChanceTree, GoalTree, ModelTree}
-use Rattle.sopl_ast.specs.Instances.{Outcome, Decision, Stochastic, Hard, Objective, Problem}
+use Rattle.sopl_ast.specs.Whole.{DimTree, Declaration, IntDecl, RangeDecl, SetDecl, DvarDecl, StochDecl, ConsTree, ForallTree, BlockTree, HardTree, ChanceTree, ModelTree}
+use Rattle.sopl_ast.specs.Known.{nothing_known}
+use Rattle.sopl_ast.specs.Instances.{Outcome, Decision, Stochastic, Hard, Problem}
+pub use Rattle.sopl_ast.specs.Numbers.{both_of, all_of}
+pub use Rattle.sopl_ast.specs.Unfolding.{up_to_stage, objective_of}
+unfoldable pub use Rattle.sopl_ast.specs.Unfolding.{by_stage}
 
 -- the value of a literal
 abbrev pub literal_value : Tree → Option ℤ
@@ -25,19 +29,10 @@ abbrev pub stage_of : Option Tree → Option ℕ
 stage_of None = Some 1
 stage_of (Some e) = option_and_then stage_number (literal_value e)
 
--- two things that are both there, made into one
-abbrev pub both_of : {A B C : Type 0} → (A → B → C) → Option A → Option B → Option C
-both_of make a b = option_and_then (λ x. option_map (make x) b) a
-
 -- an outcome with a literal value and a literal weight
 abbrev pub outcome_of : Tree × Tree → Option Outcome
 outcome_of pair =
     both_of (λ value weight. record { value = value; weight = weight }) (literal_value pair.0) (literal_value pair.1)
-
--- all of a list, where each is there
-abbrev pub all_of : {A B : Type 0} → (A → Option B) → List A → Option (List B)
-all_of f [] = Some []
-all_of f (x ∷ xs) = both_of (λ y ys. y ∷ ys) (f x) (all_of f xs)
 
 -- a variable of the problem
 pub data Variable : Type 0 where
@@ -79,15 +74,6 @@ stochastics_among [] = []
 stochastics_among (decided d ∷ later) = stochastics_among later
 stochastics_among (observed s ∷ later) = s ∷ stochastics_among later
 
--- the stochastic variables of the stages up to this one, by stage, and those of one stage in text order
-abbrev pub up_to_stage : ℕ → List Stochastic → List Stochastic
-up_to_stage last stochastics =
-    flat_map (λ stage. filter (λ (s : Stochastic). nat_eq s.stage stage) stochastics) (range_with_len 1 last)
-
--- the stochastic variables by stage, and those of one stage in text order; stages go from 1 to 24
-unfoldable pub by_stage : List Stochastic → List Stochastic
-by_stage stochastics = up_to_stage 24 stochastics
-
 -- the condition of a hard constraint
 abbrev pub condition_of : ConsTree → Option Tree
 condition_of (HardTree e) = Some e
@@ -99,14 +85,11 @@ condition_of (ChanceTree condition p q) = None
 abbrev pub hards_of : ℕ → List Hard
 hards_of count = map (λ text. record { text = text; bound = [] }) (range_with_len 0 count)
 
--- an objective
-abbrev pub objective_of : GoalTree → Objective
-objective_of goal = record { direction = goal.direction; worst = goal.worst; value = goal.expr }
-
 -- the problem of these variables and conditions, with the objective of the model
-abbrev pub problem_with : ModelTree → List Variable → List Tree → Problem
-problem_with model variables conditions =
+abbrev pub scalar_problem_with : ModelTree → List Variable → List Tree → Problem
+scalar_problem_with model variables conditions =
     record {
+      known = nothing_known;
       decisions = decisions_among variables;
       stochastics = by_stage (stochastics_among variables);
       conditions = conditions;
@@ -116,5 +99,5 @@ problem_with model variables conditions =
     }
 
 -- the problem that a model states: scalar variables, hard constraints and an objective
-abbrev pub problem_of : ModelTree → Option Problem
-problem_of model = both_of (problem_with model) (all_of variable_of model.decls) (all_of condition_of model.body)
+abbrev pub scalar_problem_of : ModelTree → Option Problem
+scalar_problem_of model = both_of (scalar_problem_with model) (all_of variable_of model.decls) (all_of condition_of model.body)

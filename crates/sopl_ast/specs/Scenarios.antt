@@ -1,17 +1,13 @@
 -- The scenarios of an unfolded text and their weights.
-use Rattle.std.specs.Prelude.{ℤ, pos, ◌+ℤ◌, ◌*ℤ◌, List, [], ◌∷◌, map}
+use Rattle.std.specs.Prelude.{ℤ, pos, ◌*ℤ◌, List, [], ◌∷◌, map}
 use Rattle.std.specs.List.{flat_map}
 use Rattle.sopl_ast.specs.Instances.{Outcome, Stochastic}
+pub use Rattle.sopl_ast.specs.Numbers.{total}
 
 -- a scenario: one value of each stochastic variable, in their order, and the product of these values' weights
 pub record Scenario : Type 0 where
   pub values : List ℤ
   pub weight : ℤ
-
--- the sum of whole numbers
-abbrev pub total : List ℤ → ℤ
-total [] = pos 0
-total (x ∷ xs) = x +ℤ total xs
 
 -- a scenario of the later variables, after this outcome of the first
 abbrev pub preceded_by : Outcome → Scenario → Scenario

@@ -1,5 +1,5 @@
 -- The number conditions of the texts that are solved today: each a test of its own.
-use Rattle.std.specs.Prelude.{ℕ, ◌+◌, ◌*◌, ℤ, pos, int_le, Bool, true, false, ◌&&◌, not, List, [], ◌∷◌, ◌++◌, length, map, nat_le, Option, Some, None, IsTrue}
+use Rattle.std.specs.Prelude.{ℕ, ◌*◌, ℤ, pos, int_le, Bool, true, false, ◌&&◌, not, List, [], ◌∷◌, ◌++◌, length, map, nat_le, Option, Some, None, IsTrue}
 use Rattle.std.specs.List.{list_all, list_any}
 use Rattle.std.specs.Ordering.{int_eq}
 use Rattle.std.specs.Str.{bytes_eq}

@@ -8,8 +8,8 @@ use Rattle.std.specs.Ordering.{int_cmp, match_ordering, MatchOrdering}
 use Rattle.std.specs.declared.cmp.Ordering.{Ordering}
 use Rattle.std.specs.declared.cmp.Ordering.TheVariants.{Less, Equal, Greater}
 use Rattle.sopl_ast.specs.Lists.{trees_list}
-use Rattle.sopl_meaning.specs.Numbers.{counted_up, count_between}
-use Rattle.sopl_meaning.specs.Constants.{value_or_zero}
+use Rattle.sopl_ast.specs.Numbers.{counted_up, count_between}
+use Rattle.sopl_ast.specs.Constants.{value_or_zero}
 use Rattle.sopl_meaning.specs.Laws.{Ascends, RangesAscend, SetsAscend}
 
 -- a number is less than the next

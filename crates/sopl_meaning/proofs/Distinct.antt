@@ -3,10 +3,10 @@ use Rattle.std.proofs.Common.{◌≡◌, sym, subst, true≢false, ℕ, suc, ◌
 use Rattle.std.proofs.lemmas.List.{map-append}
 use Rattle.std.specs.List.{AllByRecursion, IsDistinct, flat_map, enumerate_from, list_any}
 use Rattle.std.specs.Ordering.{int_eq}
-use Rattle.sopl_meaning.specs.Numbers.{all_distinct}
-use Rattle.sopl_meaning.specs.Known.{same_values}
-use Rattle.sopl_meaning.specs.Instances.{Outcome, Stochastic}
-use Rattle.sopl_meaning.specs.Scenarios.{Scenario, preceded_by, scenarios_after}
+use Rattle.sopl_ast.specs.Numbers.{all_distinct}
+use Rattle.sopl_ast.specs.Known.{same_values}
+use Rattle.sopl_ast.specs.Instances.{Outcome, Stochastic}
+use Rattle.sopl_ast.specs.PlacedScenarios.{Scenario, preceded_by, scenarios_after}
 use Rattle.sopl_meaning.specs.Laws.{HasDistinctOutcomes, ScenariosDistinct}
 
 -- the values of a scenario, and of an outcome

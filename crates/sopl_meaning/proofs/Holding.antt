@@ -9,9 +9,9 @@ use Rattle.std.specs.Ordering.{int_cmp, match_ordering, MatchOrdering}
 use Rattle.std.specs.declared.cmp.Ordering.{Ordering}
 use Rattle.std.specs.declared.cmp.Ordering.TheVariants.{Less, Equal, Greater}
 use Rattle.sopl_ast.specs.Lists.{trees_list}
-use Rattle.sopl_meaning.specs.Numbers.{counted_up, count_between, up_to}
-use Rattle.sopl_meaning.specs.Constants.{value_or_zero}
-use Rattle.sopl_meaning.specs.Declarations.{set_of}
+use Rattle.sopl_ast.specs.Numbers.{counted_up, count_between, up_to}
+use Rattle.sopl_ast.specs.Constants.{value_or_zero}
+use Rattle.sopl_ast.specs.Declarations.{set_of}
 use Rattle.sopl_meaning.specs.Laws.{RangesHold, SetsHold}
 
 -- x is an element of the list

@@ -5,3 +5,5 @@ mod Times
 mod Holding
 mod Satisfied
 mod Distinct
+mod ScalarDeclarations
+mod ScalarTexts

@@ -1,13 +1,13 @@
 -- A policy that satisfies is worth something.
 use Rattle.std.proofs.Common.{suc, ◌<◌, length, ℤ, pos, ◌+ℤ◌, ◌*ℤ◌, Bool, true, false, List, [], ◌∷◌, All, Option, Some, None, IsSome, IfSome, if◌then◌else◌, arith, refl}
 use Rattle.std.specs.Option.{option_map_or}
-use Rattle.sopl_meaning.specs.Numbers.{both_of}
-use Rattle.sopl_meaning.specs.Instances.{Objective, Problem}
-use Rattle.sopl_meaning.specs.Scenarios.{Scenario, scenarios}
-use Rattle.sopl_meaning.specs.Policies.{Policy}
-use Rattle.sopl_meaning.specs.Optimal.{value_in, expected, worst, worse, objective_value}
+use Rattle.sopl_ast.specs.Numbers.{both_of}
+use Rattle.sopl_ast.specs.Instances.{Objective, Problem}
+use Rattle.sopl_ast.specs.Scenarios.{Scenario, scenarios}
+use Rattle.sopl_ast.specs.Policies.{Policy}
+use Rattle.sopl_ast.specs.Optimal.{value_in, expected, worst, worse, objective_value}
 use Rattle.sopl_meaning.specs.Laws.{SatisfiedIsWorth}
-use Rattle.sopl_meaning.proofs.ScenarioLaws.{scenarios_alive}
+use Rattle.sopl_meaning.proofs.ScenarioLaws.{some_scenario}
 
 both_some : {A B C : Type 0} (make : A → B → C) (a : Option A) (b : Option B) → IsSome a → IsSome b → IsSome (both_of make a b)
 both_some make None b one two = one
@@ -44,4 +44,4 @@ satisfied_is_worth problem policy alive satisfies = by_objective problem.objecti
         → IfSome o (λ objective. All (λ s. IsSome (value_in problem policy objective s)) (scenarios problem.stochastics))
         → IsSome (option_map_or (objective_value problem policy) o (Some (pos 0)))
     by_objective None all = refl
-    by_objective (Some o) all = objective_some problem policy o (scenarios_alive [] problem.stochastics alive) all
+    by_objective (Some o) all = objective_some problem policy o (some_scenario problem.stochastics alive) all

@@ -1,13 +1,15 @@
 -- The weights of scenarios, how they split, and that there is one.
-use Rattle.std.proofs.Common.{◌≡◌, All, length-append, ◌<◌, suc, length, ℕ, ◌+◌, ◌++◌, ℤ, pos, ◌+ℤ◌, ◌*ℤ◌, List, [], ◌∷◌, map, arith, refl, sym, ap, ◌∙◌}
+use Rattle.std.proofs.Common.{◌≡◌, subst, All, length-append, ◌<◌, suc, length, ℕ, ◌+◌, ◌++◌, ℤ, pos, ◌+ℤ◌, ◌*ℤ◌, List, [], ◌∷◌, map, arith, refl, sym, ap, ◌∙◌}
 use Rattle.std.proofs.Math.IntN.{zero-*ℤ, *ℤ-zero, +ℤ_assoc}
 use Rattle.std.proofs.lemmas.Int.{ints}
 use Rattle.std.proofs.lemmas.List.{map-append, length-map}
 use Rattle.std.specs.List.{flat_map, enumerate_from}
-use Rattle.sopl_meaning.specs.Numbers.{total}
-use Rattle.sopl_meaning.specs.Instances.{Outcome, Stochastic}
-use Rattle.sopl_meaning.specs.Scenarios.{Scenario, preceded_by, scenarios_after, total_of, total_weight}
-use Rattle.sopl_meaning.specs.Laws.{WeightsSum, followed_by, ScenariosSplit, HasOutcomes, ScenariosAlive}
+use Rattle.sopl_ast.specs.Numbers.{total}
+use Rattle.sopl_ast.specs.Instances.{Outcome, Stochastic}
+use Rattle.sopl_ast.specs.Scenarios as ast
+use Rattle.sopl_ast.specs.Scenarios.{total_of, total_weight}
+use Rattle.sopl_ast.specs.PlacedScenarios.{Scenario, preceded_by, scenarios_after, without_places}
+use Rattle.sopl_meaning.specs.Laws.{WeightsSum, ScenariosAgree, followed_by, ScenariosSplit, HasOutcomes, ScenariosAlive}
 use Rattle.sopl_meaning.proofs.Integers.{*ℤ-+ℤ, +ℤ-*ℤ, *ℤ_assoc, one-*ℤ}
 
 -- the weight of a scenario
@@ -81,6 +83,29 @@ flat_map-map : {A B C : Type 0} (f : B → List C) (g : A → B) (xs : List A) �
 flat_map-map f g [] = refl
 flat_map-map f g (x ∷ xs) = ap (λ more. f (g x) ++ more) (flat_map-map f g xs)
 
+-- Scenarios without their places.
+
+agree_each : (places : List ℕ) (later : List Stochastic) (n : ℕ) (os : List Outcome)
+    → ((ps : List ℕ) → map without_places (scenarios_after ps later) ≡ ast.scenarios later)
+    → map without_places (flat_map (λ (drawn : ℕ × Outcome). map (preceded_by drawn) (scenarios_after (places ++ drawn.0 ∷ []) later)) (enumerate_from n os))
+    ≡ flat_map (λ (o : Outcome). map (ast.preceded_by o) (ast.scenarios later)) os
+agree_each places later n [] same = refl
+agree_each places later n (o ∷ os) same =
+    let rest : List Scenario = flat_map (λ (drawn : ℕ × Outcome). map (preceded_by drawn) (scenarios_after (places ++ drawn.0 ∷ []) later)) (enumerate_from (n + 1) os) in
+    let here : List Scenario = scenarios_after (places ++ n ∷ []) later in
+    let first : map without_places (map (preceded_by (n, o)) here) ≡ map (ast.preceded_by o) (ast.scenarios later) =
+    map-map without_places (preceded_by (n, o)) here
+    ∙ (sym (map-map (ast.preceded_by o) without_places here) ∙ ap (map (ast.preceded_by o)) (same (places ++ n ∷ []))) in
+    map-append without_places (map (preceded_by (n, o)) here) rest
+    ∙ λ i. first i ++ agree_each places later (n + 1) os same i
+
+agree_after : (ss : List Stochastic) (places : List ℕ) → map without_places (scenarios_after places ss) ≡ ast.scenarios ss
+agree_after [] places = refl
+agree_after (s ∷ ss) places = agree_each places ss 0 s.outcomes (agree_after ss)
+
+pub scenarios_agree : ScenariosAgree
+scenarios_agree ss = agree_after ss []
+
 -- Scenarios of variables in two parts.
 
 -- what follows the scenario of no variable is itself
@@ -144,3 +169,9 @@ alive (s ∷ ss) all places =
 
 pub scenarios_alive : ScenariosAlive
 scenarios_alive places ss all = alive ss all places
+
+-- the same of the scenarios of the definitions
+pub some_scenario : (ss : List Stochastic) → All HasOutcomes ss → 0 < length (ast.scenarios ss)
+some_scenario ss all =
+    subst (λ (found : List ast.Scenario). 0 < length found) (agree_after ss [])
+    (omega (arith, length-map (scenarios_after [] ss) without_places, alive ss all []))

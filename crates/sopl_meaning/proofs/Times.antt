@@ -5,7 +5,7 @@ use Rattle.std.proofs.lemmas.Bool.{and_parts, and_from}
 use Rattle.std.specs.Prelude.{int_le, int_lt, if◌then◌else◌}
 use Rattle.std.specs.Int.{int_min}
 use Rattle.std.specs.List.{list_all}
-use Rattle.sopl_meaning.specs.Numbers.{Task, runs, asked, demanded, is_sound, all_fit, are_within}
+use Rattle.sopl_ast.specs.Numbers.{Task, runs, asked, demanded, is_sound, all_fit, are_within}
 use Rattle.sopl_meaning.specs.Laws.{FitAtEachTime}
 
 -- tests of numbers and what they say

@@ -1,16 +1,22 @@
 -- What holds of the definitions.
-use Rattle.std.specs.Prelude.{◌≡◌, ◌↔◌, ℕ, ◌<◌, ℤ, ◌*ℤ◌, ◌≤ℤ◌, ◌<ℤ◌, true, List, [], ◌∷◌, ◌++◌, length, map, All, Contains, IsSome, IsTrue}
+use Rattle.std.specs.Prelude.{◌≡◌, ◌↔◌, ℕ, zero, suc, ◌+◌, ◌<◌, ℤ, ◌*ℤ◌, ◌≤ℤ◌, ◌<ℤ◌, true, List, [], ◌∷◌, ◌++◌, length, map, All, Contains, IsSome, IsTrue}
 use Rattle.std.specs.List.{IsDistinct, flat_map, list_all}
 use Rattle.sopl_ast.specs.Tree.{Trees}
 use Rattle.sopl_ast.specs.Lists.{trees_list}
-use Rattle.sopl_meaning.specs.Numbers.{up_to, total, all_distinct, Task, demanded, is_sound, are_within}
-use Rattle.sopl_meaning.specs.Known.{Known, same_values}
-use Rattle.sopl_meaning.specs.Constants.{value_or_zero}
-use Rattle.sopl_meaning.specs.Declarations.{set_of}
-use Rattle.sopl_meaning.specs.Instances.{Outcome, Stochastic, Problem}
-use Rattle.sopl_meaning.specs.Scenarios.{Scenario, scenarios, scenarios_after, total_weight}
-use Rattle.sopl_meaning.specs.Policies.{Policy}
-use Rattle.sopl_meaning.specs.Optimal.{Satisfies, numerator}
+use Rattle.sopl_ast.specs.Numbers.{up_to, total, all_distinct, Task, demanded, is_sound, are_within}
+use Rattle.sopl_ast.specs.Known.{Known, same_values}
+use Rattle.sopl_ast.specs.Occurrences.{Occurrence, Counted}
+use Rattle.sopl_ast.specs.Unfolding.{problem_of, text_occurrences}
+use Rattle.sopl_ast.specs.SmallTexts.{SmallModel}
+use Rattle.sopl_ast.specs.Whole.{ModelTree}
+use Rattle.sopl_ast.specs.Constants.{value_or_zero}
+use Rattle.sopl_ast.specs.Declarations.{set_of}
+use Rattle.sopl_ast.specs.Instances.{Outcome, Stochastic, Problem}
+use Rattle.sopl_ast.specs.Scenarios as ast
+use Rattle.sopl_ast.specs.Scenarios.{total_weight}
+use Rattle.sopl_ast.specs.PlacedScenarios.{Scenario, scenarios, scenarios_after, without_places}
+use Rattle.sopl_ast.specs.Policies.{Policy}
+use Rattle.sopl_ast.specs.Optimal.{Satisfies, numerator}
 
 -- each number is less than the next
 abbrev pub Ascends : List ℤ → Type 0
@@ -41,6 +47,10 @@ abbrev pub FitAtEachTime : Type 0
 FitAtEachTime =
     (capacity : ℤ) (tasks : List Task)
     → are_within capacity tasks ≡ true ↔ ((list_all is_sound tasks ≡ true) × ((time : ℤ) → demanded time tasks ≤ℤ capacity))
+
+-- the scenarios of the definitions are these, without their places
+abbrev pub ScenariosAgree : Type 0
+ScenariosAgree = (stochastics : List Stochastic) → map without_places (scenarios stochastics) ≡ ast.scenarios stochastics
 
 -- a scenario of later variables behind one of earlier variables
 abbrev pub followed_by : Scenario → Scenario → Scenario
@@ -80,3 +90,15 @@ WeightsSum = (stochastics : List Stochastic) → total (map (λ (s : Scenario). 
 abbrev pub SatisfiedIsWorth : Type 0
 SatisfiedIsWorth =
     (problem : Problem) (policy : Policy) → All HasOutcomes problem.stochastics → Satisfies problem policy → IsSome (numerator problem policy)
+
+-- so many things are counted, and nothing else is met
+abbrev pub counted : ℕ → List Occurrence
+counted zero = []
+counted (suc n) = Counted ∷ counted n
+
+-- a problem that is solved today is the one that the whole language states; in its text each declaration and each constraint is counted, and nothing
+-- else is met
+abbrev pub SmallAgrees : Type 0
+SmallAgrees =
+    (model : ModelTree) (problem : Problem) → SmallModel model problem
+    → (problem_of model ≡ problem) × (text_occurrences model ≡ counted (length model.decls + length model.body))

@@ -10,16 +10,16 @@ use Rattle.sopl_ast.specs.declared.operators.MulOp.TheVariants.{Times, Div}
 use Rattle.sopl_ast.specs.Tree as t
 use Rattle.sopl_ast.specs.Tree.{Tree, Node, no_tree, tree, no_term, term, no_factor, factor, no_binder, binder, Named, Ends}
 use Rattle.sopl_ast.specs.Whole.{One, Many, no_init, init, Declaration, IntDecl, RangeDecl, DvarDecl, StochDecl, ConsTree, ForallTree, BlockTree, HardTree, ChanceTree, no_cons, cons, ModelTree}
-use Rattle.sopl_meaning.specs.Known.{Binding, Constant, nothing_known}
-use Rattle.sopl_meaning.specs.Constants.{value}
-use Rattle.sopl_meaning.specs.Occurrences.{excess}
-use Rattle.sopl_meaning.specs.Instances.{Decision, Outcome, Stochastic, Hard, Chance, Problem}
-use Rattle.sopl_meaning.specs.Unfolding.{problem_of}
-use Rattle.sopl_meaning.specs.Scenarios.{Scenario}
-use Rattle.sopl_meaning.specs.Histories.{histories}
-use Rattle.sopl_meaning.specs.Policies.{Policy}
-use Rattle.sopl_meaning.specs.Meanings.{Meaning, meaning}
-use Rattle.sopl_meaning.specs.Optimal.{place_in, holds}
+use Rattle.sopl_ast.specs.Known.{Binding, Constant, nothing_known}
+use Rattle.sopl_ast.specs.Constants.{value}
+use Rattle.sopl_ast.specs.Occurrences.{excess}
+use Rattle.sopl_ast.specs.Instances.{Decision, Outcome, Stochastic, Hard, Chance, Problem}
+use Rattle.sopl_ast.specs.Unfolding.{problem_of}
+use Rattle.sopl_ast.specs.Scenarios.{Scenario}
+use Rattle.sopl_ast.specs.Histories.{histories}
+use Rattle.sopl_ast.specs.Policies.{Policy}
+use Rattle.sopl_ast.specs.Meanings.{Meaning, meaning}
+use Rattle.sopl_ast.specs.Optimal.{place_in, holds}
 
 -- a literal, and a name, at a place
 abbrev pub lit : ℕ → ℕ → Tree
@@ -369,7 +369,7 @@ nothing = record { known = nothing_known; decisions = []; stochastics = []; cond
 
 -- the one scenario without stochastic variables
 abbrev pub sole : Scenario
-sole = record { places = []; values = []; weight = pos 1 }
+sole = record { values = []; weight = pos 1 }
 
 -- what an expression is worth as a constant, and what it means where nothing is declared
 abbrev pub constant : Tree → Option ℤ

@@ -7,7 +7,7 @@ use Rattle.sopl_ast.specs.declared.operators.MulOp.TheVariants.{Times, Div, Mod}
 use Rattle.sopl_ast.specs.Tree as t
 use Rattle.sopl_ast.specs.Tree.{Node, no_tree, tree, no_term, term, no_factor, factor, no_binder, binder, Named, Ends}
 use Rattle.sopl_ast.specs.Whole.{One, Many, no_init, init, IntDecl, RangeDecl, SetDecl, DvarDecl, StochDecl, ForallTree, HardTree, ChanceTree, ModelTree}
-use Rattle.sopl_meaning.specs.Policies.{Policy}
+use Rattle.sopl_ast.specs.Policies.{Policy}
 use Rattle.sopl_meaning.specs.Worked.{lit, var, holds_in}
 
 -- What is undefined makes a comparison false, and an objective without value.

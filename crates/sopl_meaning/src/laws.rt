@@ -1,4 +1,4 @@
-ghost use Rattle.sopl_meaning.specs.Laws.{FitAtEachTime, RangesAscend, RangesHold, SatisfiedIsWorth, ScenariosAlive, ScenariosDistinct, ScenariosSplit, SetsAscend, SetsHold, WeightsSum};
+ghost use Rattle.sopl_meaning.specs.Laws.{FitAtEachTime, RangesAscend, RangesHold, SatisfiedIsWorth, ScenariosAgree, ScenariosAlive, ScenariosDistinct, ScenariosSplit, SetsAscend, SetsHold, SmallAgrees, WeightsSum};
 
 /// The numbers of a range ascend.
 pub fn ranges_ascend()
@@ -25,6 +25,11 @@ pub fn fit_at_each_time()
     ensures law { FitAtEachTime }
 {}
 
+/// The scenarios of the definitions are those with places, without their places.
+pub fn scenarios_agree()
+    ensures law { ScenariosAgree }
+{}
+
 /// Scenarios of variables in two parts are those of the first part, each followed by those of the second part after it.
 pub fn scenarios_split()
     ensures law { ScenariosSplit }
@@ -48,4 +53,9 @@ pub fn weights_sum()
 /// A policy that satisfies is worth something.
 pub fn satisfied_is_worth()
     ensures law { SatisfiedIsWorth }
+{}
+
+/// A problem that is solved today is the one that the whole language states, and in its text nothing is met but what is counted.
+pub fn small_agrees()
+    ensures law { SmallAgrees }
 {}

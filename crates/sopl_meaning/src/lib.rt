@@ -1,6 +1,5 @@
-//! The definitions of the whole language, with worked texts and laws: they take the place of those of `sopl_ast` when the
-//! unfolding stands on them, and no crate of the program uses them yet. The functions are empty and state what was proved of
-//! the definitions, so that no body here could be wrong; hence the crate has no must-fail edits.
+//! Worked texts and laws of the definitions in `sopl_ast/specs`; no crate of the program uses them. The functions are empty and
+//! state what was proved of the definitions, so that no body here could be wrong; hence the crate has no must-fail edits.
 #![tactic(auto)]
 
 mod laws;
@@ -10,8 +9,9 @@ mod values;
 mod worked;
 
 pub use laws::{
-    fit_at_each_time, ranges_ascend, ranges_hold, satisfied_is_worth, scenarios_alive,
-    scenarios_distinct, scenarios_split, sets_ascend, sets_hold, weights_sum,
+    fit_at_each_time, ranges_ascend, ranges_hold, satisfied_is_worth, scenarios_agree,
+    scenarios_alive, scenarios_distinct, scenarios_split, sets_ascend, sets_hold, small_agrees,
+    weights_sum,
 };
 pub use problems::{counted_sizes, stated_constants, stated_instances, stated_parts};
 pub use refusals::{first_met, refused_constants, refused_constraints, refused_declarations};

@@ -1,14 +1,15 @@
 ghost use Rattle.std.specs.FinMap.{get};
 ghost use Rattle.std.specs.Prelude.{◌≡◌, ◌∷◌, Ok, None, Some, [], codes, map, negsuc, pos};
-ghost use Rattle.sopl_meaning.specs.Occurrences.{excess, met, met_within};
-ghost use Rattle.sopl_meaning.specs.Instances.{Hard};
-ghost use Rattle.sopl_meaning.specs.Unfolding.{problem_of, text_occurrences};
-ghost use Rattle.sopl_meaning.specs.Scenarios.{Scenario, scenarios, total_weight};
-ghost use Rattle.sopl_meaning.specs.Histories.{histories, number_of};
-ghost use Rattle.sopl_meaning.specs.Policies.{Policy};
-ghost use Rattle.sopl_meaning.specs.Optimal.{weight_of};
-ghost use Rattle.sopl_meaning.specs.TermNodes.{text_nodes, condition_nodes, objective_nodes};
-ghost use Rattle.sopl_meaning.specs.Limits.{usual_limits, first_passed, bits_of};
+ghost use Rattle.sopl_ast.specs.Occurrences.{excess, met, met_within};
+ghost use Rattle.sopl_ast.specs.Instances.{Hard};
+ghost use Rattle.sopl_ast.specs.Unfolding.{problem_of, text_occurrences};
+ghost use Rattle.sopl_ast.specs.Scenarios.{scenarios, total_weight};
+ghost use Rattle.sopl_ast.specs.PlacedScenarios.{Scenario as Placed, scenarios as placed_scenarios};
+ghost use Rattle.sopl_ast.specs.Histories.{histories, number_of};
+ghost use Rattle.sopl_ast.specs.Policies.{Policy};
+ghost use Rattle.sopl_ast.specs.Optimal.{weight_of};
+ghost use Rattle.sopl_ast.specs.TermNodes.{text_nodes, condition_nodes, objective_nodes};
+ghost use Rattle.sopl_ast.specs.Limits.{usual_limits, first_passed, bits_of};
 ghost use Rattle.sopl_meaning.specs.Worked.{limit, values_of, weights_of, element, decision, outcome, stochastic, bound_to, hard, chance, Decides};
 ghost use Rattle.sopl_meaning.specs.WorkedProblems.{within_sum, within_terms, empty_arrays, no_inner_range, bracket_names, conditions_counted, functions_counted, tasks_counted, operators_in_turn, negative_elements, least_constant, crossed, drawn_against_text, set_of_three, counts, staged, nested, summed_ends, threshold_of_conditions, many_nodes, heaviest, heavy_late, sizes, digits};
 
@@ -59,7 +60,7 @@ pub fn stated_instances()
     ensures drawn_against_text_only { number_of [] 1 (problem_of drawn_against_text).stochastics ≡ Some 0 }
     ensures drawn_against_text_none { number_of (pos 7 ∷ []) 2 (problem_of drawn_against_text).stochastics ≡ None }
     ensures drawn_against_text_one { histories 1 (problem_of drawn_against_text).stochastics ≡ [] ∷ [] }
-    ensures drawn_against_text_places { map (λ (s : Scenario). s.places) (scenarios (problem_of drawn_against_text).stochastics) ≡ (0 ∷ 0 ∷ []) ∷ (0 ∷ 1 ∷ []) ∷ (1 ∷ 0 ∷ []) ∷ (1 ∷ 1 ∷ []) ∷ [] }
+    ensures drawn_against_text_places { map (λ (s : Placed). s.places) (placed_scenarios (problem_of drawn_against_text).stochastics) ≡ (0 ∷ 0 ∷ []) ∷ (0 ∷ 1 ∷ []) ∷ (1 ∷ 0 ∷ []) ∷ (1 ∷ 1 ∷ []) ∷ [] }
 {}
 
 /// Instances of other texts.

@@ -1,11 +1,11 @@
 ghost use Rattle.std.specs.FinMap.{get};
 ghost use Rattle.std.specs.Prelude.{◌≡◌, ◌∷◌, Ok, None, Some, [], false, map, negsuc, pos, true};
-ghost use Rattle.sopl_meaning.specs.Occurrences.{met};
-ghost use Rattle.sopl_meaning.specs.Unfolding.{problem_of, text_occurrences};
-ghost use Rattle.sopl_meaning.specs.Policies.{Policy};
-ghost use Rattle.sopl_meaning.specs.Optimal.{numerator, denominator, weight_of};
-ghost use Rattle.sopl_meaning.specs.TermNodes.{nodes};
-ghost use Rattle.sopl_meaning.specs.Limits.{usual_limits, first_passed};
+ghost use Rattle.sopl_ast.specs.Occurrences.{met};
+ghost use Rattle.sopl_ast.specs.Unfolding.{problem_of, text_occurrences};
+ghost use Rattle.sopl_ast.specs.Policies.{Policy};
+ghost use Rattle.sopl_ast.specs.Optimal.{numerator, denominator, weight_of};
+ghost use Rattle.sopl_ast.specs.TermNodes.{nodes};
+ghost use Rattle.sopl_ast.specs.Limits.{usual_limits, first_passed};
 ghost use Rattle.sopl_meaning.specs.Worked.{hard, chance, holds_in, Decides};
 ghost use Rattle.sopl_meaning.specs.WorkedValues.{undefined, settled, measured, greatest_worst, least_worst, greatest_expected, over_nothing, truths_in};
 

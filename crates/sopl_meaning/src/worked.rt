@@ -1,14 +1,14 @@
 ghost use Rattle.std.specs.FinMap.{get};
 ghost use Rattle.std.specs.Prelude.{◌≡◌, pos, negsuc, true, false, [], ◌∷◌, map, Some, None, Ok, codes};
 ghost use Rattle.sopl_ast.specs.declared.operators.MulOp.TheVariants.{Div, Mod};
-ghost use Rattle.sopl_meaning.specs.Occurrences.{excess, met, met_within};
-ghost use Rattle.sopl_meaning.specs.Unfolding.{problem_of, text_occurrences};
-ghost use Rattle.sopl_meaning.specs.Scenarios.{scenarios, total_weight};
-ghost use Rattle.sopl_meaning.specs.Histories.{histories};
-ghost use Rattle.sopl_meaning.specs.Policies.{Policy};
-ghost use Rattle.sopl_meaning.specs.Optimal.{numerator, denominator, weight_of};
-ghost use Rattle.sopl_meaning.specs.TermNodes.{nodes, text_nodes};
-ghost use Rattle.sopl_meaning.specs.Limits.{usual_limits, first_passed, weight_excess, scenario_excess, copy_excess};
+ghost use Rattle.sopl_ast.specs.Occurrences.{excess, met, met_within};
+ghost use Rattle.sopl_ast.specs.Unfolding.{problem_of, text_occurrences};
+ghost use Rattle.sopl_ast.specs.Scenarios.{scenarios, total_weight};
+ghost use Rattle.sopl_ast.specs.Histories.{histories};
+ghost use Rattle.sopl_ast.specs.Policies.{Policy};
+ghost use Rattle.sopl_ast.specs.Optimal.{numerator, denominator, weight_of};
+ghost use Rattle.sopl_ast.specs.TermNodes.{nodes, text_nodes};
+ghost use Rattle.sopl_ast.specs.Limits.{usual_limits, first_passed, weight_excess, scenario_excess, copy_excess};
 ghost use Rattle.sopl_meaning.specs.Worked.{stages, ordering, seller, blocks, elements, different, tasks, sums, bits, heavy, by_zero, empty_domain, short_bracket, no_weight, late_stage, threshold, wide_domain, long_range, pairs, two_numbers, refusal, limit, values_of, weights_of, history_counts, element, decision, outcome, stochastic, bound_to, hard, chance, quotients, quotient, lit, times_greatest, sum_to, constant, meant, Decides, holds_in};
 
 /// The instances of `seller` and of `blocks`.

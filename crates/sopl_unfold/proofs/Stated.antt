@@ -2,8 +2,9 @@
 use Rattle.std.proofs.Common.{◌≡◌, ℕ, suc, Bool, true, false, List, [], ◌∷◌, length, map, refl, sym, ap, ◌∙◌, Option, Some, None, is_some, IsSome, option_map, Result, Ok, Err, IfOk}
 use Rattle.sopl_ast.specs.Tree.{Tree}
 use Rattle.sopl_ast.specs.Whole.{Declaration, ConsTree, ForallTree, BlockTree, HardTree, ChanceTree, ModelTree}
+use Rattle.sopl_ast.specs.Known.{nothing_known}
 use Rattle.sopl_ast.specs.Instances.{Stochastic, Hard, Problem}
-use Rattle.sopl_ast.specs.Problems.{both_of, all_of, Variable, variable_of, condition_of, stochastics_among, by_stage, hards_of, objective_of, problem_with, problem_of}
+use Rattle.sopl_ast.specs.Problems.{both_of, all_of, Variable, variable_of, condition_of, stochastics_among, by_stage, hards_of, objective_of, scalar_problem_with, scalar_problem_of}
 use Rattle.std.specs.declared.alloc.AllocError.{AllocError}
 use Rattle.sopl_ast.specs.Constraints.{cons_tree}
 use Rattle.sopl_ast.specs.declared.constraints.Cons.{Cons}
@@ -70,9 +71,9 @@ hards_found trees count h n = hards_found_of (all_of condition_of trees) (length
     hards_found_of (Some conditions) f h = ap (λ k. Some (hards_of k)) (n ∙ sym (f conditions refl))
 
 -- a declaration is no scalar with literals
-pub no_variables : (m : ModelTree) → None ≡ option_map parts_of (all_of variable_of m.decls) → None ≡ problem_of m
+pub no_variables : (m : ModelTree) → None ≡ option_map parts_of (all_of variable_of m.decls) → None ≡ scalar_problem_of m
 no_variables m none =
-    ap (λ o. both_of (problem_with m) o (all_of condition_of m.body)) (sym (none_of parts_of (all_of variable_of m.decls) none))
+    ap (λ o. both_of (scalar_problem_with m) o (all_of condition_of m.body)) (sym (none_of parts_of (all_of variable_of m.decls) none))
 
 both_none : {A B C : Type 0} (f : A → B → C) (o : Option A) → None ≡ both_of f o None
 both_none f None = refl
@@ -80,15 +81,16 @@ both_none f (Some x) = refl
 
 -- a constraint is no hard one
 pub not_plain : (m : ModelTree) → None ≡ option_map (λ (conditions : List Tree). hards_of (length conditions)) (all_of condition_of m.body)
-    → None ≡ problem_of m
+    → None ≡ scalar_problem_of m
 not_plain m none =
-    both_none (problem_with m) (all_of variable_of m.decls)
-    ∙ ap (λ o. both_of (problem_with m) (all_of variable_of m.decls) o) (sym (none_of (λ (conditions : List Tree). hards_of (length conditions)) (all_of condition_of m.body) none))
+    both_none (scalar_problem_with m) (all_of variable_of m.decls)
+    ∙ ap (λ o. both_of (scalar_problem_with m) (all_of variable_of m.decls) o) (sym (none_of (λ (conditions : List Tree). hards_of (length conditions)) (all_of condition_of m.body) none))
 
 stated_of : (m : ModelTree) (o : Option (List Variable)) (q : Option (List Tree)) (parts : Parts) (stochs : List Stochastic) (hards : List Hard)
     → Some parts ≡ option_map parts_of o → Some hards ≡ option_map (λ (conditions : List Tree). hards_of (length conditions)) q
     → stochs ≡ by_stage parts.stochastics → ((conditions : List Tree) → q ≡ Some conditions → conditions_in m.body ≡ conditions)
     → Some (record {
+      known = nothing_known;
       decisions = parts.decisions;
       stochastics = stochs;
       conditions = conditions_in m.body;
@@ -96,7 +98,7 @@ stated_of : (m : ModelTree) (o : Option (List Variable)) (q : Option (List Tree)
       chances = [];
       objective = option_map objective_of m.goal;
     })
-    ≡ both_of (problem_with m) o q
+    ≡ both_of (scalar_problem_with m) o q
 stated_of m None q parts stochs hards e h s f = cc
 stated_of m (Some vs) None parts stochs hards e h s f = cc
 stated_of m (Some vs) (Some conditions) parts stochs hards e h s f =
@@ -105,6 +107,7 @@ stated_of m (Some vs) (Some conditions) parts stochs hards e h s f =
     let found : conditions_in m.body ≡ conditions = f conditions refl in
     let sorted : stochs ≡ by_stage (stochastics_among vs) = s ∙ ap (λ (p : Parts). by_stage p.stochastics) same in
     λ i. Some (record {
+      known = nothing_known;
       decisions = (same i).decisions;
       stochastics = sorted i;
       conditions = found i;
@@ -119,6 +122,7 @@ pub stated : (m : ModelTree) (parts : Parts) (stochs : List Stochastic) (hards :
     → Some hards ≡ option_map (λ (conditions : List Tree). hards_of (length conditions)) (all_of condition_of m.body)
     → stochs ≡ by_stage parts.stochastics
     → Some (record {
+      known = nothing_known;
       decisions = parts.decisions;
       stochastics = stochs;
       conditions = conditions_in m.body;
@@ -126,17 +130,17 @@ pub stated : (m : ModelTree) (parts : Parts) (stochs : List Stochastic) (hards :
       chances = [];
       objective = option_map objective_of m.goal;
     })
-    ≡ problem_of m
+    ≡ scalar_problem_of m
 stated m parts stochs hards e h s =
     stated_of m (all_of variable_of m.decls) (all_of condition_of m.body) parts stochs hards e h s (conditions_in_all m.body)
 
-stated_plain_of : (m : ModelTree) (o : Option (List Variable)) (q : Option (List Tree)) (p : Problem) → Some p ≡ both_of (problem_with m) o q → IsSome q
+stated_plain_of : (m : ModelTree) (o : Option (List Variable)) (q : Option (List Tree)) (p : Problem) → Some p ≡ both_of (scalar_problem_with m) o q → IsSome q
 stated_plain_of m None q p e = cc
 stated_plain_of m (Some vs) None p e = cc
 stated_plain_of m (Some vs) (Some conditions) p e = refl
 
 -- where a problem is stated, all constraints are hard
-pub stated_plain : (m : ModelTree) (p : Problem) → Some p ≡ problem_of m → IsSome (all_of condition_of m.body)
+pub stated_plain : (m : ModelTree) (p : Problem) → Some p ≡ scalar_problem_of m → IsSome (all_of condition_of m.body)
 stated_plain m p e = stated_plain_of m (all_of variable_of m.decls) (all_of condition_of m.body) p e
 
 -- whether all constraints are hard, by the list of the program

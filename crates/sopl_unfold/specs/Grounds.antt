@@ -1,6 +1,7 @@
 -- The problem that a ground model shows.
 use Rattle.std.specs.Prelude.{IsSome, option_map}
 use Rattle.sopl_ast.specs.WholeModel.{whole}
+use Rattle.sopl_ast.specs.Known.{nothing_known}
 use Rattle.sopl_ast.specs.Problems.{condition_of, all_of, objective_of}
 use Rattle.sopl_ast.specs.Instances.{Problem}
 use Rattle.sopl_unfold.specs.Conditions.{conditions_in}
@@ -10,6 +11,7 @@ use Rattle.sopl_unfold.specs.declared.ground.Ground.TheInside.{Inside}
 abbrev pub problem_shown : Inside → Problem
 problem_shown inside =
     record {
+      known = nothing_known;
       decisions = inside.decisions.items;
       stochastics = inside.stochs.items;
       conditions = conditions_in (whole inside.model).body;

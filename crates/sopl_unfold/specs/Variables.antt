@@ -1,6 +1,7 @@
 -- The variables that are found in declarations.
 use Rattle.std.specs.Prelude.{List, [], Vec, option_map}
 use Rattle.std.specs.declared.alloc.Global.{Global}
+use Rattle.sopl_ast.specs.Known.{nothing_known}
 use Rattle.sopl_ast.specs.Instances.{Decision, Stochastic, Hard, Problem}
 use Rattle.sopl_ast.specs.Whole.{ModelTree}
 use Rattle.sopl_ast.specs.Problems.{Variable, decided, observed, decisions_among, stochastics_among, objective_of}
@@ -36,6 +37,7 @@ hards_seen hards = hards.items
 abbrev pub problem_seen : ModelTree → Instances → Problem
 problem_seen model instances =
     record {
+      known = nothing_known;
       decisions = instances.decisions.items;
       stochastics = instances.stochs.items;
       conditions = conditions_in model.body;

@@ -1,7 +1,7 @@
 //! The problem that a model of scalar variables states.
 
 ghost use Rattle.std.specs.Prelude.{◌≡◌, ◌∷◌, ◌++◌, [], IfOk, IfSome, OnOk, None, Some, option_map, is_some, ◌<◌, length};
-ghost use Rattle.sopl_ast.specs.Problems.{literal_value as value_of, stage_number as stage_at, stage_of as stage_in, outcome_of as outcome_in, all_of, decision_of as decision_in, stochastic_of as stochastic_in, variable_of as variable_in, decisions_among, stochastics_among, by_stage as in_stages, up_to_stage as stages_to, condition_of as condition_in, hards_of as hards_in, problem_of};
+ghost use Rattle.sopl_ast.specs.Problems.{literal_value as value_of, stage_number as stage_at, stage_of as stage_in, outcome_of as outcome_in, all_of, decision_of as decision_in, stochastic_of as stochastic_in, variable_of as variable_in, decisions_among, stochastics_among, by_stage as in_stages, up_to_stage as stages_to, condition_of as condition_in, hards_of as hards_in, scalar_problem_of};
 ghost use Rattle.sopl_ast.specs.Ranges.{range_of};
 ghost use Rattle.sopl_ast.specs.Decls.{declaration};
 ghost use Rattle.sopl_ast.specs.Constraints.{cons_tree, cons_trees};
@@ -307,7 +307,7 @@ struct Instances {
 /// The instances that a model states; none where it states no problem.
 #[tactic(auto, using(crate::proofs::Stated::no_variables, crate::proofs::Stated::not_plain, crate::proofs::Stated::stated))]
 fn instances_of(alloc: Global, model: &Text) -> Result<Option<Instances>, AllocError>
-    ensures stated { IfOk result (λ found. option_map (problem_seen (whole model.now)) found ≡ problem_of (whole model.now)) }
+    ensures stated { IfOk result (λ found. option_map (problem_seen (whole model.now)) found ≡ scalar_problem_of (whole model.now)) }
 {
     let Some(variables) = variables_of(alloc, &model.decls)? else {
         return Ok(None);
@@ -331,7 +331,7 @@ fn instances_of(alloc: Global, model: &Text) -> Result<Option<Instances>, AllocE
 /// constraint is no hard one. The model is given up.
 #[tactic(auto, using(crate::proofs::Stated::stated_plain))]
 pub fn scalars(alloc: Global, model: Text) -> Result<Option<Ground>, AllocError>
-    ensures stated { IfOk result (λ found. found ≡ problem_of (whole model)) }
+    ensures stated { IfOk result (λ found. found ≡ scalar_problem_of (whole model)) }
 {
     match instances_of(alloc, &model)? {
         Some(

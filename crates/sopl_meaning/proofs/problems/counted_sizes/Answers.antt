@@ -1,5 +1,5 @@
 use Rattle.std.proofs.Common.{refl}
-use Rattle.sopl_meaning.specs.Unfolding.{problem_of, text_occurrences, by_stage}
+use Rattle.sopl_ast.specs.Unfolding.{problem_of, text_occurrences, by_stage}
 use Rattle.sopl_meaning.proofs.problems.counted_sizes.Goals as goal
 
 pub returns : goal.returns

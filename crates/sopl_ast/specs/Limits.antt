@@ -4,12 +4,12 @@ use Rattle.std.specs.Prelude.{ℕ, ◌+◌, ◌-◌, ◌*◌, ◌^◌, ℤ, pos,
 use Rattle.std.specs.List.{sum_by}
 use Rattle.std.specs.Int.{int_min, int_gap}
 use Rattle.sopl_base.specs.declared.places.Excess.{Excess}
-use Rattle.sopl_meaning.specs.Numbers.{or_else, binary_digits}
-use Rattle.sopl_meaning.specs.Occurrences.{excess}
-use Rattle.sopl_meaning.specs.Instances.{Decision, Stochastic, Problem}
-use Rattle.sopl_meaning.specs.Scenarios.{scenarios, total_weight}
-use Rattle.sopl_meaning.specs.Histories.{histories}
-use Rattle.sopl_meaning.specs.TermNodes.{text_nodes}
+use Rattle.sopl_ast.specs.Numbers.{or_else, binary_digits}
+use Rattle.sopl_ast.specs.Occurrences.{excess}
+use Rattle.sopl_ast.specs.Instances.{Decision, Stochastic, Problem}
+use Rattle.sopl_ast.specs.Scenarios.{scenarios, total_weight}
+use Rattle.sopl_ast.specs.Histories.{histories}
+use Rattle.sopl_ast.specs.TermNodes.{text_nodes}
 
 -- the greatest numbers that are allowed: the weight of all scenarios, their number, instances times scenarios, bits, and term nodes
 pub record Limits : Type 0 where

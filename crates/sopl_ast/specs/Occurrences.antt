@@ -10,9 +10,9 @@ use Rattle.sopl_base.specs.declared.places.Fault.TheVariants.{Text, Limit}
 use Rattle.sopl_ast.specs.declared.operators.MulOp.TheVariants.{Times, Div, Mod}
 use Rattle.sopl_ast.specs.Tree as t
 use Rattle.sopl_ast.specs.Tree.{Tree, Shape, Trees, Terms, Factors, Binders, Range, Node, no_tree, tree, no_term, term, no_factor, factor, no_binder, binder, Named, Ends, place_of}
-use Rattle.sopl_meaning.specs.Numbers.{count_between}
-use Rattle.sopl_meaning.specs.Known.{Known, with_bound}
-use Rattle.sopl_meaning.specs.Constants.{applied_within, value, value_or_zero, numbers_in}
+use Rattle.sopl_ast.specs.Numbers.{count_between}
+use Rattle.sopl_ast.specs.Known.{Known, with_bound}
+use Rattle.sopl_ast.specs.Constants.{applied_within, value, value_or_zero, numbers_in}
 
 -- one more thing that is counted, a refusal, or a limit that is passed
 pub data Occurrence : Type 0 where

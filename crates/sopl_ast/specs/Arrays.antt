@@ -2,9 +2,9 @@
 use Rattle.std.specs.Prelude.{ℕ, ℤ, List, [], ◌∷◌, ◌++◌, map, Option, Some, None}
 use Rattle.std.specs.List.{flat_map}
 use Rattle.sopl_ast.specs.Whole.{DimTree}
-use Rattle.sopl_meaning.specs.Known.{Known, with_bound}
-use Rattle.sopl_meaning.specs.Constants.{numbers_in}
-use Rattle.sopl_meaning.specs.Occurrences.{Occurrence, Counted, range_occurrences}
+use Rattle.sopl_ast.specs.Known.{Known, with_bound}
+use Rattle.sopl_ast.specs.Constants.{numbers_in}
+use Rattle.sopl_ast.specs.Occurrences.{Occurrence, Counted, range_occurrences}
 
 -- a dimension of an array: the name that stands for its index, if it has one, and the numbers of its index set
 pub record Dimension : Type 0 where

@@ -6,12 +6,12 @@ use Rattle.std.specs.Ordering.{int_cmp, int_eq}
 use Rattle.sopl_ast.specs.Tree.{Tree, Trees, no_tree, tree, Range, Named, Ends, place_of}
 use Rattle.sopl_ast.specs.Lists.{trees_list}
 use Rattle.sopl_ast.specs.Whole.{DimTree, InitTree, InitTrees, One, Many, no_init, init, inits_list, Declaration, IntDecl, RangeDecl, SetDecl, DvarDecl, StochDecl}
-use Rattle.sopl_meaning.specs.Numbers.{natural, count_between}
-use Rattle.sopl_meaning.specs.Known.{Constant, Between, Listed, Known, nothing_known, set_named, ends_of}
-use Rattle.sopl_meaning.specs.Constants.{value_or_zero}
-use Rattle.sopl_meaning.specs.Occurrences.{Occurrence, Counted, refused_unless, too_many, constant_place, range_occurrences}
-use Rattle.sopl_meaning.specs.Instances.{Decision, Outcome, Stochastic}
-use Rattle.sopl_meaning.specs.Arrays.{Dimension, dimensions_of, indices, taking, with_index, array_of, dimension_occurrences, array_occurrences}
+use Rattle.sopl_ast.specs.Numbers.{natural, count_between}
+use Rattle.sopl_ast.specs.Known.{Constant, Between, Listed, Known, nothing_known, set_named, ends_of}
+use Rattle.sopl_ast.specs.Constants.{value_or_zero}
+use Rattle.sopl_ast.specs.Occurrences.{Occurrence, Counted, refused_unless, too_many, constant_place, range_occurrences}
+use Rattle.sopl_ast.specs.Instances.{Decision, Outcome, Stochastic}
+use Rattle.sopl_ast.specs.Arrays.{Dimension, dimensions_of, indices, taking, with_index, array_of, dimension_occurrences, array_occurrences}
 
 -- what was found in the declarations so far: what is known, the decisions, and the stochastic variables, each in text order
 pub record Declared : Type 0 where

@@ -3,7 +3,7 @@ use Rattle.std.specs.Prelude.{ℕ, ℤ, pos, Bool, ◌&&◌, List, [], ◌∷◌
 use Rattle.std.specs.Cmp.Lexicographic.{pointwise}
 use Rattle.std.specs.Ordering.{int_eq}
 use Rattle.std.specs.Str.{bytes_eq}
-use Rattle.sopl_meaning.specs.Numbers.{or_else, up_to}
+use Rattle.sopl_ast.specs.Numbers.{or_else, up_to}
 
 -- a name and the number that a binder gives it
 pub record Binding : Type 0 where

@@ -4,10 +4,10 @@ use Rattle.std.specs.List.{sum_by}
 use Rattle.std.specs.Option.{option_map_or}
 use Rattle.sopl_ast.specs.Tree as t
 use Rattle.sopl_ast.specs.Tree.{Tree, Shape, Trees, Terms, Factors, Node, no_tree, tree, no_term, term, no_factor, factor}
-use Rattle.sopl_meaning.specs.Known.{Binding, Known}
-use Rattle.sopl_meaning.specs.Constants.{all_bindings}
-use Rattle.sopl_meaning.specs.Instances.{Hard, Chance, Objective, Problem}
-use Rattle.sopl_meaning.specs.Scenarios.{scenarios}
+use Rattle.sopl_ast.specs.Known.{Binding, Known}
+use Rattle.sopl_ast.specs.Constants.{all_bindings}
+use Rattle.sopl_ast.specs.Instances.{Hard, Chance, Objective, Problem}
+use Rattle.sopl_ast.specs.Scenarios.{scenarios}
 
 abbrev mutual
   -- the nodes of an expression

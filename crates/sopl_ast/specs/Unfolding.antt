@@ -3,11 +3,11 @@ use Rattle.std.specs.Prelude.{ℕ, ◌+◌, ℤ, pos, int_le, Bool, ◌&&◌, Li
 use Rattle.std.specs.List.{flat_map, range_with_len}
 use Rattle.sopl_ast.specs.Tree.{Tree, place_of}
 use Rattle.sopl_ast.specs.Whole.{ConsTree, ConsTrees, ForallTree, BlockTree, HardTree, ChanceTree, no_cons, cons, conses, GoalTree, ModelTree}
-use Rattle.sopl_meaning.specs.Known.{Known}
-use Rattle.sopl_meaning.specs.Constants.{value_or_zero, all_bindings}
-use Rattle.sopl_meaning.specs.Occurrences.{Occurrence, Counted, refused_unless, constant_place, binding_occurrences, expression_occurrences}
-use Rattle.sopl_meaning.specs.Instances.{Stochastic, Hard, Chance, Objective, Problem}
-use Rattle.sopl_meaning.specs.Declarations.{Declared, nothing_declared, behind_all, declarations_occurrences}
+use Rattle.sopl_ast.specs.Known.{Known}
+use Rattle.sopl_ast.specs.Constants.{value_or_zero, all_bindings}
+use Rattle.sopl_ast.specs.Occurrences.{Occurrence, Counted, refused_unless, constant_place, binding_occurrences, expression_occurrences}
+use Rattle.sopl_ast.specs.Instances.{Stochastic, Hard, Chance, Objective, Problem}
+use Rattle.sopl_ast.specs.Declarations.{Declared, nothing_declared, behind_all, declarations_occurrences}
 
 -- an instance of a constraint
 pub data ConstraintInstance : Type 0 where

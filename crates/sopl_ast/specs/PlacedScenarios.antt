@@ -1,8 +1,8 @@
--- The scenarios of an unfolded text and their weights.
+-- The scenarios of an unfolded text with the places of their outcomes, by which a later variable's outcomes may depend on those of the earlier ones.
 use Rattle.std.specs.Prelude.{ℕ, ℤ, pos, ◌*ℤ◌, List, [], ◌∷◌, ◌++◌, map}
 use Rattle.std.specs.List.{flat_map, enumerate_from}
-use Rattle.sopl_meaning.specs.Numbers.{total}
-use Rattle.sopl_meaning.specs.Instances.{Outcome, Stochastic}
+use Rattle.sopl_ast.specs.Instances.{Outcome, Stochastic}
+use Rattle.sopl_ast.specs.Scenarios as ast
 
 -- a scenario: one outcome of each stochastic variable, in their order, by its place in the written distribution and by its value; and the product of
 -- these outcomes' weights
@@ -31,11 +31,6 @@ scenarios_after places (first ∷ later) =
 abbrev pub scenarios : List Stochastic → List Scenario
 scenarios stochastics = scenarios_after [] stochastics
 
--- the total of a distribution's weights
-abbrev pub total_of : List Outcome → ℤ
-total_of outcomes = total (map (λ (outcome : Outcome). outcome.weight) outcomes)
-
--- the weight of all scenarios together: the product of the distributions' totals
-abbrev pub total_weight : List Stochastic → ℤ
-total_weight [] = pos 1
-total_weight (first ∷ later) = total_of first.outcomes *ℤ total_weight later
+-- a scenario without its places
+abbrev pub without_places : Scenario → ast.Scenario
+without_places s = record { values = s.values; weight = s.weight }

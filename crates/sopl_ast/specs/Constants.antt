@@ -8,8 +8,8 @@ use Rattle.std.specs.Ordering.{int_eq}
 use Rattle.sopl_ast.specs.declared.operators.MulOp.{MulOp}
 use Rattle.sopl_ast.specs.Tree as t
 use Rattle.sopl_ast.specs.Tree.{Tree, Shape, Trees, Terms, Factors, Binders, Range, Node, no_tree, tree, no_term, term, no_factor, factor, no_binder, binder, Named, Ends}
-use Rattle.sopl_meaning.specs.Numbers.{both_of, all_of, joined, up_to, total, extreme, one_or_zero, compares, applied, all_distinct, task_of, are_within}
-use Rattle.sopl_meaning.specs.Known.{Known, with_bound, known_value, set_named, ascending}
+use Rattle.sopl_ast.specs.Numbers.{both_of, all_of, joined, up_to, total, extreme, one_or_zero, compares, applied, all_distinct, task_of, are_within}
+use Rattle.sopl_ast.specs.Known.{Known, with_bound, known_value, set_named, ascending}
 
 -- a constant's size is at most 2^40
 abbrev pub within : ℤ → Option ℤ
