@@ -14,4 +14,4 @@ mod sums;
 
 pub use chains::chain;
 pub use parts::Parts;
-pub use reader::{Halt, Next, Read, Reader, is_over};
+pub use reader::{Halt, Next, Read, Reader, is_over, joined};

@@ -67,7 +67,7 @@ pub fn is_over(closes: bool, tokens: &[Token]) -> bool
 
 /// What was read before and what is read now, as one. What was read is handed in, so that the caller
 /// has nothing to drop where reading stops.
-pub(crate) fn joined<'a, A: Drop, B: Drop>(first: A, read: Read<'a, B>) -> Read<'a, (A, B)>
+pub fn joined<'a, A: Drop, B: Drop>(first: A, read: Read<'a, B>) -> Read<'a, (A, B)>
     ensures { result ≡ with_first first read.entry }
 {
     let (second, left) = read?;
@@ -106,7 +106,7 @@ impl Reader {
 
     /// What was read, where a mark follows it, and the tokens behind the mark. What was read is handed
     /// in, so that the caller has nothing to drop where the mark is missing.
-    pub(crate) fn closed<'a, T: Drop>(&self, mark: Mark, read: (T, &'a [Token])) -> Read<'a, T>
+    pub fn closed<'a, T: Drop>(&self, mark: Mark, read: (T, &'a [Token])) -> Read<'a, T>
         ensures past { Answers (λ x. x.1.now) result (past_of (way false self.now.depth) mark read.entry.1.now) }
         ensures kept { IfOk result (λ x. x.0 ≡ read.entry.0) }
     {

@@ -1,23 +1,14 @@
 -- A long phrase is read as its parts, one behind the other.
-use Rattle.std.proofs.Common.{◌≡◌, List, Result, Ok, Err, refl, sym, ◌∙◌}
+use Rattle.std.proofs.Common.{◌≡◌, List, Ok, sym, ◌∙◌}
 use Rattle.sopl_ast.specs.declared.token.Token.{Token}
 use Rattle.sopl_ast.specs.Tree.{Tree}
 use Rattle.sopl_ast.specs.Whole.{ConsTree, ChanceTree, IntDecl, DvarDecl, StochDecl}
 use Rattle.sopl_grammar.specs.declared.marks.Mark.TheVariants as m
-use Rattle.sopl_grammar.specs.Reading.{Stop, Read, Way, ◌>>=◌, past, enter, name}
+use Rattle.sopl_grammar.specs.Reading.{Read, Way, ◌>>=◌, past, enter, name}
 use Rattle.sopl_grammar.specs.Expressions.{no_tree, sum, range}
 use Rattle.sopl_grammar.specs.Phrases.{chance, integer, dims, init, decision, stochastic, variable, distribution, stage}
+use Rattle.sopl_expr.proofs.Grouped.{grouped, then_same}
 use Rattle.sopl_parse.specs.Parts.{condition, share, assigned, staged}
-
--- readings may be grouped to the left
-pub grouped : {A B C : Type 0} (r : Result A Stop) (f : A → Result B Stop) (g : B → Result C Stop) → (r >>= f >>= g) ≡ (r >>= (λ x. f x >>= g))
-grouped (Ok a) f g = refl
-grouped (Err stop) f g = refl
-
--- what follows a reading may be written otherwise
-pub then_same : {A B : Type 0} (r : Result A Stop) (f g : A → Result B Stop) → ((x : A) → f x ≡ g x) → (r >>= f) ≡ (r >>= g)
-then_same (Ok a) f g same = same a
-then_same (Err stop) f g same = refl
 
 -- a chance constraint from its probability and its end
 abbrev pub with_share : Way → Tree × List Token → Read ConsTree

@@ -8,8 +8,9 @@ ghost use Rattle.sopl_grammar.specs.Phrases.{way};
 ghost use Rattle.sopl_expr.specs.Answers.{Answers};
 ghost use Rattle.sopl_parse.specs.Parts as piece;
 
+use crate::ends::{ended, found};
 use sopl_ast::{Binders, Cons, ConsList, Expr, Token};
-use sopl_expr::{Next, Read, Reader, chain, is_over};
+use sopl_expr::{Next, Read, Reader, chain, is_over, joined};
 use sopl_grammar::{Mark, has_mark, rest};
 
 /// The condition of a chance constraint, and the mark behind it.
@@ -19,10 +20,8 @@ fn condition<'a>(reader: &Reader, tokens: &'a [Token]) -> Read<'a, Expr>
         (piece.condition (way false reader.now.depth) tokens.now) }
 {
     let (inner, left) = reader.enter(Mark::ParenOpen, tokens)?;
-    let (cond, left) = inner.expression(left)?;
-    let left = reader.past(Mark::ParenClose, left)?;
-    let left = reader.past(Mark::GreaterEq, left)?;
-    Ok((cond, left))
+    let read = ended(reader, Mark::ParenClose, inner.expression(left));
+    ended(reader, Mark::GreaterEq, read)
 }
 
 /// The probability of a chance constraint, and its end.
@@ -31,11 +30,9 @@ fn share<'a>(reader: &Reader, tokens: &'a [Token]) -> Read<'a, (Expr, Expr)>
     ensures { Answers (λ x. (x.0, x.1.now)) result
         (piece.share (way false reader.now.depth) tokens.now) }
 {
-    let (p, left) = reader.sum(tokens)?;
-    let left = reader.past(Mark::Slash, left)?;
-    let (q, left) = reader.sum(left)?;
-    let left = reader.past(Mark::Semi, left)?;
-    Ok(((p, q), left))
+    let (p, left) = ended(reader, Mark::Slash, reader.sum(tokens))?;
+    let read = joined(p, reader.sum(left));
+    ended(reader, Mark::Semi, read)
 }
 
 /// A chance constraint, behind its keyword.
@@ -45,7 +42,7 @@ fn chance<'a>(reader: &Reader, tokens: &'a [Token]) -> Read<'a, Cons>
         (phrase.chance (way false reader.now.depth) tokens.now) }
 {
     let (cond, left) = condition(reader, tokens)?;
-    let ((p, q), left) = share(reader, left)?;
+    let ((cond, (p, q)), left) = joined(cond, share(reader, left))?;
     Ok((Cons::chance(cond, p, q), left))
 }
 
@@ -55,8 +52,8 @@ fn hard<'a>(reader: &Reader, tokens: &'a [Token]) -> Read<'a, Cons>
     ensures { Answers (λ x. (cons_tree x.0, x.1.now)) result
         (phrase.hard (way false reader.now.depth) tokens.now) }
 {
-    let (cond, left) = reader.expression(tokens)?;
-    let left = reader.past(Mark::Semi, left)?;
+    let read = reader.expression(tokens);
+    let (cond, left) = ended(reader, Mark::Semi, read)?;
     Ok((Cons::hard(cond), left))
 }
 
@@ -80,8 +77,8 @@ fn block<'a>(reader: &Reader, tokens: &'a [Token]) -> Read<'a, Cons>
         (phrase.block (way false reader.now.depth) tokens.now) }
 {
     let inner = reader.inside(tokens)?;
-    let (parts, left) = constraints(&inner, rest(tokens))?;
-    let left = reader.past(Mark::BraceClose, left)?;
+    let read = constraints(&inner, rest(tokens));
+    let (parts, left) = ended(reader, Mark::BraceClose, read)?;
     Ok((Cons::block(parts), left))
 }
 
@@ -112,8 +109,7 @@ fn quantified<'a>(reader: &Reader, tokens: &'a [Token]) -> Read<'a, (Binders, Co
         (phrase.quantified (way false reader.now.depth) tokens.now) }
 {
     let (over, left) = reader.bindings(tokens)?;
-    let (each, left) = constraint(reader, left)?;
-    Ok(((over, each), left))
+    joined(over, constraint(reader, left))
 }
 
 /// A constraint, unless the list is over.
@@ -126,8 +122,7 @@ fn next_constraint<'a>(reader: &Reader, tokens: &'a [Token]) -> Next<'a, Cons>
     if is_over(has_mark(Mark::BraceClose, tokens), tokens) {
         return Ok((None, tokens));
     }
-    let (constraint, left) = constraint(reader, tokens)?;
-    Ok((Some(constraint), left))
+    found(constraint(reader, tokens))
 }
 
 /// Constraints in order.
@@ -157,7 +152,6 @@ pub fn body<'a>(reader: &Reader, tokens: &'a [Token]) -> Read<'a, ConsList>
     let left = reader.past(Mark::Subject, tokens)?;
     let left = reader.past(Mark::To, left)?;
     let (inner, left) = reader.enter(Mark::BraceOpen, left)?;
-    let (found, left) = constraints(&inner, left)?;
-    let left = reader.past(Mark::BraceClose, left)?;
-    Ok((found, left))
+    let read = constraints(&inner, left);
+    ended(reader, Mark::BraceClose, read)
 }

@@ -10,10 +10,11 @@ ghost use Rattle.sopl_expr.specs.Answers.{Answers};
 ghost use Rattle.sopl_parse.specs.Parts as piece;
 
 use crate::dims::{dims, stage};
+use crate::ends::{ended, found};
 use crate::inits::init;
 use crate::lists::{distribution, elements};
 use sopl_ast::{Decl, Decls, Dims, Expr, Exprs, Init, Name, Token};
-use sopl_expr::{Next, Read, Reader, chain};
+use sopl_expr::{Next, Read, Reader, chain, joined};
 use sopl_grammar::{Mark, has_mark, rest};
 
 /// The name of a variable behind its keyword, with its place and dimensions.
@@ -24,9 +25,8 @@ fn variable<'a>(reader: &Reader, tokens: &'a [Token]) -> Read<'a, ((Name, usize)
 {
     let left = reader.past(Mark::Int, tokens)?;
     let (named, left) = reader.name(left)?;
-    let (dims, left) = dims(reader, left)?;
-    let left = reader.past(Mark::Inside, left)?;
-    Ok(((named, dims), left))
+    let read = joined(named, dims(reader, left));
+    ended(reader, Mark::Inside, read)
 }
 
 /// The initial value of an `int`, between its marks.
@@ -36,9 +36,8 @@ fn assigned<'a>(reader: &Reader, tokens: &'a [Token]) -> Read<'a, Init>
         (piece.assigned (way false reader.now.depth) tokens.now) }
 {
     let left = reader.past(Mark::Assign, tokens)?;
-    let (value, left) = init(reader, left)?;
-    let left = reader.past(Mark::Semi, left)?;
-    Ok((value, left))
+    let read = init(reader, left);
+    ended(reader, Mark::Semi, read)
 }
 
 /// A stage or none, and the end of its declaration.
@@ -47,9 +46,8 @@ fn staged<'a>(reader: &Reader, tokens: &'a [Token]) -> Read<'a, Option<Expr>>
     ensures { Answers (λ x. (x.0, x.1.now)) result
         (piece.staged (way false reader.now.depth) tokens.now) }
 {
-    let (stage, left) = stage(reader, tokens)?;
-    let left = reader.past(Mark::Semi, left)?;
-    Ok((stage, left))
+    let read = stage(reader, tokens);
+    ended(reader, Mark::Semi, read)
 }
 
 /// An `int`, behind its keyword.
@@ -58,9 +56,9 @@ fn integer<'a>(reader: &Reader, tokens: &'a [Token]) -> Read<'a, Decl>
     ensures { Answers (λ x. (declaration x.0, x.1.now)) result
         (phrase.integer (way false reader.now.depth) tokens.now) }
 {
-    let ((name, at), left) = reader.name(tokens)?;
-    let (dims, left) = dims(reader, left)?;
-    let (init, left) = assigned(reader, left)?;
+    let (named, left) = reader.name(tokens)?;
+    let (head, left) = joined(named, dims(reader, left))?;
+    let ((((name, at), dims), init), left) = joined(head, assigned(reader, left))?;
     let decl = Decl::Int {
         name,
         at,
@@ -76,12 +74,11 @@ fn range_declaration<'a>(reader: &Reader, tokens: &'a [Token]) -> Read<'a, Decl>
     ensures { Answers (λ x. (declaration x.0, x.1.now)) result
         (phrase.range_declaration (way false reader.now.depth) tokens.now) }
 {
-    let ((name, at), left) = reader.name(tokens)?;
-    let left = reader.past(Mark::Assign, left)?;
-    let (lo, left) = reader.sum(left)?;
-    let left = reader.past(Mark::DotDot, left)?;
-    let (hi, left) = reader.sum(left)?;
-    let left = reader.past(Mark::Semi, left)?;
+    let (named, left) = ended(reader, Mark::Assign, reader.name(tokens))?;
+    let read = joined(named, reader.sum(left));
+    let (start, left) = ended(reader, Mark::DotDot, read)?;
+    let read = joined(start, reader.sum(left));
+    let ((((name, at), lo), hi), left) = ended(reader, Mark::Semi, read)?;
     Ok((Decl::Range { name, at, lo, hi }, left))
 }
 
@@ -92,10 +89,8 @@ fn set_value<'a>(reader: &Reader, tokens: &'a [Token]) -> Read<'a, Exprs>
         (phrase.set_value (way false reader.now.depth) tokens.now) }
 {
     let (inner, left) = reader.enter(Mark::BraceOpen, tokens)?;
-    let (found, left) = elements(&inner, left)?;
-    let left = reader.past(Mark::BraceClose, left)?;
-    let left = reader.past(Mark::Semi, left)?;
-    Ok((found, left))
+    let read = ended(reader, Mark::BraceClose, elements(&inner, left));
+    ended(reader, Mark::Semi, read)
 }
 
 /// A set, behind the brace of its type.
@@ -106,9 +101,8 @@ fn set<'a>(reader: &Reader, tokens: &'a [Token]) -> Read<'a, Decl>
 {
     let left = reader.past(Mark::Int, tokens)?;
     let left = reader.past(Mark::BraceClose, left)?;
-    let ((name, at), left) = reader.name(left)?;
-    let left = reader.past(Mark::Assign, left)?;
-    let (elements, left) = set_value(reader, left)?;
+    let (named, left) = ended(reader, Mark::Assign, reader.name(left))?;
+    let (((name, at), elements), left) = joined(named, set_value(reader, left))?;
     Ok((Decl::Set { name, at, elements }, left))
 }
 
@@ -128,9 +122,9 @@ fn decision<'a>(reader: &Reader, tokens: &'a [Token]) -> Read<'a, Decl>
     ensures { Answers (λ x. (declaration x.0, x.1.now)) result
         (phrase.decision (way false reader.now.depth) tokens.now) }
 {
-    let (((name, at), dims), left) = variable(reader, tokens)?;
-    let (range, left) = reader.range(left)?;
-    let (stage, left) = staged(reader, left)?;
+    let (head, left) = variable(reader, tokens)?;
+    let (head, left) = joined(head, reader.range(left))?;
+    let (((((name, at), dims), range), stage), left) = joined(head, staged(reader, left))?;
     let decl = Decl::Dvar {
         name,
         at,
@@ -147,9 +141,9 @@ fn stochastic<'a>(reader: &Reader, tokens: &'a [Token]) -> Read<'a, Decl>
     ensures { Answers (λ x. (declaration x.0, x.1.now)) result
         (phrase.stochastic (way false reader.now.depth) tokens.now) }
 {
-    let (((name, at), dims), left) = variable(reader, tokens)?;
-    let (dist, left) = distribution(reader, left)?;
-    let (stage, left) = staged(reader, left)?;
+    let (head, left) = variable(reader, tokens)?;
+    let (head, left) = joined(head, distribution(reader, left))?;
+    let (((((name, at), dims), dist), stage), left) = joined(head, staged(reader, left))?;
     let decl = Decl::Stoch {
         name,
         at,
@@ -167,24 +161,19 @@ fn next_declaration<'a>(reader: &Reader, tokens: &'a [Token]) -> Next<'a, Decl>
         (phrase.next_declaration (way false reader.now.depth) tokens.now) }
 {
     if has_mark(Mark::Int, tokens) {
-        let (decl, left) = integer(reader, rest(tokens))?;
-        return Ok((Some(decl), left));
+        return found(integer(reader, rest(tokens)));
     }
     if has_mark(Mark::Range, tokens) {
-        let (decl, left) = range_declaration(reader, rest(tokens))?;
-        return Ok((Some(decl), left));
+        return found(range_declaration(reader, rest(tokens)));
     }
     if has_mark(Mark::BraceOpen, tokens) {
-        let (decl, left) = braced_set(reader, tokens)?;
-        return Ok((Some(decl), left));
+        return found(braced_set(reader, tokens));
     }
     if has_mark(Mark::Dvar, tokens) {
-        let (decl, left) = decision(reader, rest(tokens))?;
-        return Ok((Some(decl), left));
+        return found(decision(reader, rest(tokens)));
     }
     if has_mark(Mark::Stoch, tokens) {
-        let (decl, left) = stochastic(reader, rest(tokens))?;
-        return Ok((Some(decl), left));
+        return found(stochastic(reader, rest(tokens)));
     }
     Ok((None, tokens))
 }

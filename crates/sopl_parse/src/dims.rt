@@ -8,8 +8,9 @@ ghost use Rattle.sopl_grammar.specs.Phrases as phrase;
 ghost use Rattle.sopl_grammar.specs.Phrases.{way};
 ghost use Rattle.sopl_expr.specs.Answers.{Answers};
 
+use crate::ends::{ended, found};
 use sopl_ast::{Dim, Dims, Expr, Name, RangeText, Token};
-use sopl_expr::{Next, Read, Reader, chain};
+use sopl_expr::{Next, Read, Reader, chain, joined};
 use sopl_grammar::{Mark, has_mark, named, place, rest};
 
 /// The name that goes over a dimension, by two tokens.
@@ -44,8 +45,7 @@ pub fn stage<'a>(reader: &Reader, tokens: &'a [Token]) -> Read<'a, Option<Expr>>
     if !has_mark(Mark::Stage, tokens) {
         return Ok((None, tokens));
     }
-    let (e, left) = reader.sum(rest(tokens))?;
-    Ok((Some(e), left))
+    found(reader.sum(rest(tokens)))
 }
 
 /// A dimension, inside its bracket.
@@ -60,8 +60,9 @@ fn dim<'a>(reader: &Reader, tokens: &'a [Token]) -> Read<'a, Dim>
         let binder = None;
         return Ok((Dim { binder, at, range }, left));
     };
-    let (range, left) = reader.range(rest(rest(tokens)))?;
-    let binder = Some(name.copy(reader.alloc)?);
+    let name = name.copy(reader.alloc)?;
+    let ((name, range), left) = joined(name, reader.range(rest(rest(tokens))))?;
+    let binder = Some(name);
     let at = place(tokens);
     Ok((Dim { binder, at, range }, left))
 }
@@ -76,9 +77,8 @@ fn next_dim<'a>(reader: &Reader, tokens: &'a [Token]) -> Next<'a, Dim>
         return Ok((None, tokens));
     }
     let inner = reader.inside(tokens)?;
-    let (dim, left) = dim(&inner, rest(tokens))?;
-    let left = reader.past(Mark::BracketClose, left)?;
-    Ok((Some(dim), left))
+    let read = dim(&inner, rest(tokens));
+    found(ended(reader, Mark::BracketClose, read))
 }
 
 /// Dimensions one behind the other.

@@ -7,6 +7,7 @@ ghost use Rattle.sopl_grammar.specs.Phrases as phrase;
 ghost use Rattle.sopl_grammar.specs.Phrases.{way};
 ghost use Rattle.sopl_expr.specs.Answers.{Answers};
 
+use crate::ends::{ended, found};
 use sopl_ast::{Init, Inits, Token};
 use sopl_expr::{Next, Read, Reader, chain, is_over};
 use sopl_grammar::{Mark, has_mark, place, rest};
@@ -29,8 +30,8 @@ fn many<'a>(reader: &Reader, tokens: &'a [Token]) -> Read<'a, Init>
         (phrase.many (way false reader.now.depth) tokens.now) }
 {
     let inner = reader.inside(tokens)?;
-    let (parts, left) = init_list(&inner, rest(tokens))?;
-    let left = reader.past(Mark::BracketClose, left)?;
+    let read = init_list(&inner, rest(tokens));
+    let (parts, left) = ended(reader, Mark::BracketClose, read)?;
     let at = place(tokens);
     Ok((Init::Many { at, parts }, left))
 }
@@ -58,8 +59,7 @@ fn next_init<'a>(reader: &Reader, tokens: &'a [Token]) -> Next<'a, Init>
     if !has_mark(Mark::Comma, tokens) {
         return Ok((None, tokens));
     }
-    let (init, left) = init(reader, rest(tokens))?;
-    Ok((Some(init), left))
+    found(init(reader, rest(tokens)))
 }
 
 /// Initial values behind the first one.

@@ -4,6 +4,7 @@
 mod constraints;
 mod declarations;
 mod dims;
+mod ends;
 mod inits;
 mod lists;
 mod models;

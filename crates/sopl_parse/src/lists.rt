@@ -6,8 +6,9 @@ ghost use Rattle.sopl_grammar.specs.Phrases as phrase;
 ghost use Rattle.sopl_grammar.specs.Phrases.{way};
 ghost use Rattle.sopl_expr.specs.Answers.{Answers};
 
+use crate::ends::{ended, found};
 use sopl_ast::{Dist, Expr, Exprs, Token};
-use sopl_expr::{Next, Read, Reader, chain, is_over};
+use sopl_expr::{Next, Read, Reader, chain, is_over, joined};
 use sopl_grammar::{Mark, has_mark, rest};
 
 /// A comma and an element, if there are any.
@@ -19,8 +20,7 @@ fn next_element<'a>(reader: &Reader, tokens: &'a [Token]) -> Next<'a, Expr>
     if !has_mark(Mark::Comma, tokens) {
         return Ok((None, tokens));
     }
-    let (e, left) = reader.sum(rest(tokens))?;
-    Ok((Some(e), left))
+    found(reader.sum(rest(tokens)))
 }
 
 /// Elements behind the first one.
@@ -53,10 +53,8 @@ fn outcome<'a>(reader: &Reader, tokens: &'a [Token]) -> Read<'a, (Expr, Expr)>
     ensures { Answers (λ x. (x.0, x.1.now)) result
         (phrase.outcome (way false reader.now.depth) tokens.now) }
 {
-    let (value, left) = reader.sum(tokens)?;
-    let left = reader.past(Mark::Colon, left)?;
-    let (weight, left) = reader.sum(left)?;
-    Ok(((value, weight), left))
+    let (value, left) = ended(reader, Mark::Colon, reader.sum(tokens))?;
+    joined(value, reader.sum(left))
 }
 
 /// A comma and an outcome, if there are any.
@@ -68,8 +66,7 @@ fn next_outcome<'a>(reader: &Reader, tokens: &'a [Token]) -> Next<'a, (Expr, Exp
     if !has_mark(Mark::Comma, tokens) {
         return Ok((None, tokens));
     }
-    let (outcome, left) = outcome(reader, rest(tokens))?;
-    Ok((Some(outcome), left))
+    found(outcome(reader, rest(tokens)))
 }
 
 /// Outcomes behind the first one.
@@ -100,7 +97,6 @@ pub fn distribution<'a>(reader: &Reader, tokens: &'a [Token]) -> Read<'a, Dist>
         (phrase.distribution (way false reader.now.depth) tokens.now) }
 {
     let (inner, left) = reader.enter(Mark::BraceOpen, tokens)?;
-    let (found, left) = outcomes(&inner, left)?;
-    let left = reader.past(Mark::BraceClose, left)?;
-    Ok((found, left))
+    let read = outcomes(&inner, left);
+    ended(reader, Mark::BraceClose, read)
 }

@@ -9,9 +9,10 @@ ghost use Rattle.sopl_expr.specs.Answers.{Answers};
 
 use crate::constraints::body;
 use crate::declarations::declarations;
+use crate::ends::{ended, finished, found};
 use sopl_ast::{Goal, Model, Token};
 use sopl_base::Direction;
-use sopl_expr::{Halt, Next, Read, Reader};
+use sopl_expr::{Halt, Next, Read, Reader, joined};
 use sopl_grammar::{Mark, goal_direction, goal_measure, rest};
 
 /// What an objective measures.
@@ -34,9 +35,8 @@ fn goal<'a>(reader: &Reader, direction: Direction, tokens: &'a [Token]) -> Read<
 {
     let (worst, left) = measure(reader, tokens)?;
     let (inner, left) = reader.enter(Mark::ParenOpen, left)?;
-    let (expr, left) = inner.expression(left)?;
-    let left = reader.past(Mark::ParenClose, left)?;
-    let left = reader.past(Mark::Semi, left)?;
+    let read = ended(reader, Mark::ParenClose, inner.expression(left));
+    let (expr, left) = ended(reader, Mark::Semi, read)?;
     let goal = Goal {
         direction,
         worst,
@@ -54,8 +54,7 @@ fn maybe_goal<'a>(reader: &Reader, tokens: &'a [Token]) -> Next<'a, Goal>
     let Some(direction) = goal_direction(tokens) else {
         return Ok((None, tokens));
     };
-    let (goal, left) = goal(reader, direction, rest(tokens))?;
-    Ok((Some(goal), left))
+    found(goal(reader, direction, rest(tokens)))
 }
 
 /// A model, and what is left behind it.
@@ -65,8 +64,8 @@ fn leading_model<'a>(reader: &Reader, tokens: &'a [Token]) -> Read<'a, Model>
         (phrase.whole (way false reader.now.depth) tokens.now) }
 {
     let (decls, left) = declarations(reader, tokens)?;
-    let (goal, left) = maybe_goal(reader, left)?;
-    let (body, left) = body(reader, left)?;
+    let (front, left) = joined(decls, maybe_goal(reader, left))?;
+    let (((decls, goal), body), left) = joined(front, body(reader, left))?;
     Ok((Model { decls, goal, body }, left))
 }
 
@@ -75,9 +74,5 @@ fn leading_model<'a>(reader: &Reader, tokens: &'a [Token]) -> Read<'a, Model>
 pub fn model<'a>(reader: &Reader, tokens: &'a [Token]) -> Result<Model, Halt<'a>>
     ensures { Answers whole result (phrase.model reader.now.depth tokens.now) }
 {
-    let (model, left) = leading_model(reader, tokens)?;
-    match left {
-        [] => Ok(model),
-        [..] => Err(Halt::Syntax(left)),
-    }
+    finished(leading_model(reader, tokens))
 }
