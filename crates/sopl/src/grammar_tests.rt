@@ -22,28 +22,35 @@ fn model_of(alloc: Global, text: &[u8]) -> Result<Model, Fault> {
     parse(alloc, tokens.as_slice(), text.len())
 }
 
-/// A refusal as its code and its place; any other fault is passed on.
-fn refusal(alloc: Global, fault: Fault) -> Result<String, Fault> {
-    match fault {
-        Fault::Text(refusal) => Ok(format!(in alloc; "{} at {}", refusal.code, refusal.at)?),
-        other => Err(other),
+/// What was read, by a word, or its refusal as its code and its place; any other fault is passed on.
+pub fn outcome_of<T>(alloc: Global, word: &str, read: &Result<T, Fault>) -> Result<String, Fault> {
+    match read {
+        Ok(_) => Ok(String::from_str(alloc, word)?),
+        Err(Fault::Text(refusal)) => {
+            Ok(format!(in alloc; "{} at {}", refusal.code, refusal.at)?)
+        }
+        Err(other) => Err(*other),
+    }
+}
+
+/// What was read as one line, or its refusal.
+fn line_of(alloc: Global, read: &Result<Model, Fault>) -> Result<String, Fault> {
+    match read {
+        Ok(model) => Ok(printed(alloc, model)?),
+        Err(_) => outcome_of(alloc, "", read),
     }
 }
 
 /// What a text gives: its model as one line, or its refusal.
 fn answer(alloc: Global, text: &[u8]) -> Result<String, Fault> {
-    match model_of(alloc, text) {
-        Ok(model) => Ok(printed(alloc, &model)?),
-        Err(fault) => refusal(alloc, fault),
-    }
+    let read = model_of(alloc, text);
+    line_of(alloc, &read)
 }
 
 /// Whether a text is read: `read`, or its refusal.
 fn outcome(alloc: Global, text: &[u8]) -> Result<String, Fault> {
-    match model_of(alloc, text) {
-        Ok(_) => Ok(String::from_str(alloc, "read")?),
-        Err(fault) => refusal(alloc, fault),
-    }
+    let read = model_of(alloc, text);
+    outcome_of(alloc, "read", &read)
 }
 
 fn repeat(out: &mut String, piece: &str, times: usize) -> Result<(), AllocError> {
@@ -53,34 +60,90 @@ fn repeat(out: &mut String, piece: &str, times: usize) -> Result<(), AllocError>
     Ok(())
 }
 
-fn nested(alloc: Global, parts: &[&str; 5], times: usize) -> Result<String, AllocError> {
-    let mut text = String::from_str(alloc, parts[0])?;
-    repeat(&mut text, parts[1], times)?;
-    text.push_str(parts[2])?;
-    repeat(&mut text, parts[3], times)?;
-    text.push_str(parts[4])?;
-    Ok(text)
+/// The parts of a nested text, and how often its two pieces stand.
+#[derive(Drop)]
+struct Nest<'a> {
+    front: &'a str,
+    piece: &'a str,
+    middle: &'a str,
+    behind: &'a str,
+    end: &'a str,
+    times: usize,
+}
+
+/// The parts that a row shows between `~`.
+fn parts_of(row: &str) -> Option<Nest<'_>> {
+    let (front, row) = row.split_once('~')?;
+    let (piece, row) = row.split_once('~')?;
+    let (middle, row) = row.split_once('~')?;
+    let (behind, row) = row.split_once('~')?;
+    let (end, times) = row.split_once('~')?;
+    let times = times.parse().ok()?;
+    Some(Nest {
+        front,
+        piece,
+        middle,
+        behind,
+        end,
+        times,
+    })
+}
+
+/// Writes a nested text.
+fn put_nested(out: &mut String, nest: &Nest<'_>) -> Result<(), AllocError> {
+    out.push_str(nest.front)?;
+    repeat(out, nest.piece, nest.times)?;
+    out.push_str(nest.middle)?;
+    repeat(out, nest.behind, nest.times)?;
+    out.push_str(nest.end)
+}
+
+/// A text gives what stands beside it.
+fn gives(alloc: Global, rt: &impl Abort, text: &str, want: &str) -> Result<(), Fail> {
+    let given = answer(alloc, text.as_bytes())?;
+    assert_eq!(rt; given.as_str(), want, "{text}");
+    Ok(())
+}
+
+/// A nested text is read, or refused, as its row says.
+fn nests(alloc: Global, rt: &impl Abort, row: &str, want: &str) -> Result<(), Fail> {
+    let Some(nest) = parts_of(row) else {
+        return Err(Fail::new(row));
+    };
+    let mut text = String::new(alloc);
+    put_nested(&mut text, &nest)?;
+    let given = outcome(alloc, text.as_bytes())?;
+    assert_eq!(rt; given.as_str(), want, "{row}");
+    Ok(())
+}
+
+/// The two sides of a row.
+pub fn sides(row: &str) -> (&str, &str) {
+    row.split_once(" -> ").unwrap_or((row, ""))
 }
 
 /// Each text of a table gives what stands beside it.
-fn each_gives(alloc: Global, rt: &impl Abort, rows: &[(&str, &str)]) -> Result<(), Fail> {
+fn each_gives(alloc: Global, rt: &impl Abort, table: &str) -> Result<(), Fail> {
+    for row in table.lines() {
+        let (text, want) = sides(row);
+        gives(alloc, rt, text, want)?;
+    }
+    Ok(())
+}
+
+/// Each whole text gives what stands beside it.
+fn each_whole_gives(alloc: Global, rt: &impl Abort, rows: &[(&str, &str)]) -> Result<(), Fail> {
     for (text, want) in rows {
-        let given = answer(alloc, text.as_bytes())?;
-        assert_eq!(rt; given.as_str(), *want, "{text}");
+        gives(alloc, rt, text, want)?;
     }
     Ok(())
 }
 
 /// Each nested text of a table is read, or refused, as it says.
-fn each_nests(
-    alloc: Global,
-    rt: &impl Abort,
-    rows: &[([&str; 5], usize, &str)],
-) -> Result<(), Fail> {
-    for (parts, times, want) in rows {
-        let text = nested(alloc, parts, *times)?;
-        let given = outcome(alloc, text.as_bytes())?;
-        assert_eq!(rt; given.as_str(), *want, "{text}");
+fn each_nests(alloc: Global, rt: &impl Abort, table: &str) -> Result<(), Fail> {
+    for row in table.lines() {
+        let (row, want) = sides(row);
+        nests(alloc, rt, row, want)?;
     }
     Ok(())
 }
@@ -131,7 +194,7 @@ fn constraints(rt: HostRuntime) -> Result<(), Fail> {
 
 #[test]
 fn whole_texts(rt: HostRuntime) -> Result<(), Fail> {
-    each_gives(rt.alloc(), &rt, WHOLE)
+    each_whole_gives(rt.alloc(), &rt, WHOLE)
 }
 
 #[test]

@@ -1,9 +1,9 @@
 -- What is made of a reading that may have stopped.
-use Rattle.std.specs.Prelude.{◌≡◌, List, [], ◌∷◌, Option, Some, Result, Ok, Err, IfOk}
+use Rattle.std.specs.Prelude.{◌≡◌, List, Option, Some, Result, Ok, Err, IfOk}
 use denote.Ref.{Bor}
 use Rattle.sopl_ast.specs.declared.token.Token.{Token}
 use Rattle.sopl_grammar.specs.declared.marks.Mark.{Mark}
-use Rattle.sopl_grammar.specs.Reading.{Way, past, Stop}
+use Rattle.sopl_grammar.specs.Reading.{Way, past}
 use Rattle.sopl_grammar.specs.Phrases.{finished}
 use Rattle.sopl_expr.specs.Answers.{Answers}
 use Rattle.sopl_expr.specs.declared.reader.Halt.{Halt}
