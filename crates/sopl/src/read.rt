@@ -3,7 +3,9 @@
 ghost use Rattle.std.specs.Prelude.{◌≡◌, Ok, IfOk, IfErr};
 ghost use Rattle.sopl_base.specs.declared.places.Fault.TheVariants.{Text};
 ghost use Rattle.sopl_ast.specs.Refusals.{SolvedText};
+ghost use Rattle.sopl_ast.specs.Problems.{scalar_problem_of};
 ghost use Rattle.sopl_ast.specs.Tokens.{Lexes};
+ghost use Rattle.sopl_ast.specs.Whole.{ModelTree};
 ghost use Rattle.sopl_ast.specs.WholeModel.{whole};
 ghost use Rattle.sopl.specs.Reading.{IsTextFault, IsSmallProblemOf, HasModel};
 ghost use Rattle.sopl.specs.Shown.{tokens_shown};
@@ -48,21 +50,28 @@ pub fn typed_in(alloc: Global, text: &[u8]) -> Result<Typed, Fault>
     check_types(alloc, model)
 }
 
-/// The problem that a model states, where it is one that is solved today.
+/// The problem that was found, where it is one that is solved today.
 #[tactic(auto, using(crate::proofs::Reading::states_none, crate::proofs::Reading::states_larger, crate::proofs::Reading::states_small))]
+fn small_alone(found: Option<Ground>) -> Option<Ground>
+    ensures small { (model : ModelTree) → found ≡ scalar_problem_of model → IsSmallProblemOf model result }
+{
+    match found {
+        Some(ground) => {
+            if ground.is_small() {
+                Some(ground)
+            } else {
+                None
+            }
+        }
+        None => None,
+    }
+}
+
+/// The problem that a model states, where it is one that is solved today.
 fn small_problem(alloc: Global, model: Model) -> Result<Option<Ground>, AllocError>
     ensures problem { IfOk result (λ found. IsSmallProblemOf (whole model) found) }
 {
-    match scalars(alloc, model)? {
-        Some(ground) => {
-            if ground.is_small() {
-                Ok(Some(ground))
-            } else {
-                Ok(None)
-            }
-        }
-        None => Ok(None),
-    }
+    Ok(small_alone(scalars(alloc, model)?))
 }
 
 /// The refusal of a text that is of no form that is solved today.

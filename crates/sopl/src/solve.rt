@@ -1,6 +1,7 @@
 //! From the text of a model to the reply.
 
-ghost use Rattle.std.specs.Prelude.{◌≡◌, string_bytes, IfOk};
+ghost use Rattle.std.specs.Prelude.{◌≡◌, ℕ, List, string_bytes, IfOk};
+ghost use Rattle.sopl_ast.specs.Refusals.{SolvedText, IsRefusedToday};
 ghost use Rattle.sopl_scen.specs.Layout.{IsLayoutOf};
 ghost use Rattle.policy_eval.specs.Judged.{IsJudged, policy_of};
 ghost use Rattle.sopl.specs.Answers.{optimal_data, line_of};
@@ -12,7 +13,7 @@ use crate::reply::Reply;
 use crate::status::Status;
 use policy_eval::PointJudge;
 use policy_json::policy_value;
-use sopl_base::Fault;
+use sopl_base::{Fault, Refusal};
 use sopl_scen::{Tree, scenarios};
 use sopl_search::{Found, best_point};
 use sopl_unfold::Ground;
@@ -78,26 +79,41 @@ fn solved_line(alloc: Global, ground: &Ground) -> Result<String, AllocError>
     }
 }
 
+/// The reply to a text that states this problem.
+#[tactic(auto, using(crate::proofs::Best::text_solved))]
+fn solved_reply(alloc: Global, ground: &Ground) -> Result<Reply, AllocError>
+    requires judged { IsJudged ground.now }
+    ensures reply { (text : List ℕ) → SolvedText text ground.now
+        → IfOk result (λ reply. AnswersText text reply.status (string_bytes reply.line)) }
+{
+    let line = solved_line(alloc, ground)?;
+    Ok(Reply {
+        status: Status::Done,
+        line,
+    })
+}
+
+/// The reply to a text that is refused so.
+#[tactic(auto, using(crate::proofs::Best::text_refused))]
+fn refused_reply(alloc: Global, refusal: Refusal) -> Result<Reply, AllocError>
+    ensures reply { (text : List ℕ) → IsRefusedToday text refusal
+        → IfOk result (λ reply. AnswersText text reply.status (string_bytes reply.line)) }
+{
+    let line = refused_line(alloc, refusal)?;
+    Ok(Reply {
+        status: Status::Refused,
+        line,
+    })
+}
+
 /// Solves the problem that a text states, or refuses the text.
-#[tactic(auto, using(crate::proofs::Best::text_judged, crate::proofs::Best::text_solved, crate::proofs::Best::text_refused))]
+#[tactic(auto, using(crate::proofs::Best::text_judged))]
 pub fn solve(alloc: Global, text: &[u8]) -> Result<Reply, AllocError>
     ensures reply { IfOk result (λ reply. AnswersText text.now reply.status (string_bytes reply.line)) }
 {
     match problem_in(alloc, text) {
-        Ok(ground) => {
-            let line = solved_line(alloc, &ground)?;
-            Ok(Reply {
-                status: Status::Done,
-                line,
-            })
-        }
-        Err(Fault::Text(refusal)) => {
-            let line = refused_line(alloc, refusal)?;
-            Ok(Reply {
-                status: Status::Refused,
-                line,
-            })
-        }
+        Ok(ground) => solved_reply(alloc, &ground),
+        Err(Fault::Text(refusal)) => refused_reply(alloc, refusal),
         // A text meets no limit yet, so memory was wanting.
         Err(_) => Err(AllocError),
     }

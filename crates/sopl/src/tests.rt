@@ -12,6 +12,7 @@ use sopl_io::{
 };
 use sopl_unfold::{Env, Index};
 use std::alloc::{AllocError, Global};
+use std::process::Abort;
 use std::test::Fail;
 
 const ORDER: &str =
@@ -33,6 +34,51 @@ fn source_of(alloc: Global, text: &str, failing: &[u64]) -> Result<MemSource, Al
     let bytes = Vec::from_slice(alloc, text.as_bytes())?;
     texts.push((String::from_str(alloc, "m")?, bytes))?;
     Ok(MemSource::new(texts, Vec::from_slice(alloc, failing)?))
+}
+
+/// How a run ended, and what its sinks took.
+#[derive(Drop)]
+struct Ended {
+    status: Status,
+    answer: MemSink,
+    log: MemSink,
+}
+
+/// Runs over a source, with an answer sink that takes so many bytes.
+fn ran_over(
+    alloc: Global,
+    words: &Words,
+    source: &mut MemSource,
+    capacity: usize,
+) -> Result<Ended, AllocError> {
+    let mut answer = MemSink::new(alloc, capacity, Vec::new(alloc))?;
+    let mut log = MemSink::new(alloc, 10, Vec::new(alloc))?;
+    let status = run(alloc, words, source, &mut answer, &mut log);
+    Ok(Ended {
+        status,
+        answer,
+        log,
+    })
+}
+
+/// Runs with these words on this text; the calls of the source with these numbers fail.
+fn ran(
+    alloc: Global,
+    words: &[&str],
+    text: &str,
+    failing: &[u64],
+    capacity: usize,
+) -> Result<Ended, AllocError> {
+    let words = words_of(alloc, words)?;
+    let mut source = source_of(alloc, text, failing)?;
+    ran_over(alloc, &words, &mut source, capacity)
+}
+
+/// A run ended so, with this line and nothing in the log.
+fn ends(rt: &impl Abort, about: &str, ended: &Ended, status: Status, want: &str) {
+    assert_eq!(rt; ended.status, status, "{about}");
+    assert_eq!(rt; ended.answer.bytes(), want.as_bytes(), "{about}");
+    assert_eq!(rt; ended.log.bytes().len(), 0);
 }
 
 /// A run: its words, the text of `m`, and the status and the line that must come.
@@ -106,71 +152,50 @@ const CASES: &[Case] = &[
 
 #[test]
 fn answers(rt: HostRuntime) -> Result<(), Fail> {
-    let alloc = rt.alloc();
     for (words, text, status, want) in CASES {
-        let words = words_of(alloc, words)?;
-        let mut source = source_of(alloc, text, &[])?;
-        let mut answer = MemSink::new(alloc, 1000, Vec::new(alloc))?;
-        let mut log = MemSink::new(alloc, 10, Vec::new(alloc))?;
-        let ended = run(alloc, &words, &mut source, &mut answer, &mut log);
-        assert_eq!(rt; ended, *status, "{text}");
-        assert_eq!(rt; answer.bytes(), want.as_bytes(), "{text}");
-        assert_eq!(rt; log.bytes().len(), 0);
+        let ended = ran(rt.alloc(), words, text, &[], 1000)?;
+        ends(&rt, text, &ended, *status, want);
     }
     Ok(())
 }
+
+/// Runs on the ordering text that end early: the calls of the source that fail, how many bytes the
+/// answer sink takes, and the status and the line that must come.
+const FAULTS: &[(&[u64], usize, Status, &str)] = &[
+    (&[9], 10, Status::WriteFault, "{\"answer\":"),
+    (
+        &[0],
+        1000,
+        Status::ReadFault,
+        "{\"answer\":\"read fault\"}\n",
+    ),
+    (
+        &[1],
+        1000,
+        Status::ReadFault,
+        "{\"answer\":\"read fault\"}\n",
+    ),
+];
 
 #[test]
 fn faults(rt: HostRuntime) -> Result<(), Fail> {
-    let alloc = rt.alloc();
-    for (failing, capacity, status, want) in [
-        ([9].as_slice(), 10, Status::WriteFault, "{\"answer\":"),
-        (
-            [0].as_slice(),
-            1000,
-            Status::ReadFault,
-            "{\"answer\":\"read fault\"}\n",
-        ),
-        (
-            [1].as_slice(),
-            1000,
-            Status::ReadFault,
-            "{\"answer\":\"read fault\"}\n",
-        ),
-    ] {
-        let words = words_of(alloc, &["solve", "m"])?;
-        let mut source = source_of(alloc, ORDER, failing)?;
-        let mut answer = MemSink::new(alloc, capacity, Vec::new(alloc))?;
-        let mut log = MemSink::new(alloc, 10, Vec::new(alloc))?;
-        let ended = run(alloc, &words, &mut source, &mut answer, &mut log);
-        assert_eq!(rt; ended, status, "{want}");
-        assert_eq!(rt; answer.bytes(), want.as_bytes(), "{want}");
-        assert_eq!(rt; log.bytes().len(), 0);
+    for (failing, capacity, status, want) in FAULTS {
+        let ended = ran(rt.alloc(), &["solve", "m"], ORDER, failing, *capacity)?;
+        ends(&rt, want, &ended, *status, want);
     }
     Ok(())
-}
-
-/// How a run on the ordering text ends, and what it answers.
-fn ordered(alloc: Global) -> Result<(Status, MemSink), AllocError> {
-    let words = words_of(alloc, &["solve", "m"])?;
-    let mut source = source_of(alloc, ORDER, &[])?;
-    let mut answer = MemSink::new(alloc, 1000, Vec::new(alloc))?;
-    let mut log = MemSink::new(alloc, 10, Vec::new(alloc))?;
-    let ended = run(alloc, &words, &mut source, &mut answer, &mut log);
-    Ok((ended, answer))
 }
 
 /// The right line is answered, or nothing where memory is wanting: also where any one allocation fails.
 #[test]
 fn line_or_nothing(rt: HostRuntime) {
-    let Ok((ended, answer)) = ordered(rt.alloc()) else {
+    let Ok(ended) = ran(rt.alloc(), &["solve", "m"], ORDER, &[], 1000) else {
         return;
     };
-    if ended == Status::NoMemory {
-        assert_eq!(rt; answer.bytes().len(), 0);
+    if ended.status == Status::NoMemory {
+        ends(&rt, "no memory", &ended, Status::NoMemory, "");
     } else {
-        assert_eq!(rt; ended, Status::Done);
-        assert_eq!(rt; answer.bytes(), ORDER_ANSWER.as_bytes());
+        ends(&rt, ORDER, &ended, Status::Done, ORDER_ANSWER);
     }
 }
 
