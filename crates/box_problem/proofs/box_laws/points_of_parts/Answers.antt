@@ -1,0 +1,5 @@
+use Rattle.box_problem.proofs.Boxes as lemmas
+use Rattle.box_problem.proofs.box_laws.points_of_parts.Goals as goal
+
+pub returns : goal.returns
+returns c = record { law = lemmas.points_of_parts }

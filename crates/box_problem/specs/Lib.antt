@@ -1,0 +1,7 @@
+pub mod Box
+pub mod Steps
+pub mod BoxProblem
+pub mod Rightness
+pub mod Covers
+pub mod BoxLaws
+pub mod SearchLaws
