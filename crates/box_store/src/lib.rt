@@ -1,0 +1,7 @@
+//! A box of cells that is narrowed cell by cell, and set back to where it was marked.
+#![tactic(auto)]
+
+mod store;
+mod trail;
+
+pub use store::BoxStore;
