@@ -1,0 +1,499 @@
+//! The value of an expression in a constant place.
+
+ghost use Rattle.std.specs.Prelude.{◌≡◌, ◌≤◌, ◌^◌, [], map, IfOk, IfSome, Some, pos, ℕ, option_and_then};
+ghost use Rattle.std.specs.Int.RustNames.{unsigned_abs};
+ghost use Rattle.sopl_ast.specs.Lists.{trees, terms, factors, binders};
+ghost use Rattle.sopl_ast.specs.Ranges.{range_of};
+ghost use Rattle.sopl_ast.specs.Sight.{shape_of_kind};
+ghost use Rattle.sopl_ast.specs.Tree as t;
+ghost use Rattle.sopl_ast.specs.Tree.{place_of};
+ghost use Rattle.unfold_constants.specs.Answers.{Answers};
+ghost use Rattle.unfold_constants.specs.Tables.{known_in, items, now_of, shown, ends_in};
+ghost use Rattle.sopl_ast.specs.Constants.{within};
+ghost use Rattle.sopl_ast.specs.Numbers.{one_or_zero as truth_number};
+ghost use Rattle.unfold_constants.specs.Evaluation as spec;
+ghost use Rattle.unfold_constants.specs.Evaluation.{each_of};
+
+use crate::counts::Count;
+use crate::known::Known;
+use crate::lists::{add, all_distinct, all_true, extreme, some_true, total};
+use crate::numbers::{Total, applied, compares, is_true, one_or_zero, within as number_within};
+use crate::refusals::{RANGE, UNDEFINED, refused};
+use crate::sets::{Ends, Numbers};
+use crate::sizes::few_between;
+use crate::tasks::are_within;
+use sopl_ast::{Binder, Binders, Expr, Exprs, Factors, Kind, MulOp, Name, RangeText};
+use sopl_base::{CmpOp, Fault};
+
+/// Expressions that are evaluated together, inside the constant expression that begins at `whole`.
+#[derive(Clone, Copy)]
+struct Body<'a, 'b> {
+    whole: usize,
+    parts: &'b [&'a Expr],
+}
+
+/// The start, the length and the demand of tasks, as the text gives them.
+#[derive(Clone, Copy)]
+pub(crate) struct TaskText<'a> {
+    pub start: &'a Expr,
+    pub duration: &'a Expr,
+    pub demand: &'a Expr,
+}
+
+/// A value that is there; else the constant expression that begins at `whole` is refused.
+fn given(whole: usize, value: Option<i64>) -> Result<i64, Fault>
+    ensures given { (count : ℕ) → Answers (λ x. x) count result (spec.given whole value count) }
+    ensures kept { IfOk result (λ x. value ≡ Some x) }
+{
+    match value {
+        Some(value) => Ok(value),
+        None => Err(refused(UNDEFINED, whole)),
+    }
+}
+
+/// A value that is there, in more bits.
+fn wide(value: Option<i64>) -> Option<i128>
+    ensures { result ≡ value }
+{
+    match value {
+        None => None,
+        Some(value) => Some(i128::from(value)),
+    }
+}
+
+/// What a condition is worth.
+fn condition(holds: bool) -> Option<i128>
+    ensures { result ≡ Some (truth_number holds) }
+{
+    Some(i128::from(one_or_zero(holds)))
+}
+
+/// What an expression is worth, if its size is that of a constant.
+fn sized(worth: Option<i128>) -> Option<i64>
+    ensures sized { result ≡ option_and_then within worth }
+    ensures small { IfSome result (λ x. unsigned_abs x ≤ 2 ^ 40) }
+{
+    match worth {
+        None => None,
+        Some(worth) => number_within(worth),
+    }
+}
+
+#[tactic(auto, using(sopl_ast::proofs::Lighter::lighter, crate::proofs::Body::parts))]
+impl<'a> Known<'a> {
+    /// The value of an expression, inside the one that begins at `whole`.
+    #[cycle(evaluate)]
+    pub(crate) fn number(&self, count: &mut Count, whole: usize, e: &'a Expr) -> Result<i64, Fault>
+        ensures value { Answers (λ x. x) count.new.counted result (spec.number (known_in self.now) whole e.now count.old.counted) }
+        ensures small { IfOk result (λ x. unsigned_abs x ≤ 2 ^ 40) }
+    {
+        let untested = self.untested(count, whole, &e.kind)?;
+        given(whole, sized(untested))
+    }
+
+    /// The value of an expression that is a constant place of its own.
+    pub(crate) fn own(&self, count: &mut Count, e: &'a Expr) -> Result<i64, Fault>
+        ensures value { Answers (λ x. x) count.new.counted result (spec.number (known_in self.now) (place_of e.now) e.now count.old.counted) }
+        ensures small { IfOk result (λ x. unsigned_abs x ≤ 2 ^ 40) }
+    {
+        self.number(count, e.at, e)
+    }
+
+    /// What an expression is worth, of any size.
+    #[cycle(evaluate)]
+    fn untested(
+        &self,
+        count: &mut Count,
+        whole: usize,
+        kind: &'a Kind,
+    ) -> Result<Option<i128>, Fault>
+        ensures { Answers (λ x. x) count.new.counted result (spec.untested (known_in self.now) whole (shape_of_kind kind.now) count.old.counted) }
+    {
+        match kind {
+            Kind::Lit(value) => Ok(Some(i128::from(*value))),
+            Kind::Name(name) => Ok(wide(self.value(name, &[]))),
+            Kind::Index(name, indices) => self.element(count, whole, name, indices),
+            Kind::Neg(e) => Ok(Some(-i128::from(self.number(count, whole, e)?))),
+            Kind::Add(parts) => Ok(Some(self.sum(count, whole, parts.as_slice())?.value)),
+            Kind::Mul(parts) => Ok(Some(i128::from(self.product(count, whole, parts)?))),
+            Kind::Cmp(op, a, b) => self.compared(count, whole, *op, a, b),
+            Kind::Not(e) => Ok(condition(!is_true(self.number(count, whole, e)?))),
+            Kind::And(parts) => self.all(count, whole, parts),
+            Kind::Or(parts) => self.some(count, whole, parts),
+            Kind::Implies(a, b) => self.implied(count, whole, a, b),
+            Kind::Sum(over, e) => self.summed(count, whole, over, e),
+            Kind::Least(parts) => self.least(count, whole, parts),
+            Kind::Greatest(parts) => self.greatest(count, whole, parts),
+            Kind::Abs(e) => Ok(Some(i128::from(self.number(count, whole, e)?.unsigned_abs()))),
+            Kind::AllDifferent(over, e) => self.differ(count, whole, over, e),
+            Kind::Cumulative(over, start, duration, demand, capacity) => {
+                let task = TaskText {
+                    start,
+                    duration,
+                    demand,
+                };
+                self.fit(count, whole, over, &task, capacity)
+            }
+        }
+    }
+
+    /// What an element of a constant is worth.
+    #[cycle(evaluate)]
+    fn element(
+        &self,
+        count: &mut Count,
+        whole: usize,
+        name: &'a Name,
+        parts: &'a Exprs,
+    ) -> Result<Option<i128>, Fault>
+        ensures { Answers (λ x. x) count.new.counted result (spec.untested (known_in self.now) whole (t.Index name.now (trees parts.now)) count.old.counted) }
+    {
+        let index = self.numbers(count, whole, parts.as_slice())?;
+        Ok(wide(self.value(name, index.as_slice())))
+    }
+
+    /// Whether a comparison holds, as a number.
+    #[cycle(evaluate)]
+    fn compared(
+        &self,
+        count: &mut Count,
+        whole: usize,
+        op: CmpOp,
+        a: &'a Expr,
+        b: &'a Expr,
+    ) -> Result<Option<i128>, Fault>
+        ensures { Answers (λ x. x) count.new.counted result (spec.untested (known_in self.now) whole (t.Cmp op a.now b.now) count.old.counted) }
+    {
+        let x = self.number(count, whole, a)?;
+        let y = self.number(count, whole, b)?;
+        Ok(condition(compares(op, x, y)))
+    }
+
+    /// Whether each of some conditions holds, as a number.
+    #[cycle(evaluate)]
+    fn all(&self, count: &mut Count, whole: usize, parts: &'a Exprs) -> Result<Option<i128>, Fault>
+        ensures { Answers (λ x. x) count.new.counted result (spec.untested (known_in self.now) whole (t.And (trees parts.now)) count.old.counted) }
+    {
+        let xs = self.numbers(count, whole, parts.as_slice())?;
+        Ok(condition(all_true(xs.as_slice())))
+    }
+
+    /// Whether one of some conditions holds, as a number.
+    #[cycle(evaluate)]
+    fn some(&self, count: &mut Count, whole: usize, parts: &'a Exprs) -> Result<Option<i128>, Fault>
+        ensures { Answers (λ x. x) count.new.counted result (spec.untested (known_in self.now) whole (t.Or (trees parts.now)) count.old.counted) }
+    {
+        let xs = self.numbers(count, whole, parts.as_slice())?;
+        Ok(condition(some_true(xs.as_slice())))
+    }
+
+    /// Whether one condition implies another, as a number.
+    #[cycle(evaluate)]
+    fn implied(
+        &self,
+        count: &mut Count,
+        whole: usize,
+        a: &'a Expr,
+        b: &'a Expr,
+    ) -> Result<Option<i128>, Fault>
+        ensures { Answers (λ x. x) count.new.counted result (spec.untested (known_in self.now) whole (t.Implies a.now b.now) count.old.counted) }
+    {
+        let x = self.number(count, whole, a)?;
+        let y = self.number(count, whole, b)?;
+        Ok(condition(!is_true(x) || is_true(y)))
+    }
+
+    /// The least of the values of some expressions.
+    #[cycle(evaluate)]
+    fn least(
+        &self,
+        count: &mut Count,
+        whole: usize,
+        parts: &'a Exprs,
+    ) -> Result<Option<i128>, Fault>
+        ensures { Answers (λ x. x) count.new.counted result (spec.untested (known_in self.now) whole (t.Least (trees parts.now)) count.old.counted) }
+    {
+        let xs = self.numbers(count, whole, parts.as_slice())?;
+        Ok(wide(extreme(false, xs.as_slice())))
+    }
+
+    /// The greatest of the values of some expressions.
+    #[cycle(evaluate)]
+    fn greatest(
+        &self,
+        count: &mut Count,
+        whole: usize,
+        parts: &'a Exprs,
+    ) -> Result<Option<i128>, Fault>
+        ensures { Answers (λ x. x) count.new.counted result (spec.untested (known_in self.now) whole (t.Greatest (trees parts.now)) count.old.counted) }
+    {
+        let xs = self.numbers(count, whole, parts.as_slice())?;
+        Ok(wide(extreme(true, xs.as_slice())))
+    }
+
+    /// The sum of the values that an expression takes.
+    #[cycle(evaluate)]
+    fn summed(
+        &self,
+        count: &mut Count,
+        whole: usize,
+        over: &'a Binders,
+        e: &'a Expr,
+    ) -> Result<Option<i128>, Fault>
+        ensures { Answers (λ x. x) count.new.counted result (spec.untested (known_in self.now) whole (t.Sum (binders over.now) e.now) count.old.counted) }
+    {
+        let mut xs = Vec::new(self.alloc);
+        self.over(
+            count,
+            over.as_slice(),
+            &Body { whole, parts: &[e] },
+            &mut xs,
+        )?;
+        Ok(Some(total(xs.as_slice()).value))
+    }
+
+    /// Whether the values that an expression takes are all different, as a number.
+    #[cycle(evaluate)]
+    fn differ(
+        &self,
+        count: &mut Count,
+        whole: usize,
+        over: &'a Binders,
+        e: &'a Expr,
+    ) -> Result<Option<i128>, Fault>
+        ensures { Answers (λ x. x) count.new.counted result (spec.untested (known_in self.now) whole (t.AllDifferent (binders over.now) e.now) count.old.counted) }
+    {
+        let mut xs = Vec::new(self.alloc);
+        self.over(
+            count,
+            over.as_slice(),
+            &Body { whole, parts: &[e] },
+            &mut xs,
+        )?;
+        Ok(condition(all_distinct(self.alloc, xs.as_slice())?))
+    }
+
+    /// The values of expressions, in order.
+    #[cycle(evaluate)]
+    fn numbers(&self, count: &mut Count, whole: usize, parts: &'a [Expr]) -> Result<Vec<i64>, Fault>
+        ensures { Answers items count.new.counted result (spec.numbers (known_in self.now) whole [] (trees parts.now) count.old.counted) }
+    {
+        let mut found = Vec::new(self.alloc);
+        'parts: for part in parts {
+            let number = self.number(count, whole, part)?;
+            add(&mut found, number)?;
+        }
+        Ok(found)
+    }
+
+    /// The value of a chain of `*`, `div` and `mod`.
+    #[cycle(evaluate)]
+    fn product(&self, count: &mut Count, whole: usize, parts: &'a Factors) -> Result<i64, Fault>
+        ensures { Answers (λ x. x) count.new.counted result
+            (spec.whole_product (known_in self.now) whole parts.now.first (factors parts.now.others) count.old.counted) }
+    {
+        let mut product = self.number(count, whole, parts.first())?;
+        'parts: for part in parts.as_slice() {
+            product = self.multiplied(count, whole, product, part)?;
+        }
+        Ok(product)
+    }
+
+    /// A product with one factor more.
+    #[cycle(evaluate)]
+    fn multiplied(
+        &self,
+        count: &mut Count,
+        whole: usize,
+        before: i64,
+        part: &'a (MulOp, Expr),
+    ) -> Result<i64, Fault>
+        ensures { Answers (λ x. x) count.new.counted result (spec.multiplied (known_in self.now) whole before part.now.0 part.now.1 count.old.counted) }
+    {
+        let factor = self.number(count, whole, &part.1)?;
+        given(whole, applied(part.0, before, factor))
+    }
+
+    /// The sum of a chain of `+` and `-`.
+    #[cycle(evaluate)]
+    fn sum(
+        &self,
+        count: &mut Count,
+        whole: usize,
+        parts: &'a [(bool, Expr)],
+    ) -> Result<Total, Fault>
+        ensures { Answers (λ x. x.value) count.new.counted result (spec.sum (known_in self.now) whole (pos 0) (terms parts.now) count.old.counted) }
+    {
+        let mut total = Total { value: 0 };
+        'parts: for part in parts {
+            let number = self.number(count, whole, &part.1)?;
+            total = total.with(part.0, number);
+        }
+        Ok(total)
+    }
+
+    /// Whether tasks keep within a capacity, as a number.
+    #[cycle(evaluate)]
+    fn fit(
+        &self,
+        count: &mut Count,
+        whole: usize,
+        over: &'a Binders,
+        task: &TaskText<'a>,
+        capacity: &'a Expr,
+    ) -> Result<Option<i128>, Fault>
+        ensures { Answers (λ x. x) count.new.counted result
+            (spec.untested (known_in self.now) whole (t.Cumulative (binders over.now) task.now.start.now task.now.duration.now task.now.demand.now capacity.now) count.old.counted) }
+    {
+        let xs = self.task_numbers(count, whole, over, task)?;
+        let most = self.number(count, whole, capacity)?;
+        Ok(condition(are_within(self.alloc, most, xs.as_slice())?))
+    }
+
+    /// The starts, lengths and demands of tasks, three numbers for each way in which binders take their values.
+    #[cycle(evaluate)]
+    fn task_numbers(
+        &self,
+        count: &mut Count,
+        whole: usize,
+        over: &'a Binders,
+        task: &TaskText<'a>,
+    ) -> Result<Vec<i64>, Fault>
+        ensures { Answers items count.new.counted result
+            (spec.task_numbers (known_in self.now) whole (binders over.now) task.now.start.now task.now.duration.now task.now.demand.now count.old.counted) }
+    {
+        let mut xs = Vec::new(self.alloc);
+        let body = Body {
+            whole,
+            parts: &[task.start, task.duration, task.demand],
+        };
+        self.over(count, over.as_slice(), &body, &mut xs)?;
+        Ok(xs)
+    }
+
+    /// Adds to `found` what a body is worth for each way in which binders take their values.
+    #[cycle(evaluate)]
+    fn over(
+        &self,
+        count: &mut Count,
+        over: &'a [Binder],
+        body: &Body<'a, '_>,
+        found: &mut Vec<i64>,
+    ) -> Result<(), Fault>
+        ensures { Answers (λ u. found.new.items) count.new.counted result
+            (spec.over (known_in self.now) body.now.whole (binders over.now) (each_of body.now.whole (map now_of body.now.parts.now)) found.old.items count.old.counted) }
+    {
+        match over {
+            [] => self.each_of(count, body, found),
+            [first, more @ ..] => {
+                let numbers = self.range_numbers(count, Some(body.whole), &first.range)?;
+                self.through(count, &first.name, &numbers, more, body, found)
+            }
+        }
+    }
+
+    /// The same where a name takes each of some values, and binders follow.
+    #[cycle(evaluate)]
+    fn through(
+        &self,
+        count: &mut Count,
+        name: &'a Name,
+        numbers: &Numbers<'_>,
+        more: &'a [Binder],
+        body: &Body<'a, '_>,
+        found: &mut Vec<i64>,
+    ) -> Result<(), Fault>
+        ensures { Answers (λ u. found.new.items) count.new.counted result
+            (spec.through (known_in self.now) body.now.whole name.now (binders more.now) (each_of body.now.whole (map now_of body.now.parts.now)) (shown numbers.now) found.old.items count.old.counted) }
+    {
+        let mut left = *numbers;
+        'numbers: while let Some((number, later)) = left.split_first() {
+            self.bound(count, name, number, more, body, found)?;
+            left = later;
+        }
+        Ok(())
+    }
+
+    /// The same where a name has taken a value, which is counted.
+    #[cycle(evaluate)]
+    fn bound(
+        &self,
+        count: &mut Count,
+        name: &'a Name,
+        number: i64,
+        more: &'a [Binder],
+        body: &Body<'a, '_>,
+        found: &mut Vec<i64>,
+    ) -> Result<(), Fault>
+        ensures { Answers (λ u. found.new.items) count.new.counted result
+            (spec.bound (known_in self.now) body.now.whole name.now number (binders more.now) (each_of body.now.whole (map now_of body.now.parts.now)) found.old.items count.old.counted) }
+    {
+        count.add()?;
+        let here = self.with(name, number)?;
+        here.over(count, more, body, found)
+    }
+
+    /// Adds to `found` what each part of a body is worth.
+    #[cycle(evaluate)]
+    fn each_of(
+        &self,
+        count: &mut Count,
+        body: &Body<'a, '_>,
+        found: &mut Vec<i64>,
+    ) -> Result<(), Fault>
+        ensures { Answers (λ u. found.new.items) count.new.counted result
+            (spec.numbers (known_in self.now) body.now.whole found.old.items (trees (map now_of body.now.parts.now)) count.old.counted) }
+    {
+        'body: for part in body.parts {
+            let number = self.number(count, body.whole, part)?;
+            add(found, number)?;
+        }
+        Ok(())
+    }
+
+    /// The numbers of a range or a set. Its ends belong to the constant expression that begins at `whole`, if there is one; else each is a constant expression of its own.
+    #[cycle(evaluate)]
+    pub(crate) fn range_numbers(
+        &self,
+        count: &mut Count,
+        whole: Option<usize>,
+        range: &'a RangeText,
+    ) -> Result<Numbers<'a>, Fault>
+        ensures { Answers shown count.new.counted result (spec.range_numbers (known_in self.now) whole (range_of range.now) count.old.counted) }
+    {
+        match range {
+            RangeText::Named { name, .. } => Ok(self.numbers_named(name)),
+            RangeText::Ends { lo, hi } => Ok(Numbers::Between(self.ends(count, whole, lo, hi)?)),
+        }
+    }
+
+    /// The ends of a range.
+    #[cycle(evaluate)]
+    pub(crate) fn ends(
+        &self,
+        count: &mut Count,
+        whole: Option<usize>,
+        lo: &'a Expr,
+        hi: &'a Expr,
+    ) -> Result<Ends, Fault>
+        ensures { Answers ends_in count.new.counted result (spec.range_ends (known_in self.now) whole lo.now hi.now count.old.counted) }
+    {
+        let least = self.number(count, whole.unwrap_or(lo.at), lo)?;
+        let greatest = self.number(count, whole.unwrap_or(hi.at), hi)?;
+        let ends = Ends {
+            lo: least,
+            hi: greatest,
+        };
+        few_ends(&ends)
+    }
+}
+
+/// The same ends, unless there are too many numbers between them.
+fn few_ends(ends: &Ends) -> Result<Ends, Fault>
+    ensures { (count : ℕ) → Answers ends_in count result (spec.few_between ends.now.lo ends.now.hi count) }
+{
+    match few_between(RANGE, ends) {
+        Ok(()) => Ok(*ends),
+        Err(fault) => Err(fault),
+    }
+}

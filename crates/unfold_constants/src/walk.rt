@@ -1,0 +1,218 @@
+//! Expressions of constraints and objectives: what is met in their constant places, which are divisors and the ranges of binders.
+
+ghost use Rattle.std.specs.Prelude.{map};
+ghost use Rattle.sopl_ast.specs.Lists.{trees, terms, factors, binders};
+ghost use Rattle.sopl_ast.specs.Tree as t;
+ghost use Rattle.unfold_constants.specs.Answers.{Answers};
+ghost use Rattle.unfold_constants.specs.Tables.{known_in, now_of, shown};
+ghost use Rattle.unfold_constants.specs.Traversal as spec;
+
+use crate::counts::Count;
+use crate::evaluate::TaskText;
+use crate::known::Known;
+use crate::refusals::{UNDEFINED, refused};
+use crate::sets::Numbers;
+use sopl_ast::{Binder, Binders, Expr, Factors, Kind, MulOp, Name};
+use sopl_base::Fault;
+
+#[tactic(auto, using(sopl_ast::proofs::Lighter::lighter, crate::proofs::Body::parts))]
+impl<'a> Known<'a> {
+    /// Walks through an expression.
+    #[cycle(walk)]
+    pub(crate) fn walk(&self, count: &mut Count, e: &'a Expr) -> Result<(), Fault>
+        ensures { Answers (λ u. u) count.new.counted result (spec.walk (known_in self.now) e.now count.old.counted) }
+    {
+        match &e.kind {
+            Kind::Lit(_) | Kind::Name(_) => Ok(()),
+            Kind::Index(_, parts)
+            | Kind::And(parts)
+            | Kind::Or(parts)
+            | Kind::Least(parts)
+            | Kind::Greatest(parts) => self.walk_all(count, parts.as_slice()),
+            Kind::Neg(part) | Kind::Not(part) | Kind::Abs(part) => self.walk(count, part),
+            Kind::Add(parts) => self.walk_terms(count, parts.as_slice()),
+            Kind::Mul(parts) => self.walk_product(count, parts),
+            Kind::Cmp(_, a, b) | Kind::Implies(a, b) => {
+                self.walk(count, a)?;
+                self.walk(count, b)
+            }
+            Kind::Sum(over, part) | Kind::AllDifferent(over, part) => {
+                self.walk_each(count, over, part)
+            }
+            Kind::Cumulative(over, start, duration, demand, capacity) => {
+                let task = TaskText {
+                    start,
+                    duration,
+                    demand,
+                };
+                self.walk_cumulative(count, over, &task, capacity)
+            }
+        }
+    }
+
+    /// Walks through expressions in order.
+    #[cycle(walk)]
+    fn walk_all(&self, count: &mut Count, parts: &'a [Expr]) -> Result<(), Fault>
+        ensures { Answers (λ u. u) count.new.counted result (spec.walk_all (known_in self.now) (trees parts.now) count.old.counted) }
+    {
+        'parts: for part in parts {
+            self.walk(count, part)?;
+        }
+        Ok(())
+    }
+
+    /// Walks through a chain of `+` and `-`.
+    #[cycle(walk)]
+    fn walk_terms(&self, count: &mut Count, parts: &'a [(bool, Expr)]) -> Result<(), Fault>
+        ensures { Answers (λ u. u) count.new.counted result (spec.walk_terms (known_in self.now) (terms parts.now) count.old.counted) }
+    {
+        'parts: for part in parts {
+            self.walk(count, &part.1)?;
+        }
+        Ok(())
+    }
+
+    /// Walks through a chain of `*`, `div` and `mod`.
+    #[cycle(walk)]
+    fn walk_product(&self, count: &mut Count, parts: &'a Factors) -> Result<(), Fault>
+        ensures { Answers (λ u. u) count.new.counted result
+            (spec.walk_product (known_in self.now) parts.now.first (factors parts.now.others) count.old.counted) }
+    {
+        self.walk(count, parts.first())?;
+        'parts: for part in parts.as_slice() {
+            self.walk_factor(count, part)?;
+        }
+        Ok(())
+    }
+
+    /// Walks through a factor, or evaluates a divisor.
+    #[cycle(walk)]
+    fn walk_factor(&self, count: &mut Count, part: &'a (MulOp, Expr)) -> Result<(), Fault>
+        ensures { Answers (λ u. u) count.new.counted result (spec.walk_factor (known_in self.now) part.now.0 part.now.1 count.old.counted) }
+    {
+        match part.0 {
+            MulOp::Times => self.walk(count, &part.1),
+            MulOp::Div | MulOp::Mod => self.divisor(count, &part.1),
+        }
+    }
+
+    /// Walks through an expression for each way in which binders take their values.
+    #[cycle(walk)]
+    fn walk_each(&self, count: &mut Count, over: &'a Binders, part: &'a Expr) -> Result<(), Fault>
+        ensures { Answers (λ u. u) count.new.counted result (spec.walk_shape (known_in self.now) (t.Sum (binders over.now) part.now) count.old.counted) }
+    {
+        self.walk_over(count, over.as_slice(), &[part])
+    }
+
+    /// Walks through tasks and their capacity.
+    #[cycle(walk)]
+    fn walk_cumulative(
+        &self,
+        count: &mut Count,
+        over: &'a Binders,
+        task: &TaskText<'a>,
+        capacity: &'a Expr,
+    ) -> Result<(), Fault>
+        ensures { Answers (λ u. u) count.new.counted result
+            (spec.walk_shape (known_in self.now) (t.Cumulative (binders over.now) task.now.start.now task.now.duration.now task.now.demand.now capacity.now) count.old.counted) }
+    {
+        self.walk_tasks(count, over, task)?;
+        self.walk(count, capacity)
+    }
+
+    /// Walks through the start, the length and the demand of tasks for each way in which binders take their values.
+    #[cycle(walk)]
+    fn walk_tasks(
+        &self,
+        count: &mut Count,
+        over: &'a Binders,
+        task: &TaskText<'a>,
+    ) -> Result<(), Fault>
+        ensures { Answers (λ u. u) count.new.counted result
+            (spec.walk_tasks (known_in self.now) (binders over.now) task.now.start.now task.now.duration.now task.now.demand.now count.old.counted) }
+    {
+        let body = [task.start, task.duration, task.demand];
+        self.walk_over(count, over.as_slice(), &body)
+    }
+
+    /// Walks through the expressions of `body` for each way in which binders take their values.
+    #[cycle(walk)]
+    fn walk_over(
+        &self,
+        count: &mut Count,
+        over: &'a [Binder],
+        body: &[&'a Expr],
+    ) -> Result<(), Fault>
+        ensures { Answers (λ u. u) count.new.counted result
+            (spec.over (known_in self.now) (binders over.now) (spec.walk_body (map now_of body.now)) count.old.counted) }
+    {
+        match over {
+            [] => self.walk_body(count, body),
+            [first, more @ ..] => {
+                let numbers = self.range_numbers(count, None, &first.range)?;
+                self.walk_through(count, &first.name, &numbers, more, body)
+            }
+        }
+    }
+
+    /// The same where a name takes each of some values, and binders follow.
+    #[cycle(walk)]
+    fn walk_through(
+        &self,
+        count: &mut Count,
+        name: &'a Name,
+        numbers: &Numbers<'_>,
+        more: &'a [Binder],
+        body: &[&'a Expr],
+    ) -> Result<(), Fault>
+        ensures { Answers (λ u. u) count.new.counted result
+            (spec.through (known_in self.now) name.now (binders more.now) (spec.walk_body (map now_of body.now)) (shown numbers.now) count.old.counted) }
+    {
+        let mut left = *numbers;
+        'numbers: while let Some((number, later)) = left.split_first() {
+            self.walk_bound(count, name, number, more, body)?;
+            left = later;
+        }
+        Ok(())
+    }
+
+    /// The same where a name has taken a value, which is counted.
+    #[cycle(walk)]
+    fn walk_bound(
+        &self,
+        count: &mut Count,
+        name: &'a Name,
+        number: i64,
+        more: &'a [Binder],
+        body: &[&'a Expr],
+    ) -> Result<(), Fault>
+        ensures { Answers (λ u. u) count.new.counted result
+            (spec.bound (known_in self.now) name.now number (binders more.now) (spec.walk_body (map now_of body.now)) count.old.counted) }
+    {
+        count.add()?;
+        let here = self.with(name, number)?;
+        here.walk_over(count, more, body)
+    }
+
+    /// Walks through the expressions of a body.
+    #[cycle(walk)]
+    fn walk_body(&self, count: &mut Count, body: &[&'a Expr]) -> Result<(), Fault>
+        ensures { Answers (λ u. u) count.new.counted result (spec.walk_all (known_in self.now) (trees (map now_of body.now)) count.old.counted) }
+    {
+        'body: for part in body {
+            self.walk(count, part)?;
+        }
+        Ok(())
+    }
+
+    /// Evaluates a divisor, which is not 0.
+    fn divisor(&self, count: &mut Count, e: &'a Expr) -> Result<(), Fault>
+        ensures { Answers (λ u. u) count.new.counted result (spec.divisor (known_in self.now) e.now count.old.counted) }
+    {
+        let divisor = self.number(count, e.at, e)?;
+        if divisor == 0 {
+            return Err(refused(UNDEFINED, e.at));
+        }
+        Ok(())
+    }
+}
