@@ -1,9 +1,0 @@
-use Rattle.std.proofs.Common.{◌≡◌, ◌+ℤ◌, ◌*◌, ◌≤◌, pos, drop, unsigned_abs}
-use Rattle.std.specs.List.{fold}
-use Rattle.sopl_constant.proofs.lists.total.Given as goal
-
-abbrev pub invariant-numbers : goal.invariant-numbers
-invariant-numbers l = record {
-  value : fold ◌+ℤ◌ l.total.value (drop l.number-index l.numbers) ≡ fold ◌+ℤ◌ (pos 0) l.numbers;
-  bound : unsigned_abs l.total.value ≤ 9223372036854775808 * l.number-index;
-}

@@ -1,5 +1,0 @@
-use Rattle.std.proofs.Common.{◌≡◌, ◌++◌}
-use Rattle.sopl_declared.proofs.sets.listed.Given as goal
-
-abbrev pub invariant-set : goal.invariant-set
-invariant-set l = l.numbers.items ++ l.number-iterator ≡ l.set.keys

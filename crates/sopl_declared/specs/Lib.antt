@@ -1,4 +1,0 @@
-pub mod Declarations
-pub mod DeclarationMarks
-pub mod Declaring
-pub mod Entries

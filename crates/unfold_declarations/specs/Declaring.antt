@@ -1,0 +1,89 @@
+-- What evaluating declarations answers, step by step, with how many things were counted. These steps are the code's own: no public clause cites them.
+use Rattle.std.specs.Prelude.{ℕ, nat_eq, ℤ, List, [], ◌∷◌, ◌++◌, length, Option, None, Result, Ok, Err}
+use Rattle.std.specs.BTreeSet.{insert_key}
+use Rattle.std.specs.Ordering.{int_cmp}
+use Rattle.sopl_base.specs.declared.places.Fault.{Fault}
+use Rattle.sopl_ast.specs.Tree.{Tree, Trees, no_tree, tree}
+use Rattle.sopl_ast.specs.Whole.{DimTree, InitTree, InitTrees, One, Many, no_init, init, inits_list}
+use Rattle.sopl_ast.specs.Known.{Known}
+use Rattle.sopl_ast.specs.Constants.{value_or_zero, numbers_in}
+use Rattle.sopl_ast.specs.Occurrences.{Occurrence, Counted, met, constant_place, range_occurrences, too_many}
+use Rattle.sopl_ast.specs.Arrays.{Dimension, taking}
+use Rattle.unfold_constants.specs.Evaluation.{Step, ◌>>=◌, done}
+use Rattle.unfold_constants.specs.Traversal.{unless}
+
+-- an answer behind what was met
+abbrev pub behind : {A : Type 0} → A → Result ℕ Fault → Result (A × ℕ) Fault
+behind x (Ok count) = Ok (x, count)
+behind x (Err fault) = Err fault
+
+-- what is met, and then an answer
+abbrev pub reached : {A : Type 0} → List Occurrence → A → Step A
+reached occurrences x count = behind x (met count occurrences)
+
+-- the value of an expression that is a constant place of its own
+abbrev pub constant : Known → Tree → Step ℤ
+constant known e = reached (constant_place known e) (value_or_zero known e)
+
+-- one thing more is counted
+abbrev pub count_one : Step (Unit {0})
+count_one = reached (Counted ∷ []) tt
+
+-- an index of a constant, and the value there
+abbrev pub Entry : Type 0
+Entry = List ℤ × ℤ
+
+-- the dimensions of an array, behind those that were found
+abbrev pub dimensions : Known → List Dimension → List DimTree → Step (List Dimension)
+dimensions known found [] = done found
+dimensions known found (d ∷ ds) =
+    reached (range_occurrences known None d.range) (numbers_in known d.range) >>= (λ ns. dimensions known (found ++ (record { name = d.binder; numbers = ns }) ∷ []) ds)
+
+-- what is found for each of some numbers, behind what was found
+abbrev pub each_number : (ℤ → List Entry → Step (List Entry)) → List ℤ → List Entry → Step (List Entry)
+each_number next [] found = done found
+each_number next (n ∷ ns) found = next n found >>= (λ more. each_number next ns more)
+
+-- one element, which is counted
+abbrev pub entry : Known → Tree → List ℤ → List Entry → Step (List Entry)
+entry known e index found = count_one >>= (λ u. constant known e >>= (λ x. done (found ++ (index, x) ∷ [])))
+
+-- an expression for each index that begins so
+abbrev pub fill : Known → List Dimension → Tree → List ℤ → List Entry → Step (List Entry)
+fill known [] e index found = entry known e index found
+fill known (d ∷ ds) e index found = each_number (λ n more. fill (taking d.name n known) ds e (index ++ n ∷ []) more) d.numbers found
+
+abbrev mutual
+  -- initial values for the indices that begin so
+  pub part : Known → List Dimension → List ℤ → InitTree → List Entry → Step (List Entry)
+  part known ds index (One e) found = fill known ds e index found
+  part known [] index (Many at parts) found = done found
+  part known (d ∷ ds) index (Many at parts) found =
+      unless (nat_eq (length (inits_list parts)) (length d.numbers)) 112 at >>= (λ u. parts_in known d.name ds d.numbers index parts found)
+
+  pub parts_in : Known → Option (List ℕ) → List Dimension → List ℤ → List ℤ → InitTrees → List Entry → Step (List Entry)
+  parts_in known name ds numbers index no_init found = done found
+  parts_in known name ds [] index (init x xs) found = done found
+  parts_in known name ds (n ∷ ns) index (init x xs) found =
+      part (taking name n known) ds (index ++ n ∷ []) x found >>= (λ more. parts_in known name ds ns index xs more)
+
+-- the elements of a constant
+abbrev pub entries : Known → List DimTree → InitTree → Step (List Entry)
+entries known dims x = dimensions known [] dims >>= (λ ds. part known ds [] x [])
+
+-- one of the parts of a bracket
+abbrev pub part_at : Known → Option (List ℕ) → ℤ → List Dimension → List ℤ → InitTree → List Entry → Step (List Entry)
+part_at known name n ds index x found = part (taking name n known) ds (index ++ n ∷ []) x found
+
+-- an expression for each index that begins so, and has this number next
+abbrev pub fill_at : Known → Option (List ℕ) → ℤ → List Dimension → Tree → List ℤ → List Entry → Step (List Entry)
+fill_at known name n ds e index found = fill (taking name n known) ds e (index ++ n ∷ []) found
+
+-- the elements of a set, with those that were found
+abbrev pub elements : Known → List ℤ → Trees → Step (List ℤ)
+elements known found no_tree = done found
+elements known found (tree e es) = constant known e >>= (λ x. elements known (insert_key int_cmp found x) es)
+
+-- a set
+abbrev pub set_numbers : Known → Trees → Step (List ℤ)
+set_numbers known es = elements known [] es >>= (λ ns. reached (too_many 208 (length ns)) ns)

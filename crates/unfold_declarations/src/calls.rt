@@ -1,0 +1,61 @@
+//! What is asked of constant places, as steps.
+
+ghost use Rattle.std.specs.Prelude.{◌≡◌, ℕ, None, length};
+ghost use Rattle.sopl_ast.specs.Constants.{numbers_in};
+ghost use Rattle.sopl_ast.specs.Occurrences.{range_occurrences, too_many};
+ghost use Rattle.sopl_ast.specs.Ranges.{range_of};
+ghost use Rattle.unfold_constants.specs.Answers.{Answers};
+ghost use Rattle.unfold_constants.specs.Tables.{known_in, shown, items};
+ghost use Rattle.unfold_constants.specs.Traversal as traversal;
+ghost use Rattle.unfold_declarations.specs.Declaring as spec;
+
+use sopl_ast::{Expr, RangeText};
+use sopl_base::Fault;
+use unfold_constants::{Count, Known, Numbers, RANGE, few, refused};
+
+/// Counts one thing more.
+pub fn count_one(count: &mut Count) -> Result<(), Fault>
+    ensures { Answers (λ u. u) count.new.counted result (spec.count_one count.old.counted) }
+{
+    count.add()
+}
+
+/// The value of an expression that is a constant place of its own.
+pub fn constant_at<'a>(known: &Known<'a>, count: &mut Count, e: &'a Expr) -> Result<i64, Fault>
+    ensures { Answers (λ x. x) count.new.counted result (spec.constant (known_in known.now) e.now count.old.counted) }
+{
+    known.constant(count, e)
+}
+
+/// The numbers of a range or a set.
+pub fn numbers_at<'a>(
+    known: &Known<'a>,
+    count: &mut Count,
+    range: &'a RangeText,
+) -> Result<Numbers<'a>, Fault>
+    ensures { Answers shown count.new.counted result
+        (spec.reached (range_occurrences (known_in known.now) None (range_of range.now)) (numbers_in (known_in known.now) (range_of range.now)) count.old.counted) }
+{
+    known.range(count, range)
+}
+
+/// The same numbers, unless they are more than a set may have.
+pub fn few_numbers(numbers: Vec<i64>) -> Result<Vec<i64>, Fault>
+    ensures { (count : ℕ) → Answers items count result (spec.reached (too_many 208 (length numbers.items)) numbers.items count) }
+{
+    match few(RANGE, numbers.len()) {
+        Ok(()) => Ok(numbers),
+        Err(fault) => Err(fault),
+    }
+}
+
+/// Refuses the text with this code at this place, unless a test holds.
+pub fn unless(holds: bool, code: u16, at: usize) -> Result<(), Fault>
+    ensures { (count : ℕ) → Answers (λ u. u) count result (traversal.unless holds code at count) }
+{
+    if holds {
+        Ok(())
+    } else {
+        Err(refused(code, at))
+    }
+}

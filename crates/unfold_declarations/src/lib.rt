@@ -1,0 +1,12 @@
+//! What declarations state of constants, ranges and sets, and the dimensions of arrays.
+#![tactic(auto)]
+
+mod arrays;
+mod calls;
+mod declare;
+mod elements;
+mod sets;
+#[cfg(test)]
+mod tests;
+
+pub use declare::{declare_constant, declare_range, declare_set};
