@@ -3,7 +3,7 @@ use Rattle.std.proofs.Common.{◌≡◌, refl, sym, ap, ◌∙◌, ℕ, ◌+◌,
 use Rattle.std.proofs.lemmas.List.{at_drop_more, at_drop_all}
 use Rattle.std.specs.Borrow.{Bor}
 use Rattle.sopl_ast.specs.Known.{bound_value, is_at}
-use Rattle.unfold_constants.specs.Tables.{bindings_in}
+use Rattle.unfold_constants.specs.Here.{bindings_in}
 
 -- one name more, behind the others
 pub bindings_more : (bound : List (Bor (List ℕ) × ℤ)) (b : Bor (List ℕ)) (value : ℤ)

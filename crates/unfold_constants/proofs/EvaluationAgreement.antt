@@ -12,7 +12,8 @@ use Rattle.sopl_ast.specs.Known.{Known, with_bound, known_value}
 use Rattle.sopl_ast.specs.Numbers.{both_of, all_of, joined, up_to, count_between, total, all_distinct, are_within, one_or_zero, compares, extreme, applied}
 use Rattle.sopl_ast.specs.Occurrences.{Occurrence, Counted, no_value, too_many, constant_occurrences, inside_occurrences, constants_occurrences, constant_terms_occurrences, constant_factors_occurrences, binding_occurrences, range_occurrences}
 use Rattle.unfold_constants.specs.Evaluation as w
-use Rattle.unfold_constants.specs.Evaluation.{Step, ◌>>=◌, done, given, few_between, for_each, tasks_of}
+use Rattle.unfold_tables.specs.Tables.{tasks_of}
+use Rattle.unfold_constants.specs.Evaluation.{Step, ◌>>=◌, done, given, few_between, for_each}
 use Rattle.unfold_constants.proofs.Steps.{Agrees, agree_value, agree_done, agree_bind, agree_bind_two, agree_then, agree_both, agree_given, agree_count, agree_few}
 use Rattle.unfold_constants.proofs.Gathered.{gathered, three, nothing_before, zero_before, nothing_behind, more_found, more_added, gathered_all, more_gathered, one_each, task_each, three_more}
 

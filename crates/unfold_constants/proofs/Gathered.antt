@@ -3,7 +3,7 @@ use Rattle.std.proofs.Common.{◌≡◌, refl, sym, ap, subst, ◌∙◌, ℤ, p
 use Rattle.std.proofs.Math.IntN.{+ℤ_assoc, +ℤ_idl, +ℤ_comm}
 use Rattle.std.proofs.lemmas.List.{append_assoc}
 use Rattle.sopl_ast.specs.Numbers.{both_of, all_of, joined, task_of}
-use Rattle.unfold_constants.specs.Evaluation.{tasks_of}
+use Rattle.unfold_tables.specs.Tables.{tasks_of}
 
 -- two lists, one behind the other, where both are there
 abbrev pub chained : {A : Type 0} → Option (List A) → Option (List A) → Option (List A)

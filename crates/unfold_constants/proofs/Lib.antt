@@ -1,15 +1,7 @@
-pub mod Quotients
 pub mod Bindings
-pub mod Lookups
-pub mod Placing
-pub mod Folds
-pub mod Distinct
-pub mod Upward
-pub mod Fronts
 pub mod Steps
 pub mod Gathered
 pub mod EvaluationAgreement
-pub mod TooMany
 pub mod Body
 pub mod TraversalAgreement
 pub mod Outcomes

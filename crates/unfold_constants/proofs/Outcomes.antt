@@ -6,11 +6,11 @@ use Rattle.sopl_base.specs.declared.places.Fault.TheVariants as fault
 use Rattle.sopl_ast.specs.Numbers.{both_of}
 use Rattle.sopl_ast.specs.Known.{Known}
 use Rattle.sopl_ast.specs.Tree.{Tree, place_of}
-use Rattle.unfold_constants.specs.declared.sets.Ends.{Ends}
-use Rattle.unfold_constants.specs.Tables.{ends_in}
+use Rattle.unfold_tables.specs.declared.sets.Ends.{Ends}
+use Rattle.unfold_tables.specs.Tables.{ends_in}
 use Rattle.unfold_constants.specs.Answers.{Answers}
 use Rattle.sopl_ast.specs.Occurrences.{Occurrence, met}
-use Rattle.unfold_constants.specs.Walks.{Walks}
+use Rattle.unfold_tables.specs.Walks.{Walks}
 use Rattle.unfold_constants.specs.Evaluation.{Step, ◌>>=◌, continued, number, few_between, range_ends}
 use Rattle.unfold_constants.proofs.Steps.{Agrees, At}
 

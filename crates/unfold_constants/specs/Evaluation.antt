@@ -11,7 +11,8 @@ use Rattle.sopl_ast.specs.declared.operators.MulOp.{MulOp}
 use Rattle.sopl_ast.specs.Tree as t
 use Rattle.sopl_ast.specs.Tree.{Tree, Shape, Trees, Terms, Factors, Binders, Range, Node, no_tree, tree, no_term, term, no_factor, factor, no_binder, binder, Named, Ends, place_of}
 use Rattle.sopl_ast.specs.Lists.{trees}
-use Rattle.sopl_ast.specs.Numbers.{Task, up_to, count_between, total, extreme, one_or_zero, compares, applied, all_distinct, are_within}
+use Rattle.unfold_tables.specs.Tables.{tasks_of}
+use Rattle.sopl_ast.specs.Numbers.{up_to, count_between, total, extreme, one_or_zero, compares, applied, all_distinct, are_within}
 use Rattle.sopl_ast.specs.Known.{Known, with_bound, known_value, set_named, ascending}
 use Rattle.sopl_ast.specs.Constants.{within, is_true}
 use Rattle.sopl_ast.specs.Occurrences.{excess, most_counted, most_numbers}
@@ -53,11 +54,6 @@ few_between lo hi count =
 abbrev pub for_each : (ℤ → List ℤ → Step (List ℤ)) → List ℤ → List ℤ → Step (List ℤ)
 for_each next [] found = done found
 for_each next (n ∷ ns) found = (count_one >>= (λ u. next n found)) >>= (λ xs. for_each next ns xs)
-
--- tasks from their starts, lengths and demands, one behind the other
-abbrev pub tasks_of : List ℤ → List Task
-tasks_of (start ∷ duration ∷ demand ∷ later) = (record { start = start; duration = duration; demand = demand }) ∷ tasks_of later
-tasks_of numbers = []
 
 abbrev mutual
   -- the value of an expression, inside the one that begins at `whole`

@@ -1,6 +1,4 @@
-pub mod Walks
-pub mod Starts
-pub mod Tables
 pub mod Answers
+pub mod Here
 pub mod Evaluation
 pub mod Traversal

@@ -8,22 +8,21 @@ ghost use Rattle.sopl_ast.specs.Sight.{shape_of_kind};
 ghost use Rattle.sopl_ast.specs.Tree as t;
 ghost use Rattle.sopl_ast.specs.Tree.{place_of};
 ghost use Rattle.unfold_constants.specs.Answers.{Answers};
-ghost use Rattle.unfold_constants.specs.Tables.{known_in, items, now_of, shown, ends_in};
+ghost use Rattle.unfold_tables.specs.Tables.{items, now_of, shown, ends_in};
+ghost use Rattle.unfold_constants.specs.Here.{known_in};
 ghost use Rattle.sopl_ast.specs.Constants.{within};
 ghost use Rattle.sopl_ast.specs.Numbers.{one_or_zero as truth_number};
 ghost use Rattle.unfold_constants.specs.Evaluation as spec;
 ghost use Rattle.unfold_constants.specs.Evaluation.{each_of};
 
-use crate::counts::Count;
 use crate::known::Known;
-use crate::lists::{add, all_distinct, all_true, extreme, some_true, total};
-use crate::numbers::{Total, applied, compares, is_true, one_or_zero, within as number_within};
-use crate::refusals::{RANGE, UNDEFINED, refused};
-use crate::sets::{Ends, Numbers};
-use crate::sizes::few_between;
-use crate::tasks::are_within;
 use sopl_ast::{Binder, Binders, Expr, Exprs, Factors, Kind, MulOp, Name, RangeText};
 use sopl_base::{CmpOp, Fault};
+use unfold_tables::{
+    Count, Ends, Numbers, RANGE, Total, UNDEFINED, add, all_distinct, all_true, applied,
+    are_within, compares, extreme, few_between, is_true, one_or_zero, refused, some_true, total,
+    within as number_within,
+};
 
 /// Expressions that are evaluated together, inside the constant expression that begins at `whole`.
 #[derive(Clone, Copy)]

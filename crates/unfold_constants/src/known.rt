@@ -2,13 +2,12 @@
 
 ghost use Rattle.std.specs.Prelude.{◌≡◌, [], IfOk, option_map};
 ghost use Rattle.sopl_ast.specs.Known.{with_bound, is_at, bound_value, known_value, set_named, ascending};
-ghost use Rattle.unfold_constants.specs.Tables.{known_in, table_known, bindings_in, number_set, shown};
+ghost use Rattle.unfold_tables.specs.Tables.{table_known, number_set, shown};
+ghost use Rattle.unfold_constants.specs.Here.{known_in, bindings_in};
 
-use crate::borrowed::borrowed;
-use crate::sets::{NumberSet, Numbers};
-use crate::table::Table;
 use sopl_ast::Name;
 use std::alloc::{AllocError, Global};
+use unfold_tables::{NumberSet, Numbers, Table, borrowed};
 
 /// The constants, ranges and sets of a text, and what binders and dimensions give their names.
 #[derive(Drop)]

@@ -6,14 +6,14 @@ ghost use Rattle.sopl_ast.specs.Constants.{value, numbers_of};
 ghost use Rattle.sopl_ast.specs.Occurrences.{constant_place, range_occurrences, expression_occurrences};
 ghost use Rattle.sopl_ast.specs.Ranges.{range_of};
 ghost use Rattle.sopl_ast.specs.Tree.{Ends};
-ghost use Rattle.unfold_constants.specs.Tables.{known_in, shown};
-ghost use Rattle.unfold_constants.specs.Walks.{Walks};
+ghost use Rattle.unfold_tables.specs.Tables.{shown};
+ghost use Rattle.unfold_constants.specs.Here.{known_in};
+ghost use Rattle.unfold_tables.specs.Walks.{Walks};
 
-use crate::counts::Count;
 use crate::known::Known;
-use crate::sets::{Ends as RangeEnds, Numbers};
 use sopl_ast::{Expr, RangeText};
 use sopl_base::Fault;
+use unfold_tables::{Count, Ends as RangeEnds, Numbers};
 
 impl<'a> Known<'a> {
     /// The value of an expression that is a constant place of its own.

@@ -1,10 +1,11 @@
 //! Constants, ranges and divisors, looked at as the crates above do it.
 
-use crate::{Count, Elements, Ends, Known, NumberSet, Table};
+use crate::Known;
 use sopl_ast::{Binder, Binders, Expr, Exprs, Factors, MulOp, Name, RangeText};
 use sopl_base::{Excess, Fault, Refusal};
 use std::alloc::{AllocError, Global};
 use std::test::Fail;
+use unfold_tables::{Count, Elements, Ends, NumberSet, Table};
 
 /// The value of a constant expression, and how many things were counted.
 fn constant<'a>(alloc: Global, table: &'a Table, e: &'a Expr) -> Option<(i64, u32)> {

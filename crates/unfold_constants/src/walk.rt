@@ -4,16 +4,15 @@ ghost use Rattle.std.specs.Prelude.{map};
 ghost use Rattle.sopl_ast.specs.Lists.{trees, terms, factors, binders};
 ghost use Rattle.sopl_ast.specs.Tree as t;
 ghost use Rattle.unfold_constants.specs.Answers.{Answers};
-ghost use Rattle.unfold_constants.specs.Tables.{known_in, now_of, shown};
+ghost use Rattle.unfold_tables.specs.Tables.{now_of, shown};
+ghost use Rattle.unfold_constants.specs.Here.{known_in};
 ghost use Rattle.unfold_constants.specs.Traversal as spec;
 
-use crate::counts::Count;
 use crate::evaluate::TaskText;
 use crate::known::Known;
-use crate::refusals::{UNDEFINED, refused};
-use crate::sets::Numbers;
 use sopl_ast::{Binder, Binders, Expr, Factors, Kind, MulOp, Name};
 use sopl_base::Fault;
+use unfold_tables::{Count, Numbers, UNDEFINED, refused};
 
 #[tactic(auto, using(sopl_ast::proofs::Lighter::lighter, crate::proofs::Body::parts))]
 impl<'a> Known<'a> {

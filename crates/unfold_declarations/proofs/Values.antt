@@ -5,7 +5,7 @@ use Rattle.sopl_base.specs.declared.places.Fault.{Fault}
 use Rattle.sopl_base.specs.declared.places.Fault.TheVariants as fault
 use Rattle.sopl_ast.specs.Occurrences.{Occurrence, met, too_many}
 use Rattle.unfold_constants.specs.Answers.{Answers, Fails}
-use Rattle.unfold_constants.specs.Walks.{Walks}
+use Rattle.unfold_tables.specs.Walks.{Walks}
 use Rattle.unfold_declarations.specs.Declaring.{behind, reached}
 
 -- the answer shows the value

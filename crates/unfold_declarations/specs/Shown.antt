@@ -2,7 +2,7 @@
 use Rattle.std.specs.Prelude.{ℕ, List, option_map, map}
 use Rattle.std.specs.Borrow.{Bor}
 use Rattle.sopl_ast.specs.Arrays.{Dimension}
-use Rattle.unfold_constants.specs.Tables.{shown}
+use Rattle.unfold_tables.specs.Tables.{shown}
 use Rattle.unfold_declarations.specs.declared.arrays.Dimension as d
 
 -- a dimension

@@ -3,7 +3,8 @@
 ghost use Rattle.std.specs.Prelude.{◌≡◌, [], ◌∷◌, ◌++◌, option_map, IfOk, OnOk};
 ghost use Rattle.sopl_ast.specs.Arrays.{taking as taking_in};
 ghost use Rattle.unfold_constants.specs.Answers.{Answers};
-ghost use Rattle.unfold_constants.specs.Tables.{known_in, shown};
+ghost use Rattle.unfold_tables.specs.Tables.{shown};
+ghost use Rattle.unfold_constants.specs.Here.{known_in};
 ghost use Rattle.unfold_declarations.specs.Declaring as spec;
 ghost use Rattle.unfold_declarations.specs.Shown.{dimensions_in};
 
@@ -11,7 +12,8 @@ use crate::calls::numbers_at;
 use sopl_ast::{Dim, Name};
 use sopl_base::Fault;
 use std::alloc::{AllocError, Global};
-use unfold_constants::{Count, Known, Numbers};
+use unfold_constants::Known;
+use unfold_tables::{Count, Numbers};
 
 /// A dimension of an array: the name that stands for its index, if it has one, and the numbers of its index set in ascending order.
 #[derive(Clone, Copy)]

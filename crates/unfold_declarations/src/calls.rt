@@ -5,13 +5,15 @@ ghost use Rattle.sopl_ast.specs.Constants.{numbers_in};
 ghost use Rattle.sopl_ast.specs.Occurrences.{range_occurrences, too_many};
 ghost use Rattle.sopl_ast.specs.Ranges.{range_of};
 ghost use Rattle.unfold_constants.specs.Answers.{Answers};
-ghost use Rattle.unfold_constants.specs.Tables.{known_in, shown, items};
+ghost use Rattle.unfold_tables.specs.Tables.{shown, items};
+ghost use Rattle.unfold_constants.specs.Here.{known_in};
 ghost use Rattle.unfold_constants.specs.Traversal as traversal;
 ghost use Rattle.unfold_declarations.specs.Declaring as spec;
 
 use sopl_ast::{Expr, RangeText};
 use sopl_base::Fault;
-use unfold_constants::{Count, Known, Numbers, RANGE, few, refused};
+use unfold_constants::Known;
+use unfold_tables::{Count, Numbers, RANGE, few, refused};
 
 /// Counts one thing more.
 pub fn count_one(count: &mut Count) -> Result<(), Fault>

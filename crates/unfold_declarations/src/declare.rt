@@ -9,15 +9,16 @@ ghost use Rattle.sopl_ast.specs.Known.{Between, Listed};
 ghost use Rattle.sopl_ast.specs.Lists.{trees};
 ghost use Rattle.sopl_ast.specs.Occurrences.{range_occurrences};
 ghost use Rattle.sopl_ast.specs.Tree.{Ends};
-ghost use Rattle.unfold_constants.specs.Tables.{table_known, elements_in};
-ghost use Rattle.unfold_constants.specs.Walks.{Walks};
+ghost use Rattle.unfold_tables.specs.Tables.{table_known, elements_in};
+ghost use Rattle.unfold_tables.specs.Walks.{Walks};
 
 use crate::elements::entries;
 use crate::sets::set_numbers;
 use sopl_ast::{Dim, Expr, Init, Name};
 use sopl_base::Fault;
 use std::alloc::Global;
-use unfold_constants::{Count, Elements, Ends as RangeEnds, Known, NumberSet, Table};
+use unfold_constants::Known;
+use unfold_tables::{Count, Elements, Ends as RangeEnds, NumberSet, Table};
 
 /// Enters the elements of a constant.
 pub fn declare_constant(

@@ -5,7 +5,8 @@ ghost use Rattle.sopl_ast.specs.Arrays.{taking as taking_in};
 ghost use Rattle.sopl_ast.specs.Inits.{init_tree};
 ghost use Rattle.sopl_ast.specs.Whole.{inits, Many};
 ghost use Rattle.unfold_constants.specs.Answers.{Answers};
-ghost use Rattle.unfold_constants.specs.Tables.{known_in, elements_in, shown};
+ghost use Rattle.unfold_tables.specs.Tables.{elements_in, shown};
+ghost use Rattle.unfold_constants.specs.Here.{known_in};
 ghost use Rattle.unfold_declarations.specs.Declaring as spec;
 ghost use Rattle.unfold_declarations.specs.Shown.{dimension_in, dimensions_in};
 
@@ -15,7 +16,8 @@ use smallvec::SmallVec;
 use sopl_ast::{Dim, Expr, Init};
 use sopl_base::Fault;
 use std::alloc::{AllocError, Global};
-use unfold_constants::{Count, Elements, Known};
+use unfold_constants::Known;
+use unfold_tables::{Count, Elements};
 
 /// The code of a bracket with another number of parts than its index set has elements.
 pub const LENGTH: u16 = 112;

@@ -5,7 +5,8 @@ ghost use Rattle.std.specs.BTreeSet.{insert_key};
 ghost use Rattle.std.specs.Ordering.{int_cmp};
 ghost use Rattle.sopl_ast.specs.Lists.{trees};
 ghost use Rattle.unfold_constants.specs.Answers.{Answers};
-ghost use Rattle.unfold_constants.specs.Tables.{known_in, items};
+ghost use Rattle.unfold_tables.specs.Tables.{items};
+ghost use Rattle.unfold_constants.specs.Here.{known_in};
 ghost use Rattle.unfold_declarations.specs.Declaring as spec;
 
 use crate::calls::{constant_at, few_numbers};
@@ -13,7 +14,8 @@ use sopl_ast::Expr;
 use sopl_base::Fault;
 use std::alloc::{AllocError, Global};
 use std::collections::BTreeSet;
-use unfold_constants::{Count, Known};
+use unfold_constants::Known;
+use unfold_tables::Count;
 
 /// The numbers of a set in ascending order, each once.
 pub fn set_numbers<'a>(

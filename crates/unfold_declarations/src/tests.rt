@@ -5,7 +5,7 @@ use sopl_ast::{Dim, Dims, Expr, Exprs, Init, Inits, Name, RangeText};
 use sopl_base::{Fault, Refusal};
 use std::alloc::Global;
 use std::test::Fail;
-use unfold_constants::{Count, NumberSet, Table};
+use unfold_tables::{Count, NumberSet, Table};
 
 /// Enters `int a[1..2] = [5, 7]`, or with the first part alone.
 fn enter_pair(alloc: Global, table: &mut Table, name: &Name, whole: bool) -> Result<(), Fault> {

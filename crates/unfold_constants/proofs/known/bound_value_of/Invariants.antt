@@ -1,6 +1,6 @@
 use Rattle.std.proofs.Common.{◌≡◌, drop}
 use Rattle.sopl_ast.specs.Known.{bound_value}
-use Rattle.unfold_constants.specs.Tables.{bindings_in}
+use Rattle.unfold_constants.specs.Here.{bindings_in}
 use Rattle.unfold_constants.proofs.known.bound_value_of.Given as goal
 
 abbrev pub invariant-bound : goal.invariant-bound

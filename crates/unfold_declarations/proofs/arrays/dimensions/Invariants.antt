@@ -1,5 +1,5 @@
 use Rattle.std.proofs.Common.{◌≡◌, [], drop}
-use Rattle.unfold_constants.specs.Tables.{known_in}
+use Rattle.unfold_constants.specs.Here.{known_in}
 use Rattle.unfold_declarations.specs.Declaring as spec
 use Rattle.unfold_declarations.specs.Shown.{dimensions_in}
 use Rattle.unfold_declarations.proofs.arrays.dimensions.Given as goal

@@ -2,7 +2,8 @@ use Rattle.std.proofs.Common.{[], None}
 use Rattle.sopl_ast.specs.Constants.{numbers_of, numbers_in}
 use Rattle.sopl_ast.specs.Occurrences.{range_occurrences}
 use Rattle.sopl_ast.specs.Ranges.{range_of}
-use Rattle.unfold_constants.specs.Tables.{known_in, shown}
+use Rattle.unfold_tables.specs.Tables.{shown}
+use Rattle.unfold_constants.specs.Here.{known_in}
 use Rattle.unfold_declarations.proofs.Values.{reached_so, worth_is}
 use Rattle.unfold_declarations.proofs.calls.numbers_at.Goals as goal
 

@@ -1,5 +1,5 @@
 use Rattle.sopl_ast.specs.Inits.{init_tree}
-use Rattle.unfold_constants.specs.Tables.{elements_in, table_known}
+use Rattle.unfold_tables.specs.Tables.{elements_in, table_known}
 use Rattle.unfold_constants.proofs.Outcomes.{walks_so, worth_so}
 use Rattle.unfold_declarations.proofs.DeclaringAgreement.{agree_entries}
 use Rattle.unfold_declarations.proofs.Values.{value_is}

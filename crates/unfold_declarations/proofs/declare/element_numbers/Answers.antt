@@ -1,5 +1,5 @@
 use Rattle.sopl_ast.specs.Lists.{trees}
-use Rattle.unfold_constants.specs.Tables.{items, table_known}
+use Rattle.unfold_tables.specs.Tables.{items, table_known}
 use Rattle.unfold_constants.proofs.Outcomes.{walks_so, worth_so}
 use Rattle.unfold_declarations.proofs.DeclaringAgreement.{agree_set}
 use Rattle.unfold_declarations.proofs.Values.{value_is}

@@ -2,7 +2,8 @@ use Rattle.std.proofs.Common.{◌≡◌, ◌+◌, ◌*◌, ◌++◌, ◌∷◌, 
 use Rattle.std.specs.Borrow.{Bor}
 use Rattle.std.specs.Prelude.{ℕ, List}
 use Rattle.sopl_ast.specs.Arrays.{taking}
-use Rattle.unfold_constants.specs.Tables.{known_in, elements_in, shown}
+use Rattle.unfold_tables.specs.Tables.{elements_in, shown}
+use Rattle.unfold_constants.specs.Here.{known_in}
 use Rattle.unfold_declarations.specs.Declaring as spec
 use Rattle.unfold_declarations.specs.Shown.{dimension_in, dimensions_in}
 use Rattle.unfold_declarations.proofs.elements.+fill.Given as goal

@@ -4,7 +4,8 @@ use Rattle.std.specs.Prelude.{ℕ, List}
 use Rattle.sopl_ast.specs.Inits.{init_tree}
 use Rattle.sopl_ast.specs.Whole.{inits}
 use Rattle.sopl_ast.specs.WholeWeight.{weight_init, weight_inits}
-use Rattle.unfold_constants.specs.Tables.{known_in, elements_in, shown}
+use Rattle.unfold_tables.specs.Tables.{elements_in, shown}
+use Rattle.unfold_constants.specs.Here.{known_in}
 use Rattle.unfold_declarations.specs.Declaring as spec
 use Rattle.unfold_declarations.specs.Shown.{dimensions_in}
 use Rattle.unfold_declarations.proofs.elements.+part.Given as goal

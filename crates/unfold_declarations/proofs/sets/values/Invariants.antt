@@ -1,6 +1,6 @@
 use Rattle.std.proofs.Common.{◌≡◌, [], drop}
 use Rattle.sopl_ast.specs.Lists.{trees}
-use Rattle.unfold_constants.specs.Tables.{known_in}
+use Rattle.unfold_constants.specs.Here.{known_in}
 use Rattle.unfold_declarations.specs.Declaring as spec
 use Rattle.unfold_declarations.proofs.sets.values.Given as goal
 

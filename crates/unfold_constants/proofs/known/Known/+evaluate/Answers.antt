@@ -2,7 +2,7 @@ use Rattle.std.proofs.Common.{rules, ◌≡◌, ap, ◌∙◌, w64, SFits}
 use Rattle.std.proofs.lemmas.Int.{to_z-of_z}
 use Rattle.std.specs.Option.{unwrap_or}
 use Rattle.sopl_ast.specs.Tree.{place_of}
-use Rattle.unfold_constants.specs.Tables.{known_in}
+use Rattle.unfold_constants.specs.Here.{known_in}
 use Rattle.unfold_constants.proofs.Outcomes.{ends_found}
 use Rattle.unfold_constants.proofs.known.Known.+evaluate.Goals as goal
 

@@ -2,7 +2,8 @@
 use Rattle.std.proofs.Common.{◌≡◌, ◌+◌, ◌*◌, drop, map, length}
 use Rattle.sopl_ast.specs.Lists.{trees, terms, factors, binders}
 use Rattle.sopl_ast.specs.Weight.{weight, weight_of_trees, weight_of_terms, weight_factors, weight_of_binders}
-use Rattle.unfold_constants.specs.Tables.{known_in, now_of, shown}
+use Rattle.unfold_tables.specs.Tables.{now_of, shown}
+use Rattle.unfold_constants.specs.Here.{known_in}
 use Rattle.unfold_constants.specs.Traversal as spec
 use Rattle.unfold_constants.proofs.Body.{weight_of_body}
 use Rattle.unfold_constants.proofs.known.Known.+walk.Given as goal

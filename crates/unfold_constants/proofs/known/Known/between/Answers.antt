@@ -1,6 +1,7 @@
 use Rattle.std.proofs.Common.{None}
 use Rattle.sopl_ast.specs.Constants.{value}
-use Rattle.unfold_constants.specs.Tables.{known_in, ends_in}
+use Rattle.unfold_tables.specs.Tables.{ends_in}
+use Rattle.unfold_constants.specs.Here.{known_in}
 use Rattle.unfold_constants.proofs.EvaluationAgreement.{agree_ends}
 use Rattle.unfold_constants.proofs.Outcomes.{walks_so, worth_so, lower_so, upper_so}
 use Rattle.unfold_constants.proofs.known.Known.between.Goals as goal

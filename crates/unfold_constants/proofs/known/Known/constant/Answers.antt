@@ -1,5 +1,5 @@
 use Rattle.sopl_ast.specs.Tree.{place_of}
-use Rattle.unfold_constants.specs.Tables.{known_in}
+use Rattle.unfold_constants.specs.Here.{known_in}
 use Rattle.unfold_constants.proofs.EvaluationAgreement.{agree_number}
 use Rattle.unfold_constants.proofs.Outcomes.{walks_so, worth_so}
 use Rattle.unfold_constants.proofs.known.Known.constant.Goals as goal

@@ -1,4 +1,4 @@
-use Rattle.unfold_constants.specs.Tables.{known_in}
+use Rattle.unfold_constants.specs.Here.{known_in}
 use Rattle.unfold_constants.proofs.TraversalAgreement.{meets_walk}
 use Rattle.unfold_constants.proofs.Outcomes.{walks_so}
 use Rattle.unfold_constants.proofs.known.Known.expression.Goals as goal

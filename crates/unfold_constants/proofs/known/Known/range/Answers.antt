@@ -1,6 +1,7 @@
 use Rattle.std.proofs.Common.{None}
 use Rattle.sopl_ast.specs.Ranges.{range_of}
-use Rattle.unfold_constants.specs.Tables.{known_in, shown}
+use Rattle.unfold_tables.specs.Tables.{shown}
+use Rattle.unfold_constants.specs.Here.{known_in}
 use Rattle.unfold_constants.proofs.EvaluationAgreement.{agree_range}
 use Rattle.unfold_constants.proofs.Outcomes.{walks_so, worth_so}
 use Rattle.unfold_constants.proofs.known.Known.range.Goals as goal

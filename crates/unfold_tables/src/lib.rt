@@ -1,0 +1,25 @@
+//! What a text makes known at its constant places, as it is kept: elements of constants, ranges and sets; and numbers, lists of them and tasks.
+#![tactic(auto)]
+
+mod borrows;
+mod counts;
+mod elements;
+mod entries;
+mod lists;
+mod numbers;
+mod refusals;
+mod sets;
+mod sizes;
+mod table;
+mod tasks;
+
+pub use borrows::borrowed;
+pub use counts::Count;
+pub use elements::Elements;
+pub use lists::{add, all_distinct, all_true, extreme, some_true, total};
+pub use numbers::{Total, applied, compares, is_true, one_or_zero, within};
+pub use refusals::{RANGE, UNDEFINED, refused};
+pub use sets::{Ends, NumberSet, Numbers};
+pub use sizes::{few, few_between};
+pub use table::Table;
+pub use tasks::are_within;

@@ -1,0 +1,74 @@
+//! How many numbers a range, a set or a domain may have.
+
+ghost use Rattle.std.specs.Prelude.{◌≡◌, ℕ, nat_eq, pos, length};
+ghost use Rattle.sopl_ast.specs.Numbers.{count_between};
+ghost use Rattle.sopl_ast.specs.Occurrences.{too_many};
+ghost use Rattle.unfold_tables.specs.Tables.{shown};
+ghost use Rattle.unfold_tables.specs.Walks.{Walks};
+
+use crate::sets::{Ends, Numbers};
+use sopl_base::{Excess, Fault};
+
+/// The greatest number of numbers in a range, a set or a domain.
+const MOST_NUMBERS: i128 = 65_536;
+
+/// How many numbers there are.
+#[derive(Clone, Copy, Debug)]
+struct Size {
+    numbers: i128,
+}
+
+/// How many numbers there are from one end to another.
+fn size_of(ends: &Ends) -> Size
+    ensures { result.numbers ≡ pos (count_between ends.now.lo ends.now.hi) }
+{
+    if ends.hi < ends.lo {
+        return Size { numbers: 0 };
+    }
+    Size {
+        numbers: i128::from(ends.hi) - i128::from(ends.lo) + 1,
+    }
+}
+
+/// Passes the limit with this code where a range or a domain has too many numbers.
+pub fn few_between(code: u16, ends: &Ends) -> Result<(), Fault>
+    ensures { (count : ℕ) → Walks count count (too_many code (count_between ends.now.lo ends.now.hi)) result }
+{
+    few_of(code, &size_of(ends))
+}
+
+/// Passes the limit with this code where there are too many numbers.
+pub fn few(code: u16, numbers: usize) -> Result<(), Fault>
+    ensures { (count : ℕ) → Walks count count (too_many code numbers) result }
+{
+    let size = Size {
+        numbers: numbers as i128,
+    };
+    few_of(code, &size)
+}
+
+/// Passes the limit with this code where there are too many numbers.
+fn few_of(code: u16, size: &Size) -> Result<(), Fault>
+    ensures { (n count : ℕ) → size.now.numbers ≡ pos n → Walks count count (too_many code n) result }
+{
+    if size.numbers > MOST_NUMBERS {
+        return Err(Fault::Limit(Excess {
+            code,
+            counted: size.numbers,
+            limit: MOST_NUMBERS,
+        }));
+    }
+    Ok(())
+}
+
+impl Numbers<'_> {
+    /// Whether there are so many numbers.
+    pub fn has_length(&self, count: usize) -> bool
+        ensures { result ≡ nat_eq count (length (shown self.now)) }
+    {
+        match self {
+            Numbers::Between(ends) => count as i128 == size_of(ends).numbers,
+            Numbers::Listed(numbers) => count == numbers.len(),
+        }
+    }
+}

@@ -1,0 +1,118 @@
+//! Tasks that share a capacity.
+
+ghost use Rattle.std.specs.Prelude.{◌≡◌, ◌<◌, [], ◌∷◌, length, map, int_le, IfOk, IfSome, IfNone};
+ghost use Rattle.std.specs.List.{list_all};
+ghost use Rattle.sopl_ast.specs.Numbers as spec;
+ghost use Rattle.unfold_tables.specs.Tables.{task_in, tasks_of as tasks_in};
+
+use crate::numbers::Total;
+use std::alloc::{AllocError, Global};
+
+/// A task: when it starts, how long it runs, and how much it asks for while it runs.
+#[derive(Clone, Copy, Debug)]
+pub struct Task {
+    pub start: i64,
+    pub duration: i64,
+    pub demand: i64,
+}
+
+impl Task {
+    /// Whether it runs at a time.
+    fn runs(&self, time: i64) -> bool
+        ensures { result ≡ spec.runs time (task_in self.now) }
+    {
+        let start = Total {
+            value: i128::from(self.start),
+        };
+        let end = start.with(false, self.duration);
+        self.start <= time && i128::from(time) < end.value
+    }
+
+    /// What it asks for at a time.
+    fn asked(&self, time: i64) -> i64
+        ensures { result ≡ spec.asked time (task_in self.now) }
+    {
+        if self.runs(time) { self.demand } else { 0 }
+    }
+
+    /// Whether its length and its demand are at least 0.
+    fn is_sound(&self) -> bool
+        ensures { result ≡ spec.is_sound (task_in self.now) }
+    {
+        self.duration >= 0 && self.demand >= 0
+    }
+}
+
+/// What tasks ask for together at a time.
+#[tactic(auto, using(crate::proofs::Folds::demands))]
+fn demanded(time: i64, tasks: &[Task]) -> Total
+    ensures { result.value ≡ spec.demanded time (map task_in tasks.now) }
+{
+    let mut total = Total { value: 0 };
+    'tasks: for task in tasks {
+        total = total.with(false, task.asked(time));
+    }
+    total
+}
+
+/// Whether at the start of each task those that run then ask for the capacity at most.
+fn all_fit(capacity: i64, tasks: &[Task]) -> bool
+    ensures { result ≡ list_all (λ task. int_le (spec.demanded (task_in task).start (map task_in tasks.now)) capacity) tasks.now }
+{
+    tasks.iter().all(|task| demanded(task.start, tasks).value <= i128::from(capacity))
+}
+
+/// Whether all tasks are sound.
+fn all_sound(tasks: &[Task]) -> bool
+    ensures { result ≡ list_all (λ task. spec.is_sound (task_in task)) tasks.now }
+{
+    tasks.iter().all(|task| task.is_sound())
+}
+
+/// The first of the tasks that numbers give, three for each of them, and the numbers behind it.
+#[tactic(auto, using(crate::proofs::Fronts::fronts))]
+fn next_task(numbers: &[i64]) -> Option<(Task, &[i64])>
+    ensures some { IfSome result (λ next. tasks_in numbers.now ≡ task_in next.0 ∷ tasks_in next.1.now) }
+    ensures fewer { IfSome result (λ next. length next.1.now < length numbers.now) }
+    ensures none { IfNone result (tasks_in numbers.now ≡ []) }
+{
+    match numbers {
+        [start, duration, demand, later @ ..] => {
+            let task = Task {
+                start: *start,
+                duration: *duration,
+                demand: *demand,
+            };
+            Some((task, later))
+        }
+        _ => None,
+    }
+}
+
+/// Tasks from numbers, three for each of them.
+fn tasks_of(alloc: Global, numbers: &[i64]) -> Result<Vec<Task>, AllocError>
+    ensures { IfOk result (λ tasks. map task_in tasks.items ≡ tasks_in numbers.now) }
+{
+    let mut tasks = Vec::new(alloc);
+    let mut left = numbers;
+    'tasks: while let Some((task, later)) = next_task(left) {
+        tasks.push(task)?;
+        left = later;
+    }
+    Ok(tasks)
+}
+
+/// Whether tasks, of which each is three numbers, keep within a capacity.
+#[tactic(auto, using(crate::proofs::Folds::alls))]
+pub fn are_within(alloc: Global, capacity: i64, numbers: &[i64]) -> Result<bool, AllocError>
+    ensures { IfOk result (λ within. within ≡ spec.are_within capacity (tasks_in numbers.now)) }
+{
+    if capacity < 0 {
+        return Ok(false);
+    }
+    let tasks = tasks_of(alloc, numbers)?;
+    if !all_sound(tasks.as_slice()) {
+        return Ok(false);
+    }
+    Ok(all_fit(capacity, tasks.as_slice()))
+}
