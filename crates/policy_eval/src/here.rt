@@ -5,8 +5,8 @@ ghost use Rattle.std.specs.List.{position_from};
 ghost use Rattle.sopl_ast.specs.Meanings.{is_at, seen_value};
 ghost use Rattle.policy_eval.specs.Sights.{shown_value, chosen_value, cell_value, is_variable, is_decision};
 
+use scalar_unfold::{DecisionItem, Index, StochItem};
 use sopl_ast::Name;
-use sopl_unfold::{DecisionItem, Index, StochItem};
 use std::marker::Model;
 
 /// One scenario at one point of the cells: the scenario's value of each stochastic variable, the

@@ -5,10 +5,10 @@ ghost use Rattle.sopl_scen.specs.Ends.{cell_ends, interval_ends};
 ghost use Rattle.policy_eval.specs.Laws.{BoxIsPoints, SatisfyingHasValue, StatedIsJudged};
 
 use crate::setting::Setting;
+use scalar_unfold::Ground;
 use sopl_base::{Direction, Interval};
 use sopl_scen::Tree;
 use sopl_search::Judge;
-use sopl_unfold::Ground;
 
 /// A problem with its tree of scenarios: each point of the cells' domains is judged in every
 /// scenario.

@@ -12,9 +12,9 @@ ghost use Rattle.policy_eval.specs.Judged.{IsReady, IsSightAt, IsWeighted, polic
 
 use crate::here::Here;
 use crate::total::Total;
+use scalar_unfold::{Ground, HardItem};
 use sopl_ast::Expr;
 use sopl_scen::Tree;
-use sopl_unfold::{Ground, HardItem};
 
 /// A problem, its tree of scenarios, and a point of its cells.
 #[derive(Drop)]

@@ -10,10 +10,10 @@ ghost use Rattle.sopl_ast.specs.Pieces.{is_word};
 ghost use Rattle.sopl_scen.specs.Layout.{key_of, same_key};
 ghost use Rattle.policy_json.specs.Nodes.{decide_of, decided_at, entry_of, list_of, whole_number};
 
+use scalar_unfold::{DecisionItem, Index};
 use serde_json::{Value, json};
 use sopl_ast::Name;
 use sopl_scen::{CellItem, Values};
-use sopl_unfold::{DecisionItem, Index};
 use std::alloc::{AllocError, Global};
 
 /// What a point decides for the decision with this number, counted from 0, at a history: the value

@@ -3,8 +3,8 @@
 ghost use Rattle.std.specs.Prelude.{◌≡◌, ℤ, ◌∷◌, ◌++◌, map, IfOk, OnOk};
 ghost use Rattle.policy_json.specs.Nodes.{outcomes_after};
 
+use scalar_unfold::StochItem;
 use sopl_scen::Values;
-use sopl_unfold::StochItem;
 use std::alloc::{AllocError, Global};
 
 /// The values that the stochastic variables which are seen after a stage can have together, in the

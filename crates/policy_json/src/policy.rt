@@ -13,9 +13,9 @@ ghost use Rattle.policy_json.specs.Nodes.{branch_of, last_stage, node_at, node_o
 use crate::entries::decide_list;
 use crate::outcomes::outcome_list;
 use crate::seen::seen_list;
+use scalar_unfold::{DecisionItem, StochItem};
 use serde_json::{Value, json};
 use sopl_scen::{CellItem, Values};
-use sopl_unfold::{DecisionItem, StochItem};
 use std::alloc::{AllocError, Global};
 
 /// The outermost node of the policy of a point.

@@ -8,8 +8,8 @@ ghost use Rattle.sopl_ast.specs.Pieces.{is_word};
 ghost use Rattle.policy_json.specs.Nodes.{seen_after, seen_entries};
 
 use crate::entries::entry_value;
+use scalar_unfold::StochItem;
 use serde_json::Value;
-use sopl_unfold::StochItem;
 use std::alloc::{AllocError, Global};
 
 /// An entry for each stochastic variable that is seen after a stage, with its value.

@@ -10,12 +10,12 @@ ghost use Rattle.sopl_ast.specs.WholeModel.{whole};
 ghost use Rattle.sopl.specs.Reading.{IsTextFault, IsSmallProblemOf, HasModel};
 ghost use Rattle.sopl.specs.Shown.{tokens_shown};
 
+use scalar_unfold::{Ground, scalars};
 use sopl_ast::{Model, Token};
 use sopl_base::{Fault, Refusal};
 use sopl_lex::lex;
 use sopl_parse::parse;
 use sopl_types::{Typed, check_types};
-use sopl_unfold::{Ground, scalars};
 use std::alloc::{AllocError, Global};
 
 /// The code of a text that is of no form that is solved today.

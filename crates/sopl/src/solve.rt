@@ -13,10 +13,10 @@ use crate::reply::Reply;
 use crate::status::Status;
 use policy_eval::PointJudge;
 use policy_json::policy_value;
+use scalar_unfold::Ground;
 use sopl_base::{Fault, Refusal};
 use sopl_scen::{Tree, scenarios};
 use sopl_search::{Found, best_point};
-use sopl_unfold::Ground;
 use std::alloc::{AllocError, Global};
 
 /// The scenarios and the cells of a problem.

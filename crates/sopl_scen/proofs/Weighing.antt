@@ -11,7 +11,7 @@ use Rattle.std.specs.List.{list_all, flat_map}
 use Rattle.sopl_ast.specs.Instances.{Outcome, Stochastic}
 use Rattle.sopl_ast.specs.Scenarios.{Scenario, scenarios, preceded_by, total_of, total_weight}
 use Rattle.sopl_ast.specs.Small.{is_small_outcome, is_small_stochastic, scenario_count}
-use Rattle.sopl_unfold.specs.Outcomes.{outcome_of}
+use Rattle.scalar_unfold.specs.Outcomes.{outcome_of}
 
 -- a sum is no larger than its parts together
 pub abs_add : (a b : ℤ) → unsigned_abs (a +ℤ b) ≤ unsigned_abs a + unsigned_abs b

@@ -9,8 +9,8 @@ ghost use Rattle.sopl_scen.specs.Ends.{cell_ends, interval_ends};
 
 use crate::histories::{distinct_histories, history_of};
 use crate::parts::{CellItem, Numbers, ScenarioItem, Values};
+use scalar_unfold::{DecisionItem, StochItem};
 use sopl_base::Interval;
-use sopl_unfold::{DecisionItem, StochItem};
 use std::alloc::{AllocError, Global};
 
 /// The cells of decisions, by decision and then by the number of the history.

@@ -6,7 +6,7 @@ ghost use Rattle.sopl_ast.specs.Histories.{distinct, history, same_values};
 ghost use Rattle.sopl_scen.specs.Layout.{seen_in, value_seen};
 
 use crate::parts::{Numbers, ScenarioItem, Values};
-use sopl_unfold::StochItem;
+use scalar_unfold::StochItem;
 use std::alloc::{AllocError, Global};
 
 /// The values of a scenario that belong to variables of earlier stages.

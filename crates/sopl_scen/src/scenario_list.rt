@@ -4,10 +4,10 @@ ghost use Rattle.std.specs.Prelude.{◌≡◌, ◌<◌, ◌≤◌, ◌^◌, ◌+
 ghost use Rattle.std.specs.List.{list_all};
 ghost use Rattle.sopl_ast.specs.Scenarios.{preceded_by, scenarios};
 ghost use Rattle.sopl_ast.specs.Small.{is_small_stochastic};
-ghost use Rattle.sopl_unfold.specs.Outcomes.{outcome_of};
+ghost use Rattle.scalar_unfold.specs.Outcomes.{outcome_of};
 
 use crate::parts::{ScenarioItem, Values};
-use sopl_unfold::StochItem;
+use scalar_unfold::StochItem;
 use std::alloc::{AllocError, Global};
 
 /// All scenarios, in lexicographic order of the places of their values in the distributions.

@@ -11,8 +11,8 @@ use crate::histories::{distinct_histories, numbers_of};
 use crate::parts::{CellItem, Numbers, ScenarioItem};
 use crate::scenario_list::scenario_list;
 use crate::weights::{Weight, weight_of_all};
+use scalar_unfold::{DecisionItem, StochItem};
 use sopl_base::{Fault, Interval};
-use sopl_unfold::{DecisionItem, StochItem};
 use std::alloc::{AllocError, Global};
 use std::marker::Model;
 

@@ -4,9 +4,9 @@ ghost use Rattle.std.specs.Prelude.{◌≡◌, ◌<◌, ◌≤◌, ◌*◌, ◌+
 ghost use Rattle.std.specs.List.{list_all};
 ghost use Rattle.sopl_ast.specs.Scenarios.{total_of, total_weight};
 ghost use Rattle.sopl_ast.specs.Small.{is_small_outcome, is_small_stochastic, scenario_count};
-ghost use Rattle.sopl_unfold.specs.Outcomes.{outcome_of};
+ghost use Rattle.scalar_unfold.specs.Outcomes.{outcome_of};
 
-use sopl_unfold::StochItem;
+use scalar_unfold::StochItem;
 
 /// A running weight.
 #[derive(Clone, Copy)]

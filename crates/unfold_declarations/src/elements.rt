@@ -1,7 +1,6 @@
 //! The elements of constants.
 
-ghost use Rattle.std.specs.Prelude.{◌≡◌, ◌∷◌, ◌++◌, [], map, nat_eq, length, option_map, IfOk};
-ghost use Rattle.sopl_ast.specs.Arrays.{taking as taking_in};
+ghost use Rattle.std.specs.Prelude.{◌≡◌, ◌∷◌, ◌++◌, [], map, option_map};
 ghost use Rattle.sopl_ast.specs.Inits.{init_tree};
 ghost use Rattle.sopl_ast.specs.Whole.{inits, Many};
 ghost use Rattle.unfold_constants.specs.Answers.{Answers};
@@ -10,42 +9,16 @@ ghost use Rattle.unfold_constants.specs.Here.{known_in};
 ghost use Rattle.unfold_declarations.specs.Declaring as spec;
 ghost use Rattle.unfold_declarations.specs.Shown.{dimension_in, dimensions_in};
 
-use crate::arrays::{Dimension, dimensions, taking};
+use crate::arrays::{Dimension, Front, listed_dimensions};
 use crate::calls::{constant_at, count_one, unless};
-use smallvec::SmallVec;
 use sopl_ast::{Dim, Expr, Init};
 use sopl_base::Fault;
-use std::alloc::{AllocError, Global};
+use std::alloc::Global;
 use unfold_constants::Known;
 use unfold_tables::{Count, Elements};
 
 /// The code of a bracket with another number of parts than its index set has elements.
 pub const LENGTH: u16 = 112;
-
-/// Where elements of an array are evaluated: what is known there, and the front of their indices.
-#[derive(Drop)]
-struct Front<'a> {
-    alloc: Global,
-    known: Known<'a>,
-    index: SmallVec<i64, 4>,
-}
-
-impl<'a> Front<'a> {
-    /// The same with one number more of a dimension, for which the dimension's name stands, if it has one.
-    fn longer(&self, dimension: &Dimension<'a>, number: i64) -> Result<Front<'a>, AllocError>
-        ensures known { IfOk result (λ front. known_in front.known ≡ taking_in (option_map (λ n. n.now) dimension.now.name) number (known_in self.now.known)) }
-        ensures index { IfOk result (λ front. front.index.items ≡ self.now.index.items ++ number ∷ []) }
-    {
-        let known = taking(&self.known, dimension.name, number)?;
-        let mut index = SmallVec::from_slice(self.alloc, self.index.as_slice())?;
-        index.push(number)?;
-        Ok(Front {
-            alloc: self.alloc,
-            known,
-            index,
-        })
-    }
-}
 
 /// The elements of a constant, in lexicographic order of their indices.
 pub fn entries<'a>(
@@ -58,12 +31,8 @@ pub fn entries<'a>(
     ensures { Answers (λ found. elements_in found) count.new.counted result
         (spec.entries (known_in known.now) dims.now (init_tree init.now) count.old.counted) }
 {
-    let left = dimensions(alloc, known, count, dims)?;
-    let front = Front {
-        alloc,
-        known: known.copy()?,
-        index: SmallVec::new(alloc),
-    };
+    let left = listed_dimensions(alloc, known, count, dims)?;
+    let front = Front::new(alloc, known)?;
     let mut found = Elements::new(alloc);
     part(&front, count, left.as_slice(), init, &mut found)?;
     Ok(found)

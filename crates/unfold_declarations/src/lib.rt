@@ -9,4 +9,5 @@ mod sets;
 #[cfg(test)]
 mod tests;
 
+pub use arrays::{Dimension, Front, dimensions};
 pub use declare::{declare_constant, declare_range, declare_set};

@@ -17,7 +17,7 @@ use Rattle.unfold_tables.specs.declared.tasks.Task as task
 use Rattle.sopl_ast.specs.Numbers as n
 use Rattle.sopl_ast.specs.Numbers.{up_to}
 use Rattle.sopl_ast.specs.Known as k
-use Rattle.sopl_ast.specs.Known.{Binding, Constant, NumberSet, NamedSet, Known, same_values}
+use Rattle.sopl_ast.specs.Known.{Constant, NumberSet, NamedSet, Known, same_values}
 
 -- what a reference shows
 abbrev pub now_of : {A : Type 0} → Bor A → A

@@ -8,11 +8,11 @@ ghost use Rattle.sopl_ast.specs.Constraints.{cons_tree, cons_trees};
 ghost use Rattle.policy_tree.specs.Worked.{x_decision, y_decision, d_stochastic, hard, times as times_tree, x_tree, y_tree, d_tree, ordering};
 
 use super::*;
+use scalar_unfold::{DecisionItem, Env, HardItem, Index, StochItem, Weighted};
 use sopl_ast::{Cons, ConsList, Decls, Expr, Factors, Goal, Model as Text, MulOp, Name, Terms};
 use sopl_base::CmpOp;
 use sopl_scen::scenarios;
 use sopl_search::best_point;
-use sopl_unfold::{DecisionItem, Env, HardItem, Index, StochItem, Weighted};
 use std::alloc::{AllocError, Global};
 use std::test::Fail;
 

@@ -1,9 +1,9 @@
 ghost use Rattle.std.specs.Prelude.{◌≡◌, pos, [], ◌∷◌, IfOk};
-ghost use Rattle.sopl_unfold.specs.Outcomes.{outcome_of};
+ghost use Rattle.scalar_unfold.specs.Outcomes.{outcome_of};
 
 use super::scenarios;
+use scalar_unfold::{DecisionItem, Index, StochItem, Weighted};
 use sopl_ast::Name;
-use sopl_unfold::{DecisionItem, Index, StochItem, Weighted};
 use std::alloc::{AllocError, Global};
 use std::test::Fail;
 

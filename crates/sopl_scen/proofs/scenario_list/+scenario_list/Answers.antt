@@ -5,7 +5,7 @@ use Rattle.std.proofs.lemmas.List.{take_all}
 use Rattle.sopl_ast.specs.Instances.{Stochastic}
 use Rattle.sopl_ast.specs.Scenarios.{Scenario, scenarios, preceded_by}
 use Rattle.sopl_ast.specs.Small.{is_small_stochastic}
-use Rattle.sopl_unfold.specs.Outcomes.{outcome_of}
+use Rattle.scalar_unfold.specs.Outcomes.{outcome_of}
 use Rattle.sopl_scen.proofs.Weighing.{first_small, pair_bounded, light_of_three, scenarios_joined}
 use Rattle.sopl_scen.proofs.scenario_list.+scenario_list.Goals as goal
 

@@ -1,7 +1,7 @@
 use Rattle.std.proofs.Common.{◌≡◌, length, map, take}
 use Rattle.std.specs.List.{flat_map}
 use Rattle.sopl_ast.specs.Scenarios.{preceded_by}
-use Rattle.sopl_unfold.specs.Outcomes.{outcome_of}
+use Rattle.scalar_unfold.specs.Outcomes.{outcome_of}
 use Rattle.sopl_scen.proofs.scenario_list.+scenario_list.Given as goal
 
 abbrev pub decreases-scenario_list : goal.decreases-scenario_list

@@ -1,6 +1,6 @@
 use Rattle.std.proofs.Common.{◌≡◌, ◌++◌, map, take}
 use Rattle.sopl_ast.specs.Scenarios.{preceded_by}
-use Rattle.sopl_unfold.specs.Outcomes.{outcome_of}
+use Rattle.scalar_unfold.specs.Outcomes.{outcome_of}
 use Rattle.sopl_scen.proofs.scenario_list.add_preceded.Given as goal
 
 abbrev pub invariant-rest : goal.invariant-rest

@@ -2,7 +2,7 @@ use Rattle.std.proofs.Common.{◌≡◌, ◌*ℤ◌, ℤ, arith, unsigned_abs, a
 use Rattle.std.proofs.lemmas.Bool.{leb-true}
 use Rattle.sopl_ast.specs.Instances.{Stochastic}
 use Rattle.sopl_ast.specs.Scenarios.{total_of, total_weight}
-use Rattle.sopl_unfold.specs.Outcomes.{outcome_of}
+use Rattle.scalar_unfold.specs.Outcomes.{outcome_of}
 use Rattle.sopl_scen.proofs.Weighing.{first_few, weight_fits}
 use Rattle.sopl_scen.proofs.weights.+weight_of_all.Goals as goal
 

@@ -1,6 +1,6 @@
 use Rattle.std.proofs.Common.{◌≡◌, ◌*◌, ◌≤◌, map, take, unsigned_abs}
 use Rattle.sopl_ast.specs.Scenarios.{total_of}
-use Rattle.sopl_unfold.specs.Outcomes.{outcome_of}
+use Rattle.scalar_unfold.specs.Outcomes.{outcome_of}
 use Rattle.sopl_scen.proofs.weights.total_of_outcomes.Given as goal
 
 abbrev pub invariant-outcomes : goal.invariant-outcomes
