@@ -54,6 +54,13 @@ impl<'a> Known<'a> {
         })
     }
 
+    /// The bound names with their values, in the order in which they were bound.
+    pub fn bound(&self) -> &[(&'a Name, i64)]
+        ensures { bindings_in result.now ≡ (known_in self.now).bound }
+    {
+        self.bound.as_slice()
+    }
+
     /// What a name with an index stands for, if it is bound or a constant's element.
     pub fn value(&self, name: &Name, index: &[i64]) -> Option<i64>
         ensures { result ≡ known_value (known_in self.now) name.now index.now }
