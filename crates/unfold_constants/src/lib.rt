@@ -4,8 +4,6 @@
 mod evaluate;
 mod known;
 mod places;
-#[cfg(test)]
-mod tests;
 mod walk;
 
 pub use known::Known;

@@ -6,8 +6,6 @@ mod calls;
 mod declare;
 mod elements;
 mod sets;
-#[cfg(test)]
-mod tests;
 
 pub use arrays::{Dimension, Front, dimensions};
 pub use declare::{declare_constant, declare_range, declare_set};
