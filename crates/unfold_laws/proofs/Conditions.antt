@@ -1,0 +1,135 @@
+-- What is met in the conditions of constraints.
+use Rattle.std.proofs.Common.{◌≡◌, refl, sym, ap, subst, ◌∙◌, ℕ, ◌+◌, ℤ, pos, ◌≤ℤ◌, int_le, true, ◌&&◌, List, [], ◌∷◌, ◌++◌, length, Option, Some, None, IfSome, slice_get, arith}
+use Rattle.std.proofs.lemmas.Int.{ints}
+use Rattle.std.proofs.lemmas.List.{append_assoc, append-nil, length-append}
+use Rattle.std.specs.List.{flat_map, AllByRecursion}
+use Rattle.sopl_ast.specs.Tree.{Tree, place_of}
+use Rattle.sopl_ast.specs.Whole.{ConsTree, ConsTrees, ForallTree, BlockTree, HardTree, ChanceTree, no_cons, cons, conses, GoalTree, ModelTree}
+use Rattle.sopl_ast.specs.Known.{Known, with_bound}
+use Rattle.sopl_ast.specs.Constants.{value_or_zero, all_bindings}
+use Rattle.sopl_ast.specs.Occurrences.{refused_unless, constant_place, expression_occurrences}
+use Rattle.sopl_ast.specs.Instances.{Hard, Chance}
+use Rattle.sopl_ast.specs.Declarations.{Declared, nothing_declared, behind_all}
+use Rattle.sopl_ast.specs.Unfolding.{ConstraintInstance, hard_instance, chance_instance, conditions_of, all_conditions, constraint_instances, all_constraint_instances, hards_among, chances_among, is_threshold, threshold_occurrences, constraint_occurrences, constraints_occurrences, goal_occurrences, problem_of}
+use Rattle.unfold_laws.specs.Passing.{Passes}
+use Rattle.unfold_laws.specs.Conditions.{placed, IsMet, IsThreshold, HardsAreMet, ChancesAreMet, ObjectiveIsMet}
+use Rattle.unfold_laws.proofs.Passing.{parts_pass, passes_counted, test_holds}
+use Rattle.unfold_laws.proofs.Declared.{all_append, both_true}
+use Rattle.unfold_laws.proofs.Bindings.{all_given}
+use Rattle.unfold_laws.proofs.Whole.{text_parts}
+
+-- the condition at the end of those before it
+stands_at : (before after : List Tree) (e : Tree) → slice_get (before ++ e ∷ after) (length before) ≡ Some e
+stands_at [] after e = refl
+stands_at (b ∷ before) after e = stands_at before after e
+
+-- an instance whose condition is met, and whose threshold is one
+abbrev IsMetInstance : Known → List Tree → ConstraintInstance → Type 0
+IsMetInstance known conditions (hard_instance h) = IsMet known conditions h.text h.bound
+IsMetInstance known conditions (chance_instance c) = IsMet known conditions c.text c.bound × IsThreshold c.p c.q
+
+-- only binders change what is known
+abbrev IsPlaced : Known → Known → Type 0
+IsPlaced known here = here ≡ placed known here.bound
+
+placed_further : (known : Known) (name : List ℕ) (n : ℤ) (here : Known) → IsPlaced known here → IsPlaced known (with_bound name n here)
+placed_further known name n here is = λ i. placed (is i) (with_bound name n here).bound
+
+ordered : (a b : ℤ) → int_le a b ≡ true → a ≤ℤ b
+ordered a b is = omega (arith, ints, is)
+
+threshold_there : (p q : ℤ) → is_threshold p q ≡ true → IsThreshold p q
+threshold_there p q is =
+    let first = both_true (int_le (pos 0) p) (int_le p q && (int_le (pos 1) q && int_le q (pos 1048576))) is in
+    let second = both_true (int_le p q) (int_le (pos 1) q && int_le q (pos 1048576)) first.1 in
+    let third = both_true (int_le (pos 1) q) (int_le q (pos 1048576)) second.1 in
+    record { least = ordered (pos 0) p first.0; most = ordered p q second.0; positive = ordered (pos 1) q third.0; small = ordered q (pos 1048576) third.1 }
+
+each_of_all : {A : Type 0} (P Q : A → Type 0) → ((x : A) → P x → Q x) → (xs : List A) → AllByRecursion P xs → AllByRecursion Q xs
+each_of_all P Q so [] all = tt
+each_of_all P Q so (x ∷ xs) all = (so x all.0, each_of_all P Q so xs all.1)
+
+all_joined : {A B : Type 0} (P : B → Type 0) (f : A → List B) (xs : List A) → AllByRecursion (λ x. AllByRecursion P (f x)) xs → AllByRecursion P (flat_map f xs)
+all_joined P f [] all = tt
+all_joined P f (x ∷ xs) all = all_append P (f x) (flat_map f xs) all.0 (all_joined P f xs all.1)
+
+mutual
+  met_instances : (c : ConsTree) (before after : List Tree) (known here : Known) → IsPlaced known here → Passes (constraint_occurrences here c)
+      → AllByRecursion (IsMetInstance known (before ++ (conditions_of c ++ after))) (constraint_instances here (length before) c)
+  met_instances (ForallTree bs c) before after known here is passes =
+      all_joined (IsMetInstance known (before ++ (conditions_of c ++ after))) (λ inner. constraint_instances inner (length before) c) (all_bindings here bs)
+      (each_of_all (λ inner. IsPlaced known inner × Passes (constraint_occurrences inner c))
+      (λ inner. AllByRecursion (IsMetInstance known (before ++ (conditions_of c ++ after))) (constraint_instances inner (length before) c))
+      (λ inner both. met_instances c before after known inner both.0 both.1) (all_bindings here bs)
+      (all_given (IsPlaced known) (placed_further known) bs here (λ inner. constraint_occurrences inner c) is passes))
+  met_instances (BlockTree cs) before after known here is passes = met_all cs before after known here is passes
+  met_instances (HardTree e) before after known here is passes =
+      (record { condition = e; stands = stands_at before after e; passes = subst (λ k. Passes (expression_occurrences k e)) is (passes_counted (expression_occurrences here e) passes) }, tt)
+  met_instances (ChanceTree e p q) before after known here is passes =
+      let both = parts_pass (expression_occurrences here e) (threshold_occurrences here p q) (passes_counted (expression_occurrences here e ++ threshold_occurrences here p q) passes) in
+      let first = parts_pass (constant_place here p) (constant_place here q ++ refused_unless (is_threshold (value_or_zero here p) (value_or_zero here q)) 115 (place_of p)) both.1 in
+      let second = parts_pass (constant_place here q) (refused_unless (is_threshold (value_or_zero here p) (value_or_zero here q)) 115 (place_of p)) first.1 in (
+        (
+          record { condition = e; stands = stands_at before after e; passes = subst (λ k. Passes (expression_occurrences k e)) is both.0 },
+          threshold_there (value_or_zero here p) (value_or_zero here q) (test_holds _ 115 (place_of p) second.1),
+        ),
+        tt,
+      )
+
+  met_all : (cs : ConsTrees) (before after : List Tree) (known here : Known) → IsPlaced known here → Passes (constraints_occurrences here cs)
+      → AllByRecursion (IsMetInstance known (before ++ (all_conditions cs ++ after))) (all_constraint_instances here (length before) cs)
+  met_all no_cons before after known here is passes = tt
+  met_all (cons c cs) before after known here is passes =
+      let both = parts_pass (constraint_occurrences here c) (constraints_occurrences here cs) passes in
+      all_append (IsMetInstance known (before ++ ((conditions_of c ++ all_conditions cs) ++ after))) (constraint_instances here (length before) c)
+      (all_constraint_instances here (length before + length (conditions_of c)) cs)
+      (subst (λ rest. AllByRecursion (IsMetInstance known (before ++ rest)) (constraint_instances here (length before) c))
+      (sym (append_assoc (conditions_of c) (all_conditions cs) after))
+      (met_instances c before (all_conditions cs ++ after) known here is both.0))
+      (subst (λ n. AllByRecursion (IsMetInstance known (before ++ ((conditions_of c ++ all_conditions cs) ++ after))) (all_constraint_instances here n cs))
+      (length-append before (conditions_of c))
+      (subst (λ all. AllByRecursion (IsMetInstance known all) (all_constraint_instances here (length (before ++ conditions_of c)) cs))
+      (append_assoc before (conditions_of c) (all_conditions cs ++ after) ∙ ap (λ rest. before ++ rest) (sym (append_assoc (conditions_of c) (all_conditions cs) after)))
+      (met_all cs (before ++ conditions_of c) after known here is both.1)))
+
+hards_met : (known : Known) (conditions : List Tree) (xs : List ConstraintInstance) → AllByRecursion (IsMetInstance known conditions) xs
+    → AllByRecursion (λ (h : Hard). IsMet known conditions h.text h.bound) (hards_among xs)
+hards_met known conditions [] all = tt
+hards_met known conditions (hard_instance h ∷ xs) all = (all.0, hards_met known conditions xs all.1)
+hards_met known conditions (chance_instance c ∷ xs) all = hards_met known conditions xs all.1
+
+chances_met : (known : Known) (conditions : List Tree) (xs : List ConstraintInstance) → AllByRecursion (IsMetInstance known conditions) xs
+    → AllByRecursion (λ (c : Chance). IsMet known conditions c.text c.bound × IsThreshold c.p c.q) (chances_among xs)
+chances_met known conditions [] all = tt
+chances_met known conditions (hard_instance h ∷ xs) all = chances_met known conditions xs all.1
+chances_met known conditions (chance_instance c ∷ xs) all = (all.0, chances_met known conditions xs all.1)
+
+abbrev found_in : ModelTree → Declared
+found_in model = behind_all model.decls nothing_declared
+
+body_parts : (model : ModelTree) → Passes (goal_occurrences (found_in model).known model.goal ++ constraints_occurrences (found_in model).known (conses model.body))
+    → AllByRecursion (IsMetInstance (found_in model).known (all_conditions (conses model.body))) (all_constraint_instances (found_in model).known 0 (conses model.body))
+body_parts model passes =
+    subst (λ conditions. AllByRecursion (IsMetInstance (found_in model).known conditions) (all_constraint_instances (found_in model).known 0 (conses model.body)))
+    (append-nil (all_conditions (conses model.body)))
+    (met_all (conses model.body) [] [] (found_in model).known (found_in model).known refl
+    (parts_pass (goal_occurrences (found_in model).known model.goal) (constraints_occurrences (found_in model).known (conses model.body)) passes).1)
+
+pub hards_are_met : HardsAreMet
+unfolding problem_of
+hards_are_met model passes = hards_met _ _ _ (body_parts model (text_parts model passes).1)
+
+pub chances_are_met : ChancesAreMet
+unfolding problem_of
+chances_are_met model passes = chances_met _ _ _ (body_parts model (text_parts model passes).1)
+
+pub objective_is_met : ObjectiveIsMet
+unfolding problem_of
+objective_is_met model passes =
+    on model.goal
+    (parts_pass (goal_occurrences (found_in model).known model.goal) (constraints_occurrences (found_in model).known (conses model.body)) (text_parts model passes).1).0
+  where
+    on : (goal : Option GoalTree) → Passes (goal_occurrences (found_in model).known goal)
+        → IfSome goal (λ (g : GoalTree). Passes (expression_occurrences (found_in model).known g.expr))
+    on None is = tt
+    on (Some g) is = is

@@ -1,0 +1,249 @@
+-- What declarations state is bounded, where what is met in them passes.
+use Rattle.std.proofs.Common.{◌≡◌, refl, sym, ap, subst, ◌∙◌, ℕ, ◌≤◌, ℤ, pos, negsuc, ◌≤ℤ◌, int_le, int_eq, Bool, true, false, not, ◌&&◌, ◌||◌, cond, List, [], ◌∷◌, ◌++◌, map, Option, Some, None, true≢false, arith}
+use Rattle.std.proofs.lemmas.Int.{ints}
+use Rattle.std.proofs.lemmas.List.{append_assoc, append-nil}
+use Rattle.std.specs.List.{flat_map, list_any, AllByRecursion}
+use Rattle.std.specs.Option.{unwrap_or}
+use Rattle.std.specs.Str.{bytes_eq}
+use Rattle.sopl_ast.specs.Tree.{Tree, Range, Named, Ends, place_of}
+use Rattle.sopl_ast.specs.Whole.{DimTree, Declaration, IntDecl, RangeDecl, SetDecl, DvarDecl, StochDecl}
+use Rattle.sopl_ast.specs.Numbers.{natural, count_between, all_distinct}
+use Rattle.sopl_ast.specs.Known.{Known, NumberSet, Between, Listed, NamedSet, set_named, ends_of}
+use Rattle.sopl_ast.specs.Constants.{value_or_zero}
+use Rattle.sopl_ast.specs.Occurrences.{Occurrence, Counted, refused_unless, too_many, constant_place}
+use Rattle.sopl_ast.specs.Instances.{Outcome}
+use Rattle.sopl_ast.specs.Arrays.{Dimension, dimensions_of, indices, taking, with_index, array_of, dimension_occurrences, array_occurrences}
+use Rattle.sopl_ast.specs.Declarations.{Declared, nothing_declared, stage_of, stage_occurrences, domain_of, domain_occurrences, outcome_of, outcome_occurrences, decisions_of, stochastics_of, behind, declaration_occurrences, behind_all, declarations_occurrences}
+use Rattle.unfold_laws.specs.Passing.{Passes, IsConstant}
+use Rattle.unfold_laws.specs.Bounds.{IsStage, IsBoundedDecision, IsBoundedOutcome, IsBoundedStochastic}
+use Rattle.unfold_laws.proofs.Passing.{parts_pass, each_passes, passes_counted, test_holds, count_fits, value_given}
+
+-- Lists.
+
+pub all_append : {A : Type 0} (P : A → Type 0) (xs ys : List A) → AllByRecursion P xs → AllByRecursion P ys → AllByRecursion P (xs ++ ys)
+all_append P [] ys p q = q
+all_append P (x ∷ xs) ys p q = (p.0, all_append P xs ys p.1 q)
+
+pub all_map : {A B : Type 0} (P : B → Type 0) (Q : A → Type 0) (g : A → B) → ((x : A) → Q x → P (g x)) → (xs : List A) → AllByRecursion Q xs → AllByRecursion P (map g xs)
+all_map P Q g each [] q = tt
+all_map P Q g each (x ∷ xs) q = (each x q.0, all_map P Q g each xs q.1)
+
+-- Values and ranges.
+
+-- the value of a constant place, or 0, is of a size that constants have
+pub worth_small : (known : Known) (e : Tree) → Passes (constant_place known e) → IsConstant (value_or_zero known e)
+worth_small known e is =
+    let there = value_given known (place_of e) e is in
+    subst (λ v. IsConstant (unwrap_or v (pos 0))) (sym there.1) there.2
+
+-- a range that is kept has ends of such a size, and 65536 numbers at most
+abbrev pub IsBoundedSet : NumberSet → Type 0
+IsBoundedSet (Between lo hi) = IsConstant lo × IsConstant hi × (count_between lo hi ≤ 65536)
+IsBoundedSet (Listed numbers) = Unit {0}
+
+abbrev pub AreBoundedSets : List NamedSet → Type 0
+AreBoundedSets sets = AllByRecursion (λ (s : NamedSet). IsBoundedSet s.numbers) sets
+
+abbrev IsBoundedIfThere : Option NumberSet → Type 0
+IsBoundedIfThere None = Unit {0}
+IsBoundedIfThere (Some numbers) = IsBoundedSet numbers
+
+named_bounded : (name : List ℕ) (sets : List NamedSet) → AreBoundedSets sets → IsBoundedIfThere (set_named name sets)
+named_bounded name [] all = tt
+named_bounded name (first ∷ later) all = on (bytes_eq name first.name) (named_bounded name later all.1)
+  where
+    on : (b : Bool) → IsBoundedIfThere (set_named name later) → IsBoundedIfThere (cond b (Some first.numbers) (set_named name later))
+    on true more = all.0
+    on false more = more
+
+-- Domains and stages.
+
+abbrev AreEnds : ℤ → ℤ → Type 0
+AreEnds lo hi = IsConstant lo × IsConstant hi × (lo ≤ℤ hi) × (count_between lo hi ≤ 65536)
+
+ordered : (lo hi : ℤ) → int_le lo hi ≡ true → lo ≤ℤ hi
+ordered lo hi is = omega (arith, ints, is)
+
+ends_bounded : (found : Option NumberSet) (at : ℕ) → IsBoundedIfThere found → Passes (refused_unless (int_le (ends_of found).0 (ends_of found).1) 111 at)
+    → AreEnds (ends_of found).0 (ends_of found).1
+ends_bounded None at all is = absurd (true≢false (sym (test_holds false 111 at is)))
+ends_bounded (Some (Between lo hi)) at all is = (all.0, all.1, ordered lo hi (test_holds (int_le lo hi) 111 at is), all.2)
+ends_bounded (Some (Listed numbers)) at all is = absurd (true≢false (sym (test_holds false 111 at is)))
+
+domain_bounded : (known : Known) (range : Range) → AreBoundedSets known.sets → Passes (domain_occurrences known range) → AreEnds (domain_of known range).0 (domain_of known range).1
+domain_bounded known (Named name at) all is = ends_bounded (set_named name known.sets) at (named_bounded name known.sets all) is
+domain_bounded known (Ends lo hi) all is =
+    let first = parts_pass (constant_place known lo) (constant_place known hi ++ (refused_unless (int_le (value_or_zero known lo) (value_or_zero known hi)) 111 (place_of lo) ++ too_many 203 (count_between (value_or_zero known lo) (value_or_zero known hi)))) is in
+    let second = parts_pass (constant_place known hi) (refused_unless (int_le (value_or_zero known lo) (value_or_zero known hi)) 111 (place_of lo) ++ too_many 203 (count_between (value_or_zero known lo) (value_or_zero known hi))) first.1 in
+    let third = parts_pass (refused_unless (int_le (value_or_zero known lo) (value_or_zero known hi)) 111 (place_of lo)) (too_many 203 (count_between (value_or_zero known lo) (value_or_zero known hi))) second.1 in
+    (worth_small known lo first.0, worth_small known hi second.0, ordered (value_or_zero known lo) (value_or_zero known hi) (test_holds _ 111 (place_of lo) third.0), count_fits 203 (count_between (value_or_zero known lo) (value_or_zero known hi)) third.1)
+
+pub both_true : (a b : Bool) → (a && b) ≡ true → (a ≡ true) × (b ≡ true)
+both_true true b is = (refl, is)
+both_true false b is = absurd (true≢false (sym is))
+
+number_is_stage : (x : ℤ) → int_le (pos 1) x ≡ true → int_le x (pos 24) ≡ true → IsStage (natural x)
+number_is_stage (pos n) low high = (omega (arith, ints, low), omega (arith, ints, high))
+number_is_stage (negsuc n) low high = absurd (omega (arith, ints, low))
+
+stage_bounded : (known : Known) (stage : Option Tree) → Passes (stage_occurrences known stage) → IsStage (stage_of known stage)
+stage_bounded known None is = (omega arith, omega arith)
+stage_bounded known (Some e) is =
+    let parts = parts_pass (constant_place known e) (refused_unless (int_le (pos 1) (value_or_zero known e) && int_le (value_or_zero known e) (pos 24)) 114 (place_of e)) is in
+    let tests = both_true (int_le (pos 1) (value_or_zero known e)) (int_le (value_or_zero known e) (pos 24)) (test_holds _ 114 (place_of e) parts.1) in
+    number_is_stage (value_or_zero known e) tests.0 tests.1
+
+-- Outcomes.
+
+eq_turned : (x y : ℤ) → int_eq x y ≡ true → int_eq y x ≡ true
+eq_turned x y h = grind (arith, ints)
+
+tests_agree : (a b : Bool) → (a ≡ true → b ≡ true) → (b ≡ true → a ≡ true) → a ≡ b
+tests_agree true b f g = sym (f refl)
+tests_agree false true f g = absurd (true≢false (sym (g refl)))
+tests_agree false false f g = refl
+
+int_eq_turned : (x y : ℤ) → int_eq x y ≡ int_eq y x
+int_eq_turned x y = tests_agree (int_eq x y) (int_eq y x) (eq_turned x y) (eq_turned y x)
+
+none_of : (a b : Bool) → not (a || b) ≡ true → (a ≡ false) × (not b ≡ true)
+none_of true b is = absurd (true≢false (sym is))
+none_of false b is = (refl, is)
+
+-- a number that is neither among others nor the last one
+absent_more : (zs : List ℤ) (z w : ℤ) → not (list_any (int_eq z) zs) ≡ true → int_eq z w ≡ false → list_any (int_eq z) (zs ++ w ∷ []) ≡ false
+absent_more [] z w is other = λ i. other i || false
+absent_more (v ∷ vs) z w is other =
+    let parts = none_of (int_eq z v) (list_any (int_eq z) vs) is in
+    λ i. parts.0 i || absent_more vs z w parts.1 other i
+
+-- one number more at the end, which is none of those before
+distinct_more : (xs : List ℤ) (x : ℤ) → all_distinct xs ≡ true → not (list_any (int_eq x) xs) ≡ true → all_distinct (xs ++ x ∷ []) ≡ true
+distinct_more [] x all new = refl
+distinct_more (y ∷ ys) x all new =
+    let tests = both_true (not (list_any (int_eq y) ys)) (all_distinct ys) all in
+    let others = none_of (int_eq x y) (list_any (int_eq x) ys) new in
+    λ i. not (absent_more ys y x tests.0 (int_eq_turned y x ∙ others.0) i) && distinct_more ys x tests.1 others.1 i
+
+-- Each outcome of a distribution, and that no value stands earlier in it.
+abbrev outcome_rest : Known → List ℤ → Tree × Tree → List (Tree × Tree) → List Occurrence
+outcome_rest known earlier pair later =
+    constant_place known pair.1
+    ++ (refused_unless (int_le (pos 1) (value_or_zero known pair.1)) 113 (place_of pair.1)
+    ++ outcome_occurrences known (earlier ++ value_or_zero known pair.0 ∷ []) later)
+
+abbrev test_new : Known → List ℤ → Tree × Tree → List Occurrence
+test_new known earlier pair = refused_unless (not (list_any (int_eq (value_or_zero known pair.0)) earlier)) 113 (place_of pair.0)
+
+abbrev drawn : Known → Tree × Tree → ℤ
+drawn known pair = value_or_zero known pair.0
+
+outcomes_bounded : (dist : List (Tree × Tree)) (known : Known) (earlier : List ℤ) → all_distinct earlier ≡ true → Passes (outcome_occurrences known earlier dist)
+    → AllByRecursion IsBoundedOutcome (map (outcome_of known) dist) × (all_distinct (earlier ++ map (drawn known) dist) ≡ true)
+outcomes_bounded [] known earlier distinct is = (tt, ap all_distinct (append-nil earlier) ∙ distinct)
+outcomes_bounded (pair ∷ later) known earlier distinct is =
+    let first = parts_pass (constant_place known pair.0) (test_new known earlier pair ++ outcome_rest known earlier pair later) is in
+    let second = parts_pass (test_new known earlier pair) (outcome_rest known earlier pair later) first.1 in
+    let third = parts_pass (constant_place known pair.1) (refused_unless (int_le (pos 1) (value_or_zero known pair.1)) 113 (place_of pair.1) ++ outcome_occurrences known (earlier ++ value_or_zero known pair.0 ∷ []) later) second.1 in
+    let fourth = parts_pass (refused_unless (int_le (pos 1) (value_or_zero known pair.1)) 113 (place_of pair.1)) (outcome_occurrences known (earlier ++ value_or_zero known pair.0 ∷ []) later) third.1 in
+    let more = outcomes_bounded later known (earlier ++ drawn known pair ∷ []) (distinct_more earlier (drawn known pair) distinct (test_holds _ 113 (place_of pair.0) second.0)) fourth.1 in (
+      (record { value = worth_small known pair.0 first.0; weight = worth_small known pair.1 third.0; least = ordered (pos 1) (value_or_zero known pair.1) (test_holds _ 113 (place_of pair.1) fourth.0) }, more.0),
+      ap all_distinct (sym (append_assoc earlier (drawn known pair ∷ []) (map (drawn known) later))) ∙ more.1,
+    )
+
+values_drawn : (known : Known) (dist : List (Tree × Tree)) → map (λ (o : Outcome). o.value) (map (outcome_of known) dist) ≡ map (drawn known) dist
+values_drawn known [] = refl
+values_drawn known (pair ∷ later) = ap (λ vs. drawn known pair ∷ vs) (values_drawn known later)
+
+-- Arrays.
+
+-- the names of dimensions change no range
+sets_kept : (ds : List Dimension) (index : List ℤ) (known : Known) → (with_index ds index known).sets ≡ known.sets
+sets_kept [] index known = refl
+sets_kept (d ∷ ds) [] known = refl
+sets_kept (d ∷ ds) (number ∷ index) known = sets_kept ds index (taking d.name number known) ∙ same d.name
+  where
+    same : (name : Option (List ℕ)) → (taking name number known).sets ≡ known.sets
+    same None = refl
+    same (Some name) = refl
+
+-- what is made at each index of an array has a property, where what is met there passes
+all_of_array : {A : Type 0} (P : A → Type 0) (known : Known) (dims : List DimTree) (make : List ℤ → Known → A) (each : Known → List Occurrence)
+    → ((index : List ℤ) (here : Known) → here.sets ≡ known.sets → Passes (each here) → P (make index here))
+    → Passes (array_occurrences known dims each) → AllByRecursion P (array_of known dims make)
+all_of_array P known dims make each there is =
+    let ds = dimensions_of known dims in
+    let both = parts_pass (dimension_occurrences known dims) (flat_map (λ index. Counted ∷ each (with_index ds index known)) (indices ds)) is in
+    all_map P (λ index. Passes (Counted ∷ each (with_index ds index known))) (λ index. make index (with_index ds index known))
+    (λ index passes. there index (with_index ds index known) (sets_kept ds index known) (passes_counted (each (with_index ds index known)) passes))
+    (indices ds) (each_passes (λ index. Counted ∷ each (with_index ds index known)) (indices ds) both.1)
+
+decision_bounded : (name : List ℕ) (range : Range) (stage : Option Tree) (index : List ℤ) (here : Known) → AreBoundedSets here.sets
+    → Passes (domain_occurrences here range ++ stage_occurrences here stage)
+    → IsBoundedDecision (record { name = name; index = index; lo = (domain_of here range).0; hi = (domain_of here range).1; stage = stage_of here stage })
+decision_bounded name range stage index here sets is =
+    let both = parts_pass (domain_occurrences here range) (stage_occurrences here stage) is in
+    let ends = domain_bounded here range sets both.0 in
+    record { least = ends.0; greatest = ends.1; ordered = ends.2; few = ends.3; stage = stage_bounded here stage both.1 }
+
+stochastic_bounded : (name : List ℕ) (dist : List (Tree × Tree)) (stage : Option Tree) (index : List ℤ) (here : Known)
+    → Passes (outcome_occurrences here [] dist ++ stage_occurrences here stage)
+    → IsBoundedStochastic (record { name = name; index = index; outcomes = map (outcome_of here) dist; stage = stage_of here stage })
+stochastic_bounded name dist stage index here is =
+    let both = parts_pass (outcome_occurrences here [] dist) (stage_occurrences here stage) is in
+    let all = outcomes_bounded dist here [] refl both.0 in
+    record { outcomes = all.0; distinct = ap all_distinct (values_drawn here dist) ∙ all.1; stage = stage_bounded here stage both.1 }
+
+-- Declarations.
+
+-- what was found so far is bounded
+pub record AreBounded (found : Declared) : Type 0 where
+  pub sets : AreBoundedSets found.known.sets
+  pub decisions : AllByRecursion IsBoundedDecision found.decisions
+  pub stochastics : AllByRecursion IsBoundedStochastic found.stochastics
+
+nothing_bounded : AreBounded nothing_declared
+nothing_bounded = record { sets = tt; decisions = tt; stochastics = tt }
+
+bounded_behind : (d : Declaration) (found : Declared) → AreBounded found → Passes (declaration_occurrences found d) → AreBounded (behind d found)
+bounded_behind (IntDecl name at dims x) found all is = record { sets = all.sets; decisions = all.decisions; stochastics = all.stochastics }
+bounded_behind (RangeDecl name at lo hi) found all is =
+    let first = parts_pass (constant_place found.known lo) (constant_place found.known hi ++ too_many 208 (count_between (value_or_zero found.known lo) (value_or_zero found.known hi))) is in
+    let second = parts_pass (constant_place found.known hi) (too_many 208 (count_between (value_or_zero found.known lo) (value_or_zero found.known hi))) first.1 in
+    record {
+      sets = all_append (λ (s : NamedSet). IsBoundedSet s.numbers) found.known.sets _ all.sets
+          ((worth_small found.known lo first.0, worth_small found.known hi second.0, count_fits 208 (count_between (value_or_zero found.known lo) (value_or_zero found.known hi)) second.1), tt);
+      decisions = all.decisions;
+      stochastics = all.stochastics;
+    }
+bounded_behind (SetDecl name at elements) found all is =
+    record {
+      sets = all_append (λ (s : NamedSet). IsBoundedSet s.numbers) found.known.sets _ all.sets (tt, tt);
+      decisions = all.decisions;
+      stochastics = all.stochastics;
+    }
+bounded_behind (DvarDecl name at dims range stage) found all is =
+    record {
+      sets = all.sets;
+      decisions = all_append IsBoundedDecision found.decisions (decisions_of found.known name dims range stage) all.decisions
+          (all_of_array IsBoundedDecision found.known dims _ (λ here. domain_occurrences here range ++ stage_occurrences here stage)
+          (λ index here same passes. decision_bounded name range stage index here (subst AreBoundedSets (sym same) all.sets) passes) is);
+      stochastics = all.stochastics;
+    }
+bounded_behind (StochDecl name at dims dist stage) found all is =
+    record {
+      sets = all.sets;
+      decisions = all.decisions;
+      stochastics = all_append IsBoundedStochastic found.stochastics (stochastics_of found.known name dims dist stage) all.stochastics
+          (all_of_array IsBoundedStochastic found.known dims _ (λ here. outcome_occurrences here [] dist ++ stage_occurrences here stage)
+          (λ index here same passes. stochastic_bounded name dist stage index here passes) is);
+    }
+
+bounded_behind_all : (ds : List Declaration) (found : Declared) → AreBounded found → Passes (declarations_occurrences found ds) → AreBounded (behind_all ds found)
+bounded_behind_all [] found all is = all
+bounded_behind_all (d ∷ ds) found all is =
+    let both = parts_pass (declaration_occurrences found d) (declarations_occurrences (behind d found) ds) is in
+    bounded_behind_all ds (behind d found) (bounded_behind d found all both.0) both.1
+
+pub declared_bounded : (ds : List Declaration) → Passes (declarations_occurrences nothing_declared ds) → AreBounded (behind_all ds nothing_declared)
+declared_bounded ds is = bounded_behind_all ds nothing_declared nothing_bounded is

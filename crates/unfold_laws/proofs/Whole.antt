@@ -1,0 +1,24 @@
+-- The numbers of what a whole text states.
+use Rattle.sopl_ast.specs.Whole.{ModelTree}
+use Rattle.sopl_ast.specs.Declarations.{nothing_declared, behind_all, declarations_occurrences}
+use Rattle.sopl_ast.specs.Unfolding.{problem_of, text_occurrences, body_occurrences}
+use Rattle.unfold_laws.specs.Passing.{Passes}
+use Rattle.unfold_laws.specs.Bounds.{IsBoundedStochastic, DecisionsAreBounded, StochasticsAreBounded}
+use Rattle.unfold_laws.proofs.Passing.{parts_pass}
+use Rattle.unfold_laws.proofs.Declared.{declared_bounded}
+use Rattle.unfold_laws.proofs.Stages.{all_by_stage}
+
+-- both parts of a text pass
+pub text_parts : (model : ModelTree) → Passes (text_occurrences model)
+    → Passes (declarations_occurrences nothing_declared model.decls) × Passes (body_occurrences (behind_all model.decls nothing_declared) model)
+unfolding text_occurrences
+text_parts model is = parts_pass (declarations_occurrences nothing_declared model.decls) (body_occurrences (behind_all model.decls nothing_declared) model) is
+
+pub decisions_are_bounded : DecisionsAreBounded
+unfolding problem_of
+decisions_are_bounded model is = (declared_bounded model.decls (text_parts model is).0).decisions
+
+pub stochastics_are_bounded : StochasticsAreBounded
+unfolding problem_of
+stochastics_are_bounded model is =
+    all_by_stage IsBoundedStochastic (behind_all model.decls nothing_declared).stochastics (declared_bounded model.decls (text_parts model is).0).stochastics

@@ -1,0 +1,23 @@
+-- Occurrences that nothing stops, and what follows for parts of them.
+use Rattle.std.specs.Prelude.{◌≡◌, ℤ, ◌≤◌, ◌^◌, List, ◌++◌, Some, IsOk}
+use Rattle.std.specs.Int.RustNames.{unsigned_abs}
+use Rattle.sopl_ast.specs.Tree.{Tree}
+use Rattle.sopl_ast.specs.Known.{Known}
+use Rattle.sopl_ast.specs.Constants.{value}
+use Rattle.sopl_ast.specs.Occurrences.{Occurrence, met, constant_place}
+
+-- nothing stops the way through these occurrences, where nothing was counted before
+abbrev pub Passes : List Occurrence → Type 0
+Passes occurrences = IsOk (met 0 occurrences)
+
+-- parts of what passes pass, each counted from nothing
+abbrev pub PartsPass : Type 0
+PartsPass = (xs ys : List Occurrence) → Passes (xs ++ ys) → Passes xs × Passes ys
+
+-- a size that constants have
+abbrev pub IsConstant : ℤ → Type 0
+IsConstant z = unsigned_abs z ≤ 2 ^ 40
+
+-- an expression in a constant place has a value of such a size, where what is met there passes
+abbrev pub ConstantsHaveValues : Type 0
+ConstantsHaveValues = (known : Known) (e : Tree) → Passes (constant_place known e) → (x : ℤ) × (value known e ≡ Some x) × IsConstant x
