@@ -5,6 +5,7 @@ use Rattle.sopl_base.specs.declared.places.Fault.{Fault}
 use Rattle.sopl_base.specs.declared.places.Fault.TheVariants.{Limit, NoMemory}
 use Rattle.sopl_ast.specs.Numbers.{count_between}
 use Rattle.sopl_ast.specs.Occurrences.{Occurrence, Counted, Refused, Passed, excess, met, most_counted, most_numbers, no_value, too_many}
+use Rattle.unfold_laws.proofs.Passing.{behind, met_append}
 use Rattle.unfold_constants.specs.Answers.{Fails}
 use Rattle.unfold_constants.specs.Evaluation.{Step, ◌>>=◌, continued, done, given, count_one, few_between}
 
@@ -15,22 +16,6 @@ At (Err f) outcome v = outcome ≡ Err f
 
 pub record Agrees {A : Type 0} (step : Step A) (occurrences : List Occurrence) (v : Option A) : Type 0 where
   pub at : (count : ℕ) → At (met count occurrences) (step count) v
-
--- what is met behind what was met
-abbrev pub behind : Result ℕ Fault → List Occurrence → Result ℕ Fault
-behind (Ok n) occurrences = met n occurrences
-behind (Err f) occurrences = Err f
-
-chosen : (b : Bool) (n : ℕ) (f : Fault) (occurrences more : List Occurrence) → met n (occurrences ++ more) ≡ behind (met n occurrences) more
-    → cond b (met n (occurrences ++ more)) (Err f) ≡ behind (cond b (met n occurrences) (Err f)) more
-chosen true n f occurrences more is = is
-chosen false n f occurrences more is = refl
-
-pub met_append : (count : ℕ) (occurrences more : List Occurrence) → met count (occurrences ++ more) ≡ behind (met count occurrences) more
-met_append count [] more = refl
-met_append count (Counted ∷ occurrences) more = chosen (nat_lt count most_counted) (count + 1) (Limit (excess 205 (pos (most_counted + 1)) (pos most_counted))) occurrences more (met_append (count + 1) occurrences more)
-met_append count (Refused r ∷ occurrences) more = refl
-met_append count (Passed e ∷ occurrences) more = refl
 
 -- the same occurrences, the same value
 pub agree_occurrences : {A : Type 0} {s : Step A} {ms ns : List Occurrence} {v : Option A} → ms ≡ ns → Agrees s ms v → Agrees s ns v
