@@ -1,9 +1,1 @@
-pub mod WholeText
-pub mod Statuses
-pub mod Reading
-pub mod Texts
-pub mod Rejected
-pub mod NamesFormed
-pub mod Best
-pub mod Simple
 pub mod Walked

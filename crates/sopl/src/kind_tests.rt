@@ -3,11 +3,11 @@
 //! The place of each mistake was marked by hand in its text.
 
 use crate::grammar_tests::{outcome_of, sides};
-use crate::read::typed_in;
 use sopl_base::Fault;
 use std::alloc::Global;
 use std::process::Abort;
 use std::test::Fail;
+use text_problem::typed_in;
 
 /// What a text gives: `well typed`, or its refusal as its code and its place.
 fn answer(alloc: Global, text: &str) -> Result<String, Fault> {

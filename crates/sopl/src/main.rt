@@ -7,34 +7,24 @@ mod expression_texts;
 mod grammar_tests;
 #[cfg(test)]
 mod kind_tests;
-mod laws;
-mod lines;
 #[cfg(test)]
 mod model_texts;
 #[cfg(test)]
 mod nesting_texts;
 #[cfg(test)]
 mod printed;
-mod read;
-mod reply;
-mod run;
-mod solve;
-mod status;
 #[cfg(test)]
 mod tests;
-mod words;
 
 ghost use Rattle.std.specs.Prelude.{◌≡◌};
 ghost use Rattle.sopl_io.specs.Files.{standard_output, not_begun};
 
-use run::run;
 use sopl_io::{FileSink, FileSource};
-use status::Status;
+use sopl_run::{Status, Word, Words, run};
 use std::alloc::{AllocError, Global};
 use std::env;
 use std::process::ExitCode;
 use std::rt::{Env, Files};
-use words::{Word, Words};
 
 /// The words after the program's name.
 fn words_given<R: Env + AllocGlobal>(rt: &R) -> Result<Words, AllocError> {

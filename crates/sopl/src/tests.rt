@@ -2,15 +2,13 @@
 
 ghost use Rattle.std.specs.Prelude.{None};
 
-use crate::run::run;
-use crate::status::Status;
-use crate::words::{Word, Words};
 use scalar_unfold::{Env, Index};
 use sopl_ast::Name;
 use sopl_base::{Reason, Side, Step, Steps};
 use sopl_io::{
     Failed, FileSink, FileSource, MemSink, MemSource, Sink, Source, read_all, write_all,
 };
+use sopl_run::{Status, Word, Words, run};
 use std::alloc::{AllocError, Global};
 use std::process::Abort;
 use std::test::Fail;

@@ -1,0 +1,4 @@
+pub mod WholeText
+pub mod Statuses
+pub mod Rejected
+pub mod Best

@@ -1,0 +1,5 @@
+pub mod Codes
+pub mod Words
+pub mod Answers
+pub mod Replies
+pub mod Solved

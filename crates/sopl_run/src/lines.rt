@@ -1,0 +1,76 @@
+//! The answer lines that carry no policy.
+
+ghost use Rattle.std.specs.Prelude.{◌≡◌, false, codes, string_bytes, IfOk, pos};
+ghost use Rattle.serde_json.specs.View.{view};
+ghost use Rattle.serde_json.specs.Written.{has_float};
+ghost use Rattle.sopl_run.specs.Answers.{word_data, refused_data, optimal_object, fraction, line_of};
+
+use serde_json::{Value, json};
+use sopl_base::Refusal;
+use std::alloc::{AllocError, Global};
+
+/// The line of an answer: its text in compact form, and a line feed.
+pub fn line(alloc: Global, answer: &Value) -> Result<String, AllocError>
+    requires whole { has_float (view answer.now) ≡ false }
+    ensures text { IfOk result (λ text. string_bytes text ≡ line_of (view answer.now)) }
+{
+    let mut text = answer.to_string(alloc)?;
+    text.push('\n')?;
+    Ok(text)
+}
+
+fn word_answer(alloc: Global, word: &str) -> Result<Value, AllocError>
+    ensures answer { IfOk result (λ value. view value ≡ word_data word.now) }
+{
+    json!(in alloc; {"answer": word})
+}
+
+/// The line of an answer that is one word.
+pub fn word_line(alloc: Global, word: &str) -> Result<String, AllocError>
+    ensures text { IfOk result (λ text. string_bytes text ≡ line_of (word_data word.now)) }
+{
+    let answer = word_answer(alloc, word)?;
+    line(alloc, &answer)
+}
+
+fn refused_answer(alloc: Global, at: usize, code: u16) -> Result<Value, AllocError>
+    ensures answer { IfOk result (λ value. view value ≡ refused_data (pos at) (pos code)) }
+{
+    json!(in alloc; {"answer": "refused", "at": at, "code": code})
+}
+
+/// The line of a refusal: the code of the rule, and the offset of the byte that breaks it.
+pub fn refused_line(alloc: Global, refusal: Refusal) -> Result<String, AllocError>
+    ensures text { IfOk result (λ text. string_bytes text ≡ line_of (refused_data (pos refusal.at) (pos refusal.code))) }
+{
+    let answer = refused_answer(alloc, refusal.at, refusal.code)?;
+    line(alloc, &answer)
+}
+
+/// A numerator over a denominator, never reduced.
+fn fraction_text(alloc: Global, numerator: i128, denominator: i128) -> Result<String, AllocError>
+    ensures text { IfOk result (λ text. string_bytes text ≡ fraction numerator denominator) }
+{
+    format!(in alloc; "{numerator}/{denominator}")
+}
+
+fn optimal_answer(alloc: Global, policy: Value, value: &str) -> Result<Value, AllocError>
+    ensures answer { IfOk result (λ answer. view answer ≡ optimal_object (view policy) value.now) }
+{
+    json!(in alloc; {"answer": "optimal", "policy": policy, "value": value})
+}
+
+/// The line of an optimal policy with its value.
+pub fn optimal_line(
+    alloc: Global,
+    policy: Value,
+    numerator: i128,
+    denominator: i128,
+) -> Result<String, AllocError>
+    requires whole { has_float (view policy) ≡ false }
+    ensures text { IfOk result (λ text. string_bytes text ≡ line_of (optimal_object (view policy) (fraction numerator denominator))) }
+{
+    let value = fraction_text(alloc, numerator, denominator)?;
+    let answer = optimal_answer(alloc, policy, value.as_str())?;
+    line(alloc, &answer)
+}

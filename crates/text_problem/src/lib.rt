@@ -1,0 +1,8 @@
+//! From the bytes of a text to the problem that it states, or to the first refusal.
+#![tactic(auto)]
+
+mod laws;
+mod read;
+
+pub use laws::accepted_is_simple;
+pub use read::{problem_in, typed_in};
