@@ -3,11 +3,11 @@
 
 mod lines;
 mod reply;
-mod run;
 mod solve;
 mod status;
+mod top;
 mod words;
 
-pub use run::run;
 pub use status::Status;
+pub use top::run;
 pub use words::{Word, Words};

@@ -1,7 +1,7 @@
 use Rattle.std.proofs.Common.{rules, arith, ◌≡◌, Some, vec_len}
 use Rattle.sopl_run.specs.Words.{model_of}
 use Rattle.sopl_run.proofs.WholeText.{reply_made, ended_made}
-use Rattle.sopl_run.proofs.run.reply_for.Goals as goal
+use Rattle.sopl_run.proofs.top.reply_for.Goals as goal
 
 pub returns-in-Ok-clause-reply : goal.returns-in-Ok-clause-reply
 returns-in-Ok-clause-reply g c =
