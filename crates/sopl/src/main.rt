@@ -15,6 +15,8 @@ mod nesting_texts;
 mod printed;
 #[cfg(test)]
 mod tests;
+#[cfg(test)]
+mod unfold_tests;
 
 ghost use Rattle.std.specs.Prelude.{◌≡◌};
 ghost use Rattle.sopl_io.specs.Files.{standard_output, not_begun};
