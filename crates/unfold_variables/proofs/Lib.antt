@@ -1,0 +1,4 @@
+pub mod Results
+pub mod Repeated
+pub mod ElementAgreement
+pub mod ArrayAgreement

@@ -1,0 +1,21 @@
+use Rattle.std.proofs.Common.{option_map}
+use Rattle.std.specs.Borrow.{Bor}
+use Rattle.sopl_ast.specs.Tree.{Tree}
+use Rattle.unfold_tables.specs.Tables.{items, table_known}
+use Rattle.unfold_constants.proofs.Outcomes.{walks_so, worth_so}
+use Rattle.unfold_declarations.proofs.Values.{value_is}
+use Rattle.unfold_variables.proofs.ArrayAgreement.{agree_stochastics}
+use Rattle.unfold_variables.proofs.variables.stochastics.Goals as goal
+
+pub returns-clause-met : goal.returns-clause-met
+returns-clause-met c =
+    walks_so items _ _ c.array.result
+    (agree_stochastics (table_known c.args.table.now) c.args.name.now c.args.dims.now c.args.dist.now (option_map (λ (e : Bor Tree). e.now) c.args.stage))
+    (rw c.new-known.ensures at c.array.ensures)
+
+pub returns-clause-stated : goal.returns-clause-stated
+returns-clause-stated c =
+    value_is items _ c.array.result
+    (worth_so items _ _ c.array.result
+    (agree_stochastics (table_known c.args.table.now) c.args.name.now c.args.dims.now c.args.dist.now (option_map (λ (e : Bor Tree). e.now) c.args.stage))
+    (rw c.new-known.ensures at c.array.ensures))

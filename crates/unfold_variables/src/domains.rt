@@ -1,0 +1,89 @@
+//! Domains and stages.
+
+ghost use Rattle.std.specs.Prelude.{◌≡◌, ℕ, option_map};
+ghost use Rattle.sopl_ast.specs.Known.{ends_of, set_named};
+ghost use Rattle.sopl_ast.specs.Ranges.{range_of};
+ghost use Rattle.unfold_constants.specs.Answers.{Answers};
+ghost use Rattle.unfold_constants.specs.Here.{known_in};
+ghost use Rattle.unfold_tables.specs.Tables.{ends_in};
+ghost use Rattle.unfold_variables.specs.Listing as spec;
+
+use crate::calls::{constant_at, few_values, unless};
+use sopl_ast::{Expr, Name, RangeText};
+use sopl_base::Fault;
+use unfold_constants::Known;
+use unfold_tables::{Count, Ends, NumberSet, refused};
+
+/// The code of a domain without a value.
+const EMPTY: u16 = 111;
+/// The code of a stage that is not 1 to 24.
+const STAGE: u16 = 114;
+
+/// A stage; it is 1 where none is written.
+pub fn stage<'a>(known: &Known<'a>, count: &mut Count, e: Option<&'a Expr>) -> Result<u32, Fault>
+    ensures { Answers (λ k. k) count.new.counted result (spec.stage (known_in known.now) (option_map (λ x. x.now) e.entry) count.old.counted) }
+{
+    let Some(e) = e else {
+        return Ok(1);
+    };
+    let number = constant_at(known, count, e)?;
+    if number < 1 || number > 24 {
+        return Err(refused(STAGE, e.at));
+    }
+    Ok(number as u32)
+}
+
+/// The domain of a decision, by its least and its greatest value.
+pub fn domain<'a>(known: &Known<'a>, count: &mut Count, range: &'a RangeText) -> Result<Ends, Fault>
+    ensures { Answers ends_in count.new.counted result (spec.domain (known_in known.now) (range_of range.now) count.old.counted) }
+{
+    match range {
+        RangeText::Named { name, at } => not_empty(*at, &named(known, name)),
+        RangeText::Ends { lo, hi } => {
+            let ends = between(known, count, lo, hi)?;
+            few(lo.at, &ends)
+        }
+    }
+}
+
+/// The ends of a range by its name.
+fn named(known: &Known<'_>, name: &Name) -> Ends
+    ensures { ends_in result ≡ ends_of (set_named name.now (known_in known.now).sets) }
+{
+    match known.named(name) {
+        Some(NumberSet::Between(ends)) => *ends,
+        Some(NumberSet::Listed(_)) => Ends { lo: 1, hi: 0 },
+        None => Ends { lo: 1, hi: 0 },
+    }
+}
+
+/// The values of two ends.
+fn between<'a>(
+    known: &Known<'a>,
+    count: &mut Count,
+    lo: &'a Expr,
+    hi: &'a Expr,
+) -> Result<Ends, Fault>
+    ensures { Answers ends_in count.new.counted result (spec.between (known_in known.now) lo.now hi.now count.old.counted) }
+{
+    let lo = constant_at(known, count, lo)?;
+    let hi = constant_at(known, count, hi)?;
+    Ok(Ends { lo, hi })
+}
+
+/// The same domain, which stands at a place, unless it is empty.
+fn not_empty(at: usize, ends: &Ends) -> Result<Ends, Fault>
+    ensures { (count : ℕ) → Answers ends_in count result (spec.not_empty at (ends_in ends.now) count) }
+{
+    unless(ends.lo <= ends.hi, EMPTY, at)?;
+    Ok(*ends)
+}
+
+/// The same domain, of which the lower end stands at a place, unless it is empty or too large.
+fn few(at: usize, ends: &Ends) -> Result<Ends, Fault>
+    ensures { (count : ℕ) → Answers ends_in count result (spec.few at (ends_in ends.now) count) }
+{
+    unless(ends.lo <= ends.hi, EMPTY, at)?;
+    few_values(ends)?;
+    Ok(*ends)
+}
