@@ -1,8 +1,7 @@
 //! Domains and stages.
 
-ghost use Rattle.std.specs.Prelude.{◌≡◌, ◌&&◌, ℕ, pos, int_le, option_map};
+ghost use Rattle.std.specs.Prelude.{◌≡◌, ℕ, option_map};
 ghost use Rattle.sopl_ast.specs.Known.{ends_of, set_named};
-ghost use Rattle.sopl_ast.specs.Numbers.{natural};
 ghost use Rattle.sopl_ast.specs.Ranges.{range_of};
 ghost use Rattle.unfold_constants.specs.Answers.{Answers};
 ghost use Rattle.unfold_constants.specs.Here.{known_in};

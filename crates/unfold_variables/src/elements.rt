@@ -22,7 +22,7 @@ pub struct DecisionArray<'a> {
 }
 
 impl Element<DecisionItem> for DecisionArray<'_> {
-    ghost use Rattle.std.specs.Prelude.{ℕ, option_map};
+    ghost use Rattle.std.specs.Prelude.{option_map};
     ghost use Rattle.std.specs.Borrow.{Bor};
     ghost use Rattle.sopl_ast.specs.Ranges.{range_of};
     ghost use Rattle.sopl_ast.specs.Tree.{Tree};
@@ -72,7 +72,7 @@ pub struct StochArray<'a> {
 }
 
 impl Element<StochItem> for StochArray<'_> {
-    ghost use Rattle.std.specs.Prelude.{ℕ, option_map};
+    ghost use Rattle.std.specs.Prelude.{option_map};
     ghost use Rattle.std.specs.Borrow.{Bor};
     ghost use Rattle.sopl_ast.specs.Tree.{Tree};
 

@@ -9,133 +9,170 @@ use unfold_tables::{Count, Ends, NumberSet, Table};
 
 /// The dimensions `[i in 1..2]`.
 fn two(alloc: Global) -> Result<Dims, AllocError> {
-    let mut dims = Dims::new(alloc);
     let binder = Name::from_bytes(alloc, b"i")?;
     let lo = Expr::literal(12, 1);
     let hi = Expr::literal(15, 2);
-    let range = RangeText::Ends { lo, hi };
+    let mut dims = Dims::new(alloc);
     dims.push(Dim {
         binder: Some(binder),
         at: 7,
-        range,
+        range: RangeText::Ends { lo, hi },
     })?;
     Ok(dims)
 }
 
-/// The declaration `dvar int x[i in 1..2] in 0..i stage i`, unfolded.
-fn arrayed(alloc: Global, table: &Table) -> Result<Vec<DecisionItem>, Fault> {
-    let name = Name::from_bytes(alloc, b"x")?;
+/// The expression `i`.
+fn index(alloc: Global, at: usize) -> Result<Expr, AllocError> {
+    let name = Name::from_bytes(alloc, b"i")?;
+    Ok(Expr::name(at, name))
+}
+
+/// The decisions of `dvar int x[i in 1..2] in 0..i stage i`.
+fn arrayed(alloc: Global) -> Result<Vec<DecisionItem>, Fault> {
     let dims = two(alloc)?;
-    let hi = Expr::name(24, Name::from_bytes(alloc, b"i")?);
+    ranged(alloc, dims.as_slice())
+}
+
+/// The same over these dimensions.
+fn ranged(alloc: Global, dims: &[Dim]) -> Result<Vec<DecisionItem>, Fault> {
+    let hi = index(alloc, 24)?;
     let lo = Expr::literal(21, 0);
-    let range = RangeText::Ends { lo, hi };
-    let stage = Expr::name(32, Name::from_bytes(alloc, b"i")?);
+    staged(alloc, dims, &RangeText::Ends { lo, hi })
+}
+
+/// The same with this domain.
+fn staged(alloc: Global, dims: &[Dim], range: &RangeText) -> Result<Vec<DecisionItem>, Fault> {
+    let stage = index(alloc, 32)?;
+    named(alloc, dims, range, &stage)
+}
+
+/// The same with this stage.
+fn named(
+    alloc: Global,
+    dims: &[Dim],
+    range: &RangeText,
+    stage: &Expr,
+) -> Result<Vec<DecisionItem>, Fault> {
+    let name = Name::from_bytes(alloc, b"x")?;
+    let table = Table::new(alloc);
     let mut count = Count::new();
-    let dims = dims.as_slice();
-    decisions(alloc, table, &mut count, &name, dims, &range, Some(&stage))
+    decisions(alloc, &table, &mut count, &name, dims, range, Some(stage))
 }
 
 #[test]
 fn gives_each_index_its_decision(rt: HostRuntime) -> Result<(), Fail> {
-    let alloc = rt.alloc();
-    let table = Table::new(alloc);
-    let Ok(found) = arrayed(alloc, &table) else {
+    let Ok(found) = arrayed(rt.alloc()) else {
         return Err(Fail::from("refused"));
     };
     assert_eq!(rt; found.len(), 2);
-    let mut index = 1;
-    for item in found.as_slice() {
-        assert_eq!(rt; item.index.as_slice().first().copied(), Some(index));
-        assert_eq!(rt; (item.lo, item.hi, item.stage), (0, index, index as u32));
-        index += 1;
+    for (place, hi) in [(0, 1), (1, 2)] {
+        let Some(item) = found.as_slice().get(place) else {
+            return Err(Fail::from("too few"));
+        };
+        assert_eq!(rt; item.index.as_slice().first().copied(), Some(hi));
+        assert_eq!(rt; (item.lo, item.hi, i64::from(item.stage)), (0, hi, hi));
     }
     Ok(())
 }
 
-/// The code and the place of a refusal, or the code of a limit and the number that was counted.
-fn stopped(fault: &Fault) -> (u16, i128) {
-    match fault {
-        Fault::Text(Refusal { code, at }) => (*code, *at as i128),
-        Fault::Limit(Excess { code, counted, .. }) => (*code, *counted),
-        Fault::NoMemory => (0, 0),
+/// What stops a declaration: the code and the place of a refusal, or the code of a limit and the number that was counted.
+fn stop<T: Drop>(outcome: Result<Vec<T>, Fault>) -> Option<(u16, i128)> {
+    match outcome {
+        Ok(_) => None,
+        Err(Fault::Text(Refusal { code, at })) => Some((code, at as i128)),
+        Err(Fault::Limit(Excess { code, counted, .. })) => Some((code, counted)),
+        Err(Fault::NoMemory) => Some((0, 0)),
     }
 }
 
-/// What stops `dvar int x in lo..hi stage k`, where it stands without its places.
-fn decision_stops(alloc: Global, lo: i64, hi: i64, k: i64) -> Option<(u16, i128)> {
+/// What stops `dvar int x in lo..hi stage k`.
+fn decision_stop(alloc: Global, name: &Name, lo: i64, hi: i64, k: i64) -> Option<(u16, i128)> {
     let table = Table::new(alloc);
-    let name = Name::from_bytes(alloc, b"x").ok()?;
     let lo = Expr::literal(21, lo);
     let hi = Expr::literal(24, hi);
     let range = RangeText::Ends { lo, hi };
     let stage = Expr::literal(32, k);
     let mut count = Count::new();
-    let found = decisions(alloc, &table, &mut count, &name, &[], &range, Some(&stage));
-    Some(stopped(&found.err()?))
+    stop(decisions(alloc, &table, &mut count, name, &[], &range, Some(&stage)))
 }
 
 #[test]
 fn refuses_domains_and_stages(rt: HostRuntime) -> Result<(), Fail> {
-    let alloc = rt.alloc();
-    for (lo, hi, k, stop) in [
+    let name = Name::from_bytes(rt.alloc(), b"x")?;
+    for (lo, hi, k, want) in [
         (0, 65535, 24, None),
         (3, 2, 1, Some((111, 21))),
         (0, 65536, 1, Some((203, 65537))),
         (2, 2, 25, Some((114, 32))),
         (2, 2, 0, Some((114, 32))),
     ] {
-        assert_eq!(rt; decision_stops(alloc, lo, hi, k), stop);
+        assert_eq!(rt; decision_stop(rt.alloc(), &name, lo, hi, k), want);
     }
     Ok(())
 }
 
-/// What stops `dvar int x in R` over a range of these ends.
-fn named_stops(alloc: Global, lo: i64, hi: i64) -> Option<(u16, i128)> {
+/// A table with a range of this name.
+fn table_of(alloc: Global, name: &Name, lo: i64, hi: i64) -> Result<Table, AllocError> {
     let mut table = Table::new(alloc);
-    let name = Name::from_bytes(alloc, b"R").ok()?;
-    let ends = Ends { lo, hi };
-    table.add_set(&name, NumberSet::Between(ends)).ok()?;
-    let range = RangeText::Named { name, at: 14 };
-    let name = Name::from_bytes(alloc, b"x").ok()?;
+    table.add_set(name, NumberSet::Between(Ends { lo, hi }))?;
+    Ok(table)
+}
+
+/// What stops `dvar int x in R`, where the table has these ranges.
+fn stop_by_name(alloc: Global, table: &Table, name: &Name, range: Name) -> Option<(u16, i128)> {
+    let range = RangeText::Named {
+        name: range,
+        at: 14,
+    };
     let mut count = Count::new();
-    let found = decisions(alloc, &table, &mut count, &name, &[], &range, None);
-    Some(stopped(&found.err()?))
+    stop(decisions(alloc, table, &mut count, name, &[], &range, None))
+}
+
+/// The same where `R` has these ends.
+fn named_stop(alloc: Global, name: &Name, lo: i64, hi: i64) -> Option<(u16, i128)> {
+    let range = Name::from_bytes(alloc, b"R").ok()?;
+    match table_of(alloc, &range, lo, hi) {
+        Ok(table) => stop_by_name(alloc, &table, name, range),
+        Err(_) => None,
+    }
 }
 
 #[test]
 fn takes_a_domain_by_its_name(rt: HostRuntime) -> Result<(), Fail> {
-    let alloc = rt.alloc();
-    for (lo, hi, stop) in [(2, 3, None), (3, 2, Some((111, 14)))] {
-        assert_eq!(rt; named_stops(alloc, lo, hi), stop);
+    let name = Name::from_bytes(rt.alloc(), b"x")?;
+    for (lo, hi, want) in [(2, 3, None), (3, 2, Some((111, 14)))] {
+        assert_eq!(rt; named_stop(rt.alloc(), &name, lo, hi), want);
     }
     Ok(())
 }
 
-/// What stops `stoch int d in {v: w, 7: 1}`.
-fn draw_stops(alloc: Global, v: i64, w: i64) -> Option<(u16, i128)> {
-    let table = Table::new(alloc);
-    let name = Name::from_bytes(alloc, b"d").ok()?;
+/// The distribution `{v: w, 7: 1}`.
+fn pair(alloc: Global, v: i64, w: i64) -> Result<Dist, AllocError> {
     let mut dist = Dist::new(alloc);
-    dist.push((Expr::literal(16, v), Expr::literal(19, w)))
-        .ok()?;
-    dist.push((Expr::literal(22, 7), Expr::literal(25, 1)))
-        .ok()?;
-    let mut count = Count::new();
+    dist.push((Expr::literal(16, v), Expr::literal(19, w)))?;
+    dist.push((Expr::literal(22, 7), Expr::literal(25, 1)))?;
+    Ok(dist)
+}
+
+/// What stops `stoch int d in {v: w, 7: 1}`.
+fn draw_stop(alloc: Global, name: &Name, v: i64, w: i64) -> Option<(u16, i128)> {
+    let dist = pair(alloc, v, w).ok()?;
     let dist = dist.as_slice();
-    let found = stochastics(alloc, &table, &mut count, &name, &[], dist, None);
-    Some(stopped(&found.err()?))
+    let table = Table::new(alloc);
+    let mut count = Count::new();
+    stop(stochastics(alloc, &table, &mut count, name, &[], dist, None))
 }
 
 #[test]
 fn refuses_distributions(rt: HostRuntime) -> Result<(), Fail> {
-    let alloc = rt.alloc();
-    for (v, w, stop) in [
+    let name = Name::from_bytes(rt.alloc(), b"d")?;
+    for (v, w, want) in [
         (6, 1, None),
         (7, 1, Some((113, 22))),
         (6, 0, Some((113, 19))),
         (7, -1, Some((113, 19))),
     ] {
-        assert_eq!(rt; draw_stops(alloc, v, w), stop);
+        assert_eq!(rt; draw_stop(rt.alloc(), &name, v, w), want);
     }
     Ok(())
 }
