@@ -55,7 +55,7 @@ impl<'a> Known<'a> {
     }
 
     /// The bound names with their values, in the order in which they were bound.
-    pub fn bound(&self) -> &[(&'a Name, i64)]
+    pub fn bindings(&self) -> &[(&'a Name, i64)]
         ensures { bindings_in result.now ≡ (known_in self.now).bound }
     {
         self.bound.as_slice()
