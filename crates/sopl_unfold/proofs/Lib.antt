@@ -1,0 +1,4 @@
+pub mod Sorting
+pub mod Ways
+pub mod Texts
+pub mod Loops

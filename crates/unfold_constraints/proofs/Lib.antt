@@ -1,0 +1,5 @@
+pub mod Parts
+pub mod Copies
+pub mod Answered
+pub mod Found
+pub mod SteppingAgreement

@@ -1,0 +1,4 @@
+pub mod Bindings
+pub mod Shown
+pub mod Stepping
+pub mod Weights

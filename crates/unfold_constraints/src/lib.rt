@@ -1,0 +1,16 @@
+//! What the constraints of a text unfold to: the instances of hard constraints and of chance constraints, and the conditions that they stand for.
+#![tactic(auto)]
+
+mod calls;
+mod items;
+mod leaves;
+mod listing;
+mod numbering;
+mod place;
+#[cfg(test)]
+mod tests;
+mod thresholds;
+mod walk;
+
+pub use items::{ChanceItem, Env, HardItem, Instances};
+pub use listing::{conditions, instances};
