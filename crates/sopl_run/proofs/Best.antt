@@ -29,7 +29,7 @@ use Rattle.policy_tree.proofs.Lifted.{optimal_from, infeasible_from}
 use Rattle.sopl_run.specs.Answers.{fraction, word_data, refused_data, optimal_object, optimal_data, line_of}
 use Rattle.sopl_base.specs.declared.places.Refusal.{Refusal}
 use Rattle.sopl_ast.specs.Refusals.{SolvedText, IsRefusedToday}
-use Rattle.sopl_run.proofs.Rejected.{refused_rejected}
+use Rattle.text_problem.proofs.Rejected.{refused_rejected}
 use Rattle.sopl_run.specs.Replies.{IsReply, optimal, infeasible, refused}
 use Rattle.sopl_run.specs.Solved.{IsBest, AnswersProblem, AnswersText}
 use Rattle.sopl_run.specs.declared.status.Status.TheVariants.{Done, Refused}

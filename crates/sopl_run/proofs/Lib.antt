@@ -1,4 +1,3 @@
 pub mod WholeText
 pub mod Statuses
-pub mod Rejected
 pub mod Best
