@@ -1,0 +1,10 @@
+//! Terms and conditions over cells as nodes of one vector, with what is known of each of them, and what they are over a box.
+#![tactic(auto)]
+
+mod evaluation;
+mod items;
+mod nodes;
+
+pub use evaluation::{Here, Sight};
+pub use items::{Facts, Item, form_at, item_at};
+pub use nodes::{Comparison, Node, Signed};

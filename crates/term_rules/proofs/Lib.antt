@@ -1,0 +1,4 @@
+pub mod Cells
+pub mod Weights
+pub mod Entries
+pub mod Fits
