@@ -1,3 +1,5 @@
 pub mod Reading
 pub mod Steps
 pub mod Ready
+pub mod Plain
+pub mod Growing

@@ -27,7 +27,7 @@ use Rattle.term_nodes.proofs.Reading.{nothing_past}
 use Rattle.term_nodes.proofs.Steps.{next_part}
 
 -- each number stands for a small term
-nothing_small : (root : Box) → IsSoundTerm root (Constant (pos 0))
+pub nothing_small : (root : Box) → IsSoundTerm root (Constant (pos 0))
 nothing_small root = record { proper = tt; small = omega arith }
 
 pub small_term : (root : Box) (items : List Item) (id : ℕ) → IsBuilt root items → IsSoundTerm root (term_at (things items) id)

@@ -101,3 +101,10 @@ pub record IsAt (root : Box) (all : List Thing) (id : ℕ) (item : Item) : Type 
 -- all nodes are so
 pub record IsBuilt (root : Box) (items : List Item) : Type 0 where
   pub each : (id : ℕ) (item : Item) → id < length items → item ≡ get_or items id item → IsAt root (things items) id item
+
+-- a node that may be added: its operands are there, and what is kept of it is right
+pub record IsNew (root : Box) (items : List Item) (item : Item) : Type 0 where
+  pub below : IsBelow (length items) item.node
+  pub kept : kept item.facts ≡ facts_of root (thing_of (things items) item.node)
+  pub sound : IsSound root (thing_of (things items) item.node)
+  pub compared : IsCompared root (things items) item.node

@@ -71,7 +71,7 @@ pub struct Here<'a> {
 impl<'a> Here<'a> {
     /// What a term is over the box.
     #[cycle(seen)]
-    #[tactic(auto, using(crate::proofs::Steps::seen_at, crate::proofs::Steps::below_at, crate::proofs::Steps::sound_at))]
+    #[tactic(auto, using(crate::proofs::Plain::plain_seen, crate::proofs::Steps::seen_at, crate::proofs::Steps::below_at, crate::proofs::Steps::sound_at))]
     pub fn seen(&self, id: u32) -> Sight
         requires ready { IsReady self.now }
         ensures { sight_of result ≡ sight (box_in self.now.root) (box_in self.now.view) (term_at (things self.now.items.now) id) }
@@ -79,6 +79,9 @@ impl<'a> Here<'a> {
         let Some(item) = item_at(self.items, id) else {
             return Sight::clear();
         };
+        if item.facts.is_plain() {
+            return Sight::clear();
+        }
         match &item.node {
             Node::Constant(_) => Sight::clear(),
             Node::Cell(_) => Sight::clear(),

@@ -1,7 +1,8 @@
 //! Nodes with what is known of them over the root box.
 
-ghost use Rattle.std.specs.Prelude.{◌≡◌, ◌<◌, length, IsSome, IfSome, IfNone};
+ghost use Rattle.std.specs.Prelude.{◌≡◌, ◌<◌, ◌&&◌, length, IsSome, IfSome, IfNone};
 ghost use Rattle.box_problem.specs.Box.{Box};
+ghost use Rattle.box_rules.specs.Marks.{is_always};
 ghost use Rattle.box_rules.specs.Rules.{form};
 ghost use Rattle.term_rules.specs.Shown.{form_of};
 ghost use Rattle.term_nodes.specs.Things.{nothing, term_at, thing_at, things};
@@ -21,6 +22,22 @@ pub struct Facts {
     pub wide: Ends,
     pub weight: u64,
     pub truth: Truth,
+}
+
+impl Facts {
+    /// Nothing but cells is in the term, and it is Always defined.
+    pub fn is_plain(&self) -> bool
+        ensures { result ≡ (self.now.form.plain && is_always self.now.wide_mark) }
+    {
+        if !self.form.plain {
+            return false;
+        }
+        match self.wide_mark {
+            Defined::Never => false,
+            Defined::Maybe => false,
+            Defined::Always => true,
+        }
+    }
 }
 
 /// A node, and what is known of it.

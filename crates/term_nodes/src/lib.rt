@@ -4,7 +4,9 @@
 mod evaluation;
 mod items;
 mod nodes;
+mod pushes;
 
 pub use evaluation::{Here, Sight};
 pub use items::{Facts, Item, form_at, item_at};
 pub use nodes::{Comparison, Node, Signed};
+pub use pushes::push;

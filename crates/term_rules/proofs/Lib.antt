@@ -2,3 +2,4 @@ pub mod Cells
 pub mod Weights
 pub mod Entries
 pub mod Fits
+pub mod Weighing

@@ -1,6 +1,9 @@
 -- What sums of forms stand for as they are kept, and how large their numbers are.
 use Rattle.std.specs.Prelude.{ℕ, ◌+◌, ◌*◌, ℤ, pos, Bool, not, List, [], ◌∷◌, map}
 use Rattle.std.specs.Int.RustNames.{unsigned_abs}
+use Rattle.box_problem.specs.Box.{Box}
+use Rattle.box_rules.specs.Sizes.{cells_weight}
+use Rattle.term_rules.specs.declared.forms.Coefficient as own
 use Rattle.std.specs.Ordering.{int_eq}
 use Rattle.box_rules.specs.Forms.{Coefficient, Form, unless_zero}
 use Rattle.term_rules.specs.declared.combinations.WideCoefficient.{WideCoefficient}
@@ -41,3 +44,11 @@ mass cells = weighted (λ cell. 1) cells
 
 abbrev pub mass_of : Form → ℕ
 mass_of f = unsigned_abs f.constant + mass f.cells
+
+-- the size of the constant, and the weight of all cells
+abbrev pub weight_in : Box → Form → ℕ
+weight_in root f = unsigned_abs f.constant + cells_weight root f.cells
+
+-- the same as it is kept with 64 bits
+abbrev pub narrow : WideCoefficient → own.Coefficient
+narrow c = record { cell = c.cell; k = c.k }

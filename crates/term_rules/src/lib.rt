@@ -5,6 +5,7 @@ mod combinations;
 mod ends;
 mod forms;
 mod marks;
+mod measures;
 mod views;
 
 pub use combinations::{Combination, WideCoefficient, WideForm};
@@ -13,4 +14,5 @@ pub use forms::{Coefficient, Form};
 pub use marks::{
     all_compare, and_truth, both, compared, none_compares, opposite, or_truth, truth_ends,
 };
+pub use measures::weight_of;
 pub use views::{BoxView, Part};

@@ -1,9 +1,10 @@
-use Rattle.std.proofs.Common.{arith, ◌-◌, false, get_or}
+use Rattle.std.proofs.Common.{arith, ◌-◌, false, get_or, sym, ◌∙◌}
 use Rattle.term_rules.specs.Shown.{box_in}
 use Rattle.term_nodes.specs.declared.nodes.Signed.{Signed}
 use Rattle.term_nodes.specs.Seen.{sight_of}
 use Rattle.term_nodes.specs.Things.{things}
 use Rattle.term_nodes.proofs.Steps.{cond_back, part_back, all_parts}
+use Rattle.term_nodes.proofs.Plain.{plain_seen}
 use Rattle.term_nodes.proofs.Ready.{difference_seen, times_seen, sum_seen}
 use Rattle.term_nodes.proofs.evaluation.Here.+seen.Goals as goal
 
@@ -39,3 +40,8 @@ sum-with_part-sum-requires-clause-plus t c =
 pub sum-returns : goal.sum-returns
 sum-returns t c =
     all_parts (box_in c.args.self.now.root) (box_in c.args.self.now.view) (things c.args.self.now.items.now) c.args.parts.now c.loop-i.i (sight_of c.loop-i.sum) c.loop-i-test.false c.loop-i.invariant
+
+pub seen-returns-then-is_plain : goal.seen-returns-then-is_plain
+seen-returns-then-is_plain t c =
+    c.clear-then-is_plain.ensures
+    ∙ sym (plain_seen c.args.self.now c.args.id c.in-Some.item.now c.requires.ready (c.in-Some.ensures.some (box_in c.args.self.now.root) c.requires.ready.built) (sym c.is_plain.ensures ∙ c.if-is_plain.true))
