@@ -3,3 +3,4 @@ pub mod Steps
 pub mod Ready
 pub mod Plain
 pub mod Growing
+pub mod Adding

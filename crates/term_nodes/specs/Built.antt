@@ -1,5 +1,5 @@
 -- What is known of each node, and that it is right.
-use Rattle.std.specs.Prelude.{◌≡◌, ℕ, ◌<◌, ◌≤◌, ◌^◌, negsuc, List, [], ◌∷◌, length, get_or}
+use Rattle.std.specs.Prelude.{◌≡◌, ℕ, ◌<◌, ◌≤◌, ◌^◌, pos, negsuc, List, [], ◌∷◌, length, get_or}
 use Rattle.box_problem.specs.Box.{Box}
 use Rattle.box_rules.specs.Ends as ends
 use Rattle.box_rules.specs.Forms as forms
@@ -8,6 +8,7 @@ use Rattle.box_rules.specs.Rules.{Near, Wide, form, mark, atoms, truth}
 use Rattle.box_rules.specs.Sizes.{atoms_weight, size}
 use Rattle.box_rules.specs.Laws.{IsProper, IsProperCond}
 use Rattle.box_rules.specs.declared.answers.Defined.{Defined}
+use Rattle.box_rules.specs.declared.answers.Defined.TheVariants.{Always}
 use Rattle.box_rules.specs.declared.answers.Truth.{Truth}
 use Rattle.term_rules.specs.Shown.{ends_of, form_of}
 use Rattle.term_nodes.specs.declared.nodes.Node.{Node}
@@ -33,6 +34,17 @@ facts_of root thing = record {
   wide = atoms Wide root root (term_in thing);
   weight = atoms_weight root (term_in thing);
   truth = truth Wide root root (cond_in thing);
+}
+
+-- what is known of a condition with this truth
+abbrev pub of_truth : Truth → Facts
+of_truth t = record {
+  form = forms.number_form (pos 0);
+  mark = Always;
+  wide_mark = Always;
+  wide = ends.exactly (pos 0);
+  weight = 0;
+  truth = t;
 }
 
 -- what is kept of it

@@ -3,10 +3,13 @@
 
 mod evaluation;
 mod items;
+mod known;
 mod nodes;
 mod pushes;
+mod store;
 
 pub use evaluation::{Here, Sight};
 pub use items::{Facts, Item, form_at, item_at};
 pub use nodes::{Comparison, Node, Signed};
 pub use pushes::push;
+pub use store::TermStore;

@@ -1,0 +1,105 @@
+-- What is known of a new condition is right.
+use Rattle.std.proofs.Common.{◌≡◌, ◌⊎◌, inl, inr, ℕ, ℤ, ◌+◌, ◌<◌, ◌≤◌, pos, Vec, Global, List, [], ◌∷◌, length, get_or, drop, arith, refl, ap, subst, sym, ◌∙◌}
+use Rattle.std.proofs.lemmas.Bool.{cases_lt}
+use Rattle.std.proofs.lemmas.List.{at_drop_more, at_drop_all, get_or_default}
+use Rattle.box_problem.specs.Box.{Box, IsBox, box_of}
+use Rattle.box_problem.proofs.Boxes.{intervals_make_a_box}
+use Rattle.sopl_base.specs.declared.places.Interval.{Interval}
+use Rattle.box_rules.specs.Terms as rule
+use Rattle.box_rules.specs.Marks.{and_truth, opposite, or_truth}
+use Rattle.box_rules.specs.Rules.{Wide, truth, all_truth, any_truth}
+use Rattle.box_rules.specs.Laws.{IsProperCond, AreProperConds}
+use Rattle.term_nodes.specs.declared.nodes.Node.{Node}
+use Rattle.term_nodes.specs.declared.nodes.Node.TheVariants as node
+use Rattle.term_nodes.specs.declared.items.Item.{Item}
+use Rattle.term_nodes.specs.declared.items.Facts as own
+use Rattle.term_nodes.specs.Things.{Thing, a_cond, cond_in, cond_at, conds_at, things}
+use Rattle.term_nodes.specs.Built.{IsAt, IsBuilt, IsNew, IsSound, AllBelow, kept, of_truth}
+use Rattle.term_nodes.proofs.Reading.{length_things, nothing_past}
+use Rattle.term_nodes.proofs.Ready.{nothing_small}
+
+pub proper_at : (root : Box) (items : List Item) (id : ℕ) → IsBuilt root items → IsProperCond (cond_at (things items) id)
+proper_at root [] id all = tt
+proper_at root (first ∷ rest) id all =
+    elim (cases_lt id (length (first ∷ rest))) [
+      | inl there ↦
+          let items : List Item = first ∷ rest in
+          let at : IsAt root (things items) id (get_or items id first) = all.each id (get_or items id first) there (get_or_default items id first (get_or items id first) there) in
+          subst (λ (t : Thing). IsProperCond (cond_in t)) (sym at.thing) at.sound.cond
+      | inr past ↦ subst (λ (t : Thing). IsProperCond (cond_in t)) (sym (nothing_past (first ∷ rest) id past)) tt
+    ]
+
+pub propers_at : (root : Box) (items : List Item) (ids : List ℕ) → IsBuilt root items → AreProperConds (conds_at (things items) ids)
+propers_at root items [] all = tt
+propers_at root items (id ∷ ids) all = (proper_at root items id all, propers_at root items ids all)
+
+sound_cond : (root : Box) (c : rule.Cond) → IsProperCond c → IsSound root (a_cond c)
+sound_cond root c proper = record { term = nothing_small root; cond = proper }
+
+pub new_not : (root : Box) (items : List Item) (c : ℕ) (facts : own.Facts) → IsBuilt root items → c < length items → kept facts ≡ of_truth (opposite (truth Wide root root (cond_at (things items) c))) → IsNew root items (record { node = node.Not c; facts = facts })
+new_not root items c facts all there is = record {
+  below = there;
+  kept = is;
+  sound = sound_cond root (rule.Not (cond_at (things items) c)) (proper_at root items c all);
+  compared = tt;
+}
+
+pub new_implies : (root : Box) (items : List Item) (a c : ℕ) (facts : own.Facts) → IsBuilt root items → a < length items → c < length items → kept facts ≡ of_truth (or_truth (opposite (truth Wide root root (cond_at (things items) a))) (truth Wide root root (cond_at (things items) c))) → IsNew root items (record { node = node.Implies a c; facts = facts })
+new_implies root items a c facts all left right is = record {
+  below = (left, right);
+  kept = is;
+  sound = sound_cond root (rule.Implies (cond_at (things items) a) (cond_at (things items) c)) (proper_at root items a all, proper_at root items c all);
+  compared = tt;
+}
+
+pub new_all : (root : Box) (items : List Item) (conds : Vec ℕ Global) (facts : own.Facts) → IsBuilt root items → AllBelow (length items) conds.items → kept facts ≡ of_truth (all_truth Wide root root (conds_at (things items) conds.items)) → IsNew root items (record { node = node.All conds; facts = facts })
+new_all root items conds facts all there is = record {
+  below = there;
+  kept = is;
+  sound = sound_cond root (rule.All (conds_at (things items) conds.items)) (propers_at root items conds.items all);
+  compared = tt;
+}
+
+pub new_any : (root : Box) (items : List Item) (conds : Vec ℕ Global) (facts : own.Facts) → IsBuilt root items → AllBelow (length items) conds.items → kept facts ≡ of_truth (any_truth Wide root root (conds_at (things items) conds.items)) → IsNew root items (record { node = node.Any conds; facts = facts })
+new_any root items conds facts all there is = record {
+  below = there;
+  kept = is;
+  sound = sound_cond root (rule.Any (conds_at (things items) conds.items)) (propers_at root items conds.items all);
+  compared = tt;
+}
+
+-- truths of several conditions
+pub next_all_known : (root : Box) (ts : List Thing) (xs : List ℕ) (i x : ℕ) → i < length xs → x ≡ get_or xs i x → all_truth Wide root root (conds_at ts (drop i xs)) ≡ and_truth (truth Wide root root (cond_at ts x)) (all_truth Wide root root (conds_at ts (drop (i + 1) xs)))
+next_all_known root ts xs i x below at =
+    at_drop_more (λ ys. all_truth Wide root root (conds_at ts ys)) xs i x below
+    ∙ ap (λ (y : ℕ). and_truth (truth Wide root root (cond_at ts y)) (all_truth Wide root root (conds_at ts (drop (i + 1) xs)))) (sym at)
+
+pub next_any_known : (root : Box) (ts : List Thing) (xs : List ℕ) (i x : ℕ) → i < length xs → x ≡ get_or xs i x → any_truth Wide root root (conds_at ts (drop i xs)) ≡ or_truth (truth Wide root root (cond_at ts x)) (any_truth Wide root root (conds_at ts (drop (i + 1) xs)))
+next_any_known root ts xs i x below at =
+    at_drop_more (λ ys. any_truth Wide root root (conds_at ts ys)) xs i x below
+    ∙ ap (λ (y : ℕ). or_truth (truth Wide root root (cond_at ts y)) (any_truth Wide root root (conds_at ts (drop (i + 1) xs)))) (sym at)
+
+pub no_all_known : (root : Box) (ts : List Thing) (xs : List ℕ) (i : ℕ) → length xs ≤ i → all_truth Wide root root (conds_at ts (drop i xs)) ≡ all_truth Wide root root (conds_at ts [])
+no_all_known root ts xs i past = at_drop_all (λ ys. all_truth Wide root root (conds_at ts ys)) xs i past
+
+pub no_any_known : (root : Box) (ts : List Thing) (xs : List ℕ) (i : ℕ) → length xs ≤ i → any_truth Wide root root (conds_at ts (drop i xs)) ≡ any_truth Wide root root (conds_at ts [])
+no_any_known root ts xs i past = at_drop_all (λ ys. any_truth Wide root root (conds_at ts ys)) xs i past
+
+-- numbers of nodes that are there
+pub is_there : (items : List Item) (id : ℕ) → id < length (things items) → id < length items
+is_there items id there = omega (arith, there, length_things items)
+
+pub all_there : (items : List Item) (ids : List ℕ) → AllBelow (length (things items)) ids → AllBelow (length items) ids
+all_there items ids there = subst (λ (n : ℕ). AllBelow n ids) (length_things items) there
+
+-- with no node, all is right
+pub none_built : (root : Box) (items : List Item) → items ≡ [] → IsBuilt root items
+none_built root items none = record {
+  each = λ id item there at. let empty : ⊥ = omega (arith, there, ap length none) in elim empty [ ];
+}
+
+-- the box of intervals is one
+pub made_box : (roots : List Interval) (lows highs : List ℤ) → lows ≡ (box_of roots).lows → highs ≡ (box_of roots).highs → IsBox (record { lows = lows; highs = highs })
+made_box roots lows highs lows_are highs_are =
+    subst (λ (xs : List ℤ). IsBox (record { lows = xs; highs = highs })) (sym lows_are)
+    (subst (λ (ys : List ℤ). IsBox (record { lows = (box_of roots).lows; highs = ys })) (sym highs_are) (intervals_make_a_box roots))
