@@ -1,20 +1,26 @@
 -- What is known of a new condition is right.
-use Rattle.std.proofs.Common.{◌≡◌, ◌⊎◌, inl, inr, ℕ, ℤ, ◌+◌, ◌<◌, ◌≤◌, pos, Vec, Global, List, [], ◌∷◌, length, get_or, drop, arith, refl, ap, subst, sym, ◌∙◌}
+use Rattle.std.proofs.Common.{◌≡◌, ◌⊎◌, inl, inr, ℕ, ℤ, ◌+◌, ◌<◌, ◌≤◌, ◌^◌, unsigned_abs, pos, Vec, Global, List, [], ◌∷◌, length, get_or, drop, arith, refl, ap, subst, sym, ◌∙◌}
 use Rattle.std.proofs.lemmas.Bool.{cases_lt}
 use Rattle.std.proofs.lemmas.List.{at_drop_more, at_drop_all, get_or_default}
 use Rattle.box_problem.specs.Box.{Box, IsBox, box_of}
 use Rattle.box_problem.proofs.Boxes.{intervals_make_a_box}
 use Rattle.sopl_base.specs.declared.places.Interval.{Interval}
 use Rattle.box_rules.specs.Terms as rule
-use Rattle.box_rules.specs.Marks.{and_truth, opposite, or_truth}
+use Rattle.box_rules.specs.Marks.{and_truth, opposite, or_truth, truth_ends}
 use Rattle.box_rules.specs.Rules.{Wide, truth, all_truth, any_truth}
-use Rattle.box_rules.specs.Laws.{IsProperCond, AreProperConds}
+use Rattle.box_rules.specs.Ends.{cell_ends}
+use Rattle.box_rules.specs.Forms.{atom_form, cell_form, number_form}
+use Rattle.box_rules.specs.Sizes.{size, weight_of}
+use Rattle.box_rules.specs.declared.answers.Defined.TheVariants.{Always}
+use Rattle.box_rules.specs.declared.answers.Truth.{Truth}
+use Rattle.box_rules.specs.declared.answers.Truth.TheVariants.{False, Unknown, True}
+use Rattle.box_rules.specs.Laws.{IsProper, IsProperCond, AreProperConds}
 use Rattle.term_nodes.specs.declared.nodes.Node.{Node}
 use Rattle.term_nodes.specs.declared.nodes.Node.TheVariants as node
 use Rattle.term_nodes.specs.declared.items.Item.{Item}
 use Rattle.term_nodes.specs.declared.items.Facts as own
-use Rattle.term_nodes.specs.Things.{Thing, a_cond, cond_in, cond_at, conds_at, things}
-use Rattle.term_nodes.specs.Built.{IsAt, IsBuilt, IsNew, IsSound, AllBelow, kept, of_truth}
+use Rattle.term_nodes.specs.Things.{Thing, a_cond, a_term, thing_of, cond_in, cond_at, conds_at, things}
+use Rattle.term_nodes.specs.Built.{IsAt, IsBuilt, Facts, IsBelow, IsCompared, IsNew, IsSound, AllBelow, facts_of, kept, of_atom, of_form, of_truth}
 use Rattle.term_nodes.proofs.Reading.{length_things, nothing_past}
 use Rattle.term_nodes.proofs.Ready.{nothing_small}
 
@@ -103,3 +109,40 @@ pub made_box : (roots : List Interval) (lows highs : List ℤ) → lows ≡ (box
 made_box roots lows highs lows_are highs_are =
     subst (λ (xs : List ℤ). IsBox (record { lows = xs; highs = highs })) (sym lows_are)
     (subst (λ (ys : List ℤ). IsBox (record { lows = (box_of roots).lows; highs = ys })) (sym highs_are) (intervals_make_a_box roots))
+
+-- new terms
+new_term : (root : Box) (items : List Item) (n : Node) (facts : own.Facts) (t : rule.Term) → thing_of (things items) n ≡ a_term t → IsBelow (length items) n → kept facts ≡ facts_of root (a_term t) → IsProper t → size root t ≤ 2 ^ 40 → IsCompared root (things items) n → IsNew root items (record { node = n; facts = facts })
+new_term root items n facts t thing below is proper small compared = record {
+  below = below;
+  kept = is ∙ ap (facts_of root) (sym thing);
+  sound = subst (IsSound root) (sym thing) (record { term = record { proper = proper; small = small }; cond = tt });
+  compared = compared;
+}
+
+pub constant_size : (root : Box) (z : ℤ) → size root (rule.Constant z) ≡ unsigned_abs z
+constant_size root z = omega arith
+
+pub new_constant : (root : Box) (items : List Item) (z : ℤ) (facts : own.Facts) → kept facts ≡ of_form (number_form z) → unsigned_abs z ≤ 2 ^ 40 → IsNew root items (record { node = node.Constant z; facts = facts })
+new_constant root items z facts is small =
+    new_term root items (node.Constant z) facts (rule.Constant z) refl tt is tt (omega (arith, constant_size root z, small)) tt
+
+pub cell_size : (root : Box) (cell : ℕ) → size root (rule.Cell cell) ≡ weight_of (cell_ends root cell)
+cell_size root cell = omega arith
+
+pub new_cell : (root : Box) (items : List Item) (cell : ℕ) (facts : own.Facts) → kept facts ≡ of_form (cell_form cell) → weight_of (cell_ends root cell) ≤ 2 ^ 40 → IsNew root items (record { node = node.Cell cell; facts = facts })
+new_cell root items cell facts is small =
+    new_term root items (node.Cell cell) facts (rule.Cell cell) refl tt is tt (omega (arith, cell_size root cell, small)) tt
+
+truth_weight : (t : Truth) → weight_of (truth_ends t) ≡ 1
+truth_weight False = refl
+truth_weight Unknown = refl
+truth_weight True = refl
+
+pub number_size : (root : Box) (c : rule.Cond) → size root (rule.Number c) ≡ 1
+number_size root c = omega (arith, truth_weight (truth Wide root root c))
+
+pub new_number : (root : Box) (items : List Item) (c : ℕ) (facts : own.Facts) → IsBuilt root items → c < length items → kept facts ≡ of_atom (truth Wide root root (cond_at (things items) c)) → IsNew root items (record { node = node.Number c; facts = facts })
+new_number root items c facts all there is =
+    new_term root items (node.Number c) facts (rule.Number (cond_at (things items) c)) refl there
+    (is ∙ ap (λ (w : ℕ). record { form = atom_form; mark = Always; wide_mark = Always; wide = truth_ends (truth Wide root root (cond_at (things items) c)); weight = w; truth = True }) (sym (truth_weight (truth Wide root root (cond_at (things items) c)))))
+    (proper_at root items c all) (omega (arith, number_size root (cond_at (things items) c))) tt

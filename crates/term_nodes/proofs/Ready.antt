@@ -13,8 +13,8 @@ use Rattle.box_rules.specs.Laws.{IsProper, AreProperParts}
 use Rattle.box_rules.proofs.Bounds.{Bounds, bounded, bounded_parts, sign_size}
 use Rattle.box_rules.proofs.Sharpening.{narrow, narrow_parts}
 use Rattle.term_rules.specs.declared.forms.Form.{Form}
-use Rattle.term_rules.specs.Shown.{IsFit, ProductFits, DifferenceFits, cells_of, ends_at, ends_of, form_of, box_in}
-use Rattle.term_rules.proofs.Fits.{fit, fit_at, bounds_within, product_fits, difference_fits}
+use Rattle.term_rules.specs.Shown.{IsFit, WholeFits, ProductFits, DifferenceFits, cells_of, ends_at, ends_of, form_of, box_in}
+use Rattle.term_rules.proofs.Fits.{fit, fit_at, bounds_within, product_fits, difference_fits, whole_fits}
 use Rattle.term_rules.proofs.Weights.{combined_weighted, cells_weighted, plus_size}
 use Rattle.term_nodes.specs.declared.nodes.Signed.{Signed}
 use Rattle.term_nodes.specs.declared.items.Item.{Item}
@@ -146,3 +146,13 @@ sum_seen here xs i d part sum ready sound positive most first later =
     let here_fits = subst (λ (j : ℕ). IsFit (ends.plus (ends.scaled (forms.sign x.subtracted) (atoms Near (box_in here.root) (box_in here.view) (term_at (things here.items.now) x.term))) (sum_atoms Near (box_in here.root) (box_in here.view) (parts_at (things here.items.now) (drop j xs))))) again fits in
     subst (λ (a : ends.Ends). IsFit (ends.plus (ends.scaled (forms.sign x.subtracted) a) (ends_of sum.ends))) (sym (ap (λ (s : Sight). s.ends) first))
     (subst (λ (a : ends.Ends). IsFit (ends.plus (ends.scaled (forms.sign x.subtracted) (atoms Near (box_in here.root) (box_in here.view) (term_at (things here.items.now) x.term))) a)) (sym (ap (λ (s : Sight). s.ends) later)) here_fits)
+
+-- the whole interval of a term
+pub range_fit : (here : Here) (id : ℕ) (f : Form) (s : own.Sight) → IsReady here → form_of f ≡ form (box_in here.root) (term_at (things here.items.now) id) → sight_of s ≡ sight (box_in here.root) (box_in here.view) (term_at (things here.items.now) id) → WholeFits (box_in here.view) f (ends_of s.ends)
+range_fit here id f s ready is seen =
+    let root = box_in here.root in
+    let t = term_at (things here.items.now) id in
+    let sound = small_term root here.items.now id ready.built in
+    subst (λ (a : ends.Ends). WholeFits (box_in here.view) f a) (sym (ap (λ (s : Sight). s.ends) seen))
+    (whole_fits root (box_in here.view) f (atoms Near root (box_in here.view) t) (atoms_weight root t) ready.root_is_box ready.inside
+    (near_bounds root (box_in here.view) t ready.root_is_box ready.inside sound.proper) (sized_form root t f is sound.small))

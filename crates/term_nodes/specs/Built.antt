@@ -10,6 +10,8 @@ use Rattle.box_rules.specs.Laws.{IsProper, IsProperCond}
 use Rattle.box_rules.specs.declared.answers.Defined.{Defined}
 use Rattle.box_rules.specs.declared.answers.Defined.TheVariants.{Always}
 use Rattle.box_rules.specs.declared.answers.Truth.{Truth}
+use Rattle.box_rules.specs.declared.answers.Truth.TheVariants.{True}
+use Rattle.box_rules.specs.Marks.{truth_ends}
 use Rattle.term_rules.specs.Shown.{ends_of, form_of}
 use Rattle.term_nodes.specs.declared.nodes.Node.{Node}
 use Rattle.term_nodes.specs.declared.nodes.Node.TheVariants as node
@@ -45,6 +47,27 @@ of_truth t = record {
   wide = ends.exactly (pos 0);
   weight = 0;
   truth = t;
+}
+
+-- and of a term of cells alone that is Always defined, and of a condition as a number
+abbrev pub of_form : forms.Form → Facts
+of_form f = record {
+  form = f;
+  mark = Always;
+  wide_mark = Always;
+  wide = ends.exactly (pos 0);
+  weight = 0;
+  truth = True;
+}
+
+abbrev pub of_atom : Truth → Facts
+of_atom t = record {
+  form = forms.atom_form;
+  mark = Always;
+  wide_mark = Always;
+  wide = truth_ends t;
+  weight = 1;
+  truth = True;
 }
 
 -- what is kept of it

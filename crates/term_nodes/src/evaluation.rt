@@ -69,6 +69,21 @@ pub struct Here<'a> {
 }
 
 impl<'a> Here<'a> {
+    /// The whole interval of a term over the box, and its mark.
+    pub fn range(&self, id: u32) -> Sight
+        requires ready { IsReady self.now }
+        requires exists { id < length self.now.items.now }
+        ensures interval { ends_of result.ends ≡ rule.interval rule.Near (box_in self.now.root) (box_in self.now.view) (term_at (things self.now.items.now) id) }
+        ensures mark { result.mark ≡ rule.mark rule.Near (box_in self.now.root) (box_in self.now.view) (term_at (things self.now.items.now) id) }
+    {
+        let seen = self.seen(id);
+        let form = form_at(self.items, id);
+        Sight {
+            ends: self.view.whole(form, &seen.ends),
+            mark: seen.mark,
+        }
+    }
+
     /// What a term is over the box.
     #[cycle(seen)]
     #[tactic(auto, using(crate::proofs::Plain::plain_seen, crate::proofs::Steps::seen_at, crate::proofs::Steps::below_at, crate::proofs::Steps::sound_at))]

@@ -5,8 +5,10 @@ mod evaluation;
 mod items;
 mod known;
 mod nodes;
+mod over;
 mod pushes;
 mod store;
+mod terms;
 
 pub use evaluation::{Here, Sight};
 pub use items::{Facts, Item, form_at, item_at};

@@ -42,7 +42,7 @@ impl TermStore {
     }
 
     /// Adds a node with what is known of it.
-    fn add(&mut self, node: Node, facts: Facts) -> Result<u32, AllocError>
+    pub(crate) fn add(&mut self, node: Node, facts: Facts) -> Result<u32, AllocError>
         requires sound { IsSoundStore self.old }
         requires new { IsNew (root_of self.old) self.old.items.items (record { node = node; facts = facts }) }
         ensures sound { IsSoundStore self.new }
