@@ -39,7 +39,7 @@ pub propers_at : (root : Box) (items : List Item) (ids : List ℕ) → IsBuilt r
 propers_at root items [] all = tt
 propers_at root items (id ∷ ids) all = (proper_at root items id all, propers_at root items ids all)
 
-sound_cond : (root : Box) (c : rule.Cond) → IsProperCond c → IsSound root (a_cond c)
+pub sound_cond : (root : Box) (c : rule.Cond) → IsProperCond c → IsSound root (a_cond c)
 sound_cond root c proper = record { term = nothing_small root; cond = proper }
 
 pub new_not : (root : Box) (items : List Item) (c : ℕ) (facts : own.Facts) → IsBuilt root items → c < length items → kept facts ≡ of_truth (opposite (truth Wide root root (cond_at (things items) c))) → IsNew root items (record { node = node.Not c; facts = facts })

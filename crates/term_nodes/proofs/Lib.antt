@@ -4,3 +4,5 @@ pub mod Ready
 pub mod Plain
 pub mod Growing
 pub mod Adding
+pub mod OrderedForms
+pub mod Differences

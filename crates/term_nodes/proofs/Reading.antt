@@ -3,8 +3,9 @@ use Rattle.std.proofs.Common.{◌≡◌, ℕ, ◌+◌, ◌<◌, ◌≤◌, List,
 use Rattle.std.proofs.lemmas.List.{get_or_past}
 use Rattle.box_problem.specs.Box.{Box}
 use Rattle.box_rules.specs.Rules.{Wide, form, truth}
-use Rattle.term_rules.specs.Shown.{form_of}
+use Rattle.term_rules.specs.Shown.{ends_of, form_of}
 use Rattle.term_nodes.specs.declared.items.Item.{Item}
+use Rattle.term_nodes.specs.Seen.{Sight, wide_sight}
 use Rattle.term_nodes.specs.Things.{Thing, nothing, cond_in, term_in, cond_at, term_at, thing_at, thing_of, things, things_from}
 use Rattle.term_nodes.specs.Built as built
 use Rattle.term_nodes.specs.Built.{IsAt, IsBuilt}
@@ -32,3 +33,8 @@ pub truth_is : (root : Box) (items : List Item) (id : ℕ) (item : Item) → IsB
 truth_is root items id item all below at =
     let here = all.each id item below at in
     ap (λ (f : built.Facts). f.truth) here.kept ∙ ap (λ (t : Thing). truth Wide root root (cond_in t)) (sym here.thing)
+
+pub wide_is : (root : Box) (items : List Item) (id : ℕ) (item : Item) → IsBuilt root items → id < length items → item ≡ get_or items id item → (◌≡◌ {A = Sight}) (record { ends = ends_of item.facts.wide; mark = item.facts.wide_mark }) (wide_sight root (term_at (things items) id))
+wide_is root items id item all below at =
+    let here = all.each id item below at in
+    (ap (λ (f : built.Facts). record { ends = f.wide; mark = f.wide_mark }) here.kept) ∙ ap (λ (t : Thing). wide_sight root (term_in t)) (sym here.thing)

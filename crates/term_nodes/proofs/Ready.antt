@@ -106,7 +106,7 @@ product_fit here x y f g ready left right sound =
     (product_same root b s t f g (atoms_weight root (Product s t)) left right whole) (omega (arith, sound.small))
 
 -- a comparison
-difference_light : (root : Box) (s t : Term) (f : Form) → form_of f ≡ forms.plus_form (negsuc 0) (form root s) (form root t) → size root s ≤ 2 ^ 40 → size root t ≤ 2 ^ 40 → unsigned_abs f.constant + (cells_weight root (cells_of f.cells.items) + (atoms_weight root s + atoms_weight root t)) < 2 ^ 63
+pub difference_light : (root : Box) (s t : Term) (f : Form) → form_of f ≡ forms.plus_form (negsuc 0) (form root s) (form root t) → size root s ≤ 2 ^ 40 → size root t ≤ 2 ^ 40 → unsigned_abs f.constant + (cells_weight root (cells_of f.cells.items) + (atoms_weight root s + atoms_weight root t)) < 2 ^ 63
 difference_light root s t f is s_small t_small =
     let d = forms.plus_form (negsuc 0) (form root s) (form root t) in
     let same : unsigned_abs f.constant + cells_weight root (cells_of f.cells.items) ≡ unsigned_abs d.constant + cells_weight root d.cells = ap (λ (g : forms.Form). unsigned_abs g.constant + cells_weight root g.cells) is in

@@ -24,6 +24,10 @@ sight root b t = record { ends = rule.atoms rule.Near root b t; mark = rule.mark
 abbrev pub sum_sight : Box → Box → Parts → Sight
 sum_sight root b parts = record { ends = rule.sum_atoms rule.Near root b parts; mark = rule.sum_mark rule.Near root b parts }
 
+-- what a term is over the root, by the wide reading
+abbrev pub wide_sight : Box → Term → Sight
+wide_sight root t = record { ends = rule.atoms rule.Wide root root t; mark = rule.mark rule.Wide root root t }
+
 -- the nodes are right, and the box lies inside the root
 pub record IsReady (here : Here) : Type 0 where
   pub built : IsBuilt (box_in here.root) here.items.now
