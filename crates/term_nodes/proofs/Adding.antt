@@ -111,7 +111,7 @@ made_box roots lows highs lows_are highs_are =
     (subst (λ (ys : List ℤ). IsBox (record { lows = (box_of roots).lows; highs = ys })) (sym highs_are) (intervals_make_a_box roots))
 
 -- new terms
-new_term : (root : Box) (items : List Item) (n : Node) (facts : own.Facts) (t : rule.Term) → thing_of (things items) n ≡ a_term t → IsBelow (length items) n → kept facts ≡ facts_of root (a_term t) → IsProper t → size root t ≤ 2 ^ 40 → IsCompared root (things items) n → IsNew root items (record { node = n; facts = facts })
+pub new_term : (root : Box) (items : List Item) (n : Node) (facts : own.Facts) (t : rule.Term) → thing_of (things items) n ≡ a_term t → IsBelow (length items) n → kept facts ≡ facts_of root (a_term t) → IsProper t → size root t ≤ 2 ^ 40 → IsCompared root (things items) n → IsNew root items (record { node = n; facts = facts })
 new_term root items n facts t thing below is proper small compared = record {
   below = below;
   kept = is ∙ ap (facts_of root) (sym thing);

@@ -6,3 +6,4 @@ pub mod Growing
 pub mod Adding
 pub mod OrderedForms
 pub mod Differences
+pub mod Summing

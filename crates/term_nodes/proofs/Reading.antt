@@ -2,7 +2,8 @@
 use Rattle.std.proofs.Common.{◌≡◌, ℕ, ◌+◌, ◌<◌, ◌≤◌, List, [], ◌∷◌, ◌++◌, length, get_or, arith, refl, ap, sym, ◌∙◌, length-append}
 use Rattle.std.proofs.lemmas.List.{get_or_past}
 use Rattle.box_problem.specs.Box.{Box}
-use Rattle.box_rules.specs.Rules.{Wide, form, truth}
+use Rattle.box_rules.specs.Rules.{Near, Wide, form, mark, truth}
+use Rattle.box_rules.specs.Sizes.{atoms_weight}
 use Rattle.term_rules.specs.Shown.{ends_of, form_of}
 use Rattle.term_nodes.specs.declared.items.Item.{Item}
 use Rattle.term_nodes.specs.Seen.{Sight, wide_sight}
@@ -38,3 +39,13 @@ pub wide_is : (root : Box) (items : List Item) (id : ℕ) (item : Item) → IsBu
 wide_is root items id item all below at =
     let here = all.each id item below at in
     (ap (λ (f : built.Facts). record { ends = f.wide; mark = f.wide_mark }) here.kept) ∙ ap (λ (t : Thing). wide_sight root (term_in t)) (sym here.thing)
+
+pub weight_is : (root : Box) (items : List Item) (id : ℕ) (item : Item) → IsBuilt root items → id < length items → item ≡ get_or items id item → item.facts.weight ≡ atoms_weight root (term_at (things items) id)
+weight_is root items id item all below at =
+    let here = all.each id item below at in
+    ap (λ (f : built.Facts). f.weight) here.kept ∙ ap (λ (t : Thing). atoms_weight root (term_in t)) (sym here.thing)
+
+pub mark_is : (root : Box) (items : List Item) (id : ℕ) (item : Item) → IsBuilt root items → id < length items → item ≡ get_or items id item → item.facts.mark ≡ mark Near root root (term_at (things items) id)
+mark_is root items id item all below at =
+    let here = all.each id item below at in
+    ap (λ (f : built.Facts). f.mark) here.kept ∙ ap (λ (t : Thing). mark Near root root (term_in t)) (sym here.thing)

@@ -28,6 +28,9 @@ sum_sight root b parts = record { ends = rule.sum_atoms rule.Near root b parts; 
 abbrev pub wide_sight : Box → Term → Sight
 wide_sight root t = record { ends = rule.atoms rule.Wide root root t; mark = rule.mark rule.Wide root root t }
 
+abbrev pub wide_sum : Box → Parts → Sight
+wide_sum root parts = record { ends = rule.sum_atoms rule.Wide root root parts; mark = rule.sum_mark rule.Wide root root parts }
+
 -- the nodes are right, and the box lies inside the root
 pub record IsReady (here : Here) : Type 0 where
   pub built : IsBuilt (box_in here.root) here.items.now

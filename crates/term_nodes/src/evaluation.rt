@@ -37,7 +37,7 @@ impl Sight {
     }
 
     /// A sum with a part more.
-    fn with_part(&self, subtracted: bool, part: &Sight) -> Sight
+    pub(crate) fn with_part(&self, subtracted: bool, part: &Sight) -> Sight
         requires times { IsFit (ends_at (sign subtracted) (ends_of part.now.ends)) }
         requires plus { IsFit (ends.plus (ends.scaled (sign subtracted) (ends_of part.now.ends)) (ends_of self.now.ends)) }
         ensures { sight_of result ≡ record {
@@ -54,7 +54,7 @@ impl Sight {
 }
 
 /// 1, or -1 for what is subtracted.
-fn factor(subtracted: bool) -> Factor
+pub(crate) fn factor(subtracted: bool) -> Factor
     ensures { result.k ≡ sign subtracted }
 {
     if subtracted { Factor { k: -1 } } else { Factor { k: 1 } }

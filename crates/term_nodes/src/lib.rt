@@ -9,6 +9,7 @@ mod nodes;
 mod over;
 mod pushes;
 mod store;
+mod sums;
 mod terms;
 
 pub use evaluation::{Here, Sight};
