@@ -3,3 +3,4 @@ pub mod Weights
 pub mod Entries
 pub mod Fits
 pub mod Weighing
+pub mod Products

@@ -7,7 +7,7 @@ use Rattle.std.specs.Int.{w128}
 use Rattle.std.specs.Ordering.{int_eq}
 use Rattle.box_problem.specs.Box.{Box}
 use Rattle.box_rules.specs.Ends.{cell_ends}
-use Rattle.box_rules.specs.Forms.{Coefficient, Form, unless_zero, put, combined}
+use Rattle.box_rules.specs.Forms.{Coefficient, Form, number_form, unless_zero, put, combined}
 use Rattle.box_rules.specs.Sizes.{weight_of, cells_weight}
 use Rattle.box_rules.proofs.FormValues.{by_if, same_cell}
 use Rattle.term_rules.specs.declared.forms.Coefficient as own
@@ -113,3 +113,6 @@ room_back factor base xs i d positive most room =
     let again : i - 1 + 1 ≡ i = omega (arith, positive) in
     subst (λ (j : ℕ). mass (combined factor base (cells_of (drop j xs))) + unsigned_abs (factor *ℤ (get_or xs (i - 1) d).k) < 2 ^ 127) again
     (room_at factor base xs (i - 1) (get_or xs (i - 1) d) below (get_or_default xs (i - 1) d (get_or xs (i - 1) d) below) room)
+
+pub scaled_room : (sum g : Form) (k : ℤ) → sum ≡ number_form (pos 0) → unsigned_abs k * mass_of g < 2 ^ 127 → mass_of sum + unsigned_abs k * mass_of g < 2 ^ 127
+scaled_room sum g k is room = omega (arith, room, ap mass_of is)

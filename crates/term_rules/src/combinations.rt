@@ -171,3 +171,15 @@ fn listed(alloc: Global, cells: &BTreeMap<u32, i128>) -> Result<Vec<WideCoeffici
         })
         .collect(alloc)
 }
+
+/// So many times a form.
+#[tactic(auto, using(crate::proofs::Weights::scaled_room))]
+pub fn scaled(alloc: Global, factor: &Factor, form: &Form) -> Result<WideForm, AllocError>
+    requires room { unsigned_abs factor.now.k * mass_of (form_of form.now) < 2 ^ 127 }
+    ensures { IfOk result (λ wide. wide_form wide ≡ rule.times_form factor.now.k (form_of form.now)) }
+{
+    let mut sum = Combination::new(alloc);
+    sum.add(factor, form)?;
+    let wide = sum.form(alloc)?;
+    Ok(wide)
+}

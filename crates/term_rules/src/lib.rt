@@ -14,5 +14,6 @@ pub use forms::{Coefficient, Form};
 pub use marks::{
     all_compare, and_truth, both, compared, none_compares, opposite, or_truth, truth_ends,
 };
-pub use measures::weight_of;
+pub use combinations::scaled;
+pub use measures::{times_weight, weight_of, weight_of_times};
 pub use views::{BoxView, Part};

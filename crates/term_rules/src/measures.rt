@@ -1,6 +1,6 @@
 //! How large the numbers of a form get over the root box, and forms whose numbers have 64 bits.
 
-ghost use Rattle.std.specs.Prelude.{◌≡◌, ◌+◌, ◌*◌, ◌<◌, ◌^◌, map, IfOk};
+ghost use Rattle.std.specs.Prelude.{◌≡◌, ◌+◌, ◌*◌, ◌<◌, ◌^◌, max, map, IfOk};
 ghost use Rattle.std.specs.Int.RustNames.{unsigned_abs};
 ghost use Rattle.box_rules.specs.Ends as ends;
 ghost use Rattle.box_rules.specs.Sizes as sizes;
@@ -19,6 +19,28 @@ pub fn weight_of(ends: &Ends) -> u64
 {
     let most = ends.low.unsigned_abs().max(ends.high.unsigned_abs());
     most.max(1)
+}
+
+/// The greater of the sizes of both ends.
+fn greatest(ends: &Ends) -> u64
+    ensures { result ≡ max (unsigned_abs ends.now.low) (unsigned_abs ends.now.high) }
+{
+    ends.low.unsigned_abs().max(ends.high.unsigned_abs())
+}
+
+/// The weight of the interval of a product.
+pub fn weight_of_times(a: &Ends, b: &Ends) -> u128
+    ensures { result ≡ sizes.weight_of (ends.times (ends_of a.now) (ends_of b.now)) }
+{
+    let most = u128::from(greatest(a)) * u128::from(greatest(b));
+    most.max(1)
+}
+
+/// So many times a weight.
+pub fn times_weight(factor: &Factor, weight: u64) -> u128
+    ensures { result ≡ unsigned_abs factor.now.k * weight }
+{
+    u128::from(factor.k.unsigned_abs()) * u128::from(weight)
 }
 
 /// The weight of so many times a cell.
