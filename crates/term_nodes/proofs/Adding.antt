@@ -1,5 +1,5 @@
 -- What is known of a new condition is right.
-use Rattle.std.proofs.Common.{◌≡◌, ◌⊎◌, inl, inr, ℕ, ℤ, ◌+◌, ◌<◌, ◌≤◌, ◌^◌, unsigned_abs, pos, Vec, Global, List, [], ◌∷◌, length, get_or, drop, arith, refl, ap, subst, sym, ◌∙◌}
+use Rattle.std.proofs.Common.{◌≡◌, inl, inr, ℕ, ℤ, ◌+◌, ◌<◌, ◌≤◌, ◌^◌, unsigned_abs, Vec, Global, List, [], ◌∷◌, length, get_or, drop, arith, refl, ap, subst, sym, ◌∙◌}
 use Rattle.std.proofs.lemmas.Bool.{cases_lt}
 use Rattle.std.proofs.lemmas.List.{at_drop_more, at_drop_all, get_or_default}
 use Rattle.box_problem.specs.Box.{Box, IsBox, box_of}
@@ -20,7 +20,7 @@ use Rattle.term_nodes.specs.declared.nodes.Node.TheVariants as node
 use Rattle.term_nodes.specs.declared.items.Item.{Item}
 use Rattle.term_nodes.specs.declared.items.Facts as own
 use Rattle.term_nodes.specs.Things.{Thing, a_cond, a_term, thing_of, cond_in, cond_at, conds_at, things}
-use Rattle.term_nodes.specs.Built.{IsAt, IsBuilt, Facts, IsBelow, IsCompared, IsNew, IsSound, AllBelow, facts_of, kept, of_atom, of_form, of_truth}
+use Rattle.term_nodes.specs.Built.{IsAt, IsBuilt, IsBelow, IsCompared, IsNew, IsSound, AllBelow, facts_of, kept, of_atom, of_form, of_truth}
 use Rattle.term_nodes.proofs.Reading.{length_things, nothing_past}
 use Rattle.term_nodes.proofs.Ready.{nothing_small}
 

@@ -1,5 +1,5 @@
 -- Forms of differences have room.
-use Rattle.std.proofs.Common.{◌≡◌, ℕ, ◌+◌, ◌*◌, ◌<◌, ◌≤◌, ◌^◌, ℤ, pos, negsuc, ◌*ℤ◌, unsigned_abs, List, length, arith, refl, ap, subst, sym, ◌∙◌}
+use Rattle.std.proofs.Common.{◌≡◌, ℕ, ◌+◌, ◌*◌, ◌<◌, ◌≤◌, ◌^◌, ℤ, pos, negsuc, ◌*ℤ◌, unsigned_abs, List, length, arith, ap, subst, sym, ◌∙◌}
 use Rattle.std.proofs.lemmas.Int.{unsigned_abs-mul}
 use Rattle.box_problem.specs.Box.{Box, IsBox}
 use Rattle.box_problem.proofs.Boxes.{part_of_itself}
@@ -7,7 +7,7 @@ use Rattle.box_rules.specs.Ends as ends
 use Rattle.box_rules.specs.Forms.{Form, number_form, plus_form}
 use Rattle.box_rules.specs.Terms as rule
 use Rattle.box_rules.specs.Rules.{Wide, form, atoms, truth}
-use Rattle.box_rules.specs.Sizes.{atoms_weight, size}
+use Rattle.box_rules.specs.Sizes.{atoms_weight}
 use Rattle.box_rules.proofs.Bounds.{bounded}
 use Rattle.term_rules.specs.declared.forms.Form as own
 use Rattle.term_rules.specs.Shown.{DifferenceFits, ends_of, form_of}

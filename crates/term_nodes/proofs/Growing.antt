@@ -1,5 +1,5 @@
 -- Nodes that are added change nothing of those before them.
-use Rattle.std.proofs.Common.{◌≡◌, ◌⊎◌, inl, inr, ℕ, ◌+◌, ◌<◌, ◌≤◌, zero, suc, negsuc, List, [], ◌∷◌, ◌++◌, length, get_or, arith, refl, ap, subst, sym, ◌∙◌, length-append}
+use Rattle.std.proofs.Common.{◌≡◌, inl, inr, ℕ, ◌<◌, ◌≤◌, zero, suc, negsuc, List, [], ◌∷◌, ◌++◌, length, get_or, arith, refl, ap, subst, sym, ◌∙◌, length-append}
 use Rattle.std.proofs.lemmas.Bool.{cases_lt}
 use Rattle.box_problem.specs.Box.{Box}
 use Rattle.term_nodes.specs.declared.nodes.Node.{Node}
@@ -9,8 +9,8 @@ use Rattle.term_nodes.specs.declared.items.Item.{Item}
 use Rattle.box_rules.specs.Terms as rule
 use Rattle.box_rules.specs.Forms as forms
 use Rattle.box_rules.specs.Rules.{form}
-use Rattle.term_nodes.specs.Things.{Thing, a_term, a_cond, nothing, term_in, cond_in, term_at, cond_at, thing_at, thing_of, parts_at, conds_at, things, things_from}
-use Rattle.term_nodes.specs.Built.{IsAt, IsBuilt, IsNew, IsBelow, IsSound, IsCompared, PartsBelow, AllBelow, facts_of, kept}
+use Rattle.term_nodes.specs.Things.{Thing, a_term, a_cond, term_in, cond_in, term_at, cond_at, thing_at, thing_of, parts_at, conds_at, things, things_from}
+use Rattle.term_nodes.specs.Built.{IsAt, IsBuilt, IsNew, IsBelow, IsSound, IsCompared, PartsBelow, AllBelow, facts_of}
 use Rattle.term_nodes.proofs.Reading.{length_things}
 
 things_after : (known : List Thing) (items : List Item) (item : Item) → things_from known (items ++ item ∷ []) ≡ things_from known items ++ thing_of (things_from known items) item.node ∷ []
@@ -122,14 +122,14 @@ last_item items item x d id is at = at ∙ ap (λ (n : ℕ). get_or (items ++ it
 pub built_more : (root : Box) (items : List Item) (item : Item) → IsBuilt root items → IsNew root items item → IsBuilt root (items ++ item ∷ [])
 built_more root items item all new = record {
   each = λ id x there at.
-  elim (cases_lt id (length items)) [
-    | inl old ↦
-        subst (λ (ts : List Thing). IsAt root ts id x) (sym (things_more items item))
-        (old_at root (things items) (thing_of (things items) item.node) id x (omega (arith, length_things items, old)) (all.each id x old (old_item items item x x id old at)))
-    | inr past ↦
-        let last : id ≡ length items = omega (arith, past, there, length-append items (item ∷ [])) in
-        subst (λ (ts : List Thing). IsAt root ts id x) (sym (things_more items item))
-        (subst (λ (n : ℕ). IsAt root (things items ++ thing_of (things items) item.node ∷ []) n x) (sym last)
-        (subst (IsAt root (things items ++ thing_of (things items) item.node ∷ []) (length items)) (sym (last_item items item x x id last at)) (new_at root items item new)))
-  ];
+      elim (cases_lt id (length items)) [
+        | inl old ↦
+            subst (λ (ts : List Thing). IsAt root ts id x) (sym (things_more items item))
+            (old_at root (things items) (thing_of (things items) item.node) id x (omega (arith, length_things items, old)) (all.each id x old (old_item items item x x id old at)))
+        | inr past ↦
+            let last : id ≡ length items = omega (arith, past, there, length-append items (item ∷ [])) in
+            subst (λ (ts : List Thing). IsAt root ts id x) (sym (things_more items item))
+            (subst (λ (n : ℕ). IsAt root (things items ++ thing_of (things items) item.node ∷ []) n x) (sym last)
+            (subst (IsAt root (things items ++ thing_of (things items) item.node ∷ []) (length items)) (sym (last_item items item x x id last at)) (new_at root items item new)))
+      ];
 }

@@ -7,3 +7,4 @@ pub mod Adding
 pub mod OrderedForms
 pub mod Differences
 pub mod Summing
+pub mod Multiplying

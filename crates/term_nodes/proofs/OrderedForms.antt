@@ -1,15 +1,15 @@
 -- The cells of a form ascend, and none of them is there 0 times; so once the form, and nothing else, is the form.
-use Rattle.std.proofs.Common.{◌≡◌, ℕ, ◌<◌, nat_lt, nat_eq, ℤ, pos, ◌+ℤ◌, ◌*ℤ◌, Bool, true, false, ◌||◌, List, [], ◌∷◌, map, Option, Some, None, if◌then◌else◌, arith, refl, ap, subst, sym, ◌∙◌}
+use Rattle.std.proofs.Common.{◌≡◌, ℕ, ◌<◌, nat_lt, nat_eq, ℤ, pos, ◌+ℤ◌, ◌*ℤ◌, Bool, true, false, ◌||◌, List, [], ◌∷◌, map, Option, Some, None, if◌then◌else◌, arith, refl, ap, subst, ◌∙◌}
 use Rattle.std.proofs.lemmas.Int.{ints}
 use Rattle.std.proofs.lemmas.Bool.Decides.{nat_tests}
 use Rattle.std.specs.Ordering.{int_eq}
 use Rattle.std.specs.List.{list_all}
 use Rattle.box_rules.specs.Arrays.{item_at}
 use Rattle.box_problem.specs.Box.{Box}
-use Rattle.box_rules.specs.Forms.{Coefficient, Form, number_form, cell_form, atom_form, is_constant, unless_zero, put, combined, plus_form, times_form, product_form, sign}
+use Rattle.box_rules.specs.Forms.{Coefficient, Form, number_form, atom_form, is_constant, unless_zero, put, combined, plus_form, times_form, product_form, sign}
 use Rattle.box_rules.specs.Terms.{Item, Fixed, Free, Term, Constant, Cell, Sum, Product, Quotient, Remainder, Least, Greatest, Size, Element, Number, Parts, no_part, part, Table}
 use Rattle.box_rules.specs.Rules.{form, forms, sum_form, folded, item_form, element_form}
-use Rattle.box_rules.proofs.FormValues.{by_if, by_bool, same_cell}
+use Rattle.box_rules.proofs.FormValues.{by_if, same_cell}
 use Rattle.box_rules.proofs.Products.{one-*ℤ}
 
 abbrev Above : ℕ → List Coefficient → Type 0

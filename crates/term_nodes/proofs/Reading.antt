@@ -1,5 +1,5 @@
 -- What is known of the node of a number.
-use Rattle.std.proofs.Common.{◌≡◌, ℕ, ◌+◌, ◌<◌, ◌≤◌, List, [], ◌∷◌, ◌++◌, length, get_or, arith, refl, ap, sym, ◌∙◌, length-append}
+use Rattle.std.proofs.Common.{◌≡◌, ℕ, ◌+◌, ◌<◌, ◌≤◌, List, [], ◌∷◌, ◌++◌, length, get_or, arith, ap, sym, ◌∙◌, length-append}
 use Rattle.std.proofs.lemmas.List.{get_or_past}
 use Rattle.box_problem.specs.Box.{Box}
 use Rattle.box_rules.specs.Rules.{Near, Wide, form, mark, truth}

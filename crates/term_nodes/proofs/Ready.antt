@@ -1,5 +1,5 @@
 -- Where all terms are small over the root, what is reckoned over a box inside it has room.
-use Rattle.std.proofs.Common.{◌≡◌, ◌⊎◌, inl, inr, ℕ, ◌+◌, ◌-◌, ◌*◌, ◌<◌, ◌≤◌, ◌^◌, zero, suc, ℤ, pos, negsuc, ◌*ℤ◌, unsigned_abs, List, [], ◌∷◌, length, get_or, drop, arith, refl, ap, subst, sym, ◌∙◌}
+use Rattle.std.proofs.Common.{◌≡◌, inl, inr, ℕ, ◌+◌, ◌-◌, ◌*◌, ◌<◌, ◌≤◌, ◌^◌, zero, suc, pos, negsuc, ◌*ℤ◌, unsigned_abs, List, [], ◌∷◌, length, get_or, drop, arith, ap, subst, sym}
 use Rattle.std.proofs.lemmas.Bool.{cases_lt}
 use Rattle.std.proofs.lemmas.Int.{unsigned_abs-mul}
 use Rattle.std.proofs.lemmas.List.{get_or_default}
@@ -19,8 +19,8 @@ use Rattle.term_rules.proofs.Weights.{combined_weighted, cells_weighted, plus_si
 use Rattle.term_nodes.specs.declared.nodes.Signed.{Signed}
 use Rattle.term_nodes.specs.declared.items.Item.{Item}
 use Rattle.term_nodes.specs.declared.evaluation.Here.{Here}
-use Rattle.term_nodes.specs.Things.{Thing, nothing, term_in, term_at, thing_at, parts_at, things}
-use Rattle.term_nodes.specs.Built.{IsAt, IsBuilt, IsSound, IsSoundTerm}
+use Rattle.term_nodes.specs.Things.{Thing, term_in, term_at, parts_at, things}
+use Rattle.term_nodes.specs.Built.{IsAt, IsBuilt, IsSoundTerm}
 use Rattle.term_nodes.specs.declared.evaluation.Sight as own
 use Rattle.term_nodes.specs.Seen.{IsReady, Sight, sight, sight_of, sum_sight}
 use Rattle.term_nodes.proofs.Reading.{nothing_past}
@@ -81,7 +81,7 @@ sum_fit here xs i x ready sound below at =
     (omega (arith, drop_lighter root all i xs, sound.small)))
 
 -- a product
-sized_form : (root : Box) (t : Term) (f : Form) → form_of f ≡ form root t → size root t ≤ 2 ^ 40 → unsigned_abs f.constant + (cells_weight root (cells_of f.cells.items) + atoms_weight root t) < 2 ^ 63
+pub sized_form : (root : Box) (t : Term) (f : Form) → form_of f ≡ form root t → size root t ≤ 2 ^ 40 → unsigned_abs f.constant + (cells_weight root (cells_of f.cells.items) + atoms_weight root t) < 2 ^ 63
 sized_form root t f is small =
     let same : unsigned_abs f.constant + cells_weight root (cells_of f.cells.items) ≡ unsigned_abs (form root t).constant + cells_weight root (form root t).cells = ap (λ (g : forms.Form). unsigned_abs g.constant + cells_weight root g.cells) is in
     omega (arith, same, small)

@@ -1,5 +1,5 @@
 -- Steps of what sums and conditions are over a box, from the last part to the first.
-use Rattle.std.proofs.Common.{◌≡◌, ℕ, ◌+◌, ◌-◌, ◌<◌, ◌≤◌, List, [], ◌∷◌, length, get_or, drop, zero, suc, arith, refl, ap, subst, sym, ◌∙◌}
+use Rattle.std.proofs.Common.{◌≡◌, ℕ, ◌+◌, ◌-◌, ◌<◌, ◌≤◌, List, [], ◌∷◌, length, get_or, drop, zero, suc, arith, ap, subst, sym, ◌∙◌}
 use Rattle.std.proofs.lemmas.List.{at_drop_more, at_drop_all, get_or_default}
 use Rattle.box_problem.specs.Box.{Box}
 use Rattle.box_rules.specs.Ends as ends

@@ -1,5 +1,5 @@
 -- Steps of what is known of a sum, from the last part to the first.
-use Rattle.std.proofs.Common.{◌≡◌, ℕ, ◌+◌, ◌-◌, ◌*◌, ◌<◌, ◌≤◌, ◌^◌, zero, suc, ℤ, pos, negsuc, ◌*ℤ◌, unsigned_abs, List, [], ◌∷◌, length, get_or, drop, Vec, Global, arith, refl, ap, subst, sym, ◌∙◌}
+use Rattle.std.proofs.Common.{◌≡◌, ℕ, ◌+◌, ◌-◌, ◌*◌, ◌<◌, ◌≤◌, ◌^◌, zero, suc, ℤ, ◌*ℤ◌, unsigned_abs, List, [], ◌∷◌, length, get_or, drop, Vec, Global, arith, ap, subst, sym, ◌∙◌}
 use Rattle.std.proofs.lemmas.Int.{unsigned_abs-mul}
 use Rattle.std.proofs.lemmas.List.{at_drop_more, at_drop_all, get_or_default}
 use Rattle.box_problem.specs.Box.{Box}
@@ -8,9 +8,8 @@ use Rattle.box_rules.specs.Forms as forms
 use Rattle.box_rules.specs.Terms as rule
 use Rattle.box_rules.specs.Marks.{both}
 use Rattle.box_rules.specs.Rules.{Near, Wide, form, sum_form, mark, sum_mark, atoms, sum_atoms}
-use Rattle.box_rules.specs.Sizes.{weight_of, cells_weight, atoms_weight, sum_weight, size}
+use Rattle.box_rules.specs.Sizes.{weight_of, atoms_weight, sum_weight, size}
 use Rattle.box_rules.specs.Laws.{AreProperParts}
-use Rattle.box_rules.specs.declared.answers.Defined.{Defined}
 use Rattle.box_rules.proofs.Bounds.{bounded, bounded_parts, sign_size}
 use Rattle.term_rules.specs.Shown.{IsFit, ends_at, ends_of}
 use Rattle.term_rules.specs.Sums.{mass_of, weight_in, weighted}
@@ -22,7 +21,7 @@ use Rattle.term_nodes.specs.declared.items.Item.{Item}
 use Rattle.term_nodes.specs.declared.items.Facts as facts
 use Rattle.term_nodes.specs.declared.evaluation.Sight as seen
 use Rattle.term_nodes.specs.Things.{Thing, a_term, term_at, parts_at, things}
-use Rattle.term_nodes.specs.Built.{IsBuilt, IsNew, IsSoundTerm, PartsBelow, facts_of, kept}
+use Rattle.term_nodes.specs.Built.{IsBuilt, IsNew, PartsBelow, facts_of, kept}
 use Rattle.term_nodes.specs.Seen.{Sight, sight_of, wide_sight, wide_sum}
 use Rattle.term_nodes.proofs.Reading.{length_things}
 use Rattle.term_nodes.proofs.Ready.{small_term}
@@ -89,10 +88,10 @@ next_sum root all xs i x below at =
     ∙ ap (λ (y : Signed). forms.plus_form (forms.sign y.subtracted) (sum_form root (parts_at all (drop (i + 1) xs))) (form root (term_at all y.term))) (sym at)
 
 -- with weights of all cells, a sum is no larger than its parts together
-abbrev large : (ℕ → ℕ) → forms.Form → ℕ
+abbrev pub large : (ℕ → ℕ) → forms.Form → ℕ
 large w f = unsigned_abs f.constant + weighted w f.cells
 
-plus_large : (w : ℕ → ℕ) (factor : ℤ) (f g : forms.Form) → large w (forms.plus_form factor f g) ≤ large w f + unsigned_abs factor * large w g
+pub plus_large : (w : ℕ → ℕ) (factor : ℤ) (f g : forms.Form) → large w (forms.plus_form factor f g) ≤ large w f + unsigned_abs factor * large w g
 plus_large w factor f g =
     omega (arith, plus_size f.constant (factor *ℤ g.constant), unsigned_abs-mul factor g.constant, combined_weighted w factor f.cells g.cells, spread_left (unsigned_abs factor) (unsigned_abs g.constant) (weighted w g.cells))
 
@@ -105,7 +104,7 @@ sum_large w root items (x ∷ xs) each =
     let once : unsigned_abs (forms.sign x.subtracted) * large w (form root (term_at (things items) x.term)) ≡ 1 * large w (form root (term_at (things items) x.term)) = ap (λ (n : ℕ). n * large w (form root (term_at (things items) x.term))) (sign_size x.subtracted) in
     omega (arith, plus_large w (forms.sign x.subtracted) (sum_form root (parts_at (things items) xs)) (form root (term_at (things items) x.term)), once, each x.term, sum_large w root items xs each)
 
-form_light : (root : Box) (items : List Item) (id : ℕ) → IsBuilt root items → weight_in root (form root (term_at (things items) id)) ≤ 2 ^ 40
+pub form_light : (root : Box) (items : List Item) (id : ℕ) → IsBuilt root items → weight_in root (form root (term_at (things items) id)) ≤ 2 ^ 40
 form_light root items id all = omega (arith, (small_term root items id all).small)
 
 sum_light : (root : Box) (items : List Item) (xs : List Signed) → IsBuilt root items → weight_in root (sum_form root (parts_at (things items) xs)) ≤ length xs * 2 ^ 40
@@ -113,7 +112,7 @@ sum_light root items xs all =
     let w : ℕ → ℕ = λ cell. weight_of (ends.cell_ends root cell) in
     omega (arith, sum_large w root items xs (λ id. omega (arith, weight_large root (form root (term_at (things items) id)), form_light root items id all)), weight_large root (sum_form root (parts_at (things items) xs)))
 
-mass_light : (root : Box) (f : forms.Form) → mass_of f ≤ weight_in root f
+pub mass_light : (root : Box) (f : forms.Form) → mass_of f ≤ weight_in root f
 mass_light root f = omega (arith, mass_weight root f.cells)
 
 atoms_light : (root : Box) (items : List Item) (xs : List Signed) → IsBuilt root items → sum_weight root (parts_at (things items) xs) ≤ length xs * 2 ^ 40

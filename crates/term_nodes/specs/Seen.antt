@@ -1,5 +1,4 @@
 -- What terms are over a box.
-use Rattle.std.specs.Prelude.{◌≡◌}
 use Rattle.box_problem.specs.Box.{Box, IsBox, Inside}
 use Rattle.box_rules.specs.Ends as ends
 use Rattle.box_rules.specs.Terms.{Term, Parts}

@@ -18,6 +18,7 @@ all s = things s.items.items
 pub record IsSoundStore (s : TermStore) : Type 0 where
   pub root_is_box : IsBox (root_of s)
   pub built : IsBuilt (root_of s) s.items.items
+  pub few : length s.items.items < 2 ^ 32
 
 -- something was added, behind what there was
 pub record IsAdded (before after : List Thing) (id : ℕ) (thing : Thing) : Type 0 where

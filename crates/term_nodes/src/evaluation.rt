@@ -16,7 +16,9 @@ ghost use Rattle.term_nodes.specs.Seen.{IsReady, sight, sight_of, sum_sight};
 use crate::items::{Item, form_at, item_at};
 use crate::nodes::{Comparison, Node, Signed};
 use box_rules::{Defined, Truth};
-use term_rules::{BoxView, Ends, Factor, and_truth, both, compared, opposite, or_truth, truth_ends};
+use term_rules::{
+    BoxView, Ends, Factor, and_truth, both, compared, opposite, or_truth, truth_ends,
+};
 
 /// The interval of what is no cell in a term, and its mark.
 #[derive(Clone, Copy, Debug)]
@@ -41,9 +43,9 @@ impl Sight {
         requires times { IsFit (ends_at (sign subtracted) (ends_of part.now.ends)) }
         requires plus { IsFit (ends.plus (ends.scaled (sign subtracted) (ends_of part.now.ends)) (ends_of self.now.ends)) }
         ensures { sight_of result ≡ record {
-            ends = ends.plus (ends.scaled (sign subtracted) (ends_of part.now.ends)) (ends_of self.now.ends);
-            mark = marks.both part.now.mark self.now.mark;
-          } }
+          ends = ends.plus (ends.scaled (sign subtracted) (ends_of part.now.ends)) (ends_of self.now.ends);
+          mark = marks.both part.now.mark self.now.mark;
+        } }
     {
         let times = part.ends.scaled(&factor(subtracted));
         Sight {
@@ -57,7 +59,11 @@ impl Sight {
 pub(crate) fn factor(subtracted: bool) -> Factor
     ensures { result.k ≡ sign subtracted }
 {
-    if subtracted { Factor { k: -1 } } else { Factor { k: 1 } }
+    if subtracted {
+        Factor { k: -1 }
+    } else {
+        Factor { k: 1 }
+    }
 }
 
 /// Nodes, the root box, and a box inside it.
@@ -201,7 +207,9 @@ impl<'a> Here<'a> {
     {
         let left = self.seen(comparison.left);
         let right = self.seen(comparison.right);
-        let difference = self.view.difference(&comparison.form, &left.ends, &right.ends);
+        let difference = self
+            .view
+            .difference(&comparison.form, &left.ends, &right.ends);
         compared(comparison.op, &difference, both(left.mark, right.mark))
     }
 

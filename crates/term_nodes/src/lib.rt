@@ -7,6 +7,7 @@ mod items;
 mod known;
 mod nodes;
 mod over;
+mod products;
 mod pushes;
 mod store;
 mod sums;

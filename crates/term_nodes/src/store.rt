@@ -41,6 +41,14 @@ impl TermStore {
         })
     }
 
+    /// How many terms and conditions there are.
+    pub fn count(&self) -> u32
+        requires sound { IsSoundStore self.now }
+        ensures count { result ≡ length (all self.now) }
+    {
+        self.items.len() as u32
+    }
+
     /// Adds a node with what is known of it.
     pub(crate) fn add(&mut self, node: Node, facts: Facts) -> Result<u32, AllocError>
         requires sound { IsSoundStore self.old }
@@ -125,3 +133,6 @@ fn highs_of(alloc: Global, roots: &[Interval]) -> Result<Vec<i64>, AllocError>
 {
     roots.iter().map(|root| root.hi).collect(alloc)
 }
+
+#[cfg(test)]
+mod tests;

@@ -40,7 +40,7 @@ impl TermStore {
 
     /// The weight of what is no cell in a term.
     #[tactic(auto, using(crate::proofs::Reading::weight_is))]
-    fn weight_known(&self, id: u32) -> u64
+    pub(crate) fn weight_known(&self, id: u32) -> u64
         requires sound { IsSoundStore self.now }
         requires exists { id < length self.now.items.items }
         ensures { result ≡ sizes.atoms_weight (root_of self.now) (term_at (all self.now) id) }
@@ -67,7 +67,7 @@ impl TermStore {
 
     /// The mark of a term over the root box.
     #[tactic(auto, using(crate::proofs::Reading::mark_is))]
-    fn mark_known(&self, id: u32) -> Defined
+    pub(crate) fn mark_known(&self, id: u32) -> Defined
         requires sound { IsSoundStore self.now }
         requires exists { id < length self.now.items.items }
         ensures { result ≡ rule.mark rule.Near (root_of self.now) (root_of self.now) (term_at (all self.now) id) }

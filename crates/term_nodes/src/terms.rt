@@ -1,6 +1,7 @@
 //! Terms are added.
 
 ghost use Rattle.std.specs.Prelude.{◌≡◌, ◌<◌, ◌^◌, length, IfOk, OnErr};
+ghost use Rattle.box_problem.specs.Box.{Inside};
 ghost use Rattle.box_rules.specs.Forms as forms;
 ghost use Rattle.box_rules.specs.Sizes.{size};
 ghost use Rattle.box_rules.specs.Terms as term;
@@ -101,8 +102,11 @@ fn atom(alloc: Global, truth: Truth) -> Facts
 
 impl TermStore {
     /// The root box.
-    pub(crate) fn root(&self) -> BoxView<'_>
-        ensures { box_in result ≡ root_of self.now }
+    #[tactic(auto, using(box_problem::proofs::Boxes::part_of_itself))]
+    pub fn root(&self) -> BoxView<'_>
+        requires sound { IsSoundStore self.now }
+        ensures root { box_in result ≡ root_of self.now }
+        ensures inside { Inside (box_in result) (root_of self.now) }
     {
         BoxView {
             lows: self.lows.as_slice(),

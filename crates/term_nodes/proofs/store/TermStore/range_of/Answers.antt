@@ -1,6 +1,5 @@
 use Rattle.std.proofs.Common.{arith, ap, length}
 use Rattle.term_nodes.proofs.Reading.{length_things}
-use Rattle.term_nodes.proofs.Adding.{is_there}
 use Rattle.term_nodes.proofs.store.TermStore.range_of.Goals as goal
 
 pub range-requires-clause-exists : goal.range-requires-clause-exists
