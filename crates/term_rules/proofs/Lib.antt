@@ -4,3 +4,4 @@ pub mod Entries
 pub mod Fits
 pub mod Weighing
 pub mod Products
+pub mod Inner

@@ -1,8 +1,8 @@
 -- What intervals, forms and boxes stand for as they are kept, and which of them can be reckoned with.
-use Rattle.std.specs.Prelude.{◌≡◌, true, false, ℕ, ◌<◌, ℤ, negsuc, ◌*ℤ◌, List, map, length, drop, get_or, Option, Some, None}
+use Rattle.std.specs.Prelude.{◌≡◌, true, false, ℕ, ◌<◌, ℤ, ◌≤ℤ◌, negsuc, ◌*ℤ◌, List, map, length, drop, get_or, Option, Some, None}
 use Rattle.std.specs.Int.{w64}
 use Rattle.std.specs.Int.RustNames.{FitsSigned}
-use Rattle.box_problem.specs.Box.{Box, with_low, with_high}
+use Rattle.box_problem.specs.Box.{Box, low, high, with_low, with_high}
 use Rattle.box_rules.specs.Ends as rule
 use Rattle.box_rules.specs.Forms as forms
 use Rattle.term_rules.specs.declared.ends.Ends.{Ends}
@@ -36,8 +36,18 @@ abbrev pub with_part : Box → Option Part → Box
 with_part b None = b
 with_part b (Some part) = with_high (with_low b part.cell part.ends.low) part.cell part.ends.high
 
+-- the interval for one cell is not empty, and lies within that of the root
+pub record IsPart (root : Box) (part : Part) : Type 0 where
+  pub from_low : low root part.cell ≤ℤ part.ends.low
+  pub ordered : part.ends.low ≤ℤ part.ends.high
+  pub to_high : part.ends.high ≤ℤ high root part.cell
+
+-- the box, and the box with another interval for one cell
+abbrev pub box_under : BoxView → Box
+box_under view = record { lows = view.lows.now; highs = view.highs.now }
+
 abbrev pub box_in : BoxView → Box
-box_in view = with_part (record { lows = view.lows.now; highs = view.highs.now }) view.part
+box_in view = with_part (box_under view) view.part
 
 -- so many times each cell, and the sums from each cell on, have room
 pub record CellsFit (b : Box) (cells : List Coefficient) : Type 0 where

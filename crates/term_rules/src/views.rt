@@ -1,10 +1,10 @@
 //! Intervals of forms over a box.
 
-ghost use Rattle.std.specs.Prelude.{◌≡◌, negsuc, pos, slice_index_or, slice_set};
+ghost use Rattle.std.specs.Prelude.{◌≡◌, negsuc, pos, slice_index_or, slice_set, Some};
 ghost use Rattle.box_rules.specs.Ends as ends;
 ghost use Rattle.box_rules.specs.Forms as rule;
 ghost use Rattle.box_rules.specs.Rules as rules;
-ghost use Rattle.term_rules.specs.Shown.{CellsFit, DifferenceFits, IsFit, ProductFits, WholeFits, box_in, cells_of, ends_at, ends_of, form_of};
+ghost use Rattle.term_rules.specs.Shown.{CellsFit, DifferenceFits, IsFit, ProductFits, WholeFits, box_in, box_under, cells_of, ends_at, ends_of, form_of, with_part};
 
 use crate::ends::{Ends, Factor};
 use crate::forms::{Coefficient, Form};
@@ -25,6 +25,17 @@ pub struct BoxView<'a> {
 }
 
 impl<'a> BoxView<'a> {
+    /// The box with another interval for one cell.
+    pub fn replaced(&self, part: &Part) -> BoxView<'a>
+        ensures { box_in result ≡ with_part (box_under self.now) (Some part.now) }
+    {
+        BoxView {
+            lows: self.lows,
+            highs: self.highs,
+            part: Some(*part),
+        }
+    }
+
     /// The interval of a cell; 0 alone, if there is no such cell.
     pub fn cell(&self, cell: u32) -> Ends
         ensures { ends_of result ≡ ends.cell_ends (box_in self.now) cell }
