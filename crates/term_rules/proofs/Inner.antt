@@ -1,9 +1,9 @@
 -- A box with another interval for one cell lies inside the root, where that interval does.
-use Rattle.std.proofs.Common.{◌≡◌, ◌⊎◌, inl, inr, Some, ℕ, ◌<◌, ℤ, pos, ◌≤ℤ◌, List, length, get_or, slice_index_or, slice_set, arith, ap, subst, sym, ◌∙◌}
+use Rattle.std.proofs.Common.{◌≡◌, inl, inr, Some, ℕ, ◌<◌, ℤ, pos, ◌≤ℤ◌, List, length, get_or, slice_index_or, slice_set, arith, ap, subst, sym, ◌∙◌}
 use Rattle.std.proofs.lemmas.Bool.{cases_eq}
 use Rattle.std.proofs.lemmas.Int.{ints}
 use Rattle.std.proofs.lemmas.List.{length-set, get_or-set_same, get_or-set_other}
-use Rattle.box_problem.specs.Box.{Box, IsBox, Inside, low, high, with_low, with_high}
+use Rattle.box_problem.specs.Box.{Box, Inside, low, high}
 use Rattle.term_rules.specs.declared.views.Part.{Part}
 use Rattle.term_rules.specs.Shown.{IsPart, with_part}
 

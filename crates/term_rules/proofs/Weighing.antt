@@ -1,12 +1,11 @@
 -- Steps of the weight of a form's cells, from the last cell to the first, and numbers of 64 bits.
-use Rattle.std.proofs.Common.{◌≡◌, ℕ, ◌+◌, ◌-◌, ◌*◌, ◌<◌, ◌≤◌, ◌^◌, zero, suc, ℤ, pos, negsuc, unsigned_abs, List, [], ◌∷◌, map, length, get_or, drop, SFits, FitsSigned, to_z, of_z, arith, refl, ap, subst, sym, ◌∙◌}
+use Rattle.std.proofs.Common.{◌≡◌, ℕ, ◌+◌, ◌-◌, ◌*◌, ◌<◌, ◌≤◌, ◌^◌, zero, suc, ℤ, unsigned_abs, List, [], ◌∷◌, map, length, get_or, drop, SFits, FitsSigned, to_z, of_z, arith, refl, ap, subst, sym, ◌∙◌}
 use Rattle.std.specs.Int.{w64, w128}
-use Rattle.std.proofs.lemmas.Int.{ints, to_z-of_z, fits_signed_from_abs}
+use Rattle.std.proofs.lemmas.Int.{to_z-of_z, fits_signed_from_abs}
 use Rattle.std.proofs.lemmas.List.{at_drop_more, at_drop_all, get_or_default}
-use Rattle.std.proofs.Math.Nat.{mul-le-mul_left}
 use Rattle.box_problem.specs.Box.{Box}
 use Rattle.box_rules.specs.Ends.{cell_ends}
-use Rattle.box_rules.specs.Forms.{Coefficient, Form}
+use Rattle.box_rules.specs.Forms.{Coefficient}
 use Rattle.box_rules.specs.Sizes.{weight_of, cells_weight}
 use Rattle.term_rules.specs.declared.combinations.WideCoefficient.{WideCoefficient}
 use Rattle.term_rules.specs.Shown.{cells_of}
