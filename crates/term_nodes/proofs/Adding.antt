@@ -1,12 +1,12 @@
 -- What is known of a new condition is right.
-use Rattle.std.proofs.Common.{◌≡◌, inl, inr, ℕ, ℤ, ◌+◌, ◌<◌, ◌≤◌, ◌^◌, unsigned_abs, Vec, Global, List, [], ◌∷◌, length, get_or, drop, arith, refl, ap, subst, sym, ◌∙◌}
+use Rattle.std.proofs.Common.{◌≡◌, inl, inr, ℕ, ℤ, ◌<◌, ◌≤◌, ◌^◌, unsigned_abs, Vec, Global, List, [], ◌∷◌, length, get_or, arith, refl, ap, subst, sym, ◌∙◌}
 use Rattle.std.proofs.lemmas.Bool.{cases_lt}
-use Rattle.std.proofs.lemmas.List.{at_drop_more, at_drop_all, get_or_default}
+use Rattle.std.proofs.lemmas.List.{get_or_default}
 use Rattle.box_problem.specs.Box.{Box, IsBox, box_of}
 use Rattle.box_problem.proofs.Boxes.{intervals_make_a_box}
 use Rattle.sopl_base.specs.declared.places.Interval.{Interval}
 use Rattle.box_rules.specs.Terms as rule
-use Rattle.box_rules.specs.Marks.{and_truth, opposite, or_truth, truth_ends}
+use Rattle.box_rules.specs.Marks.{opposite, or_truth, truth_ends}
 use Rattle.box_rules.specs.Rules.{Wide, truth, all_truth, any_truth}
 use Rattle.box_rules.specs.Ends.{cell_ends}
 use Rattle.box_rules.specs.Forms.{atom_form, cell_form, number_form}
@@ -73,23 +73,6 @@ new_any root items conds facts all there is = record {
   sound = sound_cond root (rule.Any (conds_at (things items) conds.items)) (propers_at root items conds.items all);
   compared = tt;
 }
-
--- truths of several conditions
-pub next_all_known : (root : Box) (ts : List Thing) (xs : List ℕ) (i x : ℕ) → i < length xs → x ≡ get_or xs i x → all_truth Wide root root (conds_at ts (drop i xs)) ≡ and_truth (truth Wide root root (cond_at ts x)) (all_truth Wide root root (conds_at ts (drop (i + 1) xs)))
-next_all_known root ts xs i x below at =
-    at_drop_more (λ ys. all_truth Wide root root (conds_at ts ys)) xs i x below
-    ∙ ap (λ (y : ℕ). and_truth (truth Wide root root (cond_at ts y)) (all_truth Wide root root (conds_at ts (drop (i + 1) xs)))) (sym at)
-
-pub next_any_known : (root : Box) (ts : List Thing) (xs : List ℕ) (i x : ℕ) → i < length xs → x ≡ get_or xs i x → any_truth Wide root root (conds_at ts (drop i xs)) ≡ or_truth (truth Wide root root (cond_at ts x)) (any_truth Wide root root (conds_at ts (drop (i + 1) xs)))
-next_any_known root ts xs i x below at =
-    at_drop_more (λ ys. any_truth Wide root root (conds_at ts ys)) xs i x below
-    ∙ ap (λ (y : ℕ). or_truth (truth Wide root root (cond_at ts y)) (any_truth Wide root root (conds_at ts (drop (i + 1) xs)))) (sym at)
-
-pub no_all_known : (root : Box) (ts : List Thing) (xs : List ℕ) (i : ℕ) → length xs ≤ i → all_truth Wide root root (conds_at ts (drop i xs)) ≡ all_truth Wide root root (conds_at ts [])
-no_all_known root ts xs i past = at_drop_all (λ ys. all_truth Wide root root (conds_at ts ys)) xs i past
-
-pub no_any_known : (root : Box) (ts : List Thing) (xs : List ℕ) (i : ℕ) → length xs ≤ i → any_truth Wide root root (conds_at ts (drop i xs)) ≡ any_truth Wide root root (conds_at ts [])
-no_any_known root ts xs i past = at_drop_all (λ ys. any_truth Wide root root (conds_at ts ys)) xs i past
 
 -- numbers of nodes that are there
 pub is_there : (items : List Item) (id : ℕ) → id < length (things items) → id < length items

@@ -25,7 +25,7 @@ use Rattle.term_nodes.specs.Seen.{Sight, sight_of, wide_sight}
 use Rattle.term_nodes.proofs.Adding.{new_term}
 use Rattle.term_nodes.proofs.Ready.{small_term, sized_form}
 use Rattle.term_nodes.proofs.Differences.{form_mass}
-use Rattle.term_nodes.proofs.Summing.{plus_large, weight_large, form_light, mass_light}
+use Rattle.term_nodes.proofs.Summing.{plus_large, weight_large, form_light}
 
 -- a product of two numbers below 2^40 each
 both_small : (m n : ℕ) → m ≤ 2 ^ 40 → n ≤ 2 ^ 40 → m * n ≤ 2 ^ 80
@@ -86,9 +86,6 @@ weight_room root items x y h weight all is weight_is =
     let light = product_light root (form root s) (form root t) (form_light root items x all) (form_light root items y all) in
     let heavy : atoms_weight root (rule.Product s t) ≤ 2 ^ 80 = product_heavy root (form root s) (form root t) (atoms_weight root s) (atoms_weight root t) (atoms Wide root root s) (atoms Wide root root t) (form_light root items x all) (form_light root items y all) (atoms_small root items x all) (atoms_small root items y all) (whole_small root items x all) (whole_small root items y all) in
     omega (arith, ap (weight_in root) is, weight_is, light, heavy)
-
-pub form_small : (root : Box) (f : Form) (weight : ℕ) → weight_in root f + weight ≤ 2 ^ 40 → mass_of f < 2 ^ 63
-form_small root f weight small = omega (arith, mass_light root f, small)
 
 -- intervals over the root
 pub interval_fits : (root : Box) (items : List Item) (id : ℕ) (f : own.Form) (s : seen.Sight) → IsBox root → IsBuilt root items → form_of f ≡ form root (term_at (things items) id) → sight_of s ≡ wide_sight root (term_at (things items) id) → WholeFits root f (ends_of s.ends)

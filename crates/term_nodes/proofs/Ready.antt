@@ -55,7 +55,7 @@ drop_proper all zero parts proper = proper
 drop_proper all (suc i) [] proper = tt
 drop_proper all (suc i) (p ∷ parts) proper = drop_proper all i parts proper.1
 
-drop_lighter : (root : Box) (all : List Thing) (i : ℕ) (parts : List Signed) → sum_weight root (parts_at all (drop i parts)) ≤ sum_weight root (parts_at all parts)
+pub drop_lighter : (root : Box) (all : List Thing) (i : ℕ) (parts : List Signed) → sum_weight root (parts_at all (drop i parts)) ≤ sum_weight root (parts_at all parts)
 drop_lighter root all zero parts = omega arith
 drop_lighter root all (suc i) [] = omega arith
 drop_lighter root all (suc i) (p ∷ parts) = omega (arith, drop_lighter root all i parts)

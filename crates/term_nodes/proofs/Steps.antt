@@ -5,7 +5,7 @@ use Rattle.box_problem.specs.Box.{Box}
 use Rattle.box_rules.specs.Ends as ends
 use Rattle.box_rules.specs.Forms.{sign}
 use Rattle.box_rules.specs.Marks.{both, and_truth, or_truth}
-use Rattle.box_rules.specs.Rules.{Near, atoms, mark, sum_atoms, truth, all_truth, any_truth}
+use Rattle.box_rules.specs.Rules.{Reading, Near, atoms, mark, sum_atoms, truth, all_truth, any_truth}
 use Rattle.box_rules.specs.declared.answers.Truth.{Truth}
 use Rattle.term_nodes.specs.declared.nodes.Node.{Node}
 use Rattle.term_nodes.specs.declared.nodes.Signed.{Signed}
@@ -47,21 +47,21 @@ part_below limit (y ∷ ys) zero x below there at = subst (λ (p : Signed). p.te
 part_below limit (y ∷ ys) (suc i) x below there at = part_below limit ys i x below.1 (omega (arith, there)) at
 
 -- conditions
-pub next_all : (root b : Box) (all : List Thing) (xs : List ℕ) (i x : ℕ) → i < length xs → x ≡ get_or xs i x → all_truth Near root b (conds_at all (drop i xs)) ≡ and_truth (truth Near root b (cond_at all x)) (all_truth Near root b (conds_at all (drop (i + 1) xs)))
-next_all root b all xs i x below at =
-    at_drop_more (λ ys. all_truth Near root b (conds_at all ys)) xs i x below
-    ∙ ap (λ (y : ℕ). and_truth (truth Near root b (cond_at all y)) (all_truth Near root b (conds_at all (drop (i + 1) xs)))) (sym at)
+pub next_all : (reading : Reading) (root b : Box) (all : List Thing) (xs : List ℕ) (i x : ℕ) → i < length xs → x ≡ get_or xs i x → all_truth reading root b (conds_at all (drop i xs)) ≡ and_truth (truth reading root b (cond_at all x)) (all_truth reading root b (conds_at all (drop (i + 1) xs)))
+next_all reading root b all xs i x below at =
+    at_drop_more (λ ys. all_truth reading root b (conds_at all ys)) xs i x below
+    ∙ ap (λ (y : ℕ). and_truth (truth reading root b (cond_at all y)) (all_truth reading root b (conds_at all (drop (i + 1) xs)))) (sym at)
 
-pub next_any : (root b : Box) (all : List Thing) (xs : List ℕ) (i x : ℕ) → i < length xs → x ≡ get_or xs i x → any_truth Near root b (conds_at all (drop i xs)) ≡ or_truth (truth Near root b (cond_at all x)) (any_truth Near root b (conds_at all (drop (i + 1) xs)))
-next_any root b all xs i x below at =
-    at_drop_more (λ ys. any_truth Near root b (conds_at all ys)) xs i x below
-    ∙ ap (λ (y : ℕ). or_truth (truth Near root b (cond_at all y)) (any_truth Near root b (conds_at all (drop (i + 1) xs)))) (sym at)
+pub next_any : (reading : Reading) (root b : Box) (all : List Thing) (xs : List ℕ) (i x : ℕ) → i < length xs → x ≡ get_or xs i x → any_truth reading root b (conds_at all (drop i xs)) ≡ or_truth (truth reading root b (cond_at all x)) (any_truth reading root b (conds_at all (drop (i + 1) xs)))
+next_any reading root b all xs i x below at =
+    at_drop_more (λ ys. any_truth reading root b (conds_at all ys)) xs i x below
+    ∙ ap (λ (y : ℕ). or_truth (truth reading root b (cond_at all y)) (any_truth reading root b (conds_at all (drop (i + 1) xs)))) (sym at)
 
-pub none_all : (root b : Box) (all : List Thing) (xs : List ℕ) (i : ℕ) → length xs ≤ i → all_truth Near root b (conds_at all (drop i xs)) ≡ all_truth Near root b (conds_at all [])
-none_all root b all xs i past = at_drop_all (λ ys. all_truth Near root b (conds_at all ys)) xs i past
+pub none_all : (reading : Reading) (root b : Box) (all : List Thing) (xs : List ℕ) (i : ℕ) → length xs ≤ i → all_truth reading root b (conds_at all (drop i xs)) ≡ all_truth reading root b (conds_at all [])
+none_all reading root b all xs i past = at_drop_all (λ ys. all_truth reading root b (conds_at all ys)) xs i past
 
-pub none_any : (root b : Box) (all : List Thing) (xs : List ℕ) (i : ℕ) → length xs ≤ i → any_truth Near root b (conds_at all (drop i xs)) ≡ any_truth Near root b (conds_at all [])
-none_any root b all xs i past = at_drop_all (λ ys. any_truth Near root b (conds_at all ys)) xs i past
+pub none_any : (reading : Reading) (root b : Box) (all : List Thing) (xs : List ℕ) (i : ℕ) → length xs ≤ i → any_truth reading root b (conds_at all (drop i xs)) ≡ any_truth reading root b (conds_at all [])
+none_any reading root b all xs i past = at_drop_all (λ ys. any_truth reading root b (conds_at all ys)) xs i past
 
 pub cond_below : (limit : ℕ) (xs : List ℕ) (i x : ℕ) → AllBelow limit xs → i < length xs → x ≡ get_or xs i x → x < limit
 cond_below limit [] i x below there at = omega (arith, there)

@@ -24,7 +24,7 @@ use Rattle.term_nodes.specs.Things.{Thing, a_term, term_at, parts_at, things}
 use Rattle.term_nodes.specs.Built.{IsBuilt, IsNew, PartsBelow, facts_of, kept}
 use Rattle.term_nodes.specs.Seen.{Sight, sight_of, wide_sight, wide_sum}
 use Rattle.term_nodes.proofs.Reading.{length_things}
-use Rattle.term_nodes.proofs.Ready.{small_term}
+use Rattle.term_nodes.proofs.Ready.{drop_lighter, small_term}
 use Rattle.term_nodes.proofs.Adding.{new_term}
 
 -- marks
@@ -53,11 +53,6 @@ all_wide root all xs i r none is =
 parts_proper : (root : Box) (items : List Item) (xs : List Signed) → IsBuilt root items → AreProperParts (parts_at (things items) xs)
 parts_proper root items [] all = tt
 parts_proper root items (x ∷ xs) all = ((small_term root items x.term all).proper, parts_proper root items xs all)
-
-drop_lighter : (root : Box) (all : List Thing) (i : ℕ) (xs : List Signed) → sum_weight root (parts_at all (drop i xs)) ≤ sum_weight root (parts_at all xs)
-drop_lighter root all zero xs = omega arith
-drop_lighter root all (suc i) [] = omega arith
-drop_lighter root all (suc i) (x ∷ xs) = omega (arith, drop_lighter root all i xs)
 
 pub wide_times_fit : (root : Box) (items : List Item) (subtracted : _) (id : ℕ) (s : seen.Sight) → IsBuilt root items → sight_of s ≡ wide_sight root (term_at (things items) id) → IsFit (ends_at (forms.sign subtracted) (ends_of s.ends))
 wide_times_fit root items subtracted id s all is =

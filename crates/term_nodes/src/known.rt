@@ -43,7 +43,7 @@ impl TermStore {
     }
 
     /// Whether all conditions hold over the root box, by the wide reading.
-    #[tactic(auto, using(crate::proofs::Adding::next_all_known, crate::proofs::Adding::no_all_known, crate::proofs::Steps::cond_below))]
+    #[tactic(auto, using(crate::proofs::Steps::next_all, crate::proofs::Steps::none_all, crate::proofs::Steps::cond_below))]
     pub(crate) fn all_known(&self, conds: &[u32]) -> Truth
         requires sound { IsSoundStore self.now }
         requires exist { AllBelow (length self.now.items.items) conds.now }
@@ -58,7 +58,7 @@ impl TermStore {
     }
 
     /// Whether some condition holds over the root box, by the wide reading.
-    #[tactic(auto, using(crate::proofs::Adding::next_any_known, crate::proofs::Adding::no_any_known, crate::proofs::Steps::cond_below))]
+    #[tactic(auto, using(crate::proofs::Steps::next_any, crate::proofs::Steps::none_any, crate::proofs::Steps::cond_below))]
     pub(crate) fn any_known(&self, conds: &[u32]) -> Truth
         requires sound { IsSoundStore self.now }
         requires exist { AllBelow (length self.now.items.items) conds.now }

@@ -2,7 +2,8 @@ use Rattle.std.proofs.Common.{arith, ◌≡◌, ◌+◌, ◌<◌, ◌≤◌, ◌
 use Rattle.box_problem.specs.Box.{Box}
 use Rattle.term_rules.specs.Sums.{weight_in, wide_form}
 use Rattle.term_nodes.specs.Stores.{root_of}
-use Rattle.term_nodes.proofs.Multiplying.{weight_room, form_small}
+use Rattle.term_nodes.proofs.Multiplying.{weight_room}
+use Rattle.term_nodes.proofs.Summing.{form_small}
 use Rattle.term_nodes.proofs.store.TermStore.measured_product.Goals as goal
 
 pub weight-requires : goal.weight-requires
