@@ -13,14 +13,14 @@ use Rattle.box_rules.proofs.FormValues.{by_bool}
 use Rattle.box_rules.proofs.Sharpening.{intervals_narrow}
 
 -- a number of at most this size
-abbrev Small : ℤ → ℕ → Type 0
+abbrev pub Small : ℤ → ℕ → Type 0
 Small z n = (neg_ℤ (pos n) ≤ℤ z) × (z ≤ℤ pos n)
 
-small : (z : ℤ) (n : ℕ) → unsigned_abs z ≤ n → Small z n
+pub small : (z : ℤ) (n : ℕ) → unsigned_abs z ≤ n → Small z n
 small (pos a) n below = (omega (arith, ints), omega (arith, ints))
 small (negsuc a) n below = (omega (arith, ints), omega (arith, ints))
 
-small_multiple : (k z : ℤ) (n : ℕ) → unsigned_abs z ≤ n → Small (k *ℤ z) (unsigned_abs k * n)
+pub small_multiple : (k z : ℤ) (n : ℕ) → unsigned_abs z ≤ n → Small (k *ℤ z) (unsigned_abs k * n)
 small_multiple k z n below =
     small (k *ℤ z) (unsigned_abs k * n) (omega (arith, unsigned_abs-mul k z, mul-le-mul_left (unsigned_abs k) below))
 
@@ -29,14 +29,14 @@ pub record Bounds (a : Ends) (n : ℕ) : Type 0 where
   pub low : unsigned_abs a.low ≤ n
   pub high : unsigned_abs a.high ≤ n
 
-sized : (z : ℤ) (n : ℕ) → neg_ℤ (pos n) ≤ℤ z → z ≤ℤ pos n → unsigned_abs z ≤ n
+pub sized : (z : ℤ) (n : ℕ) → neg_ℤ (pos n) ≤ℤ z → z ≤ℤ pos n → unsigned_abs z ≤ n
 sized (pos a) n low high = omega (arith, ints)
 sized (negsuc a) n low high = omega (arith, ints)
 
-bounds_zero : (n : ℕ) → Bounds (exactly (pos 0)) n
+pub bounds_zero : (n : ℕ) → Bounds (exactly (pos 0)) n
 bounds_zero n = record { low = omega arith; high = omega arith }
 
-bounds_plus : (a c : Ends) (m n : ℕ) → Bounds a m → Bounds c n → Bounds (plus a c) (m + n)
+pub bounds_plus : (a c : Ends) (m n : ℕ) → Bounds a m → Bounds c n → Bounds (plus a c) (m + n)
 bounds_plus a c m n p q =
     let a_low = small a.low m p.low in
     let a_high = small a.high m p.high in
@@ -47,30 +47,30 @@ bounds_plus a c m n p q =
       high = sized (a.high +ℤ c.high) (m + n) (omega (arith, ints, a_high.0, c_high.0)) (omega (arith, ints, a_high.1, c_high.1));
     }
 
-bounds_between : (x y : ℤ) (n : ℕ) → Small x n → Small y n → Bounds (between x y) n
+pub bounds_between : (x y : ℤ) (n : ℕ) → Small x n → Small y n → Bounds (between x y) n
 bounds_between x y n p q = record {
   low = sized (between x y).low n (omega (arith, ints, clamps, p.0, q.0)) (omega (arith, ints, clamps, p.1, q.1));
   high = sized (between x y).high n (omega (arith, ints, clamps, p.0, q.0)) (omega (arith, ints, clamps, p.1, q.1));
 }
 
-bounds_scaled : (k : ℤ) (a : Ends) (n : ℕ) → Bounds a n → Bounds (scaled k a) (unsigned_abs k * n)
+pub bounds_scaled : (k : ℤ) (a : Ends) (n : ℕ) → Bounds a n → Bounds (scaled k a) (unsigned_abs k * n)
 bounds_scaled k a n p =
     bounds_between (k *ℤ a.low) (k *ℤ a.high) (unsigned_abs k * n) (small_multiple k a.low n p.low) (small_multiple k a.high n p.high)
 
-bounds_weight : (a : Ends) → Bounds a (weight_of a)
+pub bounds_weight : (a : Ends) → Bounds a (weight_of a)
 bounds_weight a = record { low = omega arith; high = omega arith }
 
 -- what stands alone
-bounds_folded : (fold : Bool) (z : ℤ) (a : Ends) → Bounds (unless_folded fold a) (alone_weight (folded fold z) (unless_folded fold a))
+pub bounds_folded : (fold : Bool) (z : ℤ) (a : Ends) → Bounds (unless_folded fold a) (alone_weight (folded fold z) (unless_folded fold a))
 bounds_folded true z a = bounds_zero 0
 bounds_folded false z a = bounds_weight a
 
-bounds_alone : (f : Form) (a : Ends) → Bounds (unless_folded f.plain a) (alone_weight f (unless_folded f.plain a))
+pub bounds_alone : (f : Form) (a : Ends) → Bounds (unless_folded f.plain a) (alone_weight f (unless_folded f.plain a))
 bounds_alone f a =
     by_bool (λ plain. Bounds (unless_folded plain a) (if plain then 0 else weight_of (unless_folded plain a))) f.plain
     (λ plain. bounds_zero 0) (λ other. bounds_weight a)
 
-bounds_product : (root : Box) (f g : Form) (a c : Ends) (m n : ℕ) → Bounds a m → Bounds c n → Bounds (product_atoms root f g a c) (product_weight f g m n (product_atoms root f g a c))
+pub bounds_product : (root : Box) (f g : Form) (a c : Ends) (m n : ℕ) → Bounds a m → Bounds c n → Bounds (product_atoms root f g a c) (product_weight f g m n (product_atoms root f g a c))
 bounds_product root f g a c m n p q =
     by_bool (λ constant. Bounds (if constant then scaled f.constant c else if is_constant g then scaled g.constant a else times (whole root f a) (whole root g c)) (if constant then unsigned_abs f.constant * n else if is_constant g then unsigned_abs g.constant * m else weight_of (if constant then scaled f.constant c else if is_constant g then scaled g.constant a else times (whole root f a) (whole root g c)))) (is_constant f)
     (λ constant. bounds_scaled f.constant c n q)
@@ -79,12 +79,12 @@ bounds_product root f g a c m n p q =
     (λ constant. bounds_scaled g.constant a m p)
     (λ neither. bounds_weight (times (whole root f a) (whole root g c))))
 
-sign_size : (subtracted : Bool) → unsigned_abs (sign subtracted) ≡ 1
+pub sign_size : (subtracted : Bool) → unsigned_abs (sign subtracted) ≡ 1
 sign_size true = refl
 sign_size false = refl
 
 mutual
-  bounded : (root : Box) (t : Term) → IsProper t → Bounds (atoms Wide root root t) (atoms_weight root t)
+  pub bounded : (root : Box) (t : Term) → IsProper t → Bounds (atoms Wide root root t) (atoms_weight root t)
   bounded root (Constant z) proper = bounds_zero 0
   bounded root (Cell cell) proper = bounds_zero 0
   bounded root (Sum parts) proper = bounded_parts root parts proper
@@ -98,7 +98,7 @@ mutual
   bounded root (Element table at) proper = bounds_alone (element_form table (forms root at)) _
   bounded root (Number c) proper = bounds_weight (atoms Wide root root (Number c))
 
-  bounded_parts : (root : Box) (parts : Parts) → AreProperParts parts → Bounds (sum_atoms Wide root root parts) (sum_weight root parts)
+  pub bounded_parts : (root : Box) (parts : Parts) → AreProperParts parts → Bounds (sum_atoms Wide root root parts) (sum_weight root parts)
   bounded_parts root no_part proper = bounds_zero 0
   bounded_parts root (part subtracted t later) proper =
       let once = bounds_scaled (sign subtracted) (atoms Wide root root t) (atoms_weight root t) (bounded root t proper.0) in
@@ -107,13 +107,13 @@ mutual
       (subst (λ (n : ℕ). Bounds (scaled (sign subtracted) (atoms Wide root root t)) n) same once) (bounded_parts root later proper.1)
 
 -- the cells, and all of it
-bounded_cells : (root : Box) (cells : List Coefficient) → Bounds (cells_ends root cells) (cells_weight root cells)
+pub bounded_cells : (root : Box) (cells : List Coefficient) → Bounds (cells_ends root cells) (cells_weight root cells)
 bounded_cells root [] = bounds_zero 0
 bounded_cells root (c ∷ later) =
     bounds_plus (scaled c.k (cell_ends root c.cell)) (cells_ends root later) (unsigned_abs c.k * weight_of (cell_ends root c.cell)) (cells_weight root later)
     (bounds_scaled c.k (cell_ends root c.cell) (weight_of (cell_ends root c.cell)) (bounds_weight (cell_ends root c.cell))) (bounded_cells root later)
 
-bounded_whole : (root : Box) (t : Term) → IsProper t → Bounds (interval Wide root root t) (size root t)
+pub bounded_whole : (root : Box) (t : Term) → IsProper t → Bounds (interval Wide root root t) (size root t)
 bounded_whole root t proper =
     let all = bounds_plus (exactly (form root t).constant) (plus (cells_ends root (form root t).cells) (atoms Wide root root t)) (unsigned_abs (form root t).constant) (cells_weight root (form root t).cells + atoms_weight root t)
     (record { low = omega arith; high = omega arith })

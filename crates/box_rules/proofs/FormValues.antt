@@ -49,7 +49,7 @@ unless_zero_value p cell k later =
     (λ same. let none = ap (λ z. z *ℤ cell_value p cell) (equal_numbers k same) ∙ zero-*ℤ (cell_value p cell) in omega (arith, ints, none))
     (λ other. refl)
 
-same_cell : (a b : ℕ) → nat_eq a b ≡ true → a ≡ b
+pub same_cell : (a b : ℕ) → nat_eq a b ≡ true → a ≡ b
 same_cell a b same = grind (arith, nat_tests)
 
 put_value : (p : List ℤ) (cell : ℕ) (k : ℤ) (cells : List Coefficient) → cells_value p (put cell k cells) ≡ k *ℤ cell_value p cell +ℤ cells_value p cells

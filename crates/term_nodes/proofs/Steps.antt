@@ -1,0 +1,85 @@
+-- Steps of what sums and conditions are over a box, from the last part to the first.
+use Rattle.std.proofs.Common.{◌≡◌, ℕ, ◌+◌, ◌-◌, ◌<◌, ◌≤◌, List, [], ◌∷◌, length, get_or, drop, zero, suc, arith, ap, subst, sym, ◌∙◌}
+use Rattle.std.proofs.lemmas.List.{at_drop_more, at_drop_all, get_or_default}
+use Rattle.box_problem.specs.Box.{Box}
+use Rattle.box_rules.specs.Ends as ends
+use Rattle.box_rules.specs.Forms.{sign}
+use Rattle.box_rules.specs.Marks.{both, and_truth, or_truth}
+use Rattle.box_rules.specs.Rules.{Reading, Near, atoms, mark, sum_atoms, truth, all_truth, any_truth}
+use Rattle.box_rules.specs.declared.answers.Truth.{Truth}
+use Rattle.term_nodes.specs.declared.nodes.Node.{Node}
+use Rattle.term_nodes.specs.declared.nodes.Signed.{Signed}
+use Rattle.term_nodes.specs.declared.items.Item.{Item}
+use Rattle.term_nodes.specs.Things.{Thing, term_in, cond_in, term_at, cond_at, thing_of, parts_at, conds_at}
+use Rattle.term_nodes.specs.Built.{IsAt, IsBelow, IsSound, IsCompared, PartsBelow, AllBelow}
+use Rattle.term_nodes.specs.Seen.{Sight, sight, sum_sight}
+
+-- what is known where it is known which node stands at a number
+pub seen_at : (root b : Box) (all : List Thing) (id : ℕ) (item : Item) (node : Node) (r : Sight) → IsAt root all id item → item.node ≡ node → r ≡ sight root b (term_in (thing_of all node)) → r ≡ sight root b (term_at all id)
+seen_at root b all id item node r at is seen =
+    seen ∙ ap (λ (n : Node). sight root b (term_in (thing_of all n))) (sym is) ∙ ap (λ (t : Thing). sight root b (term_in t)) (sym at.thing)
+
+pub truth_at : (root b : Box) (all : List Thing) (id : ℕ) (item : Item) (node : Node) (r : Truth) → IsAt root all id item → item.node ≡ node → r ≡ truth Near root b (cond_in (thing_of all node)) → r ≡ truth Near root b (cond_at all id)
+truth_at root b all id item node r at is seen =
+    seen ∙ ap (λ (n : Node). truth Near root b (cond_in (thing_of all n))) (sym is) ∙ ap (λ (t : Thing). truth Near root b (cond_in t)) (sym at.thing)
+
+pub below_at : (root : Box) (all : List Thing) (id : ℕ) (item : Item) (node : Node) → IsAt root all id item → item.node ≡ node → IsBelow id node
+below_at root all id item node at is = subst (IsBelow id) is at.below
+
+pub sound_at : (root : Box) (all : List Thing) (id : ℕ) (item : Item) (node : Node) → IsAt root all id item → item.node ≡ node → IsSound root (thing_of all node)
+sound_at root all id item node at is = subst (λ (n : Node). IsSound root (thing_of all n)) is at.sound
+
+pub compared_at : (root : Box) (all : List Thing) (id : ℕ) (item : Item) (node : Node) → IsAt root all id item → item.node ≡ node → IsCompared root all node
+compared_at root all id item node at is = subst (IsCompared root all) is at.compared
+
+-- the parts of a sum
+pub next_part : (root b : Box) (all : List Thing) (xs : List Signed) (i : ℕ) (x : Signed) → i < length xs → x ≡ get_or xs i x → sum_sight root b (parts_at all (drop i xs)) ≡ record { ends = ends.plus (ends.scaled (sign x.subtracted) (atoms Near root b (term_at all x.term))) (sum_atoms Near root b (parts_at all (drop (i + 1) xs))); mark = both (mark Near root b (term_at all x.term)) (sum_sight root b (parts_at all (drop (i + 1) xs))).mark }
+next_part root b all xs i x below at =
+    at_drop_more (λ ys. sum_sight root b (parts_at all ys)) xs i x below
+    ∙ ap (λ (y : Signed). record { ends = ends.plus (ends.scaled (sign y.subtracted) (atoms Near root b (term_at all y.term))) (sum_atoms Near root b (parts_at all (drop (i + 1) xs))); mark = both (mark Near root b (term_at all y.term)) (sum_sight root b (parts_at all (drop (i + 1) xs))).mark }) (sym at)
+
+pub no_parts : (root b : Box) (all : List Thing) (xs : List Signed) (i : ℕ) → length xs ≤ i → sum_sight root b (parts_at all (drop i xs)) ≡ sum_sight root b (parts_at all [])
+no_parts root b all xs i past = at_drop_all (λ ys. sum_sight root b (parts_at all ys)) xs i past
+
+pub part_below : (limit : ℕ) (xs : List Signed) (i : ℕ) (x : Signed) → PartsBelow limit xs → i < length xs → x ≡ get_or xs i x → x.term < limit
+part_below limit [] i x below there at = omega (arith, there)
+part_below limit (y ∷ ys) zero x below there at = subst (λ (p : Signed). p.term < limit) (sym at) below.0
+part_below limit (y ∷ ys) (suc i) x below there at = part_below limit ys i x below.1 (omega (arith, there)) at
+
+-- conditions
+pub next_all : (reading : Reading) (root b : Box) (all : List Thing) (xs : List ℕ) (i x : ℕ) → i < length xs → x ≡ get_or xs i x → all_truth reading root b (conds_at all (drop i xs)) ≡ and_truth (truth reading root b (cond_at all x)) (all_truth reading root b (conds_at all (drop (i + 1) xs)))
+next_all reading root b all xs i x below at =
+    at_drop_more (λ ys. all_truth reading root b (conds_at all ys)) xs i x below
+    ∙ ap (λ (y : ℕ). and_truth (truth reading root b (cond_at all y)) (all_truth reading root b (conds_at all (drop (i + 1) xs)))) (sym at)
+
+pub next_any : (reading : Reading) (root b : Box) (all : List Thing) (xs : List ℕ) (i x : ℕ) → i < length xs → x ≡ get_or xs i x → any_truth reading root b (conds_at all (drop i xs)) ≡ or_truth (truth reading root b (cond_at all x)) (any_truth reading root b (conds_at all (drop (i + 1) xs)))
+next_any reading root b all xs i x below at =
+    at_drop_more (λ ys. any_truth reading root b (conds_at all ys)) xs i x below
+    ∙ ap (λ (y : ℕ). or_truth (truth reading root b (cond_at all y)) (any_truth reading root b (conds_at all (drop (i + 1) xs)))) (sym at)
+
+pub none_all : (reading : Reading) (root b : Box) (all : List Thing) (xs : List ℕ) (i : ℕ) → length xs ≤ i → all_truth reading root b (conds_at all (drop i xs)) ≡ all_truth reading root b (conds_at all [])
+none_all reading root b all xs i past = at_drop_all (λ ys. all_truth reading root b (conds_at all ys)) xs i past
+
+pub none_any : (reading : Reading) (root b : Box) (all : List Thing) (xs : List ℕ) (i : ℕ) → length xs ≤ i → any_truth reading root b (conds_at all (drop i xs)) ≡ any_truth reading root b (conds_at all [])
+none_any reading root b all xs i past = at_drop_all (λ ys. any_truth reading root b (conds_at all ys)) xs i past
+
+pub cond_below : (limit : ℕ) (xs : List ℕ) (i x : ℕ) → AllBelow limit xs → i < length xs → x ≡ get_or xs i x → x < limit
+cond_below limit [] i x below there at = omega (arith, there)
+cond_below limit (y ∷ ys) zero x below there at = subst (λ (p : ℕ). p < limit) (sym at) below.0
+cond_below limit (y ∷ ys) (suc i) x below there at = cond_below limit ys i x below.1 (omega (arith, there)) at
+
+-- the same for loops that count down
+pub cond_back : (limit : ℕ) (xs : List ℕ) (i d : ℕ) → AllBelow limit xs → 0 < i → i ≤ length xs → get_or xs (i - 1) d < limit
+cond_back limit xs i d below positive most =
+    let there : i - 1 < length xs = omega (arith, positive, most) in
+    cond_below limit xs (i - 1) (get_or xs (i - 1) d) below there (get_or_default xs (i - 1) d (get_or xs (i - 1) d) there)
+
+pub part_back : (limit : ℕ) (xs : List Signed) (i : ℕ) (d : Signed) → PartsBelow limit xs → 0 < i → i ≤ length xs → (get_or xs (i - 1) d).term < limit
+part_back limit xs i d below positive most =
+    let there : i - 1 < length xs = omega (arith, positive, most) in
+    part_below limit xs (i - 1) (get_or xs (i - 1) d) below there (get_or_default xs (i - 1) d (get_or xs (i - 1) d) there)
+
+pub all_parts : (root b : Box) (all : List Thing) (xs : List Signed) (i : ℕ) (r : Sight) → i ≤ 0 → r ≡ sum_sight root b (parts_at all (drop i xs)) → r ≡ sum_sight root b (parts_at all xs)
+all_parts root b all xs i r none is =
+    let at_zero : i ≡ 0 = omega (arith, none) in
+    is ∙ ap (λ (j : ℕ). sum_sight root b (parts_at all (drop j xs))) at_zero

@@ -1,0 +1,37 @@
+-- What terms are over a box.
+use Rattle.box_problem.specs.Box.{Box, IsBox, Inside}
+use Rattle.box_rules.specs.Ends as ends
+use Rattle.box_rules.specs.Terms.{Term, Parts}
+use Rattle.box_rules.specs.Rules as rule
+use Rattle.box_rules.specs.declared.answers.Defined.{Defined}
+use Rattle.term_rules.specs.Shown.{box_in, ends_of}
+use Rattle.term_nodes.specs.declared.evaluation.Here.{Here}
+use Rattle.term_nodes.specs.declared.evaluation.Sight as own
+use Rattle.term_nodes.specs.Built.{IsBuilt}
+
+-- the interval of what is no cell, and the mark
+pub record Sight : Type 0 where
+  pub ends : ends.Ends
+  pub mark : Defined
+
+abbrev pub sight_of : own.Sight → Sight
+sight_of s = record { ends = ends_of s.ends; mark = s.mark }
+
+abbrev pub sight : Box → Box → Term → Sight
+sight root b t = record { ends = rule.atoms rule.Near root b t; mark = rule.mark rule.Near root b t }
+
+abbrev pub sum_sight : Box → Box → Parts → Sight
+sum_sight root b parts = record { ends = rule.sum_atoms rule.Near root b parts; mark = rule.sum_mark rule.Near root b parts }
+
+-- what a term is over the root, by the wide reading
+abbrev pub wide_sight : Box → Term → Sight
+wide_sight root t = record { ends = rule.atoms rule.Wide root root t; mark = rule.mark rule.Wide root root t }
+
+abbrev pub wide_sum : Box → Parts → Sight
+wide_sum root parts = record { ends = rule.sum_atoms rule.Wide root root parts; mark = rule.sum_mark rule.Wide root root parts }
+
+-- the nodes are right, and the box lies inside the root
+pub record IsReady (here : Here) : Type 0 where
+  pub built : IsBuilt (box_in here.root) here.items.now
+  pub root_is_box : IsBox (box_in here.root)
+  pub inside : Inside (box_in here.view) (box_in here.root)

@@ -1,0 +1,63 @@
+-- Which term or condition a node is.
+use Rattle.std.specs.Prelude.{ℕ, pos, List, [], ◌∷◌, ◌++◌, slice_index_or}
+use Rattle.box_rules.specs.Terms as rule
+use Rattle.term_nodes.specs.declared.nodes.Node.{Node}
+use Rattle.term_nodes.specs.declared.nodes.Node.TheVariants as node
+use Rattle.term_nodes.specs.declared.nodes.Signed.{Signed}
+use Rattle.term_nodes.specs.declared.items.Item.{Item}
+
+pub data Thing : Type 0 where
+  a_term : rule.Term → Thing
+  a_cond : rule.Cond → Thing
+
+-- what is not there
+abbrev pub nothing : Thing
+nothing = a_term (rule.Constant (pos 0))
+
+abbrev pub thing_at : List Thing → ℕ → Thing
+thing_at all id = slice_index_or all id nothing
+
+abbrev pub term_in : Thing → rule.Term
+term_in (a_term t) = t
+term_in (a_cond c) = rule.Constant (pos 0)
+
+abbrev pub cond_in : Thing → rule.Cond
+cond_in (a_term t) = rule.All rule.no_cond
+cond_in (a_cond c) = c
+
+-- the term and the condition of a number
+abbrev pub term_at : List Thing → ℕ → rule.Term
+term_at all id = term_in (thing_at all id)
+
+abbrev pub cond_at : List Thing → ℕ → rule.Cond
+cond_at all id = cond_in (thing_at all id)
+
+-- those of several numbers
+abbrev pub parts_at : List Thing → List Signed → rule.Parts
+parts_at all [] = rule.no_part
+parts_at all (p ∷ parts) = rule.part p.subtracted (term_at all p.term) (parts_at all parts)
+
+abbrev pub conds_at : List Thing → List ℕ → rule.Conds
+conds_at all [] = rule.no_cond
+conds_at all (id ∷ ids) = rule.condition (cond_at all id) (conds_at all ids)
+
+-- what a node is, where its operands are known
+abbrev pub thing_of : List Thing → Node → Thing
+thing_of all (node.Constant z) = a_term (rule.Constant z)
+thing_of all (node.Cell cell) = a_term (rule.Cell cell)
+thing_of all (node.Sum parts) = a_term (rule.Sum (parts_at all parts.items))
+thing_of all (node.Product a b) = a_term (rule.Product (term_at all a) (term_at all b))
+thing_of all (node.Number c) = a_term (rule.Number (cond_at all c))
+thing_of all (node.Compare c) = a_cond (rule.Compare c.op (term_at all c.left) (term_at all c.right))
+thing_of all (node.Not c) = a_cond (rule.Not (cond_at all c))
+thing_of all (node.All conds) = a_cond (rule.All (conds_at all conds.items))
+thing_of all (node.Any conds) = a_cond (rule.Any (conds_at all conds.items))
+thing_of all (node.Implies a c) = a_cond (rule.Implies (cond_at all a) (cond_at all c))
+
+-- what all nodes are, behind those that are known
+abbrev pub things_from : List Thing → List Item → List Thing
+things_from known [] = known
+things_from known (item ∷ items) = things_from (known ++ thing_of known item.node ∷ []) items
+
+abbrev pub things : List Item → List Thing
+things items = things_from [] items

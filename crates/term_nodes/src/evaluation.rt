@@ -1,0 +1,260 @@
+//! What terms and conditions are over a box.
+
+ghost use Rattle.std.specs.Prelude.{◌≡◌, ◌<◌, length, negsuc, pos};
+ghost use Rattle.box_rules.specs.Ends as ends;
+ghost use Rattle.box_rules.specs.Forms as forms;
+ghost use Rattle.box_rules.specs.Forms.{sign};
+ghost use Rattle.box_rules.specs.Marks as marks;
+ghost use Rattle.box_rules.specs.Rules as rule;
+ghost use Rattle.box_rules.specs.Terms as term;
+ghost use Rattle.box_rules.specs.declared.answers.Defined.TheVariants.{Always};
+ghost use Rattle.term_rules.specs.Shown.{IsFit, box_in, ends_at, ends_of, form_of};
+ghost use Rattle.term_nodes.specs.Things.{cond_at, conds_at, parts_at, term_at, things};
+ghost use Rattle.term_nodes.specs.Built.{AllBelow, IsSoundTerm, PartsBelow};
+ghost use Rattle.term_nodes.specs.Seen.{IsReady, sight, sight_of, sum_sight};
+
+use crate::items::{Item, form_at, item_at};
+use crate::nodes::{Comparison, Node, Signed};
+use box_rules::{Defined, Truth};
+use term_rules::{
+    BoxView, Ends, Factor, and_truth, both, compared, opposite, or_truth, truth_ends,
+};
+
+/// The interval of what is no cell in a term, and its mark.
+#[derive(Clone, Copy, Debug)]
+pub struct Sight {
+    pub ends: Ends,
+    pub mark: Defined,
+}
+
+impl Sight {
+    /// Nothing but cells, and Always defined.
+    pub fn clear() -> Sight
+        ensures { sight_of result ≡ record { ends = ends.exactly (pos 0); mark = Always } }
+    {
+        Sight {
+            ends: Ends::zero(),
+            mark: Defined::Always,
+        }
+    }
+
+    /// A sum with a part more.
+    pub(crate) fn with_part(&self, subtracted: bool, part: &Sight) -> Sight
+        requires times { IsFit (ends_at (sign subtracted) (ends_of part.now.ends)) }
+        requires plus { IsFit (ends.plus (ends.scaled (sign subtracted) (ends_of part.now.ends)) (ends_of self.now.ends)) }
+        ensures { sight_of result ≡ record {
+          ends = ends.plus (ends.scaled (sign subtracted) (ends_of part.now.ends)) (ends_of self.now.ends);
+          mark = marks.both part.now.mark self.now.mark;
+        } }
+    {
+        let times = part.ends.scaled(&factor(subtracted));
+        Sight {
+            ends: times.plus(&self.ends),
+            mark: both(part.mark, self.mark),
+        }
+    }
+}
+
+/// 1, or -1 for what is subtracted.
+pub(crate) fn factor(subtracted: bool) -> Factor
+    ensures { result.k ≡ sign subtracted }
+{
+    if subtracted {
+        Factor { k: -1 }
+    } else {
+        Factor { k: 1 }
+    }
+}
+
+/// Nodes, the root box, and a box inside it.
+#[derive(Clone, Copy)]
+pub struct Here<'a> {
+    pub items: &'a [Item],
+    pub root: BoxView<'a>,
+    pub view: BoxView<'a>,
+}
+
+impl<'a> Here<'a> {
+    /// The whole interval of a term over the box, and its mark.
+    pub fn range(&self, id: u32) -> Sight
+        requires ready { IsReady self.now }
+        requires exists { id < length self.now.items.now }
+        ensures interval { ends_of result.ends ≡ rule.interval rule.Near (box_in self.now.root) (box_in self.now.view) (term_at (things self.now.items.now) id) }
+        ensures mark { result.mark ≡ rule.mark rule.Near (box_in self.now.root) (box_in self.now.view) (term_at (things self.now.items.now) id) }
+    {
+        let seen = self.seen(id);
+        let form = form_at(self.items, id);
+        Sight {
+            ends: self.view.whole(form, &seen.ends),
+            mark: seen.mark,
+        }
+    }
+
+    /// What a term is over the box.
+    #[cycle(seen)]
+    #[tactic(auto, using(crate::proofs::Plain::plain_seen, crate::proofs::Steps::seen_at, crate::proofs::Steps::below_at, crate::proofs::Steps::sound_at))]
+    pub fn seen(&self, id: u32) -> Sight
+        requires ready { IsReady self.now }
+        ensures { sight_of result ≡ sight (box_in self.now.root) (box_in self.now.view) (term_at (things self.now.items.now) id) }
+    {
+        let Some(item) = item_at(self.items, id) else {
+            return Sight::clear();
+        };
+        if item.facts.is_plain() {
+            return Sight::clear();
+        }
+        match &item.node {
+            Node::Constant(_) => Sight::clear(),
+            Node::Cell(_) => Sight::clear(),
+            Node::Sum(parts) => self.sum(id, parts.as_slice()),
+            Node::Product(a, b) => self.product(id, *a, *b),
+            Node::Number(c) => self.number(id, *c),
+            Node::Compare(_) => Sight::clear(),
+            Node::Not(_) => Sight::clear(),
+            Node::All(_) => Sight::clear(),
+            Node::Any(_) => Sight::clear(),
+            Node::Implies(_, _) => Sight::clear(),
+        }
+    }
+
+    /// What a sum is over the box.
+    #[cycle(seen)]
+    #[tactic(auto, using(crate::proofs::Steps::next_part, crate::proofs::Steps::no_parts, crate::proofs::Steps::part_below, crate::proofs::Ready::times_fit, crate::proofs::Ready::sum_fit))]
+    fn sum(&self, limit: u32, parts: &[Signed]) -> Sight
+        requires ready { IsReady self.now }
+        requires below { PartsBelow limit parts.now }
+        requires sound { IsSoundTerm (box_in self.now.root) (term.Sum (parts_at (things self.now.items.now) parts.now)) }
+        ensures { sight_of result ≡ sum_sight (box_in self.now.root) (box_in self.now.view) (parts_at (things self.now.items.now) parts.now) }
+    {
+        let mut sum = Sight::clear();
+        for i in (0..parts.len()).rev() {
+            let part = &parts[i];
+            let seen = self.seen(part.term);
+            sum = sum.with_part(part.subtracted, &seen);
+        }
+        sum
+    }
+
+    /// What a product is over the box.
+    #[cycle(seen)]
+    #[tactic(auto, using(crate::proofs::Ready::product_fit))]
+    fn product(&self, limit: u32, a: u32, b: u32) -> Sight
+        requires ready { IsReady self.now }
+        requires exists { limit < length self.now.items.now }
+        requires left { a < limit }
+        requires right { b < limit }
+        requires sound { IsSoundTerm (box_in self.now.root) (term.Product (term_at (things self.now.items.now) a) (term_at (things self.now.items.now) b)) }
+        ensures { sight_of result ≡ sight (box_in self.now.root) (box_in self.now.view) (term.Product (term_at (things self.now.items.now) a) (term_at (things self.now.items.now) b)) }
+    {
+        let left = self.seen(a);
+        let right = self.seen(b);
+        let f = form_at(self.items, a);
+        let g = form_at(self.items, b);
+        Sight {
+            ends: self.view.product(f, g, &left.ends, &right.ends),
+            mark: both(left.mark, right.mark),
+        }
+    }
+
+    /// What a condition as a number is over the box.
+    #[cycle(seen)]
+    fn number(&self, limit: u32, c: u32) -> Sight
+        requires ready { IsReady self.now }
+        requires below { c < limit }
+        ensures { sight_of result ≡ sight (box_in self.now.root) (box_in self.now.view) (term.Number (cond_at (things self.now.items.now) c)) }
+    {
+        let truth = self.truth(c);
+        Sight {
+            ends: truth_ends(truth),
+            mark: Defined::Always,
+        }
+    }
+
+    /// The truth of a condition over the box.
+    #[cycle(seen)]
+    #[tactic(auto, using(crate::proofs::Steps::truth_at, crate::proofs::Steps::below_at, crate::proofs::Steps::compared_at))]
+    pub fn truth(&self, id: u32) -> Truth
+        requires ready { IsReady self.now }
+        ensures { result ≡ rule.truth rule.Near (box_in self.now.root) (box_in self.now.view) (cond_at (things self.now.items.now) id) }
+    {
+        let Some(item) = item_at(self.items, id) else {
+            return Truth::True;
+        };
+        match &item.node {
+            Node::Constant(_) => Truth::True,
+            Node::Cell(_) => Truth::True,
+            Node::Sum(_) => Truth::True,
+            Node::Product(_, _) => Truth::True,
+            Node::Number(_) => Truth::True,
+            Node::Compare(comparison) => self.compare(id, comparison),
+            Node::Not(c) => opposite(self.truth(*c)),
+            Node::All(conds) => self.all(id, conds.as_slice()),
+            Node::Any(conds) => self.any(id, conds.as_slice()),
+            Node::Implies(a, c) => self.implies(id, *a, *c),
+        }
+    }
+
+    /// The truth of a comparison over the box.
+    #[cycle(seen)]
+    #[tactic(auto, using(crate::proofs::Ready::difference_fit))]
+    fn compare(&self, limit: u32, comparison: &Comparison) -> Truth
+        requires ready { IsReady self.now }
+        requires exists { limit < length self.now.items.now }
+        requires left { comparison.now.left < limit }
+        requires right { comparison.now.right < limit }
+        requires difference { form_of comparison.now.form ≡ forms.plus_form (negsuc 0) (rule.form (box_in self.now.root) (term_at (things self.now.items.now) comparison.now.left)) (rule.form (box_in self.now.root) (term_at (things self.now.items.now) comparison.now.right)) }
+        ensures { result ≡ rule.truth rule.Near (box_in self.now.root) (box_in self.now.view) (term.Compare comparison.now.op (term_at (things self.now.items.now) comparison.now.left) (term_at (things self.now.items.now) comparison.now.right)) }
+    {
+        let left = self.seen(comparison.left);
+        let right = self.seen(comparison.right);
+        let difference = self
+            .view
+            .difference(&comparison.form, &left.ends, &right.ends);
+        compared(comparison.op, &difference, both(left.mark, right.mark))
+    }
+
+    /// Whether one condition does not hold or the other one does, over the box.
+    #[cycle(seen)]
+    fn implies(&self, limit: u32, a: u32, c: u32) -> Truth
+        requires ready { IsReady self.now }
+        requires left { a < limit }
+        requires right { c < limit }
+        ensures { result ≡ rule.truth rule.Near (box_in self.now.root) (box_in self.now.view) (term.Implies (cond_at (things self.now.items.now) a) (cond_at (things self.now.items.now) c)) }
+    {
+        let premise = self.truth(a);
+        let conclusion = self.truth(c);
+        or_truth(opposite(premise), conclusion)
+    }
+
+    /// Whether all conditions hold over the box.
+    #[cycle(seen)]
+    #[tactic(auto, using(crate::proofs::Steps::next_all, crate::proofs::Steps::none_all, crate::proofs::Steps::cond_below))]
+    fn all(&self, limit: u32, conds: &[u32]) -> Truth
+        requires ready { IsReady self.now }
+        requires below { AllBelow limit conds.now }
+        ensures { result ≡ rule.all_truth rule.Near (box_in self.now.root) (box_in self.now.view) (conds_at (things self.now.items.now) conds.now) }
+    {
+        let mut truth = Truth::True;
+        for i in (0..conds.len()).rev() {
+            let here = self.truth(conds[i]);
+            truth = and_truth(here, truth);
+        }
+        truth
+    }
+
+    /// Whether some condition holds over the box.
+    #[cycle(seen)]
+    #[tactic(auto, using(crate::proofs::Steps::next_any, crate::proofs::Steps::none_any, crate::proofs::Steps::cond_below))]
+    fn any(&self, limit: u32, conds: &[u32]) -> Truth
+        requires ready { IsReady self.now }
+        requires below { AllBelow limit conds.now }
+        ensures { result ≡ rule.any_truth rule.Near (box_in self.now.root) (box_in self.now.view) (conds_at (things self.now.items.now) conds.now) }
+    {
+        let mut truth = Truth::False;
+        for i in (0..conds.len()).rev() {
+            let here = self.truth(conds[i]);
+            truth = or_truth(here, truth);
+        }
+        truth
+    }
+}

@@ -1,0 +1,67 @@
+//! Nodes with what is known of them over the root box.
+
+ghost use Rattle.std.specs.Prelude.{◌≡◌, ◌<◌, ◌&&◌, length, IsSome, IfSome, IfNone};
+ghost use Rattle.box_problem.specs.Box.{Box};
+ghost use Rattle.box_rules.specs.Marks.{is_always};
+ghost use Rattle.box_rules.specs.Rules.{form};
+ghost use Rattle.term_rules.specs.Shown.{form_of};
+ghost use Rattle.term_nodes.specs.Things.{nothing, term_at, thing_at, things};
+ghost use Rattle.term_nodes.specs.Built.{IsAt, IsBuilt};
+
+use crate::nodes::Node;
+use box_rules::{Defined, Truth};
+use term_rules::{Ends, Form};
+
+/// What is known of a node over the root box: the linear form and the mark of a term; by the wide reading the mark of a term, the interval
+/// and the weight of what is no cell in it, and the truth of a condition.
+#[derive(Drop)]
+pub struct Facts {
+    pub form: Form,
+    pub mark: Defined,
+    pub wide_mark: Defined,
+    pub wide: Ends,
+    pub weight: u64,
+    pub truth: Truth,
+}
+
+impl Facts {
+    /// Nothing but cells is in the term, and it is Always defined.
+    pub fn is_plain(&self) -> bool
+        ensures { result ≡ (self.now.form.plain && is_always self.now.wide_mark) }
+    {
+        if !self.form.plain {
+            return false;
+        }
+        match self.wide_mark {
+            Defined::Never => false,
+            Defined::Maybe => false,
+            Defined::Always => true,
+        }
+    }
+}
+
+/// A node, and what is known of it.
+#[derive(Drop)]
+pub struct Item {
+    pub node: Node,
+    pub facts: Facts,
+}
+
+/// The node of this number.
+#[tactic(auto, using(crate::proofs::Reading::is_at, crate::proofs::Reading::nothing_past))]
+pub fn item_at(items: &[Item], id: u32) -> Option<&Item>
+    ensures some { (root : Box) → IsBuilt root items.now → IfSome result (λ item. IsAt root (things items.now) id item.now) }
+    ensures exists { IsSome result → id < length items.now }
+    ensures none { IfNone result (thing_at (things items.now) id ≡ nothing) }
+{
+    items.get(id as usize)
+}
+
+/// The linear form of the term of this number.
+#[tactic(auto, using(crate::proofs::Reading::form_is))]
+pub fn form_at(items: &[Item], id: u32) -> &Form
+    requires exists { id < length items.now }
+    ensures { (root : Box) → IsBuilt root items.now → form_of result.now ≡ form root (term_at (things items.now) id) }
+{
+    &items[id as usize].facts.form
+}

@@ -1,0 +1,35 @@
+//! Nodes: a term or a condition, whose operands are nodes before it.
+
+use sopl_base::CmpOp;
+use term_rules::Form;
+
+/// A part of a sum, and whether it is subtracted.
+#[derive(Clone, Copy, Debug, PartialEq, Eq)]
+pub struct Signed {
+    pub subtracted: bool,
+    pub term: u32,
+}
+
+/// A comparison, and the linear form of the left operand minus the right one.
+#[derive(Drop)]
+pub struct Comparison {
+    pub op: CmpOp,
+    pub left: u32,
+    pub right: u32,
+    pub form: Form,
+}
+
+/// A term or a condition, by the numbers of its operands.
+#[derive(Drop)]
+pub enum Node {
+    Constant(i64),
+    Cell(u32),
+    Sum(Vec<Signed>),
+    Product(u32, u32),
+    Number(u32),
+    Compare(Comparison),
+    Not(u32),
+    All(Vec<u32>),
+    Any(Vec<u32>),
+    Implies(u32, u32),
+}

@@ -1,0 +1,19 @@
+//! The rules on boxes as they are reckoned: intervals, marks, truths and linear forms, each as its definition says.
+#![tactic(auto)]
+
+mod combinations;
+mod ends;
+mod forms;
+mod marks;
+mod measures;
+mod views;
+
+pub use combinations::{Combination, WideCoefficient, WideForm};
+pub use ends::{Ends, Factor};
+pub use forms::{Coefficient, Form};
+pub use marks::{
+    all_compare, and_truth, both, compared, none_compares, opposite, or_truth, truth_ends,
+};
+pub use combinations::scaled;
+pub use measures::{times_weight, weight_of, weight_of_times};
+pub use views::{BoxView, Part};
