@@ -1,9 +1,9 @@
-mod Integers
-mod ScenarioLaws
+pub mod Integers
+pub mod ScenarioLaws
 mod Ascending
 mod Times
 mod Holding
 mod Satisfied
-mod Distinct
+pub mod Distinct
 mod ScalarDeclarations
 mod ScalarTexts

@@ -22,11 +22,12 @@ hull_bounds x y z w n p q r s =
 four_bounds : (x y z w : ℤ) (n : ℕ) → Bounds (rule.hull (rule.between x y) (rule.between z w)) n → (unsigned_abs x ≤ n) × (unsigned_abs y ≤ n) × (unsigned_abs z ≤ n) × (unsigned_abs w ≤ n)
 four_bounds x y z w n bounds =
     let low = small (rule.hull (rule.between x y) (rule.between z w)).low n bounds.low in
-    let high = small (rule.hull (rule.between x y) (rule.between z w)).high n bounds.high in
-    (sized x n (omega (arith, ints, clamps, low.0)) (omega (arith, ints, clamps, high.1)),
-    sized y n (omega (arith, ints, clamps, low.0)) (omega (arith, ints, clamps, high.1)),
-    sized z n (omega (arith, ints, clamps, low.0)) (omega (arith, ints, clamps, high.1)),
-    sized w n (omega (arith, ints, clamps, low.0)) (omega (arith, ints, clamps, high.1)))
+    let high = small (rule.hull (rule.between x y) (rule.between z w)).high n bounds.high in (
+      sized x n (omega (arith, ints, clamps, low.0)) (omega (arith, ints, clamps, high.1)),
+      sized y n (omega (arith, ints, clamps, low.0)) (omega (arith, ints, clamps, high.1)),
+      sized z n (omega (arith, ints, clamps, low.0)) (omega (arith, ints, clamps, high.1)),
+      sized w n (omega (arith, ints, clamps, low.0)) (omega (arith, ints, clamps, high.1)),
+    )
 
 abbrev size_of_both : rule.Ends → ℕ
 size_of_both a = max (unsigned_abs a.low) (unsigned_abs a.high)

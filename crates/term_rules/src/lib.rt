@@ -8,12 +8,11 @@ mod marks;
 mod measures;
 mod views;
 
-pub use combinations::{Combination, WideCoefficient, WideForm};
+pub use combinations::{Combination, WideCoefficient, WideForm, scaled};
 pub use ends::{Ends, Factor};
 pub use forms::{Coefficient, Form};
 pub use marks::{
     all_compare, and_truth, both, compared, none_compares, opposite, or_truth, truth_ends,
 };
-pub use combinations::scaled;
 pub use measures::{times_weight, weight_of, weight_of_times};
 pub use views::{BoxView, Part};
