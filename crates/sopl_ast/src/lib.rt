@@ -28,5 +28,3 @@ pub use operators::MulOp;
 pub use token::{Token, TokenKind};
 pub use whole::{Goal, Model};
 
-#[cfg(test)]
-mod tests;
