@@ -27,4 +27,3 @@ pub use name::Name;
 pub use operators::MulOp;
 pub use token::{Token, TokenKind};
 pub use whole::{Goal, Model};
-
