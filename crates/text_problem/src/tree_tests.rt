@@ -58,7 +58,7 @@ fn takes_a_comparison_apart(rt: HostRuntime) -> Result<(), Fail> {
 }
 
 /// `range r = 0..3;`, `minimize 5;` and `forall(i in r) 4;`, as far as trees go.
-#[tactic(auto, using(crate::proofs::ConstraintTrees::constraints))]
+#[tactic(auto, using(sopl_ast::proofs::ConstraintTrees::constraints))]
 fn small_model(alloc: Global) -> Result<Model, AllocError>
     ensures decls { IfOk result (λ m. (whole m).decls ≡ RangeDecl (codes "r") 6 (Node 10 (Lit (pos 0))) (Node 13 (Lit (pos 3))) ∷ []) }
     ensures goal { IfOk result (λ m. (whole m).goal ≡ Some (record { direction = Direction.Minimize; worst = false; expr = Node 25 (Lit (pos 5)) })) }
