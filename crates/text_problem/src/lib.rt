@@ -3,6 +3,8 @@
 
 mod laws;
 mod read;
+#[cfg(test)]
+mod tree_tests;
 
 pub use laws::accepted_is_simple;
 pub use read::{problem_in, typed_in};
