@@ -9,8 +9,9 @@ use Rattle.term_nodes.specs.declared.items.Item.{Item}
 use Rattle.box_rules.specs.Terms as rule
 use Rattle.box_rules.specs.Forms as forms
 use Rattle.box_rules.specs.Rules.{form}
-use Rattle.term_nodes.specs.Things.{Thing, a_term, a_cond, term_in, cond_in, term_at, cond_at, thing_at, thing_of, parts_at, conds_at, things, things_from}
-use Rattle.term_nodes.specs.Built.{IsAt, IsBuilt, IsNew, IsBelow, IsSound, IsCompared, PartsBelow, AllBelow, facts_of}
+use Rattle.term_operations.specs.Made.{operation_term, extreme_term}
+use Rattle.term_nodes.specs.Things.{Thing, a_term, a_cond, term_in, cond_in, term_at, cond_at, thing_at, thing_of, parts_at, terms_at, conds_at, things, things_from}
+use Rattle.term_nodes.specs.Built.{IsAt, IsBuilt, IsNew, IsBelow, IsSound, IsRight, PartsBelow, AllBelow, facts_of}
 use Rattle.term_nodes.proofs.Reading.{length_things}
 
 things_after : (known : List Thing) (items : List Item) (item : Item) → things_from known (items ++ item ∷ []) ≡ things_from known items ++ thing_of (things_from known items) item.node ∷ []
@@ -42,6 +43,12 @@ parts_stay all more n (p ∷ parts) most below =
     ap (λ (t : rule.Term). rule.part p.subtracted t (parts_at (all ++ more ∷ []) parts)) (term_stays all more n p.term most below.0)
     ∙ ap (rule.part p.subtracted (term_at all p.term)) (parts_stay all more n parts most below.1)
 
+terms_stay : (all : List Thing) (more : Thing) (n : ℕ) (ids : List ℕ) → n ≤ length all → AllBelow n ids → terms_at (all ++ more ∷ []) ids ≡ terms_at all ids
+terms_stay all more n [] most below = refl
+terms_stay all more n (id ∷ ids) most below =
+    ap (λ (t : rule.Term). rule.term t (terms_at (all ++ more ∷ []) ids)) (term_stays all more n id most below.0)
+    ∙ ap (rule.term (term_at all id)) (terms_stay all more n ids most below.1)
+
 conds_stay : (all : List Thing) (more : Thing) (n : ℕ) (ids : List ℕ) → n ≤ length all → AllBelow n ids → conds_at (all ++ more ∷ []) ids ≡ conds_at all ids
 conds_stay all more n [] most below = refl
 conds_stay all more n (id ∷ ids) most below =
@@ -58,6 +65,10 @@ thing_stays all more n (node.Constant z) most below = refl
 thing_stays all more n (node.Cell cell) most below = refl
 thing_stays all more n (node.Sum parts) most below = ap (λ (ps : rule.Parts). a_term (rule.Sum ps)) (parts_stay all more n parts.items most below)
 thing_stays all more n (node.Product a b) most below = two_terms (λ s t. a_term (rule.Product s t)) all more n a b most below.0 below.1
+thing_stays all more n (node.Operation op a) most below = ap (λ (t : rule.Term). a_term (operation_term op t)) (term_stays all more n a most below)
+thing_stays all more n (node.Extreme e first later) most below =
+    ap (λ (t : rule.Term). a_term (extreme_term e t (terms_at (all ++ more ∷ []) later.items))) (term_stays all more n first most below.0)
+    ∙ ap (λ (ts : rule.Terms). a_term (extreme_term e (term_at all first) ts)) (terms_stay all more n later.items most below.1)
 thing_stays all more n (node.Number c) most below = ap (λ (t : rule.Cond). a_term (rule.Number t)) (cond_stays all more n c most below)
 thing_stays all more n (node.Compare c) most below = two_terms (λ s t. a_cond (rule.Compare c.op s t)) all more n c.left c.right most below.0 below.1
 thing_stays all more n (node.Not c) most below = ap (λ (t : rule.Cond). a_cond (rule.Not t)) (cond_stays all more n c most below)
@@ -67,19 +78,21 @@ thing_stays all more n (node.Implies a c) most below =
     ap (λ (t : rule.Cond). a_cond (rule.Implies t (cond_at (all ++ more ∷ []) c))) (cond_stays all more n a most below.0)
     ∙ ap (λ (t : rule.Cond). a_cond (rule.Implies (cond_at all a) t)) (cond_stays all more n c most below.1)
 
-compared_stays : (root : Box) (all : List Thing) (more : Thing) (n : ℕ) (x : Node) → n ≤ length all → IsBelow n x → IsCompared root all x → IsCompared root (all ++ more ∷ []) x
-compared_stays root all more n (node.Constant z) most below is = tt
-compared_stays root all more n (node.Cell cell) most below is = tt
-compared_stays root all more n (node.Sum parts) most below is = tt
-compared_stays root all more n (node.Product a b) most below is = tt
-compared_stays root all more n (node.Number c) most below is = tt
-compared_stays root all more n (node.Compare c) most below is =
+right_stays : (root : Box) (all : List Thing) (more : Thing) (n : ℕ) (x : Node) → n ≤ length all → IsBelow n x → IsRight root all x → IsRight root (all ++ more ∷ []) x
+right_stays root all more n (node.Constant z) most below is = tt
+right_stays root all more n (node.Cell cell) most below is = tt
+right_stays root all more n (node.Sum parts) most below is = tt
+right_stays root all more n (node.Product a b) most below is = tt
+right_stays root all more n (node.Operation op a) most below is = is
+right_stays root all more n (node.Extreme e first later) most below is = tt
+right_stays root all more n (node.Number c) most below is = tt
+right_stays root all more n (node.Compare c) most below is =
     is ∙ sym (ap (λ (t : rule.Term). forms.plus_form (negsuc 0) (form root t) (form root (term_at (all ++ more ∷ []) c.right))) (term_stays all more n c.left most below.0)
     ∙ ap (λ (t : rule.Term). forms.plus_form (negsuc 0) (form root (term_at all c.left)) (form root t)) (term_stays all more n c.right most below.1))
-compared_stays root all more n (node.Not c) most below is = tt
-compared_stays root all more n (node.All conds) most below is = tt
-compared_stays root all more n (node.Any conds) most below is = tt
-compared_stays root all more n (node.Implies a c) most below is = tt
+right_stays root all more n (node.Not c) most below is = tt
+right_stays root all more n (node.All conds) most below is = tt
+right_stays root all more n (node.Any conds) most below is = tt
+right_stays root all more n (node.Implies a c) most below is = tt
 
 -- what stands at a number, old or new
 old_at : (root : Box) (all : List Thing) (more : Thing) (id : ℕ) (item : Item) → id < length all → IsAt root all id item → IsAt root (all ++ more ∷ []) id item
@@ -90,7 +103,7 @@ old_at root all more id item there at =
       below = at.below;
       kept = at.kept ∙ ap (facts_of root) (sym same);
       sound = subst (IsSound root) (sym same) at.sound;
-      compared = compared_stays root all more id item.node (omega (arith, there)) at.below at.compared;
+      right = right_stays root all more id item.node (omega (arith, there)) at.below at.right;
     }
 
 new_at : (root : Box) (items : List Item) (item : Item) → IsNew root items item → IsAt root (things items ++ thing_of (things items) item.node ∷ []) (length items) item
@@ -103,7 +116,7 @@ new_at root items item new =
       below = new.below;
       kept = new.kept ∙ ap (facts_of root) (sym same);
       sound = subst (IsSound root) (sym same) new.sound;
-      compared = compared_stays root all (thing_of all item.node) (length items) item.node count new.below new.compared;
+      right = right_stays root all (thing_of all item.node) (length items) item.node count new.below new.right;
     }
 
 -- an element of a list with one more

@@ -2,9 +2,5 @@ pub mod Reading
 pub mod Steps
 pub mod Ready
 pub mod Plain
+pub mod Ranges
 pub mod Growing
-pub mod Adding
-pub mod OrderedForms
-pub mod Differences
-pub mod Summing
-pub mod Multiplying

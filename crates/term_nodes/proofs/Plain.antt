@@ -1,7 +1,7 @@
 -- A term of cells alone that is Always defined over the root has nothing but cells over each box inside it.
 use Rattle.std.proofs.Common.{◌≡◌, ℤ, pos, true, ◌&&◌, arith, refl, ap, subst, sym, ◌∙◌}
 use Rattle.std.proofs.lemmas.Int.{ints}
-use Rattle.box_problem.specs.Box.{Box, IsBox, Inside, InBox}
+use Rattle.box_problem.specs.Box.{Box, IsBox, Inside}
 use Rattle.box_rules.specs.declared.answers.Defined.{Defined}
 use Rattle.box_rules.specs.declared.answers.Defined.TheVariants.{Never, Maybe, Always}
 use Rattle.box_rules.specs.Ends as ends
@@ -13,6 +13,7 @@ use Rattle.box_rules.proofs.FormValues.{and_first, and_second}
 use Rattle.box_rules.proofs.Layers.{IsClear}
 use Rattle.box_rules.proofs.Soundness.{read}
 use Rattle.box_rules.proofs.Sharpening.{narrow}
+use Rattle.term_operations.proofs.Constants.{lows_in}
 use Rattle.term_rules.specs.Shown.{box_in}
 use Rattle.term_nodes.specs.declared.items.Item.{Item}
 use Rattle.term_nodes.specs.declared.evaluation.Here.{Here}
@@ -20,9 +21,6 @@ use Rattle.term_nodes.specs.Things.{Thing, term_in, term_at, thing_of, things}
 use Rattle.term_nodes.specs.Built as built
 use Rattle.term_nodes.specs.Built.{IsAt}
 use Rattle.term_nodes.specs.Seen.{IsReady, Sight, sight}
-
-lows_in : (b : Box) → IsBox b → InBox b b.lows
-lows_in b is_box = record { same_cells = refl; from_low = λ cell there. omega (arith, ints); to_high = is_box.ordered }
 
 always_of : (m : Defined) → Sharper m Always → m ≡ Always
 always_of Never sharper = elim sharper [ ]

@@ -5,13 +5,13 @@ use Rattle.box_problem.specs.Box.{Box}
 use Rattle.box_rules.specs.Ends as ends
 use Rattle.box_rules.specs.Forms.{sign}
 use Rattle.box_rules.specs.Marks.{both, and_truth, or_truth}
-use Rattle.box_rules.specs.Rules.{Reading, Near, atoms, mark, sum_atoms, truth, all_truth, any_truth}
+use Rattle.box_rules.specs.Rules.{Reading, Near, form, atoms, mark, sum_atoms, truth, all_truth, any_truth}
 use Rattle.box_rules.specs.declared.answers.Truth.{Truth}
 use Rattle.term_nodes.specs.declared.nodes.Node.{Node}
 use Rattle.term_nodes.specs.declared.nodes.Signed.{Signed}
 use Rattle.term_nodes.specs.declared.items.Item.{Item}
 use Rattle.term_nodes.specs.Things.{Thing, term_in, cond_in, term_at, cond_at, thing_of, parts_at, conds_at}
-use Rattle.term_nodes.specs.Built.{IsAt, IsBelow, IsSound, IsCompared, PartsBelow, AllBelow}
+use Rattle.term_nodes.specs.Built.{Facts, IsAt, IsBelow, IsSound, IsRight, PartsBelow, AllBelow}
 use Rattle.term_nodes.specs.Seen.{Sight, sight, sum_sight}
 
 -- what is known where it is known which node stands at a number
@@ -29,8 +29,12 @@ below_at root all id item node at is = subst (IsBelow id) is at.below
 pub sound_at : (root : Box) (all : List Thing) (id : ℕ) (item : Item) (node : Node) → IsAt root all id item → item.node ≡ node → IsSound root (thing_of all node)
 sound_at root all id item node at is = subst (λ (n : Node). IsSound root (thing_of all n)) is at.sound
 
-pub compared_at : (root : Box) (all : List Thing) (id : ℕ) (item : Item) (node : Node) → IsAt root all id item → item.node ≡ node → IsCompared root all node
-compared_at root all id item node at is = subst (IsCompared root all) is at.compared
+pub right_at : (root : Box) (all : List Thing) (id : ℕ) (item : Item) (node : Node) → IsAt root all id item → item.node ≡ node → IsRight root all node
+right_at root all id item node at is = subst (IsRight root all) is at.right
+
+pub plain_at : (root : Box) (all : List Thing) (id : ℕ) (item : Item) (node : Node) → IsAt root all id item → item.node ≡ node → item.facts.form.plain ≡ (form root (term_in (thing_of all node))).plain
+plain_at root all id item node at is =
+    ap (λ (f : Facts). f.form.plain) at.kept ∙ ap (λ (n : Node). (form root (term_in (thing_of all n))).plain) is
 
 -- the parts of a sum
 pub next_part : (root b : Box) (all : List Thing) (xs : List Signed) (i : ℕ) (x : Signed) → i < length xs → x ≡ get_or xs i x → sum_sight root b (parts_at all (drop i xs)) ≡ record { ends = ends.plus (ends.scaled (sign x.subtracted) (atoms Near root b (term_at all x.term))) (sum_atoms Near root b (parts_at all (drop (i + 1) xs))); mark = both (mark Near root b (term_at all x.term)) (sum_sight root b (parts_at all (drop (i + 1) xs))).mark }

@@ -13,6 +13,7 @@ use Rattle.box_rules.specs.declared.answers.Truth.{Truth}
 use Rattle.box_rules.specs.declared.answers.Truth.TheVariants.{True}
 use Rattle.box_rules.specs.Marks.{truth_ends}
 use Rattle.term_rules.specs.Shown.{ends_of, form_of}
+use Rattle.term_operations.specs.Made.{IsPossible}
 use Rattle.term_nodes.specs.declared.nodes.Node.{Node}
 use Rattle.term_nodes.specs.declared.nodes.Node.TheVariants as node
 use Rattle.term_nodes.specs.declared.nodes.Signed.{Signed}
@@ -104,6 +105,8 @@ IsBelow id (node.Constant z) = Unit {0}
 IsBelow id (node.Cell cell) = Unit {0}
 IsBelow id (node.Sum parts) = PartsBelow id parts.items
 IsBelow id (node.Product a b) = (a < id) × (b < id)
+IsBelow id (node.Operation op a) = a < id
+IsBelow id (node.Extreme e first later) = (first < id) × AllBelow id later.items
 IsBelow id (node.Number c) = c < id
 IsBelow id (node.Compare c) = (c.left < id) × (c.right < id)
 IsBelow id (node.Not c) = c < id
@@ -111,19 +114,21 @@ IsBelow id (node.All conds) = AllBelow id conds.items
 IsBelow id (node.Any conds) = AllBelow id conds.items
 IsBelow id (node.Implies a c) = (a < id) × (c < id)
 
--- the form of a comparison is that of the difference
-abbrev pub IsCompared : Box → List Thing → Node → Type 0
-IsCompared root all (node.Constant z) = Unit {0}
-IsCompared root all (node.Cell cell) = Unit {0}
-IsCompared root all (node.Sum parts) = Unit {0}
-IsCompared root all (node.Product a b) = Unit {0}
-IsCompared root all (node.Number c) = Unit {0}
-IsCompared root all (node.Compare c) =
+-- a divisor can be reckoned with, and the form of a comparison is that of the difference
+abbrev pub IsRight : Box → List Thing → Node → Type 0
+IsRight root all (node.Constant z) = Unit {0}
+IsRight root all (node.Cell cell) = Unit {0}
+IsRight root all (node.Sum parts) = Unit {0}
+IsRight root all (node.Product a b) = Unit {0}
+IsRight root all (node.Operation op a) = IsPossible op
+IsRight root all (node.Extreme e first later) = Unit {0}
+IsRight root all (node.Number c) = Unit {0}
+IsRight root all (node.Compare c) =
     form_of c.form ≡ forms.plus_form (negsuc 0) (form root (term_at all c.left)) (form root (term_at all c.right))
-IsCompared root all (node.Not c) = Unit {0}
-IsCompared root all (node.All conds) = Unit {0}
-IsCompared root all (node.Any conds) = Unit {0}
-IsCompared root all (node.Implies a c) = Unit {0}
+IsRight root all (node.Not c) = Unit {0}
+IsRight root all (node.All conds) = Unit {0}
+IsRight root all (node.Any conds) = Unit {0}
+IsRight root all (node.Implies a c) = Unit {0}
 
 -- what stands at a number
 pub record IsAt (root : Box) (all : List Thing) (id : ℕ) (item : Item) : Type 0 where
@@ -131,7 +136,7 @@ pub record IsAt (root : Box) (all : List Thing) (id : ℕ) (item : Item) : Type 
   pub below : IsBelow id item.node
   pub kept : kept item.facts ≡ facts_of root (thing_of all item.node)
   pub sound : IsSound root (thing_of all item.node)
-  pub compared : IsCompared root all item.node
+  pub right : IsRight root all item.node
 
 -- all nodes are so
 pub record IsBuilt (root : Box) (items : List Item) : Type 0 where
@@ -142,4 +147,4 @@ pub record IsNew (root : Box) (items : List Item) (item : Item) : Type 0 where
   pub below : IsBelow (length items) item.node
   pub kept : kept item.facts ≡ facts_of root (thing_of (things items) item.node)
   pub sound : IsSound root (thing_of (things items) item.node)
-  pub compared : IsCompared root (things items) item.node
+  pub right : IsRight root (things items) item.node

@@ -1,4 +1,3 @@
 pub mod Things
 pub mod Built
 pub mod Seen
-pub mod Stores

@@ -1,9 +1,13 @@
 -- What terms are over a box.
 use Rattle.box_problem.specs.Box.{Box, IsBox, Inside}
 use Rattle.box_rules.specs.Ends as ends
-use Rattle.box_rules.specs.Terms.{Term, Parts}
+use Rattle.std.specs.List.{fold}
+use Rattle.box_rules.specs.Marks.{both, all_marks}
+use Rattle.box_rules.specs.Terms.{Term, Terms, Parts}
 use Rattle.box_rules.specs.Rules as rule
 use Rattle.box_rules.specs.declared.answers.Defined.{Defined}
+use Rattle.term_operations.specs.declared.extremes.Extreme.{Extreme}
+use Rattle.term_operations.specs.Made.{picked}
 use Rattle.term_rules.specs.Shown.{box_in, ends_of}
 use Rattle.term_nodes.specs.declared.evaluation.Here.{Here}
 use Rattle.term_nodes.specs.declared.evaluation.Sight as own
@@ -22,6 +26,17 @@ sight root b t = record { ends = rule.atoms rule.Near root b t; mark = rule.mark
 
 abbrev pub sum_sight : Box → Box → Parts → Sight
 sum_sight root b parts = record { ends = rule.sum_atoms rule.Near root b parts; mark = rule.sum_mark rule.Near root b parts }
+
+-- the whole interval of a term, and its mark
+abbrev pub range : rule.Reading → Box → Box → Term → Sight
+range reading root b t = record { ends = rule.interval reading root b t; mark = rule.mark reading root b t }
+
+-- the whole interval of the least or the greatest of several, and the mark of all
+abbrev pub extreme_range : rule.Reading → Box → Box → Extreme → Term → Terms → Sight
+extreme_range reading root b e t later = record {
+  ends = fold (picked e) (rule.interval reading root b t) (rule.intervals reading root b later);
+  mark = both (rule.mark reading root b t) (all_marks (rule.marks reading root b later));
+}
 
 -- what a term is over the root, by the wide reading
 abbrev pub wide_sight : Box → Term → Sight

@@ -1,6 +1,7 @@
 -- Which term or condition a node is.
 use Rattle.std.specs.Prelude.{ℕ, pos, List, [], ◌∷◌, ◌++◌, slice_index_or}
 use Rattle.box_rules.specs.Terms as rule
+use Rattle.term_operations.specs.Made.{operation_term, extreme_term}
 use Rattle.term_nodes.specs.declared.nodes.Node.{Node}
 use Rattle.term_nodes.specs.declared.nodes.Node.TheVariants as node
 use Rattle.term_nodes.specs.declared.nodes.Signed.{Signed}
@@ -37,6 +38,10 @@ abbrev pub parts_at : List Thing → List Signed → rule.Parts
 parts_at all [] = rule.no_part
 parts_at all (p ∷ parts) = rule.part p.subtracted (term_at all p.term) (parts_at all parts)
 
+abbrev pub terms_at : List Thing → List ℕ → rule.Terms
+terms_at all [] = rule.no_term
+terms_at all (id ∷ ids) = rule.term (term_at all id) (terms_at all ids)
+
 abbrev pub conds_at : List Thing → List ℕ → rule.Conds
 conds_at all [] = rule.no_cond
 conds_at all (id ∷ ids) = rule.condition (cond_at all id) (conds_at all ids)
@@ -47,6 +52,8 @@ thing_of all (node.Constant z) = a_term (rule.Constant z)
 thing_of all (node.Cell cell) = a_term (rule.Cell cell)
 thing_of all (node.Sum parts) = a_term (rule.Sum (parts_at all parts.items))
 thing_of all (node.Product a b) = a_term (rule.Product (term_at all a) (term_at all b))
+thing_of all (node.Operation op a) = a_term (operation_term op (term_at all a))
+thing_of all (node.Extreme e first later) = a_term (extreme_term e (term_at all first) (terms_at all later.items))
 thing_of all (node.Number c) = a_term (rule.Number (cond_at all c))
 thing_of all (node.Compare c) = a_cond (rule.Compare c.op (term_at all c.left) (term_at all c.right))
 thing_of all (node.Not c) = a_cond (rule.Not (cond_at all c))

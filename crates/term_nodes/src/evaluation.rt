@@ -9,13 +9,15 @@ ghost use Rattle.box_rules.specs.Rules as rule;
 ghost use Rattle.box_rules.specs.Terms as term;
 ghost use Rattle.box_rules.specs.declared.answers.Defined.TheVariants.{Always};
 ghost use Rattle.term_rules.specs.Shown.{IsFit, box_in, ends_at, ends_of, form_of};
-ghost use Rattle.term_nodes.specs.Things.{cond_at, conds_at, parts_at, term_at, things};
+ghost use Rattle.term_operations.specs.Made.{IsPossible, extreme_term, operation_term, picked};
+ghost use Rattle.term_nodes.specs.Things.{cond_at, conds_at, parts_at, term_at, terms_at, things};
 ghost use Rattle.term_nodes.specs.Built.{AllBelow, IsSoundTerm, PartsBelow};
-ghost use Rattle.term_nodes.specs.Seen.{IsReady, sight, sight_of, sum_sight};
+ghost use Rattle.term_nodes.specs.Seen.{IsReady, extreme_range, sight, sight_of, sum_sight};
 
 use crate::items::{Item, form_at, item_at};
 use crate::nodes::{Comparison, Node, Signed};
 use box_rules::{Defined, Truth};
+use term_operations::{Extreme, Operation};
 use term_rules::{
     BoxView, Ends, Factor, and_truth, both, compared, opposite, or_truth, truth_ends,
 };
@@ -39,7 +41,7 @@ impl Sight {
     }
 
     /// A sum with a part more.
-    pub(crate) fn with_part(&self, subtracted: bool, part: &Sight) -> Sight
+    pub fn with_part(&self, subtracted: bool, part: &Sight) -> Sight
         requires times { IsFit (ends_at (sign subtracted) (ends_of part.now.ends)) }
         requires plus { IsFit (ends.plus (ends.scaled (sign subtracted) (ends_of part.now.ends)) (ends_of self.now.ends)) }
         ensures { sight_of result ≡ record {
@@ -53,10 +55,23 @@ impl Sight {
             mark: both(part.mark, self.mark),
         }
     }
+
+    /// The one that is taken of this number and another, where the whole intervals of both are given.
+    pub fn or_other(&self, extreme: Extreme, other: &Sight) -> Sight
+        ensures { sight_of result ≡ record {
+          ends = picked extreme (ends_of self.now.ends) (ends_of other.now.ends);
+          mark = marks.both self.now.mark other.now.mark;
+        } }
+    {
+        Sight {
+            ends: extreme.taken(&self.ends, &other.ends),
+            mark: both(self.mark, other.mark),
+        }
+    }
 }
 
 /// 1, or -1 for what is subtracted.
-pub(crate) fn factor(subtracted: bool) -> Factor
+pub fn factor(subtracted: bool) -> Factor
     ensures { result.k ≡ sign subtracted }
 {
     if subtracted {
@@ -76,6 +91,7 @@ pub struct Here<'a> {
 
 impl<'a> Here<'a> {
     /// The whole interval of a term over the box, and its mark.
+    #[cycle(seen)]
     pub fn range(&self, id: u32) -> Sight
         requires ready { IsReady self.now }
         requires exists { id < length self.now.items.now }
@@ -92,7 +108,7 @@ impl<'a> Here<'a> {
 
     /// What a term is over the box.
     #[cycle(seen)]
-    #[tactic(auto, using(crate::proofs::Plain::plain_seen, crate::proofs::Steps::seen_at, crate::proofs::Steps::below_at, crate::proofs::Steps::sound_at))]
+    #[tactic(auto, using(crate::proofs::Plain::plain_seen, crate::proofs::Steps::seen_at, crate::proofs::Steps::below_at, crate::proofs::Steps::sound_at, crate::proofs::Steps::right_at, crate::proofs::Steps::plain_at))]
     pub fn seen(&self, id: u32) -> Sight
         requires ready { IsReady self.now }
         ensures { sight_of result ≡ sight (box_in self.now.root) (box_in self.now.view) (term_at (things self.now.items.now) id) }
@@ -108,6 +124,18 @@ impl<'a> Here<'a> {
             Node::Cell(_) => Sight::clear(),
             Node::Sum(parts) => self.sum(id, parts.as_slice()),
             Node::Product(a, b) => self.product(id, *a, *b),
+            Node::Operation(operation, a) => {
+                self.operation(item.facts.form.plain, id, operation, *a)
+            }
+            Node::Extreme(extreme, first, later) => {
+                self.extreme(
+                    item.facts.form.plain,
+                    id,
+                    *extreme,
+                    *first,
+                    later.as_slice(),
+                )
+            }
             Node::Number(c) => self.number(id, *c),
             Node::Compare(_) => Sight::clear(),
             Node::Not(_) => Sight::clear(),
@@ -156,6 +184,69 @@ impl<'a> Here<'a> {
         }
     }
 
+    /// What is made of one number over the box; where it folds to a number, it is plain.
+    #[cycle(seen)]
+    #[tactic(auto, using(crate::proofs::Ranges::operation_small, crate::proofs::Ranges::operation_folded, crate::proofs::Ranges::operation_alone))]
+    fn operation(&self, plain: bool, limit: u32, operation: &Operation, a: u32) -> Sight
+        requires ready { IsReady self.now }
+        requires exists { limit < length self.now.items.now }
+        requires below { a < limit }
+        requires possible { IsPossible operation.now }
+        requires plain { plain ≡ (rule.form (box_in self.now.root) (operation_term operation.now (term_at (things self.now.items.now) a))).plain }
+        ensures { sight_of result ≡ sight (box_in self.now.root) (box_in self.now.view) (operation_term operation.now (term_at (things self.now.items.now) a)) }
+    {
+        let range = self.range(a);
+        if plain {
+            return Sight {
+                ends: Ends::zero(),
+                mark: range.mark,
+            };
+        }
+        Sight {
+            ends: operation.made(&range.ends),
+            mark: range.mark,
+        }
+    }
+
+    /// What the least or the greatest of several is over the box; where it folds to a number, it is plain.
+    #[cycle(seen)]
+    #[tactic(auto, using(crate::proofs::Ranges::extreme_folded, crate::proofs::Ranges::extreme_alone))]
+    fn extreme(&self, plain: bool, limit: u32, extreme: Extreme, first: u32, later: &[u32]) -> Sight
+        requires ready { IsReady self.now }
+        requires exists { limit < length self.now.items.now }
+        requires first { first < limit }
+        requires below { AllBelow limit later.now }
+        requires plain { plain ≡ (rule.form (box_in self.now.root) (extreme_term extreme (term_at (things self.now.items.now) first) (terms_at (things self.now.items.now) later.now))).plain }
+        ensures { sight_of result ≡ sight (box_in self.now.root) (box_in self.now.view) (extreme_term extreme (term_at (things self.now.items.now) first) (terms_at (things self.now.items.now) later.now)) }
+    {
+        let range = self.extreme_range(limit, extreme, first, later);
+        if plain {
+            return Sight {
+                ends: Ends::zero(),
+                mark: range.mark,
+            };
+        }
+        range
+    }
+
+    /// The least or the greatest of the whole intervals of several, and the mark of all.
+    #[cycle(seen)]
+    #[tactic(auto, using(crate::proofs::Ranges::next_taken, crate::proofs::Ranges::none_taken, crate::proofs::Ranges::taken_is, crate::proofs::Steps::cond_below))]
+    fn extreme_range(&self, limit: u32, extreme: Extreme, first: u32, later: &[u32]) -> Sight
+        requires ready { IsReady self.now }
+        requires exists { limit < length self.now.items.now }
+        requires first { first < limit }
+        requires below { AllBelow limit later.now }
+        ensures { sight_of result ≡ extreme_range rule.Near (box_in self.now.root) (box_in self.now.view) extreme (term_at (things self.now.items.now) first) (terms_at (things self.now.items.now) later.now) }
+    {
+        let mut taken = self.range(first);
+        for id in later {
+            let other = self.range(*id);
+            taken = taken.or_other(extreme, &other);
+        }
+        taken
+    }
+
     /// What a condition as a number is over the box.
     #[cycle(seen)]
     fn number(&self, limit: u32, c: u32) -> Sight
@@ -172,7 +263,7 @@ impl<'a> Here<'a> {
 
     /// The truth of a condition over the box.
     #[cycle(seen)]
-    #[tactic(auto, using(crate::proofs::Steps::truth_at, crate::proofs::Steps::below_at, crate::proofs::Steps::compared_at))]
+    #[tactic(auto, using(crate::proofs::Steps::truth_at, crate::proofs::Steps::below_at, crate::proofs::Steps::right_at))]
     pub fn truth(&self, id: u32) -> Truth
         requires ready { IsReady self.now }
         ensures { result ≡ rule.truth rule.Near (box_in self.now.root) (box_in self.now.view) (cond_at (things self.now.items.now) id) }
@@ -185,6 +276,8 @@ impl<'a> Here<'a> {
             Node::Cell(_) => Truth::True,
             Node::Sum(_) => Truth::True,
             Node::Product(_, _) => Truth::True,
+            Node::Operation(_, _) => Truth::True,
+            Node::Extreme(_, _, _) => Truth::True,
             Node::Number(_) => Truth::True,
             Node::Compare(comparison) => self.compare(id, comparison),
             Node::Not(c) => opposite(self.truth(*c)),

@@ -1,6 +1,7 @@
 //! Nodes: a term or a condition, whose operands are nodes before it.
 
 use sopl_base::CmpOp;
+use term_operations::{Extreme, Operation};
 use term_rules::Form;
 
 /// A part of a sum, and whether it is subtracted.
@@ -26,6 +27,8 @@ pub enum Node {
     Cell(u32),
     Sum(Vec<Signed>),
     Product(u32, u32),
+    Operation(Operation, u32),
+    Extreme(Extreme, u32, Vec<u32>),
     Number(u32),
     Compare(Comparison),
     Not(u32),

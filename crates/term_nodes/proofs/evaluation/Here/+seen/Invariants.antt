@@ -1,36 +1,49 @@
 use Rattle.std.proofs.Common.{◌≡◌, ◌+◌, ◌*◌, drop}
 use Rattle.box_rules.specs.Rules as rule
-use Rattle.term_rules.specs.Shown.{box_in}
-use Rattle.term_nodes.specs.Things.{conds_at, parts_at, things}
+use Rattle.term_rules.specs.Shown.{box_in, ends_of}
+use Rattle.term_nodes.specs.Things.{conds_at, parts_at, term_at, terms_at, things}
 use Rattle.term_nodes.specs.Seen.{sight_of, sum_sight}
+use Rattle.term_nodes.proofs.Ranges.{taken}
 use Rattle.term_nodes.proofs.evaluation.Here.+seen.Given as goal
 
 abbrev pub decreases-all : goal.decreases-all
-decreases-all l = 2 * l.limit
+decreases-all l = 4 * l.limit
 
 abbrev pub decreases-any : goal.decreases-any
-decreases-any l = 2 * l.limit
+decreases-any l = 4 * l.limit
 
 abbrev pub decreases-compare : goal.decreases-compare
-decreases-compare l = 2 * l.limit
+decreases-compare l = 4 * l.limit
+
+abbrev pub decreases-extreme : goal.decreases-extreme
+decreases-extreme l = 4 * l.limit + 1
+
+abbrev pub decreases-extreme_range : goal.decreases-extreme_range
+decreases-extreme_range l = 4 * l.limit
 
 abbrev pub decreases-implies : goal.decreases-implies
-decreases-implies l = 2 * l.limit
+decreases-implies l = 4 * l.limit
 
 abbrev pub decreases-number : goal.decreases-number
-decreases-number l = 2 * l.limit
+decreases-number l = 4 * l.limit
+
+abbrev pub decreases-operation : goal.decreases-operation
+decreases-operation l = 4 * l.limit
 
 abbrev pub decreases-product : goal.decreases-product
-decreases-product l = 2 * l.limit
+decreases-product l = 4 * l.limit
+
+abbrev pub decreases-range : goal.decreases-range
+decreases-range l = 4 * l.id + 3
 
 abbrev pub decreases-seen : goal.decreases-seen
-decreases-seen l = 2 * l.id + 1
+decreases-seen l = 4 * l.id + 2
 
 abbrev pub decreases-sum : goal.decreases-sum
-decreases-sum l = 2 * l.limit
+decreases-sum l = 4 * l.limit
 
 abbrev pub decreases-truth : goal.decreases-truth
-decreases-truth l = 2 * l.id + 1
+decreases-truth l = 4 * l.id + 2
 
 abbrev pub invariant-all-loop-i : goal.invariant-all-loop-i
 invariant-all-loop-i l =
@@ -39,6 +52,11 @@ invariant-all-loop-i l =
 abbrev pub invariant-any-loop-i : goal.invariant-any-loop-i
 invariant-any-loop-i l =
     l.truth ≡ rule.any_truth rule.Near (box_in l.self.root) (box_in l.self.view) (conds_at (things l.self.items.now) (drop l.i l.conds))
+
+abbrev pub invariant-extreme_range-loop-id : goal.invariant-extreme_range-loop-id
+invariant-extreme_range-loop-id l =
+    taken rule.Near (box_in l.self.root) (box_in l.self.view) l.extreme (ends_of l.taken.ends) l.taken.mark (terms_at (things l.self.items.now) (drop l.id-index l.later))
+    ≡ taken rule.Near (box_in l.self.root) (box_in l.self.view) l.extreme (rule.interval rule.Near (box_in l.self.root) (box_in l.self.view) (term_at (things l.self.items.now) l.first)) (rule.mark rule.Near (box_in l.self.root) (box_in l.self.view) (term_at (things l.self.items.now) l.first)) (terms_at (things l.self.items.now) l.later)
 
 abbrev pub invariant-sum-loop-i : goal.invariant-sum-loop-i
 invariant-sum-loop-i l =

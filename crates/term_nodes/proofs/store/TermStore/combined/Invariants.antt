@@ -1,9 +1,0 @@
-use Rattle.std.proofs.Common.{◌≡◌, drop}
-use Rattle.box_rules.specs.Rules.{sum_form}
-use Rattle.term_rules.specs.Sums.{combination_of}
-use Rattle.term_nodes.specs.Things.{parts_at}
-use Rattle.term_nodes.specs.Stores.{all, root_of}
-use Rattle.term_nodes.proofs.store.TermStore.combined.Given as goal
-
-abbrev pub invariant-loop-i : goal.invariant-loop-i
-invariant-loop-i l = combination_of l.sum ≡ sum_form (root_of l.self) (parts_at (all l.self) (drop l.i l.parts))

@@ -1,0 +1,6 @@
+pub mod Adding
+pub mod OrderedForms
+pub mod Differences
+pub mod Summing
+pub mod Multiplying
+pub mod Folding

@@ -1,0 +1,133 @@
+//! The least and the greatest of several are added.
+
+ghost use Rattle.std.specs.Prelude.{◌≡◌, ◌<◌, ◌∷◌, length, IfOk, OnErr};
+ghost use Rattle.box_rules.specs.Marks as marks;
+ghost use Rattle.box_rules.specs.Rules as rule;
+ghost use Rattle.box_rules.specs.Sizes as sizes;
+ghost use Rattle.box_rules.specs.Terms as term;
+ghost use Rattle.term_operations.specs.Made.{extreme_term};
+ghost use Rattle.term_nodes.specs.Built.{AllBelow, facts_of, kept};
+ghost use Rattle.term_nodes.specs.Seen.{extreme_range, sight_of};
+ghost use Rattle.term_nodes.specs.Things.{a_term, term_at, terms_at};
+ghost use Rattle.term_store.specs.Stores.{IsAdded, IsMeasured, IsSoundStore, all, root_of};
+
+use crate::folded::folded_facts;
+use crate::store::TermStore;
+use box_rules::Defined;
+use sopl_base::Fault;
+use term_nodes::{Facts, Node, Sight};
+use term_operations::Extreme;
+use term_rules::both;
+
+impl TermStore {
+    /// The mark of several terms over the root box.
+    #[tactic(auto, using(crate::proofs::Folding::next_marks, crate::proofs::Folding::no_marks, term_nodes::proofs::Steps::cond_below))]
+    fn marks_known(&self, first: u32, later: &[u32]) -> Defined
+        requires sound { IsSoundStore self.now }
+        requires first { first < length self.now.items.items }
+        requires exist { AllBelow (length self.now.items.items) later.now }
+        ensures { result ≡ marks.both (rule.mark rule.Near (root_of self.now) (root_of self.now) (term_at (all self.now) first)) (marks.all_marks (rule.marks rule.Near (root_of self.now) (root_of self.now) (terms_at (all self.now) later.now))) }
+    {
+        let mut mark = self.mark_known(first);
+        for id in later {
+            let here = self.mark_known(*id);
+            mark = both(mark, here);
+        }
+        mark
+    }
+
+    /// Whether the least or the greatest of several terms is a number.
+    fn operands_fold(&self, first: u32, later: &[u32]) -> bool
+        requires sound { IsSoundStore self.now }
+        requires first { first < length self.now.items.items }
+        requires exist { AllBelow (length self.now.items.items) later.now }
+        ensures { result ≡ rule.folds (rule.form (root_of self.now) (term_at (all self.now) first) ∷ rule.forms (root_of self.now) (terms_at (all self.now) later.now)) (marks.both (rule.mark rule.Near (root_of self.now) (root_of self.now) (term_at (all self.now) first)) (marks.all_marks (rule.marks rule.Near (root_of self.now) (root_of self.now) (terms_at (all self.now) later.now)))) }
+    {
+        if !self.form_known(first).is_constant() {
+            return false;
+        }
+        if !self.all_constant(later) {
+            return false;
+        }
+        match self.marks_known(first, later) {
+            Defined::Never => false,
+            Defined::Maybe => false,
+            Defined::Always => true,
+        }
+    }
+
+    /// The least or the greatest of whole intervals over the root box, and the mark of all, by the wide reading.
+    #[tactic(auto, using(term_nodes::proofs::Ranges::next_taken, term_nodes::proofs::Ranges::none_taken, term_nodes::proofs::Ranges::taken_is, term_nodes::proofs::Steps::cond_below))]
+    fn extreme_known(&self, extreme: Extreme, first: u32, later: &[u32]) -> Sight
+        requires sound { IsSoundStore self.now }
+        requires first { first < length self.now.items.items }
+        requires exist { AllBelow (length self.now.items.items) later.now }
+        ensures { sight_of result ≡ extreme_range rule.Wide (root_of self.now) (root_of self.now) extreme (term_at (all self.now) first) (terms_at (all self.now) later.now) }
+    {
+        let mut taken = self.range_known(first);
+        for id in later {
+            let other = self.range_known(*id);
+            taken = taken.or_other(extreme, &other);
+        }
+        taken
+    }
+
+    /// What is known of the least or the greatest of several terms, where its size is at most 2^40.
+    fn extreme_facts(&self, extreme: Extreme, first: u32, later: &[u32]) -> Result<Facts, Fault>
+        requires sound { IsSoundStore self.now }
+        requires first { first < length self.now.items.items }
+        requires exist { AllBelow (length self.now.items.items) later.now }
+        ensures facts { IfOk result (λ facts. kept facts ≡ facts_of (root_of self.now) (a_term (extreme_term extreme (term_at (all self.now) first) (terms_at (all self.now) later.now)))) }
+        ensures measured { IsMeasured (sizes.size (root_of self.now) (extreme_term extreme (term_at (all self.now) first) (terms_at (all self.now) later.now))) result }
+    {
+        let folds = self.operands_fold(first, later);
+        let mark = self.marks_known(first, later);
+        let wide = self.extreme_known(extreme, first, later);
+        folded_facts(self.alloc, folds, mark, &wide)
+    }
+
+    /// The least or the greatest of several terms.
+    fn extreme(&mut self, extreme: Extreme, first: u32, later: &[u32]) -> Result<u32, Fault>
+        requires sound { IsSoundStore self.old }
+        requires first { first < length (all self.old) }
+        requires exist { AllBelow (length (all self.old)) later.now }
+        ensures sound { IsSoundStore self.new }
+        ensures root { root_of self.new ≡ root_of self.old }
+        ensures added { IfOk result (λ id. IsAdded (all self.old) (all self.new) id (a_term (extreme_term extreme (term_at (all self.old) first) (terms_at (all self.old) later.now)))) }
+        ensures measured { IsMeasured (sizes.size (root_of self.old) (extreme_term extreme (term_at (all self.old) first) (terms_at (all self.old) later.now))) result }
+        ensures err { OnErr result (all self.new ≡ all self.old) }
+    {
+        let facts = self.extreme_facts(extreme, first, later)?;
+        let list = Vec::from_slice(self.alloc, later)?;
+        let id = self.add(Node::Extreme(extreme, first, list), facts)?;
+        Ok(id)
+    }
+
+    /// The least of a term and later ones.
+    pub fn least(&mut self, first: u32, later: &[u32]) -> Result<u32, Fault>
+        requires sound { IsSoundStore self.old }
+        requires first { first < length (all self.old) }
+        requires exist { AllBelow (length (all self.old)) later.now }
+        ensures sound { IsSoundStore self.new }
+        ensures root { root_of self.new ≡ root_of self.old }
+        ensures added { IfOk result (λ id. IsAdded (all self.old) (all self.new) id (a_term (term.Least (term_at (all self.old) first) (terms_at (all self.old) later.now)))) }
+        ensures measured { IsMeasured (sizes.size (root_of self.old) (term.Least (term_at (all self.old) first) (terms_at (all self.old) later.now))) result }
+        ensures err { OnErr result (all self.new ≡ all self.old) }
+    {
+        self.extreme(Extreme::Least, first, later)
+    }
+
+    /// The greatest of a term and later ones.
+    pub fn greatest(&mut self, first: u32, later: &[u32]) -> Result<u32, Fault>
+        requires sound { IsSoundStore self.old }
+        requires first { first < length (all self.old) }
+        requires exist { AllBelow (length (all self.old)) later.now }
+        ensures sound { IsSoundStore self.new }
+        ensures root { root_of self.new ≡ root_of self.old }
+        ensures added { IfOk result (λ id. IsAdded (all self.old) (all self.new) id (a_term (term.Greatest (term_at (all self.old) first) (terms_at (all self.old) later.now)))) }
+        ensures measured { IsMeasured (sizes.size (root_of self.old) (term.Greatest (term_at (all self.old) first) (terms_at (all self.old) later.now))) result }
+        ensures err { OnErr result (all self.new ≡ all self.old) }
+    {
+        self.extreme(Extreme::Greatest, first, later)
+    }
+}

@@ -1,0 +1,15 @@
+//! A store of terms and conditions over the cells of a root box: each call adds one of them and says what it is, and each of them is seen over a box.
+#![tactic(auto)]
+
+mod comparisons;
+mod extremes;
+mod folded;
+mod known;
+mod operations;
+mod over;
+mod products;
+mod store;
+mod sums;
+mod terms;
+
+pub use store::TermStore;
