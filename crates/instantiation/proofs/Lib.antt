@@ -1,0 +1,17 @@
+pub mod Lookups
+pub mod Places
+pub mod Agreeing
+pub mod Means
+pub mod Problems
+pub mod Arrays
+pub mod Initials
+pub mod Owned
+pub mod Declared
+pub mod Stands
+pub mod Numbers
+pub mod Whole
+pub mod Best
+pub mod Ascending
+pub mod Tables
+pub mod Proper
+pub mod Root

@@ -1,0 +1,46 @@
+-- The arrays of elements, and that all arrays in instances are as rules on boxes ask for.
+use Rattle.std.specs.Prelude.{◌≡◌, ◌↔◌, ℤ, ◌<ℤ◌, List, [], ◌∷◌, map, IfSome}
+use Rattle.std.specs.List.{AllByRecursion, Contains}
+use Rattle.sopl_ast.specs.Tree.{Tree}
+use Rattle.sopl_ast.specs.Instances.{Problem}
+use Rattle.box_rules.specs.Arrays.{Entry, indices}
+use Rattle.box_rules.specs.Laws.{IsTable, IsProper, IsProperCond}
+use Rattle.instantiation.specs.Instances.{Place, Instance, table_of, table_over, instance}
+use Rattle.instantiation.specs.Whole.{ChanceTerms, GoalTerms, ProblemTerms, problem_terms}
+
+-- numbers ascend: each is less than the next
+abbrev pub Ascends : List ℤ → Type 0
+Ascends [] = Unit {0}
+Ascends (x ∷ []) = Unit {0}
+Ascends (x ∷ y ∷ more) = (x <ℤ y) × Ascends (y ∷ more)
+
+-- the array of whatever elements has index sets of which the numbers ascend, an item for each index, and no index twice
+abbrev pub TablesAreSound : Type 0
+TablesAreSound = (entries : List Entry) → AllByRecursion Ascends (table_of entries).sets × IsTable (table_of entries)
+
+-- the indices of elements are all that some sets have
+abbrev pub HaveIndices : List Entry → List (List ℤ) → Type 0
+HaveIndices entries sets = (index : List ℤ) → Contains (indices sets) index ↔ Contains (map (λ (e : Entry). e.index) entries) index
+
+-- the array of elements that have all indices of some sets, and one at least, has these sets
+abbrev pub TablesHaveSets : Type 0
+TablesHaveSets =
+    (sets : List (List ℤ)) (first : Entry) (later : List Entry) → AllByRecursion Ascends sets → HaveIndices (first ∷ later) sets
+    → table_of (first ∷ later) ≡ table_over (first ∷ later) sets
+
+-- all arrays in an instance are so
+pub record IsProperInstance (x : Instance) : Type 0 where
+  pub term : IsProper x.term
+  pub cond : IsProperCond x.cond
+
+abbrev pub InstancesAreProper : Type 0
+InstancesAreProper = (place : Place) (e : Tree) → IsProperInstance (instance place e)
+
+-- all arrays in a problem in terms are so
+pub record AreProperTerms (terms : ProblemTerms) : Type 0 where
+  pub hards : AllByRecursion (AllByRecursion IsProperCond) terms.hards
+  pub chances : AllByRecursion (λ (chance : ChanceTerms). AllByRecursion IsProperCond chance.conditions) terms.chances
+  pub goal : IfSome terms.goal (λ (goal : GoalTerms). AllByRecursion IsProper goal.terms)
+
+abbrev pub ProblemsAreProper : Type 0
+ProblemsAreProper = (problem : Problem) → AreProperTerms (problem_terms problem)
