@@ -3,9 +3,9 @@ pub mod Sizes
 pub mod Truths
 pub mod Steps
 pub mod Scenes
-pub mod Keys
 pub mod Settings
 pub mod Ready
+pub mod CellDomains
 pub mod Verdicts
 pub mod Stated
 pub mod Names

@@ -5,6 +5,7 @@ use Rattle.std.proofs.lemmas.Bool.{and_parts, leb-true, or_cases}
 use Rattle.std.proofs.lemmas.Int.{ints}
 use Rattle.std.proofs.lemmas.List.Elements.{All-nil, All-cons, All-head, All-tail, All-append}
 use Rattle.std.proofs.lemmas.List.Folds.{list_any-append}
+use Rattle.std.proofs.lemmas.Option.{slice_get_within}
 use Rattle.std.specs.List.{list_all, list_any, flat_map, enumerate_from}
 use Rattle.std.specs.Str.{bytes_eq}
 use Rattle.std.specs.FinMap.{get}
@@ -16,10 +17,11 @@ use Rattle.sopl_ast.specs.Cells.{Cell, cells, cells_of, IsPoint, policy_at}
 use Rattle.sopl_ast.specs.Meanings.{is_at, or_else, seen_value, decision_at}
 use Rattle.sopl_ast.specs.Optimal.{place_in}
 use Rattle.sopl_ast.specs.Small.{is_small_decision}
-use Rattle.sopl_scen.specs.Layout.{place_of, numbers_in}
-use Rattle.policy_eval.proofs.Keys.{get-policy_at, numbered, place_in_scene}
-use Rattle.policy_eval.specs.Sights.{Sight, Shows, IsSmallSight, cell_value, chosen_value, is_shown}
-use Rattle.policy_eval.specs.Judged.{IsJudged, sight_in, is_declared}
+use Rattle.policy_tree.proofs.Bijection.{cell_value as value_of_cell}
+use Rattle.scenario_tree.specs.Layout.{Layout, cell_in, cell_at}
+use Rattle.policy_eval.specs.Sights.{Sight, Shows, IsSmallSight, numbers_at, cell_value, chosen_value, is_shown}
+use Rattle.policy_eval.specs.Judged.{IsJudged, IsProblemTree, sight_in, is_declared}
+use Rattle.policy_eval.proofs.Places.{tabled}
 use Rattle.policy_eval.proofs.Sizes.{IsSmall}
 use Rattle.policy_eval.proofs.Scenes.{IsScene}
 
@@ -30,36 +32,44 @@ point_get (c ∷ cs) [] n inside below = absurd inside
 point_get (c ∷ cs) (v ∷ vs) zero inside below = (v, refl)
 point_get (c ∷ cs) (v ∷ vs) (suc n) inside below = point_get cs vs n inside.2 (omega arith)
 
--- in a scenario, the numbers of the decisions' cells
-abbrev pub numbers_for : Problem → Scenario → List ℕ
-numbers_for problem s = numbers_in problem.decisions problem.stochastics s
+-- what stands at hand in a scenario of the tree
+abbrev pub sight_at : Problem → Layout → List ℤ → ℕ → Scenario → Sight
+sight_at problem tree point i s = sight_in problem point s (numbers_at tree i (length problem.decisions))
 
--- what the point gives a decision is what its policy does
-chosen_alike : (problem : Problem) (point : List ℤ) (s : Scenario) (j : ℕ) (d : Decision) → IsPoint (cells problem) point → slice_get problem.decisions j ≡ Some d
-    → get (policy_at (cells problem) point) (j, history d.stage problem.stochastics s.values) ≡ cell_value (sight_in problem point s (numbers_for problem s)) j
-chosen_alike problem point s j d inside at =
-    get-policy_at (cells problem) point (j, history d.stage problem.stochastics s.values) inside
-    ∙ sym (ap (option_and_then (slice_get point)) (numbered problem.decisions problem.stochastics s j d at))
+-- in a scenario, the cell of a decision has a value at the point, and it is what the policy gives
+record IsChosen (problem : Problem) (tree : Layout) (point : List ℤ) (i : ℕ) (s : Scenario) (j : ℕ) (d : Decision) : Type 0 where
+  value : ℤ
+  given : cell_value (sight_at problem tree point i s) j ≡ Some value
+  alike : get (policy_at (cells problem) point) (j, history d.stage problem.stochastics s.values) ≡ Some value
 
--- the point gives each decision a value
-chosen_some : (problem : Problem) (point : List ℤ) (i : ℕ) (s : Scenario) (j : ℕ) (d : Decision) → IsPoint (cells problem) point → slice_get (scenarios problem.stochastics) i ≡ Some s
-    → slice_get problem.decisions j ≡ Some d → is_some (cell_value (sight_in problem point s (numbers_for problem s)) j) ≡ true
-chosen_some problem point i s j d inside is at =
-    let place : ℕ = place_of (j, history d.stage problem.stochastics s.values) (cells problem) in
-    let given : (v : ℤ) × (slice_get point place ≡ Some v) = point_get (cells problem) point place inside (place_in_scene problem.decisions problem.stochastics i s j d is at) in
-    ap is_some (ap (option_and_then (slice_get point)) (numbered problem.decisions problem.stochastics s j d at) ∙ given.1)
+cell_chosen : (problem : Problem) (tree : Layout) (point : List ℤ) (i : ℕ) (s : Scenario) (j : ℕ) (d : Decision) → IsProblemTree problem tree → IsPoint (cells problem) point
+    → slice_get (scenarios problem.stochastics) i ≡ Some s → slice_get problem.decisions j ≡ Some d → IsChosen problem tree point i s j d
+cell_chosen problem tree point i s j d laid_out inside is at =
+    let cell : Cell = cell_at j d (history d.stage problem.stochastics s.values) in
+    let placed : slice_get (cells problem) (cell_in tree j i) ≡ Some cell = laid_out.placed j i d s at is in
+    let there : (v : ℤ) × (slice_get point (cell_in tree j i) ≡ Some v) =
+    point_get (cells problem) point (cell_in tree j i) inside (slice_get_within (cells problem) (cell_in tree j i) cell placed) in
+    record {
+      value = there.0;
+      given =
+          ap (option_and_then (slice_get point)) (tabled (λ k. cell_in tree k i) (length problem.decisions) j (slice_get_within problem.decisions j d at))
+          ∙ there.1;
+      alike = value_of_cell problem point (cell_in tree j i) cell there.0 placed there.1;
+    }
 
 -- the place of evaluation is shown
-pub shows_in : (problem : Problem) (point : List ℤ) (s : Scenario) → IsJudged problem → IsPoint (cells problem) point
-    → Shows (sight_in problem point s (numbers_for problem s)) (place_in problem (policy_at (cells problem) point) [] s)
-shows_in problem point s judged inside =
+pub shows_in : (problem : Problem) (tree : Layout) (point : List ℤ) (i : ℕ) (s : Scenario) → IsJudged problem → IsProblemTree problem tree → IsPoint (cells problem) point
+    → slice_get (scenarios problem.stochastics) i ≡ Some s → Shows (sight_at problem tree point i s) (place_in problem (policy_at (cells problem) point) [] s)
+shows_in problem tree point i s judged laid_out inside is =
     record {
       unbound = refl;
       no_constants = ap (λ (known : Known). known.constants) judged.unknown;
       decisions = refl;
       stochastics = refl;
       seen = refl;
-      chosen = λ j d at. chosen_alike problem point s j d inside at;
+      chosen = λ j d at.
+          let found : IsChosen problem tree point i s j d = cell_chosen problem tree point i s j d laid_out inside is at in
+          found.alike ∙ sym found.given;
     }
 
 -- a decision that has a name has a value
@@ -108,15 +118,16 @@ either_right (Some x) b h = refl
 either_right None b h = h
 
 -- each declared name has a value
-pub shown_names : (problem : Problem) (point : List ℤ) (i : ℕ) (s : Scenario) → IsJudged problem → IsPoint (cells problem) point → slice_get (scenarios problem.stochastics) i ≡ Some s
-    → length s.values ≡ length problem.stochastics → (name : List ℕ) → IsTrue (is_declared problem name) → IsTrue (is_shown (sight_in problem point s (numbers_for problem s)) name)
-shown_names problem point i s judged inside is long name declared =
-    let sight : Sight = sight_in problem point s (numbers_for problem s) in
+pub shown_names : (problem : Problem) (tree : Layout) (point : List ℤ) (i : ℕ) (s : Scenario) → IsJudged problem → IsProblemTree problem tree → IsPoint (cells problem) point
+    → slice_get (scenarios problem.stochastics) i ≡ Some s → length s.values ≡ length problem.stochastics
+    → (name : List ℕ) → IsTrue (is_declared problem name) → IsTrue (is_shown (sight_at problem tree point i s) name)
+shown_names problem tree point i s judged laid_out inside is long name declared =
+    let sight : Sight = sight_at problem tree point i s in
     elim (or_cases _ _ (sym (list_any-append (bytes_eq name) (map (λ (d : Decision). d.name) problem.decisions) (map (λ (s : Stochastic). s.name) problem.stochastics)) ∙ declared)) [
       | inl there ↦
           either_right (seen_value name [] problem.stochastics s.values) (chosen_value sight name)
           (shown_decision name (cell_value sight) 0 problem.decisions judged.decisions there
-          (λ k d at. ap (λ n. is_some (cell_value sight n)) (zero-add k) ∙ chosen_some problem point i s k d inside is at))
+          (λ k d at. ap (λ n. is_some (cell_value sight n)) (zero-add k) ∙ ap is_some (cell_chosen problem tree point i s k d laid_out inside is at).given))
       | inr there ↦
           either_left (seen_value name [] problem.stochastics s.values) (chosen_value sight name)
           (shown_stochastic name problem.stochastics s.values judged.stochastics there long)

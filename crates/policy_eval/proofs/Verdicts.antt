@@ -13,9 +13,9 @@ use Rattle.sopl_ast.specs.Policies.{Policy}
 use Rattle.sopl_ast.specs.Cells.{Cell, cells, IsPoint}
 use Rattle.sopl_ast.specs.Optimal.{holds, value_in, weight_of, expected, worst, worse, numerator, objective_value, Satisfies}
 use Rattle.sopl_ast.specs.Small.{is_small_objective, names_of}
-use Rattle.sopl_scen.specs.Layout.{Layout}
-use Rattle.sopl_scen.specs.Ends.{cell_ends, interval_ends}
+use Rattle.scenario_tree.specs.Layout.{Layout}
 use Rattle.sopl_search.specs.Box.{InBox}
+use Rattle.policy_eval.specs.Ends.{cell_ends, interval_ends}
 use Rattle.policy_eval.specs.Judged.{IsReady, IsValid, policy_of}
 use Rattle.policy_eval.specs.Laws.{BoxIsPoints, SatisfyingHasValue}
 use Rattle.policy_eval.proofs.Walks.{All-from_tests, tests_from_All}
@@ -54,16 +54,16 @@ box_points problem roots point domains =
     (point_from_box roots (cells problem) point domains, box_from_point roots (cells problem) point domains)
 
 -- a valid judge is ready at each point of its box
-pub ready_in_box : (problem : Problem) (layout : Layout) (roots : List Interval) (point : List ℤ) → IsValid problem layout roots → InBox roots point → IsReady problem layout point
-ready_in_box problem layout roots point valid inside =
+pub ready_in_box : (problem : Problem) (tree : Layout) (roots : List Interval) (point : List ℤ) → IsValid problem tree roots → InBox roots point → IsReady problem tree point
+ready_in_box problem tree roots point valid inside =
     record { judged = valid.judged; laid_out = valid.laid_out; inside = point_from_box roots (cells problem) point valid.domains inside }
 
 -- a policy satisfies where each hard constraint is true in every scenario and the objective is defined
-pub satisfies_from : (problem : Problem) (layout : Layout) (point : List ℤ) → IsReady problem layout point
+pub satisfies_from : (problem : Problem) (tree : Layout) (point : List ℤ) → IsReady problem tree point
     → true ≡ list_all (λ (h : Hard). list_all (holds problem (policy_of problem point) h.text h.bound) (scenarios problem.stochastics)) problem.hards
     → IfSome problem.objective (λ (o : Objective). All (λ s. IsSome (value_in problem (policy_of problem point) o s)) (scenarios problem.stochastics))
     → Satisfies problem (policy_of problem point)
-satisfies_from problem layout point ready hold defined =
+satisfies_from problem tree point ready hold defined =
     let C : Chance → Type 0 = λ c. (c.p *ℤ total_weight problem.stochastics) ≤ℤ (c.q *ℤ weight_of problem (policy_of problem point) c) in
     record {
       hards = All-from_tests (λ (h : Hard). holds problem (policy_of problem point) h.text h.bound) (scenarios problem.stochastics) problem.hards (sym hold);

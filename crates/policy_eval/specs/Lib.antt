@@ -1,4 +1,6 @@
 pub mod Sights
+pub mod Shown
 pub mod Sums
+pub mod Ends
 pub mod Judged
 pub mod Laws

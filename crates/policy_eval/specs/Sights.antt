@@ -1,11 +1,13 @@
 -- What stands at hand where an expression is evaluated in one scenario at one point: the instances, what the scenario gives the
 -- stochastic variables, the point's value of each cell, and for each decision the number of its cell in this scenario.
-use Rattle.std.specs.Prelude.{◌≡◌, ℕ, ◌≤◌, ℤ, pos, List, [], All, Bool, Option, Some, is_some, option_and_then, unwrap_or, slice_get}
+use Rattle.std.specs.Prelude.{◌≡◌, ℕ, ◌≤◌, ℤ, pos, List, [], map, All, Bool, Option, Some, is_some, option_and_then, unwrap_or, slice_get}
 use Rattle.std.specs.Int.RustNames.{unsigned_abs}
 use Rattle.std.specs.FinMap.{get}
+use Rattle.std.specs.List.{range_with_len}
 use Rattle.sopl_ast.specs.Instances.{Decision, Stochastic}
 use Rattle.sopl_ast.specs.Histories.{history}
 use Rattle.sopl_ast.specs.Meanings.{Place, or_else, is_at, seen_value, decision_at}
+use Rattle.scenario_tree.specs.Layout.{Layout, value_in, cell_in}
 
 pub record Sight : Type 0 where
   pub decisions : List Decision
@@ -13,6 +15,14 @@ pub record Sight : Type 0 where
   pub seen : List ℤ
   pub cells : List ℤ
   pub numbers : List ℕ
+
+-- the values of so many stochastic variables in a scenario
+abbrev pub values_at : Layout → ℕ → ℕ → List ℤ
+values_at tree scenario count = map (λ stoch. value_in tree stoch scenario) (range_with_len 0 count)
+
+-- the numbers of the cells of so many decisions in a scenario
+abbrev pub numbers_at : Layout → ℕ → ℕ → List ℕ
+numbers_at tree scenario count = map (λ decision. cell_in tree decision scenario) (range_with_len 0 count)
 
 -- whether the stochastic variable is the scalar of this name
 abbrev pub is_variable : List ℕ → Stochastic → Bool

@@ -1,23 +1,24 @@
 //! What stands at hand where an expression is evaluated.
 
-ghost use Rattle.std.specs.Prelude.{◌≡◌, [], slice_get};
+ghost use Rattle.std.specs.Prelude.{◌≡◌, ◌<◌, [], length, slice_get, IfSome};
 ghost use Rattle.std.specs.List.{position_from};
 ghost use Rattle.sopl_ast.specs.Meanings.{is_at, seen_value};
-ghost use Rattle.policy_eval.specs.Sights.{shown_value, chosen_value, cell_value, is_variable, is_decision};
+ghost use Rattle.policy_eval.specs.Sights.{shown_value, chosen_value, is_variable, is_decision};
 
-use scalar_unfold::{DecisionItem, Index, StochItem};
+use scenario_tree::Tree;
 use sopl_ast::Name;
 use std::marker::Model;
+use unfold_variables::{DecisionItem, Index, StochItem};
 
-/// One scenario at one point of the cells: the scenario's value of each stochastic variable, the
-/// point's value of each cell, and for each decision the number of its cell in this scenario.
+/// One scenario of a tree at one point of the cells: the tree has the scenario's value of each stochastic variable, and for each
+/// decision the number of its cell in this scenario; the point has a value for each cell.
 #[derive(Drop)]
 pub struct Here<'a> {
     pub decisions: &'a [DecisionItem],
     pub stochs: &'a [StochItem],
-    pub seen: &'a [i64],
+    pub tree: &'a Tree,
+    pub scenario: u32,
     pub cells: &'a [i64],
-    pub numbers: &'a [u32],
 }
 
 impl<'a> Model for Here<'a> {
@@ -25,13 +26,11 @@ impl<'a> Model for Here<'a> {
 
     ghost Value = { Sight };
 
-    ghost view = { λ here. record {
-      decisions = here.decisions.now;
-      stochastics = here.stochs.now;
-      seen = here.seen.now;
-      cells = here.cells.now;
-      numbers = here.numbers.now;
-    } };
+    ghost use Rattle.policy_eval.specs.Shown.{sight_of, IsHere};
+
+    ghost view = { sight_of };
+
+    ghost invariant = { IsHere };
 }
 
 /// Whether an instance with this name and index is the scalar of that name.
@@ -58,7 +57,7 @@ impl Here<'_> {
         ensures { result ≡ seen_value name.now [] self.now.stochastics self.now.seen }
     {
         match stochastic_place(self.stochs, name) {
-            Some(place) => value_at(self.seen, place),
+            Some(place) => Some(self.tree.value(place as u32, self.scenario)),
             None => None,
         }
     }
@@ -68,31 +67,24 @@ impl Here<'_> {
         ensures { result ≡ chosen_value self.now name.now }
     {
         match decision_place(self.decisions, name) {
-            Some(place) => self.cell_value(place),
-            None => None,
-        }
-    }
-
-    fn cell_value(&self, decision: usize) -> Option<i64>
-        ensures { result ≡ cell_value self.now decision }
-    {
-        match self.numbers.get(decision) {
-            Some(cell) => value_at(self.cells, *cell as usize),
+            Some(place) => value_at(self.cells, self.tree.cell_of(place as u32, self.scenario)),
             None => None,
         }
     }
 }
 
-/// The value at a place.
-fn value_at(values: &[i64], place: usize) -> Option<i64>
-    ensures { result ≡ slice_get values.now place }
+/// The value of the cell with this number.
+fn value_at(cells: &[i64], cell: u32) -> Option<i64>
+    ensures { result ≡ slice_get cells.now cell }
 {
-    values.get(place).copied()
+    cells.get(cell as usize).copied()
 }
 
 /// The place of the stochastic variable of this name.
+#[tactic(auto, using(crate::proofs::Places::position_within))]
 fn stochastic_place(stochs: &[StochItem], name: &Name) -> Option<usize>
-    ensures { result ≡ position_from (is_variable name.now) 0 stochs.now }
+    ensures place { result ≡ position_from (is_variable name.now) 0 stochs.now }
+    ensures within { IfSome result (λ place. place < length stochs.now) }
 {
     stochs
         .iter()
@@ -100,8 +92,10 @@ fn stochastic_place(stochs: &[StochItem], name: &Name) -> Option<usize>
 }
 
 /// The place of the decision of this name.
+#[tactic(auto, using(crate::proofs::Places::position_within))]
 fn decision_place(decisions: &[DecisionItem], name: &Name) -> Option<usize>
-    ensures { result ≡ position_from (is_decision name.now) 0 decisions.now }
+    ensures place { result ≡ position_from (is_decision name.now) 0 decisions.now }
+    ensures within { IfSome result (λ place. place < length decisions.now) }
 {
     decisions.iter().position(|decision| is_scalar(&decision.name, &decision.index, name))
 }

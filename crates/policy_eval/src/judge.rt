@@ -1,36 +1,45 @@
 //! The judge of a problem: what the search asks of the points of its cells.
 
-ghost use Rattle.std.specs.Prelude.{◌≡◌, map};
-ghost use Rattle.sopl_scen.specs.Ends.{cell_ends, interval_ends};
+ghost use Rattle.std.specs.Prelude.{◌≡◌, IfOk};
+ghost use Rattle.policy_eval.specs.Judged.{AreDomains, IsJudged, IsProblemTree};
 ghost use Rattle.policy_eval.specs.Laws.{BoxIsPoints, SatisfyingHasValue, StatedIsJudged};
 
+use crate::domains::domains_of;
 use crate::setting::Setting;
-use scalar_unfold::Ground;
+use scenario_tree::Tree;
+use simple_texts::Simple;
 use sopl_base::{Direction, Interval};
-use sopl_scen::Tree;
 use sopl_search::Judge;
+use std::alloc::{AllocError, Global};
 
-/// A problem with its tree of scenarios: each point of the cells' domains is judged in every
-/// scenario.
+/// A problem with its tree of scenarios, and the domains of its cells: each point of them is judged in every scenario.
 #[derive(Drop)]
 pub struct PointJudge<'a> {
-    pub ground: &'a Ground,
-    pub tree: &'a Tree,
-    pub roots: &'a [Interval],
+    simple: &'a Simple<'a>,
+    tree: &'a Tree,
+    roots: Vec<Interval>,
 }
 
 impl<'a> PointJudge<'a> {
     /// The judge of a problem with its tree; its box is that of the cells' domains.
-    pub fn new(ground: &'a Ground, tree: &'a Tree) -> PointJudge<'a>
-        ensures problem { result.ground.now ≡ ground.now }
-        ensures layout { result.tree.now ≡ tree.now }
-        ensures roots { map interval_ends result.roots.now ≡ map cell_ends tree.now.cells }
+    #[tactic(auto, using(crate::proofs::CellDomains::ordered_ends, crate::proofs::CellDomains::domains_are))]
+    pub fn new(
+        alloc: Global,
+        simple: &'a Simple<'a>,
+        tree: &'a Tree,
+    ) -> Result<PointJudge<'a>, AllocError>
+        requires judged { IsJudged simple.now }
+        requires layout { IsProblemTree simple.now tree.now }
+        ensures problem { IfOk result (λ judge. judge.simple.now ≡ simple.now) }
+        ensures layout { IfOk result (λ judge. judge.tree.now ≡ tree.now) }
+        ensures roots { IfOk result (λ judge. AreDomains simple.now judge.roots.items) }
     {
-        PointJudge {
-            ground,
+        let roots = domains_of(alloc, simple.decisions(), tree)?;
+        Ok(PointJudge {
+            simple,
             tree,
-            roots: tree.roots(),
-        }
+            roots,
+        })
     }
 }
 
@@ -38,22 +47,22 @@ impl<'a> Judge for PointJudge<'a> {
     ghost use Rattle.sopl_ast.specs.Optimal.{Satisfies, direction_of};
     ghost use Rattle.policy_eval.specs.Judged.{IsValid, policy_of, value_at};
 
-    ghost valid = { λ judge. IsValid judge.ground.now judge.tree.now judge.roots.now };
+    ghost valid = { λ judge. IsValid judge.simple.now judge.tree.now judge.roots.items };
 
-    ghost roots = { λ judge. judge.roots.now };
+    ghost roots = { λ judge. judge.roots.items };
 
-    ghost satisfies = { λ judge point. Satisfies judge.ground.now (policy_of judge.ground.now point) };
+    ghost satisfies = { λ judge point. Satisfies judge.simple.now (policy_of judge.simple.now point) };
 
-    ghost value = { λ judge point. value_at judge.ground.now point };
+    ghost value = { λ judge point. value_at judge.simple.now point };
 
-    ghost direction = { λ judge. direction_of judge.ground.now };
+    ghost direction = { λ judge. direction_of judge.simple.now };
 
     fn roots(&self) -> &[Interval] {
-        self.roots
+        self.roots.as_slice()
     }
 
     fn direction(&self) -> Direction {
-        match self.ground.goal() {
+        match self.simple.goal() {
             Some(goal) => goal.direction,
             None => Direction::Nothing,
         }
@@ -61,7 +70,7 @@ impl<'a> Judge for PointJudge<'a> {
 
     fn judge(&self, cells: &[i64]) -> Option<i128> {
         let setting = Setting {
-            ground: self.ground,
+            simple: self.simple,
             tree: self.tree,
             point: cells,
         };
@@ -86,6 +95,3 @@ pub fn satisfying_has_value()
 pub fn stated_is_judged()
     ensures { StatedIsJudged }
 {}
-
-#[cfg(test)]
-mod tests;

@@ -1,6 +1,7 @@
 //! The value of a problem at a point of its cells.
 #![tactic(auto)]
 
+mod domains;
 mod here;
 mod judge;
 mod setting;

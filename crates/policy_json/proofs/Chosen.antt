@@ -9,7 +9,10 @@ use Rattle.sopl_ast.specs.Histories.{history}
 use Rattle.policy_tree.proofs.Members.{In, In-flat_map, In-map, from_flat_map, from_map}
 use Rattle.policy_json.specs.Nodes.{outcomes_after, seen_after}
 use Rattle.policy_json.specs.Staged.{Ascend}
-use Rattle.policy_json.proofs.Branches.{values_in}
+
+-- the values of a scenario
+abbrev values_in : Scenario → List ℤ
+values_in s = s.values
 
 -- the value of an outcome for each variable, in order
 abbrev pub AreChosen : List Stochastic → List ℤ → Type 0

@@ -11,11 +11,12 @@ use Rattle.sopl_ast.specs.Histories.{history}
 use Rattle.sopl_ast.specs.Policies.{Policy, IsKey, IsPolicy}
 use Rattle.sopl_ast.specs.Problems.{all_of, both_of}
 use Rattle.policy_tree.proofs.Members.{In, Contains-In, from_enumerate, from_filter}
-use Rattle.policy_json.specs.Nodes.{branch_at, decide_of, decision_entry, entry_of, last_stage, node_at, node_of, numbered_in_stage, outcomes_after, policy_data}
+use Rattle.entry_json.specs.Entries.{entry_of}
+use Rattle.policy_json.specs.Nodes.{branch_at, decide_of, decision_entry, last_stage, node_at, node_of, numbered_in_stage, outcomes_after, outermost_node, policy_data}
 use Rattle.policy_json.specs.Held.{held_data, held_decide, held_entry, held_node_at, held_outermost}
 use Rattle.policy_json.specs.Staged.{IsStaged}
 use Rattle.policy_json.proofs.Chosen.{AreChosen, Next, any_chosen, next_chosen, none_seen, outcome_chosen, scenario_of}
-use Rattle.policy_json.proofs.Stages.{branch_after}
+use Rattle.policy_json.proofs.Branches.{branch_after}
 
 -- two things made into one, where they are these where they are there
 both_same : {A B C : Type 0} (make : A → B → C) (a : Option A) (b : Option B) (x : A) (y : B) → IfSome a (λ p. x ≡ p) → IfSome b (λ q. y ≡ q) → IfSome (both_of make a b) (λ r. make x y ≡ r)
@@ -63,11 +64,10 @@ shown_same ds ss policy later stage seen shown is =
     let P : Data → Type 0 = λ d. IfSome (held_node_at ds ss policy later stage seen) (λ node. d ≡ node) in
     subst P (sym is) (node_same ds ss policy later stage seen)
 
--- the same of the outermost node, by its stage and its history
-pub shown_outermost : (ds : List Decision) (ss : List Stochastic) (policy : Policy) (last : ℕ) (seen : List ℤ) (shown : Data) → last ≡ last_stage ds → seen ≡ [] → shown ≡ node_at ds ss policy (last - 1) 1 seen
+-- the same of the outermost node
+pub shown_outermost : (ds : List Decision) (ss : List Stochastic) (policy : Policy) (shown : Data) → shown ≡ outermost_node ds ss policy
     → IfSome (held_outermost ds ss policy) (λ node. shown ≡ node)
-shown_outermost ds ss policy last seen shown greatest none is =
-    shown_same ds ss policy (last_stage ds - 1) 1 [] shown (is ∙ λ i. node_at ds ss policy (greatest i - 1) 1 (none i))
+shown_outermost ds ss policy shown is = shown_same ds ss policy (last_stage ds - 1) 1 [] shown is
 
 -- all of a list is there, where each is what a function gives
 all_there : {A B : Type 0} (f : A → Option B) (g : A → B) (xs : List A) → ((x : A) → In x xs → f x ≡ Some (g x)) → all_of f xs ≡ Some (map g xs)

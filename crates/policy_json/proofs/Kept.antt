@@ -1,10 +1,11 @@
 -- One more element of a list of which some are kept.
-use Rattle.std.proofs.Common.{◌≡◌, ◌+◌, ◌<◌, ◌++◌, ℕ, List, [], ◌∷◌, length, map, filter, get_or, take, Bool, true, false, cond, sym, ap, append-nil, nat_eq, ◌∙◌}
+use Rattle.std.proofs.Common.{◌≡◌, ◌+◌, ◌≤◌, ◌<◌, ◌++◌, refl, ℕ, List, [], ◌∷◌, length, map, filter, get_or, take, Bool, true, false, cond, sym, ap, append-nil, nat_eq, ◌∙◌}
 use Rattle.std.proofs.lemmas.Bool.{eq-eqb, ne_eqb}
 use Rattle.std.specs.List.{enumerate_from}
 use Rattle.sopl_ast.specs.Instances.{Decision}
-use Rattle.sopl_scen.proofs.Steps.{numbered, numbered_at, numbered_within}
 use Rattle.policy_json.specs.Nodes.{numbered_in_stage}
+use Rattle.policy_json.specs.Stages.{number_in, numbers_of}
+use Rattle.policy_json.proofs.Numbers.{numbered, numbered_all, numbered_at, numbered_within}
 use Rattle.std.proofs.lemmas.List.{map-append, take_more}
 use Rattle.std.proofs.lemmas.List.Elements.{filter-append}
 
@@ -39,3 +40,22 @@ entry_kept f stage ds i d ys y n within is at here so_far next =
 pub entry_passed : {Y : Type 0} (f : ℕ × Decision → Y) (stage : ℕ) (ds : List Decision) (i : ℕ) (d : Decision) (ys : List Y) (n : ℕ) → i < length ds → d ≡ get_or ds i d → n ≡ d.stage → (n ≡ stage → ⊥) → ys ≡ map f (numbered_in_stage stage (take i (enumerate_from 0 ds))) → ys ≡ map f (numbered_in_stage stage (take (i + 1) (enumerate_from 0 ds)))
 entry_passed f stage ds i d ys n within is at elsewhere so_far =
     passed_step (in_stage stage) f (enumerate_from 0 ds) i (numbered i d) ys (numbered_within ds i within) (numbered_at ds i d within is) (ne_eqb d.stage stage (λ e. elsewhere (at ∙ e))) so_far
+
+-- the numbers of the decisions of a stage, so far
+abbrev pub numbers_so_far : ℕ → List Decision → ℕ → List ℕ
+numbers_so_far stage ds i = map number_in (numbered_in_stage stage (take i (enumerate_from 0 ds)))
+
+-- one more decision that is of the stage
+pub number_kept : (stage : ℕ) (ds : List Decision) (i : ℕ) (d : Decision) (old new : List ℕ) (n : ℕ) → i < length ds → d ≡ get_or ds i d → n ≡ d.stage → n ≡ stage
+    → old ≡ numbers_so_far stage ds i → new ≡ old ++ i ∷ [] → new ≡ numbers_so_far stage ds (i + 1)
+number_kept stage ds i d old new n within is at here so_far made = made ∙ entry_kept number_in stage ds i d old i n within is at here so_far refl
+
+-- one more decision that is of another stage
+pub number_passed : (stage : ℕ) (ds : List Decision) (i : ℕ) (d : Decision) (old : List ℕ) (n : ℕ) → i < length ds → d ≡ get_or ds i d → n ≡ d.stage → (n ≡ stage → ⊥)
+    → old ≡ numbers_so_far stage ds i → old ≡ numbers_so_far stage ds (i + 1)
+number_passed stage ds i d old n within is at elsewhere so_far = entry_passed number_in stage ds i d old n within is at elsewhere so_far
+
+-- all decisions
+pub numbers_all : (stage : ℕ) (ds : List Decision) (i : ℕ) (found : List ℕ) → length ds ≤ i → found ≡ numbers_so_far stage ds i → found ≡ numbers_of stage ds
+unfolding numbers_of
+numbers_all stage ds i found all so_far = so_far ∙ ap (λ some. map number_in (numbered_in_stage stage some)) (numbered_all ds i all)

@@ -1,9 +1,13 @@
 pub mod Words
-pub mod Branches
-pub mod Found
+pub mod Numbers
 pub mod Kept
-pub mod Stages
+pub mod StageSteps
+pub mod Branches
+pub mod Ready
+pub mod NodeSteps
+pub mod NodeLaws
 pub mod Plain
 pub mod Chosen
 pub mod Held
 pub mod Staged
+pub mod Samples

@@ -1,5 +1,5 @@
 -- No float stands in a policy.
-use Rattle.std.proofs.Common.{◌≡◌, ◌+◌, ◌++◌, ℕ, zero, suc, ℤ, pos, negsuc, List, [], ◌∷◌, map, false, refl}
+use Rattle.std.proofs.Common.{◌≡◌, ◌+◌, ◌-◌, ◌++◌, ap, ◌∙◌, ℕ, zero, suc, ℤ, pos, negsuc, List, [], ◌∷◌, map, false, refl}
 use Rattle.std.specs.List.{zip, enumerate_from}
 use Rattle.std.proofs.lemmas.Bool.{or_from}
 use Rattle.serde_json.specs.Data.{Data}
@@ -7,8 +7,9 @@ use Rattle.serde_json.specs.View.{items_of}
 use Rattle.serde_json.specs.Written.{has_float, items_have_float}
 use Rattle.sopl_ast.specs.Instances.{Decision, Stochastic}
 use Rattle.sopl_ast.specs.Policies.{Policy}
-use Rattle.policy_json.specs.Nodes.{decide_of, decided_at, decision_entry, entry_of, node_at, node_of, numbered_in_stage, outcomes_after, seen_after, seen_entries, whole_number}
-use Rattle.policy_json.proofs.Stages.{branch_after}
+use Rattle.entry_json.specs.Entries.{entry_of, whole_number}
+use Rattle.policy_json.specs.Nodes.{decide_of, decided_at, decision_entry, last_stage, node_at, node_of, numbered_in_stage, outcomes_after, outermost_node, seen_after, seen_entries}
+use Rattle.policy_json.proofs.Branches.{branch_after}
 
 -- a whole number is no float
 number_plain : (z : ℤ) → has_float (whole_number z) ≡ false
@@ -45,3 +46,7 @@ node_plain ds ss policy zero stage seen =
 node_plain ds ss policy (suc later) stage seen =
     members_plain (decide_of ds policy stage seen) (map (branch_after ds ss policy later stage seen) (outcomes_after stage ss)) (decide_plain ds policy stage seen)
     (map_plain (branch_after ds ss policy later stage seen) (λ values. or_from _ _ (seen_plain (seen_after stage ss) values) (or_from _ _ (node_plain ds ss policy later (stage + 1) (seen ++ values)) refl)) (outcomes_after stage ss))
+
+-- the outermost node
+pub outermost_plain : (ds : List Decision) (ss : List Stochastic) (policy : Policy) (shown : Data) → shown ≡ outermost_node ds ss policy → has_float shown ≡ false
+outermost_plain ds ss policy shown is = ap has_float is ∙ node_plain ds ss policy (last_stage ds - 1) 1 []

@@ -6,7 +6,8 @@ use Rattle.serde_json.specs.Data.{Data}
 use Rattle.sopl_ast.specs.Instances.{Decision, Stochastic, Problem}
 use Rattle.sopl_ast.specs.Policies.{Policy}
 use Rattle.sopl_ast.specs.Problems.{all_of, both_of}
-use Rattle.policy_json.specs.Nodes.{branch_at, entry_of, last_stage, node_of, numbered_in_stage, outcomes_after}
+use Rattle.entry_json.specs.Entries.{entry_of}
+use Rattle.policy_json.specs.Nodes.{branch_at, last_stage, node_of, numbered_in_stage, outcomes_after}
 
 -- the entry of a decision, with its number, at a history, where the policy holds a value for it
 abbrev pub held_entry : Policy → List ℤ → ℕ × Decision → Option Data

@@ -2,24 +2,11 @@
 use Rattle.std.specs.Prelude.{ℕ, ◌+◌, ◌-◌, zero, suc, ℤ, pos, List, [], ◌∷◌, ◌++◌, map, filter, codes, max, nat_eq, unwrap_or}
 use Rattle.std.specs.List.{zip, enumerate_from}
 use Rattle.std.specs.FinMap.{get}
-use Rattle.serde_json.specs.Data.{Data, number, string, array, object, no_members, member}
-use Rattle.serde_json.specs.View.{items_of}
-use Rattle.serde_json.specs.Find.{of_integer}
+use Rattle.serde_json.specs.Data.{Data, object, no_members, member}
 use Rattle.sopl_ast.specs.Instances.{Decision, Stochastic, Problem}
 use Rattle.sopl_ast.specs.Scenarios.{Scenario, scenarios}
 use Rattle.sopl_ast.specs.Policies.{Policy}
-
--- a whole number
-abbrev pub whole_number : ℤ → Data
-whole_number z = number (of_integer z)
-
--- a list of data
-abbrev pub list_of : List Data → Data
-list_of items = array (items_of items)
-
--- an instance with its value: `[name,[indices],value]`
-abbrev pub entry_of : List ℕ → List ℤ → ℤ → Data
-entry_of name index value = list_of (string name ∷ list_of (map whole_number index) ∷ whole_number value ∷ [])
+use Rattle.entry_json.specs.Entries.{entry_of, list_of}
 
 -- what a policy decides for the decision with this number, counted from 0, at a history; 0 where it decides nothing. No node of a policy
 -- of a problem that comes by stage shows that 0: this is the law `held_throughout`

@@ -1,12 +1,15 @@
 //! A policy as nested JSON.
 #![tactic(auto)]
 
-mod entries;
+mod blocks;
+mod decided;
 mod laws;
-mod outcomes;
+mod point;
 mod policy;
 mod seen;
+mod stages;
+#[cfg(test)]
+mod tests;
 
-pub use entries::value_of;
 pub use laws::{held_throughout, no_float};
 pub use policy::policy_value;

@@ -1,55 +1,63 @@
 //! The nodes of a policy.
 
-ghost use Rattle.std.specs.Prelude.{◌≡◌, ◌+◌, ◌<◌, ◌≤◌, ◌^◌, ◌++◌, [], map, IsTrue, IfOk, IfSome, false};
+ghost use Rattle.std.specs.Prelude.{◌≡◌, ℕ, ◌+◌, ◌≤◌, length, map, IsTrue, IfOk, IfSome, false};
 ghost use Rattle.std.specs.List.{list_all};
 ghost use Rattle.serde_json.specs.View.{view};
 ghost use Rattle.serde_json.specs.Written.{has_float};
 ghost use Rattle.sopl_ast.specs.Cells.{policy_at};
 ghost use Rattle.sopl_ast.specs.Pieces.{is_word};
 ghost use Rattle.sopl_ast.specs.Small.{names_in};
+ghost use Rattle.scenario_tree.specs.Layout.{AreStated, IsTreeOf, cells_for, count_in};
 ghost use Rattle.policy_json.specs.Held.{held_outermost};
-ghost use Rattle.policy_json.specs.Nodes.{branch_of, last_stage, node_at, node_of, outermost_node};
+ghost use Rattle.policy_json.specs.Nodes.{branch_of, last_stage, node_of, outermost_node};
+ghost use Rattle.policy_json.specs.Steps.{IsReady, block_in, node_in, parts_in, shown_in};
 
-use crate::entries::decide_list;
-use crate::outcomes::outcome_list;
+use crate::blocks::Blocks;
+use crate::decided::decide_list;
+use crate::point::Point;
 use crate::seen::seen_list;
-use scalar_unfold::{DecisionItem, StochItem};
+use crate::stages::stages;
+use scenario_tree::Tree;
 use serde_json::{Value, json};
-use sopl_scen::{CellItem, Values};
 use std::alloc::{AllocError, Global};
+use unfold_variables::{DecisionItem, StochItem};
 
-/// The outermost node of the policy of a point.
+/// The outermost node of the policy of a point of a tree's cells.
 pub fn policy_value(
     alloc: Global,
     decisions: &[DecisionItem],
     stochs: &[StochItem],
-    cells: &[CellItem],
+    tree: &Tree,
     values: &[i64],
 ) -> Result<Value, AllocError>
+    requires stated { (constraints : ℕ) × AreStated decisions.now stochs.now constraints }
+    requires tree { IsTreeOf decisions.now stochs.now tree.now }
+    requires values { length values.now ≡ tree.now.cells }
     requires names { IsTrue (list_all is_word (names_in decisions.now stochs.now)) }
     ensures node { IfOk result (λ value. view value
-        ≡ outermost_node decisions.now stochs.now (policy_at cells.now values.now)) }
-    ensures held { IfOk result (λ value. IfSome (held_outermost decisions.now stochs.now (policy_at cells.now values.now))
+        ≡ outermost_node decisions.now stochs.now (policy_at (cells_for decisions.now stochs.now) values.now)) }
+    ensures held { IfOk result (λ value. IfSome (held_outermost decisions.now stochs.now (policy_at (cells_for decisions.now stochs.now) values.now))
         (λ node. view value ≡ node)) }
     ensures whole { IfOk result (λ value. has_float (view value) ≡ false) }
 {
-    let later = greatest_stage(decisions) - 1;
+    let stages = stages(alloc, decisions, stochs)?;
     let point = Point {
         decisions,
         stochs,
-        cells,
+        tree,
         values,
+        stages: &stages,
     };
-    node_value(alloc, &point, later, 1, &Values::new(alloc))
+    outermost(alloc, &point)
 }
 
-/// A point, with what it is a point of.
-#[derive(Drop)]
-struct Point<'a> {
-    decisions: &'a [DecisionItem],
-    stochs: &'a [StochItem],
-    cells: &'a [CellItem],
-    values: &'a [i64],
+/// The node of the first stage, before anything is seen.
+fn outermost(alloc: Global, point: &Point<'_>) -> Result<Value, AllocError>
+    requires { IsReady (parts_in point.now) }
+    ensures { IfOk result (λ v. view v ≡ shown_in (parts_in point.now)) }
+{
+    let later = greatest_stage(point.decisions) - 1;
+    node_value(alloc, point, later, 1, 0)
 }
 
 /// The greatest stage of a decision; 1 where there is none.
@@ -64,44 +72,33 @@ fn greatest_stage(decisions: &[DecisionItem]) -> u32
     last
 }
 
-/// The node of a stage and a history, where so many stages come after it.
+/// The node of a stage and of the history that a scenario is the first of, where so many stages come after it.
 fn node_value(
     alloc: Global,
     point: &Point<'_>,
     later: u32,
     stage: u32,
-    seen: &Values,
+    scenario: u32,
 ) -> Result<Value, AllocError>
-    requires names { IsTrue (list_all is_word
-        (names_in point.now.decisions.now point.now.stochs.now)) }
-    requires stages { stage + later < 2 ^ 32 }
-    ensures { IfOk result (λ v. view v
-        ≡ node_at point.now.decisions.now point.now.stochs.now
-        (policy_at point.now.cells.now point.now.values.now) later stage seen.now) }
+    requires ready { IsReady (parts_in point.now) }
+    requires from { 1 ≤ stage }
+    requires to { stage + later ≤ 24 }
+    requires block { scenario + block_in (parts_in point.now).tree stage ≤ count_in (parts_in point.now).tree }
+    ensures { IfOk result (λ v. view v ≡ node_in (parts_in point.now) later stage scenario) }
 {
-    let (cells, values) = (point.cells, point.values);
-    let decide = decide_list(alloc, point.decisions, cells, values, stage, seen)?;
+    let decide = decide_list(alloc, point, stage, scenario)?;
     if later == 0 {
         return node_object(alloc, decide, Vec::new(alloc));
     }
-    let outcomes = outcome_list(alloc, stage, point.stochs)?;
+    let blocks = Blocks::after(point.tree, stage);
     let mut next = Vec::new(alloc);
-    'outcomes: for outcome in &outcomes {
-        let seen = joined(alloc, seen, outcome)?;
-        let node = node_value(alloc, point, later - 1, stage + 1, &seen)?;
-        let seen = seen_list(alloc, stage, point.stochs, outcome.as_slice())?;
+    'branches: for i in 0..blocks.many {
+        let first = scenario + i * blocks.long;
+        let node = node_value(alloc, point, later - 1, stage + 1, first)?;
+        let seen = seen_list(alloc, point, stage, first)?;
         next.push(branch_object(alloc, seen, node)?)?;
     }
     node_object(alloc, decide, next)
-}
-
-/// What has been seen, and then what is seen next.
-fn joined(alloc: Global, seen: &Values, next: &Values) -> Result<Values, AllocError>
-    ensures { IfOk result (λ all. all ≡ seen.now ++ next.now) }
-{
-    let mut all = seen.copy(alloc)?;
-    all.extend(next.as_slice())?;
-    Ok(all)
 }
 
 /// A node, with its two members.
@@ -121,6 +118,3 @@ fn branch_object(alloc: Global, seen: Vec<Value>, node: Value) -> Result<Value, 
     let seen = Value::Array(seen);
     json!(in alloc; {"seen": seen, "then": node})
 }
-
-#[cfg(test)]
-mod tests;

@@ -2,13 +2,13 @@
 
 ghost use Rattle.std.specs.Prelude.{None};
 
-use scalar_unfold::{Env, Index};
 use sopl_ast::Name;
 use sopl_base::{Reason, Side, Step, Steps};
 use sopl_io::{
     Failed, FileSink, FileSource, MemSink, MemSource, Sink, Source, read_all, write_all,
 };
 use sopl_run::{Status, Word, Words, run};
+use sopl_unfold::{Env, Index};
 use std::alloc::{AllocError, Global};
 use std::process::Abort;
 use std::test::Fail;
@@ -146,7 +146,101 @@ const CASES: &[Case] = &[
         "{\"answer\":\"optimal\",\"policy\":{\"decide\":[[\"x\",[],1]],\"next\":[]},\"value\":\"-1/1\"}\n",
     ),
     (&["solve"], "", Status::Usage, "{\"answer\":\"usage\"}\n"),
+    (&["tree"], "", Status::Usage, "{\"answer\":\"usage\"}\n"),
+    (
+        &["tree", "-m"],
+        "",
+        Status::Usage,
+        "{\"answer\":\"usage\"}\n",
+    ),
+    (
+        &["trees", "m"],
+        "",
+        Status::Usage,
+        "{\"answer\":\"usage\"}\n",
+    ),
+    (
+        &["tree", "m"],
+        ORDER,
+        Status::Done,
+        "{\"answer\":\"tree\",\"den\":\"2\",\"histories\":[1,2],\"scenarios\":[{\"seen\":[[\"d\",[],1]],\"weight\":\"1\"},{\"seen\":[[\"d\",[],3]],\"weight\":\"1\"}]}\n",
+    ),
+    (
+        &["tree", "m"],
+        "range T = 1..2; stoch int d[t in T] in {0:1, t:2} stage t; dvar int x in 0..1 stage 3; subject to { }",
+        Status::Done,
+        "{\"answer\":\"tree\",\"den\":\"9\",\"histories\":[1,2,4],\"scenarios\":[{\"seen\":[[\"d\",[1],0],[\"d\",[2],0]],\"weight\":\"1\"},{\"seen\":[[\"d\",[1],0],[\"d\",[2],2]],\"weight\":\"2\"},{\"seen\":[[\"d\",[1],1],[\"d\",[2],0]],\"weight\":\"2\"},{\"seen\":[[\"d\",[1],1],[\"d\",[2],2]],\"weight\":\"4\"}]}\n",
+    ),
+    (
+        &["tree", "m"],
+        "subject to { }",
+        Status::Done,
+        "{\"answer\":\"tree\",\"den\":\"1\",\"histories\":[1],\"scenarios\":[{\"seen\":[],\"weight\":\"1\"}]}\n",
+    ),
 ];
+
+/// Texts that break a rule, each with the line on which both commands end.
+const REFUSED: &str = r##"
+subject to { z <= 1; } -> {"answer":"refused","at":13,"code":105}
+int n = 1 div 0; subject to { } -> {"answer":"refused","at":8,"code":110}
+dvar int x in 3..2; subject to { } -> {"answer":"refused","at":14,"code":111}
+range R = 1..2; int a[R] = [5]; subject to { } -> {"answer":"refused","at":27,"code":112}
+stoch int d in {1:0} stage 1; subject to { } -> {"answer":"refused","at":18,"code":113}
+dvar int x in 0..1 stage 25; subject to { } -> {"answer":"refused","at":25,"code":114}
+subject to { prob(1 == 2) >= 3/2; } -> {"answer":"refused","at":29,"code":115}
+"##;
+
+/// Texts that pass a limit, each with the line on which both commands end.
+const LIMITED: &str = r##"
+dvar int x in 0..65536; subject to { } -> {"answer":"limit","code":203,"counted":"65537","limit":"65536"}
+range R = 1..65537; subject to { } -> {"answer":"limit","code":208,"counted":"65537","limit":"65536"}
+range R = 1..600; subject to { forall(i in R, j in R) 1 == 1; } -> {"answer":"limit","code":205,"counted":"262145","limit":"262144"}
+stoch int a in {0:1099511627776}; stoch int b in {0:1099511627776}; stoch int c in {0:1048576}; stoch int e in {0:2}; dvar int x in 0..1; maximize expected(x); subject to { } -> {"answer":"limit","code":201,"counted":"2535301200456458802993406410752","limit":"1267650600228229401496703205376"}
+range T = 1..15; stoch int d[T] in {0:1, 1:1}; subject to { } -> {"answer":"limit","code":202,"counted":"32768","limit":"16384"}
+range T = 1..14; range R = 1..64; stoch int d[T] in {0:1, 1:1}; subject to { forall(i in R) 1 == 1; } -> {"answer":"limit","code":209,"counted":"1277952","limit":"1048576"}
+range R = 1..65; dvar int x[R] in 0..65535; subject to { } -> {"answer":"limit","code":204,"counted":"1040","limit":"1024"}
+"##;
+
+/// A run ended so, with this text in its line.
+fn ends_line(rt: &impl Abort, about: &str, ended: &Ended, status: Status, want: &str) {
+    assert_eq!(rt; ended.status, status, "{about}");
+    let line = std::str::from_utf8(ended.answer.bytes()).unwrap_or("");
+    assert_eq!(rt; line.trim_end(), want, "{about}");
+}
+
+/// Runs a command on a text, which ends so.
+fn command_ends(
+    rt: &impl Abort,
+    alloc: Global,
+    command: &str,
+    row: (&str, &str),
+    status: Status,
+) -> Result<(), AllocError> {
+    let ended = ran(alloc, &[command, "m"], row.0, &[], 1000)?;
+    ends_line(rt, row.0, &ended, status, row.1);
+    Ok(())
+}
+
+/// Runs both commands on each text of a table.
+fn both_end(rt: &impl Abort, alloc: Global, table: &str, status: Status) -> Result<(), AllocError> {
+    for line in table.lines() {
+        match line.split_once(" -> ") {
+            Some(row) => {
+                command_ends(rt, alloc, "solve", row, status)?;
+                command_ends(rt, alloc, "tree", row, status)?;
+            }
+            None => assert!(rt; line.is_empty(), "{line}"),
+        }
+    }
+    Ok(())
+}
+
+#[test]
+fn refusals_and_limits(rt: HostRuntime) -> Result<(), Fail> {
+    both_end(&rt, rt.alloc(), REFUSED, Status::Refused)?;
+    both_end(&rt, rt.alloc(), LIMITED, Status::Limit)?;
+    Ok(())
+}
 
 #[test]
 fn answers(rt: HostRuntime) -> Result<(), Fail> {

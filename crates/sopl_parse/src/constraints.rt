@@ -8,8 +8,8 @@ ghost use Rattle.sopl_grammar.specs.Phrases.{way};
 ghost use Rattle.sopl_expr.specs.Answers.{Answers};
 ghost use Rattle.sopl_parse.specs.Parts as piece;
 
-use crate::ends::{ended, found};
 use sopl_ast::{Binders, Cons, ConsList, Expr, Token};
+use sopl_declarations::{ended, found};
 use sopl_expr::{Next, Read, Reader, chain, is_over, joined};
 use sopl_grammar::{Mark, has_mark, rest};
 

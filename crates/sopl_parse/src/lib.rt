@@ -2,11 +2,6 @@
 #![tactic(auto)]
 
 mod constraints;
-mod declarations;
-mod dims;
-mod ends;
-mod inits;
-mod lists;
 mod models;
 
 ghost use Rattle.std.specs.Prelude.{◌≡◌, IfErr, IfOk, MatchResult};

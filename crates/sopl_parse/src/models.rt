@@ -8,10 +8,9 @@ ghost use Rattle.sopl_grammar.specs.Phrases.{way};
 ghost use Rattle.sopl_expr.specs.Answers.{Answers};
 
 use crate::constraints::body;
-use crate::declarations::declarations;
-use crate::ends::{ended, finished, found};
 use sopl_ast::{Goal, Model, Token};
 use sopl_base::Direction;
+use sopl_declarations::{declarations, ended, finished, found};
 use sopl_expr::{Halt, Next, Read, Reader, joined};
 use sopl_grammar::{Mark, goal_direction, goal_measure, rest};
 

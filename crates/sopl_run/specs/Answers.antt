@@ -1,12 +1,14 @@
 -- The answers, as JSON data and as the bytes of one line.
-use Rattle.std.specs.Prelude.{ℕ, ℤ, codes, List, [], ◌∷◌, ◌++◌}
+use Rattle.std.specs.Prelude.{ℕ, ℤ, codes, List, [], ◌∷◌, ◌++◌, pos}
 use Rattle.std.specs.Fmt.{signed_decimal}
 use Rattle.serde_json.specs.Data.{Data, string, object, no_members, member}
 use Rattle.serde_json.specs.Written.{compact_text}
+use Rattle.sopl_base.specs.declared.places.Excess.{Excess}
 use Rattle.sopl_ast.specs.Instances.{Problem}
 use Rattle.sopl_ast.specs.Policies.{Policy}
 use Rattle.sopl_ast.specs.Optimal.{denominator}
-use Rattle.policy_json.specs.Nodes.{whole_number, policy_data}
+use Rattle.entry_json.specs.Entries.{whole_number}
+use Rattle.policy_json.specs.Nodes.{policy_data}
 
 -- a numerator over a denominator, never reduced
 abbrev pub fraction : ℤ → ℤ → List ℕ
@@ -20,6 +22,16 @@ word_data word = object (member (codes "answer") (string word) no_members)
 abbrev pub refused_data : ℤ → ℤ → Data
 refused_data at code =
     object (member (codes "answer") (string (codes "refused")) (member (codes "at") (whole_number at) (member (codes "code") (whole_number code) no_members)))
+
+-- a limit, by its code and the texts of the number that was counted and of the one that is allowed
+abbrev pub limit_object : ℤ → List ℕ → List ℕ → Data
+limit_object code counted limit =
+    object (member (codes "answer") (string (codes "limit")) (member (codes "code") (whole_number code)
+    (member (codes "counted") (string counted) (member (codes "limit") (string limit) no_members))))
+
+-- a limit that is passed: its code, the number that was counted, and the one that is allowed
+abbrev pub limit_data : Excess → Data
+limit_data excess = limit_object (pos excess.code) (signed_decimal excess.counted) (signed_decimal excess.limit)
 
 -- an optimal policy and its value, as their texts have them
 abbrev pub optimal_object : Data → List ℕ → Data

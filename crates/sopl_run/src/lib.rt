@@ -1,6 +1,8 @@
 //! The top call: words of the command line, a source and two sinks in, one answer line and a status out.
 #![tactic(auto)]
 
+mod answer;
+mod command;
 mod lines;
 mod reply;
 mod solve;

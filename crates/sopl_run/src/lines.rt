@@ -3,10 +3,11 @@
 ghost use Rattle.std.specs.Prelude.{◌≡◌, false, codes, string_bytes, IfOk, pos};
 ghost use Rattle.serde_json.specs.View.{view};
 ghost use Rattle.serde_json.specs.Written.{has_float};
-ghost use Rattle.sopl_run.specs.Answers.{word_data, refused_data, optimal_object, fraction, line_of};
+ghost use Rattle.std.specs.Fmt.{signed_decimal};
+ghost use Rattle.sopl_run.specs.Answers.{word_data, refused_data, limit_data, limit_object, optimal_object, fraction, line_of};
 
 use serde_json::{Value, json};
-use sopl_base::Refusal;
+use sopl_base::{Excess, Refusal};
 use std::alloc::{AllocError, Global};
 
 /// The line of an answer: its text in compact form, and a line feed.
@@ -44,6 +45,29 @@ pub fn refused_line(alloc: Global, refusal: Refusal) -> Result<String, AllocErro
     ensures text { IfOk result (λ text. string_bytes text ≡ line_of (refused_data (pos refusal.at) (pos refusal.code))) }
 {
     let answer = refused_answer(alloc, refusal.at, refusal.code)?;
+    line(alloc, &answer)
+}
+
+/// A number in digits.
+fn digits(alloc: Global, number: i128) -> Result<String, AllocError>
+    ensures text { IfOk result (λ text. string_bytes text ≡ signed_decimal number) }
+{
+    format!(in alloc; "{number}")
+}
+
+fn limit_answer(alloc: Global, code: u16, counted: &str, limit: &str) -> Result<Value, AllocError>
+    ensures answer { IfOk result (λ value. view value ≡ limit_object (pos code) counted.now limit.now) }
+{
+    json!(in alloc; {"answer": "limit", "code": code, "counted": counted, "limit": limit})
+}
+
+/// The line of a limit that is passed: its code, the number that was counted, and the one that is allowed.
+pub fn limit_line(alloc: Global, excess: &Excess) -> Result<String, AllocError>
+    ensures text { IfOk result (λ text. string_bytes text ≡ line_of (limit_data excess.now)) }
+{
+    let counted = digits(alloc, excess.counted)?;
+    let limit = digits(alloc, excess.limit)?;
+    let answer = limit_answer(alloc, excess.code, counted.as_str(), limit.as_str())?;
     line(alloc, &answer)
 }
 

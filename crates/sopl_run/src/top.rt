@@ -3,21 +3,21 @@
 ghost use Rattle.std.specs.Prelude.{◌≡◌, ◌⊎◌, ◌≤◌, None, Some, IfOk, IfSome, IsSome, string_bytes, option_map};
 ghost use Rattle.std.specs.Io.KnownBytes.{IsAtEnd};
 ghost use Rattle.sopl_io.specs.Causes.{Rose};
-ghost use Rattle.sopl_run.specs.Words.{model_of};
-ghost use Rattle.sopl_run.specs.Replies.{model_text, IsReply, Answers, RefusesOthers, RefusesWhen, AnswersAccepted, begun_names, IsUntouched};
+ghost use Rattle.sopl_run.specs.Words.{model_of, request_of};
+ghost use Rattle.sopl_run.specs.Replies.{asked_in, IsReply, Answers, EndsSo, EndsWhen, begun_names, IsUntouched};
 
+use crate::answer::reply_to;
 use crate::lines::word_line;
 use crate::reply::Reply;
-use crate::solve::solve;
 use crate::status::Status;
-use crate::words::{Words, model_word};
+use crate::words::{Words, asked};
 use sopl_io::{ReadStop, Sink, Source, read_all, write_all};
 use std::alloc::{AllocError, Global};
 
 /// The bytes of a model text that are read at most: one more than a text may have.
 const MOST_READ: usize = 1_048_577;
 
-#[tactic(auto, using(crate::proofs::Statuses::taken_whole, crate::proofs::Statuses::taken_front, crate::proofs::Statuses::taken_nothing, crate::proofs::Statuses::reply_usage, crate::proofs::Statuses::reply_usage_when, crate::proofs::Statuses::reply_refused, crate::proofs::Statuses::reply_refused_when, crate::proofs::Statuses::reply_complete, crate::proofs::Statuses::reply_read, crate::proofs::Statuses::reply_written, crate::proofs::Statuses::write_refused, crate::proofs::Statuses::write_refused_when, crate::proofs::Statuses::write_complete, crate::proofs::Statuses::memory_refused, crate::proofs::Statuses::memory_refused_when, crate::proofs::Statuses::memory_complete))]
+#[tactic(auto, using(crate::proofs::Statuses::taken_whole, crate::proofs::Statuses::taken_front, crate::proofs::Statuses::taken_nothing, crate::proofs::Statuses::reply_usage, crate::proofs::Statuses::reply_usage_when, crate::proofs::Statuses::reply_ends, crate::proofs::Statuses::reply_ends_when, crate::proofs::Statuses::reply_read, crate::proofs::Statuses::reply_written, crate::proofs::Statuses::write_ends, crate::proofs::Statuses::write_ends_when, crate::proofs::Statuses::memory_ends, crate::proofs::Statuses::memory_ends_when))]
 /// Runs the command that the words name: it reads from the source and writes one answer line to the
 /// answer sink. The log sink is not used yet.
 pub fn run<S: Source, K: Sink>(
@@ -31,14 +31,14 @@ pub fn run<S: Source, K: Sink>(
         (K.taken answer.old) (K.taken answer.new) result }
 
     // Words that are not of the form, and no others, are answered so.
-    ensures usage { result ≡ Status.Usage → model_of words.now ≡ None }
-    ensures usage_when { model_of words.now ≡ None
+    ensures usage { result ≡ Status.Usage → request_of words.now ≡ None }
+    ensures usage_when { request_of words.now ≡ None
         → (result ≡ Status.Usage) ⊎ (result ≡ Status.WriteFault) ⊎ (result ≡ Status.NoMemory) }
 
-    // A text that is solved today, and no other, is answered; every other text is refused.
-    ensures refused { RefusesOthers (model_text (S.stock source.old) words.now) result }
-    ensures refused_when { RefusesWhen (model_text (S.stock source.old) words.now) result }
-    ensures complete { AnswersAccepted (model_text (S.stock source.old) words.now) result }
+    // A run ends as its command ends on its text: a text that is accepted is answered, where it is shown or of a form that is
+    // solved today; a text that breaks a rule is refused, and so is one that is not solved yet; and so for limits.
+    ensures ends { EndsSo (asked_in (S.stock source.old) words.now) result }
+    ensures ends_when { EndsWhen (asked_in (S.stock source.old) words.now) result }
 
     // A text that is answered was read to its end.
     ensures ended { result ≡ Status.Done → IsAtEnd (S.left source.new) }
@@ -49,7 +49,7 @@ pub fn run<S: Source, K: Sink>(
     ensures later { (S.faults source.old ≤ S.faults source.new) × (K.faults answer.old ≤ K.faults answer.new) }
 
     // Where the words are not of the form the source stays as it was.
-    ensures untouched { model_of words.now ≡ None → IsUntouched (S.left source.old) (S.stock source.old) (S.faults source.old)
+    ensures untouched { request_of words.now ≡ None → IsUntouched (S.left source.old) (S.stock source.old) (S.faults source.old)
         (S.left source.new) (S.stock source.new) (S.faults source.new) }
 
     // The source is begun with the file of the model alone, and no sink is begun.
@@ -74,19 +74,19 @@ fn reply_for<S: Source>(alloc: Global, words: &Words, source: &mut S) -> Result<
         reply.status (string_bytes reply.line)) }
     ensures ended { IfOk result (λ reply. reply.status ≡ Status.Done → IsAtEnd (S.left source.new)) }
     ensures later { S.faults source.old ≤ S.faults source.new }
-    ensures untouched { model_of words.now ≡ None → IsUntouched (S.left source.old) (S.stock source.old) (S.faults source.old)
+    ensures untouched { request_of words.now ≡ None → IsUntouched (S.left source.old) (S.stock source.old) (S.faults source.old)
         (S.left source.new) (S.stock source.new) (S.faults source.new) }
     ensures names { S.names source.new ≡ begun_names (model_of words.now) (S.names source.old) }
 {
-    let Some(model) = model_word(words) else {
+    let Some(request) = asked(words) else {
         let line = word_line(alloc, "usage")?;
         return Ok(Reply {
             status: Status::Usage,
             line,
         });
     };
-    match read_all(alloc, source, model, Some(MOST_READ)) {
-        Ok(text) => solve(alloc, text.as_slice()),
+    match read_all(alloc, source, request.model, Some(MOST_READ)) {
+        Ok(text) => reply_to(alloc, request.command, text.as_slice()),
         Err(ReadStop::Fault) => {
             let line = word_line(alloc, "read fault")?;
             Ok(Reply {

@@ -1,8 +1,10 @@
 //! The words of the command line.
 
 ghost use Rattle.std.specs.Prelude.{◌≡◌, [], ◌∷◌, ◌++◌, OnOk, OnErr, string_bytes, option_map};
-ghost use Rattle.sopl_run.specs.Words.{model_of, is_file_word as is_file_word_of};
+ghost use Rattle.sopl_run.specs.Words.{request_of, command_named as named, is_file_word as is_file_word_of};
+ghost use Rattle.sopl_run.specs.Shown.{request_shown};
 
+use crate::command::Command;
 use std::alloc::{AllocError, Global};
 use std::marker::Model;
 
@@ -77,21 +79,46 @@ impl Words {
     }
 }
 
-/// The file of the model, where the words are `solve` and that file.
-pub fn model_word(words: &Words) -> Option<&str>
-    ensures { option_map (λ name. name.now) result ≡ model_of words.now }
+/// What the words ask for: a command, and the file of the model that it works on.
+#[derive(Clone, Copy, Drop)]
+pub struct Request<'a> {
+    pub command: Command,
+    pub model: &'a str,
+}
+
+/// What the words ask for: the name of a command, and a file behind it.
+pub fn asked(words: &Words) -> Option<Request<'_>>
+    ensures { option_map request_shown result ≡ request_of words.now }
 {
     match words.as_slice() {
         [command, model] => {
             let name = model.as_str();
-            if command.as_str() == "solve" && is_file_word(name) {
-                Some(name)
-            } else {
-                None
+            if !is_file_word(name) {
+                return None;
+            }
+            match command_named(command.as_str()) {
+                Some(command) => Some(Request {
+                    command,
+                    model: name,
+                }),
+                None => None,
             }
         }
         _ => None,
     }
+}
+
+/// The command of this name.
+fn command_named(word: &str) -> Option<Command>
+    ensures { result ≡ named word.now }
+{
+    if word == "solve" {
+        return Some(Command::Solve);
+    }
+    if word == "tree" {
+        return Some(Command::Tree);
+    }
+    None
 }
 
 fn is_file_word(word: &str) -> bool

@@ -1,16 +1,7 @@
-//! Scenarios, histories and cells of an unfolded text.
+//! The scenarios of a ground problem, with their histories and the cells of its decisions.
 #![tactic(auto)]
 
-mod cells;
-mod histories;
-mod laws;
-mod parts;
-mod scenario_list;
-mod tree;
-mod weights;
+mod grounded;
 
-pub use laws::{
-    cells_found, histories_cover, histories_distinct, scenarios_counted, weights_sum, worked_values,
-};
-pub use parts::{CellItem, Numbers, ScenarioItem, Values};
-pub use tree::{Tree, scenarios};
+pub use grounded::scenarios;
+pub use scenario_tree::Tree;

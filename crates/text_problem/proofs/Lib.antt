@@ -1,4 +1,3 @@
-pub mod Reading
 pub mod Texts
 pub mod NamesFormed
 pub mod Simple

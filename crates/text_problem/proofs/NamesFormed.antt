@@ -10,7 +10,7 @@ use Rattle.sopl_ast.specs.Pieces.{Piece, Blank, Word, piece_of, is_word, is_lite
 use Rattle.sopl_ast.specs.Tokens.{Cuts, start, next, token_of}
 use Rattle.sopl_ast.specs.Origin.{HasForm, IsFromTokens}
 use Rattle.sopl_ast.specs.Whole.{ModelTree}
-use Rattle.text_problem.specs.Reading.{HasModel}
+use Rattle.sopl_ast.specs.Accepted.{IsTextOf}
 
 -- whether a token is a name
 abbrev is_name : TokenKind → Bool
@@ -103,6 +103,6 @@ names_formed text _ _ _ (next at tokens rest piece bytes after cut begins) =
     both_formed tokens (token_of at piece bytes) (names_formed text at tokens rest cut) (piece_formed at piece bytes begins.form)
 
 -- a model that a text spells comes from tokens
-pub model_from_tokens : (text : List ℕ) (model : ModelTree) → HasModel text model → IsFromTokens model
+pub model_from_tokens : (text : List ℕ) (model : ModelTree) → IsTextOf text model → IsFromTokens model
 model_from_tokens text model has =
     record { tokens = has.tokens; spelled = record { nesting = 64; spelled = has.spelled }; names = names_formed text (length text) has.tokens [] has.read.1 }

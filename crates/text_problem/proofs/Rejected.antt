@@ -1,19 +1,28 @@
--- A text that is refused is none that is solved today.
-use Rattle.std.proofs.Common.{◌≡◌, ◌<◌, arith, ℕ, List, [], ◌∷◌, ◌++◌, length, Result, Ok, Err, subst}
+-- A text is accepted, or refused, or passes a limit, and no two of these.
+use Rattle.std.proofs.Common.{◌≡◌, ◌<◌, ◌∙◌, arith, ℕ, List, [], ◌∷◌, ◌++◌, length, Option, Some, None, Result, Ok, Err, IsOk, sym, ap, subst}
 use Rattle.std.proofs.lemmas.List.{append-nil}
 use Rattle.std.specs.List.{Contains}
+use Rattle.sopl_base.specs.declared.places.Excess.{Excess}
+use Rattle.sopl_base.specs.declared.places.Fault.{Fault}
+use Rattle.sopl_base.specs.declared.places.Fault.TheVariants.{Text, Limit}
 use Rattle.sopl_base.specs.declared.places.Refusal.{Refusal}
 use Rattle.sopl_ast.specs.declared.token.Token.{Token}
+use Rattle.sopl_ast.specs.Accepted.{AcceptedText, IsTextOf, IsRefusedFor, no_tokens, misspelled, mistaken, stopped}
 use Rattle.sopl_ast.specs.Tokens.{Lexes}
 use Rattle.sopl_ast.specs.Whole.{ModelTree}
 use Rattle.sopl_ast.specs.Grammar.{Spells, SpellsWithin}
+use Rattle.sopl_ast.specs.Limits.{size_excess, usual_limits}
 use Rattle.sopl_ast.specs.Misspelled.{IsMisspelled, misplaced, too_deep, NoneGoesOn}
-use Rattle.sopl_ast.specs.Mistakes.{of_model}
+use Rattle.sopl_ast.specs.Mistakes.{of_model, IsWellTyped}
 use Rattle.sopl_ast.specs.Instances.{Problem}
+use Rattle.sopl_ast.specs.Occurrences.{met}
 use Rattle.sopl_ast.specs.SmallTexts.{SmallModel}
-use Rattle.sopl_ast.specs.Refusals.{SolvedText, IsRefusedToday, no_tokens, misspelled, mistaken, not_solved}
+use Rattle.sopl_ast.specs.Unfolding.{problem_of, text_occurrences}
 use Rattle.sopl_lex.proofs.Meet.{lexes_one}
 use Rattle.sopl_grammar.proofs.Stops.{spells_one}
+use Rattle.text_problem.specs.Laws.{TextsEndOnce}
+use Rattle.text_problem.specs.Faults.{IsLimitedToday, unfolding_passes, sizes_pass}
+use Rattle.text_problem.specs.Simple.{SimpleText, IsNotYet}
 
 abbrev lexed : List Token → Result (List Token) Refusal
 lexed tokens = Ok tokens
@@ -53,23 +62,88 @@ none_among mistakes refusal none among = no_member refusal (subst (λ l. Contain
     no_member : (r : Refusal) → Contains [] r → ⊥
     no_member r h = none_below h.0 h.1
 
--- the tokens of a text that is refused are those of the accepted one
-tokens_same : (text : List ℕ) (tokens : List Token) (problem : Problem) → Lexes text (Ok tokens) → (a : SolvedText text problem) → a.accepted.tokens ≡ tokens
-tokens_same text tokens problem read a = same_tokens a.accepted.tokens tokens (lexes_one text (Ok a.accepted.tokens) (Ok tokens) a.accepted.read read)
+-- a text spells one model
+pub one_model : (text : List ℕ) (a b : ModelTree) → IsTextOf text a → IsTextOf text b → a ≡ b
+one_model text a b is other =
+    spells_one is.tokens a b (spells is.tokens a is.spelled)
+    (spells is.tokens b
+    (subst (λ l. SpellsWithin l b) (same_tokens other.tokens is.tokens (lexes_one text (Ok other.tokens) (Ok is.tokens) other.read is.read)) other.spelled))
 
--- the model of a text that is refused is that of the accepted one
-model_same : (text : List ℕ) (tokens : List Token) (model : ModelTree) (problem : Problem) → Lexes text (Ok tokens) → SpellsWithin tokens model
-    → (a : SolvedText text problem) → a.accepted.model ≡ model
-model_same text tokens model problem read is a =
-    spells_one tokens a.accepted.model model
-    (spells tokens a.accepted.model (subst (λ l. SpellsWithin l a.accepted.model) (tokens_same text tokens problem read a) a.accepted.spelled)) (spells tokens model is)
+-- a text that spells a model has tokens, and they spell one
+tokens_there : (text : List ℕ) (refusal : Refusal) (model : ModelTree) → Lexes text (Err refusal) → IsTextOf text model → ⊥
+tokens_there text refusal model read is = no_refusal refusal is.tokens (lexes_one text (Err refusal) (Ok is.tokens) read is.read)
 
--- a text that is refused is not accepted
-pub refused_rejected : (text : List ℕ) (refusal : Refusal) → IsRefusedToday text refusal → (problem : Problem) → SolvedText text problem → ⊥
-refused_rejected text refusal (no_tokens read) problem a = no_refusal refusal a.accepted.tokens (lexes_one text (Err refusal) (Ok a.accepted.tokens) read a.accepted.read)
-refused_rejected text refusal (misspelled tokens read wrong) problem a =
-    not_spelled (length text) tokens refusal a.accepted.model wrong (subst (λ l. SpellsWithin l a.accepted.model) (tokens_same text tokens problem read a) a.accepted.spelled)
-refused_rejected text refusal (mistaken tokens model read is first) problem a =
-    none_among (of_model model) refusal (subst (λ m. of_model m ≡ []) (model_same text tokens model problem read is a) a.typed) first.among
-refused_rejected text refusal (not_solved tokens model read is typed none code at) problem a =
-    none problem (subst (λ m. SmallModel m problem) (model_same text tokens model problem read is a) a.accepted.accepted)
+spelling_there : (text : List ℕ) (tokens : List Token) (refusal : Refusal) (model : ModelTree) → Lexes text (Ok tokens) → IsMisspelled (length text) tokens refusal
+    → IsTextOf text model → ⊥
+spelling_there text tokens refusal model read wrong is =
+    not_spelled (length text) tokens refusal model wrong
+    (subst (λ l. SpellsWithin l model) (same_tokens is.tokens tokens (lexes_one text (Ok is.tokens) (Ok tokens) is.read read)) is.spelled)
+
+typing_there : (text : List ℕ) (refusal : Refusal) (wrong model : ModelTree) → IsTextOf text wrong → Contains (of_model wrong) refusal → IsTextOf text model → IsWellTyped model → ⊥
+typing_there text refusal wrong model is among other typed =
+    none_among (of_model wrong) refusal (subst (λ m. of_model m ≡ []) (one_model text model wrong other is) typed) among
+
+abbrev stopping : Fault → Result ℕ Fault
+stopping f = Err f
+
+no_ok : (f : Fault) → IsOk (stopping f) → ⊥
+no_ok f h = cc
+
+not_ok : (m : Result ℕ Fault) (f : Fault) → m ≡ Err f → IsOk m → ⊥
+not_ok m f e ok = no_ok f (subst (λ (r : Result ℕ Fault). IsOk r) e ok)
+
+-- nothing stops the unfolding of an accepted text
+stopped_not : (text : List ℕ) (f : Fault) (a b : ModelTree) → IsTextOf text a → met 0 (text_occurrences a) ≡ Err f → IsTextOf text b → IsOk (met 0 (text_occurrences b)) → ⊥
+stopped_not text f a b is stops other passes =
+    not_ok (met 0 (text_occurrences a)) f stops (subst (λ m. IsOk (met 0 (text_occurrences m))) (one_model text b a other is) passes)
+
+accepted_not_refused : (text : List ℕ) (p : Problem) (refusal : Refusal) → AcceptedText usual_limits text p → IsRefusedFor text refusal → ⊥
+accepted_not_refused text p refusal a (no_tokens read) = tokens_there text refusal a.model read a.spelled
+accepted_not_refused text p refusal a (misspelled tokens read wrong) = spelling_there text tokens refusal a.model read wrong a.spelled
+accepted_not_refused text p refusal a (mistaken model is first) = typing_there text refusal model a.model is first.among a.spelled a.accepted.typed
+accepted_not_refused text p refusal a (stopped model is typed stops) = stopped_not text (Text refusal) model a.model is stops a.spelled a.accepted.unfolded
+
+no_excess : (o : Option Excess) (e : Excess) → o ≡ None → o ≡ Some e → ⊥
+no_excess o e none some = cc
+
+accepted_not_limited : (text : List ℕ) (p : Problem) (excess : Excess) → AcceptedText usual_limits text p → IsLimitedToday text excess → ⊥
+accepted_not_limited text p excess a (unfolding_passes model is typed stops) = stopped_not text (Limit excess) model a.model is stops a.spelled a.accepted.unfolded
+accepted_not_limited text p excess a (sizes_pass model is typed passes over) =
+    no_excess (size_excess usual_limits (problem_of model)) excess
+    (ap (λ q. size_excess usual_limits q) (ap problem_of (one_model text model a.model is a.spelled) ∙ a.accepted.stated) ∙ a.accepted.allowed) over
+
+-- the model of a text that passes a limit
+record IsLimitedModel (text : List ℕ) (excess : Excess) : Type 0 where
+  model : ModelTree
+  spelled : IsTextOf text model
+  typed : IsWellTyped model
+  not_stopped : (refusal : Refusal) → met 0 (text_occurrences model) ≡ Err (Text refusal) → ⊥
+
+two_faults : (m : Result ℕ Fault) (r : Refusal) (e : Excess) → m ≡ Err (Text r) → m ≡ Err (Limit e) → ⊥
+two_faults m r e one two = cc
+
+limited_model : (text : List ℕ) (excess : Excess) → IsLimitedToday text excess → IsLimitedModel text excess
+limited_model text excess (unfolding_passes model is typed stops) =
+    record { model = model; spelled = is; typed = typed; not_stopped = λ r refuses. two_faults (met 0 (text_occurrences model)) r excess refuses stops }
+limited_model text excess (sizes_pass model is typed passes over) =
+    record { model = model; spelled = is; typed = typed; not_stopped = λ r refuses. not_ok (met 0 (text_occurrences model)) (Text r) refuses passes }
+
+refused_not_limited : (text : List ℕ) (refusal : Refusal) (excess : Excess) → IsRefusedFor text refusal → IsLimitedToday text excess → ⊥
+refused_not_limited text refusal excess reason limited = by_reason reason (limited_model text excess limited)
+  where
+    by_reason : IsRefusedFor text refusal → IsLimitedModel text excess → ⊥
+    by_reason (no_tokens read) l = tokens_there text refusal l.model read l.spelled
+    by_reason (misspelled tokens read wrong) l = spelling_there text tokens refusal l.model read wrong l.spelled
+    by_reason (mistaken model is first) l = typing_there text refusal model l.model is first.among l.spelled l.typed
+    by_reason (stopped model is typed stops) l =
+        l.not_stopped refusal (ap (λ m. met 0 (text_occurrences m)) (one_model text l.model model l.spelled is) ∙ stops)
+
+pub texts_end_once : TextsEndOnce
+texts_end_once =
+    record {
+      one_problem = λ text p q a b. sym a.accepted.stated ∙ (ap problem_of (one_model text a.model b.model a.spelled b.spelled) ∙ b.accepted.stated);
+      not_refused = accepted_not_refused;
+      not_limited = accepted_not_limited;
+      refused_alone = refused_not_limited;
+      not_both = λ text p q a b. b.larger p (subst (λ m. SmallModel m p) (one_model text a.model b.model a.spelled b.spelled) a.simple);
+    }

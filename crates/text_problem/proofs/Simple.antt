@@ -76,6 +76,6 @@ objective_simple names (Some o) h =
 -- a text that is solved today is simple
 pub accepted_simple : AcceptedIsSimple
 accepted_simple text problem a = (
-  all_simple is_small_number (is_among (names_of problem)) problem.conditions a.accepted.accepted.small.conditions,
-  objective_simple (names_of problem) problem.objective a.accepted.accepted.small.objective,
+  all_simple is_small_number (is_among (names_of problem)) problem.conditions a.simple.small.conditions,
+  objective_simple (names_of problem) problem.objective a.simple.small.objective,
 )

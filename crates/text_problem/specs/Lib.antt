@@ -1,3 +1,5 @@
-pub mod Reading
+pub mod Faults
+pub mod Simple
+pub mod Stated
 pub mod Shown
 pub mod Laws

@@ -1,10 +1,12 @@
-//! From the bytes of a text to the problem that it states, or to the first refusal.
+//! From the bytes of a text to what it states, or to the first refusal or limit.
 #![tactic(auto)]
 
 mod laws;
 mod read;
+mod stated;
 #[cfg(test)]
 mod tree_tests;
 
-pub use laws::accepted_is_simple;
-pub use read::{problem_in, typed_in};
+pub use laws::{accepted_is_simple, texts_end_once};
+pub use read::{stated_in, typed_in};
+pub use stated::Stated;

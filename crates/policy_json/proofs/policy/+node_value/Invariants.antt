@@ -1,12 +1,12 @@
-use Rattle.std.proofs.Common.{◌≡◌, ◌-◌, map, take}
+use Rattle.std.proofs.Common.{◌≡◌, ◌-◌, map}
+use Rattle.std.specs.List.{range_with_len}
 use Rattle.serde_json.specs.View.{view}
-use Rattle.sopl_ast.specs.Cells.{policy_at}
-use Rattle.policy_json.proofs.Stages.{branch_after}
+use Rattle.policy_json.specs.Steps.{branch_in, parts_in}
 use Rattle.policy_json.proofs.policy.+node_value.Given as goal
 
 abbrev pub decreases-node_value : goal.decreases-node_value
 decreases-node_value l = l.later
 
-abbrev pub invariant-outcomes : goal.invariant-outcomes
-invariant-outcomes l =
-    map view l.next.items ≡ map (branch_after l.point.decisions.now l.point.stochs.now (policy_at l.point.cells.now l.point.values.now) (l.later - 1) l.stage l.seen) (take l.outcome-index l.outcome-items)
+abbrev pub invariant-branches : goal.invariant-branches
+invariant-branches l =
+    map view l.next.items ≡ map (branch_in (parts_in l.point) (l.later - 1) l.stage l.scenario) (range_with_len 0 l.i)

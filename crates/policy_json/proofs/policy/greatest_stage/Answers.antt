@@ -1,6 +1,6 @@
 use Rattle.std.proofs.Common.{arith, ap, ◌∙◌}
 use Rattle.sopl_ast.specs.Instances.{Decision}
-use Rattle.policy_json.proofs.Stages.{last_step}
+use Rattle.policy_json.proofs.Branches.{last_step}
 use Rattle.policy_json.proofs.policy.greatest_stage.Goals as goal
 
 pub decisions-preserved : goal.decisions-preserved

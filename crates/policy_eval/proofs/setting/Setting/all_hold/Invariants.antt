@@ -8,5 +8,5 @@ use Rattle.policy_eval.proofs.setting.Setting.all_hold.Given as goal
 
 abbrev pub invariant-hards : goal.invariant-hards
 invariant-hards l =
-    list_all (λ (h : Hard). list_all (holds l.self.ground.now (policy_of l.self.ground.now l.self.point.now) h.text h.bound) (scenarios l.self.ground.now.stochastics)) (drop l.hard-index l.hards)
-    ≡ list_all (λ (h : Hard). list_all (holds l.self.ground.now (policy_of l.self.ground.now l.self.point.now) h.text h.bound) (scenarios l.self.ground.now.stochastics)) l.hards
+    list_all (λ (h : Hard). list_all (holds l.self.simple.now (policy_of l.self.simple.now l.self.point.now) h.text h.bound) (scenarios l.self.simple.now.stochastics)) (drop l.hard-index l.hards)
+    ≡ list_all (λ (h : Hard). list_all (holds l.self.simple.now (policy_of l.self.simple.now l.self.point.now) h.text h.bound) (scenarios l.self.simple.now.stochastics)) l.hards

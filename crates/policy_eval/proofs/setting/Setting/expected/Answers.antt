@@ -10,15 +10,15 @@ use Rattle.policy_eval.proofs.setting.Setting.expected.Goals as goal
 
 pub add-requires : goal.add-requires
 add-requires c =
-    let below : c.scenarios.scenario < length (scenarios c.args.self.now.ground.now.stochastics) = omega (arith, c.count-scenario-end.ensures, ap length c.requires.ready.laid_out.all) in
-    let few : length (scenarios c.args.self.now.ground.now.stochastics) ≤ 16 = few_scenarios c.args.self.now.ground.now c.args.self.now.tree.now c.args.self.now.point.now c.requires.ready in
+    let below : c.scenarios.scenario < length (scenarios c.args.self.now.simple.now.stochastics) = omega (arith, c.count-scenario-end.ensures, c.requires.ready.laid_out.count) in
+    let few : length (scenarios c.args.self.now.simple.now.stochastics) ≤ 16 = few_scenarios c.args.self.now.simple.now c.args.self.now.tree.now c.args.self.now.point.now c.requires.ready in
     record { fits = omega (arith, below, few, c.scenarios.invariant.bound, c.weighted_in.ensures.bound) }
 
 pub scenarios-preserved : goal.scenarios-preserved
 scenarios-preserved c =
-    let value : Scenario → Option ℤ = λ s. (meaning (place_in c.args.self.now.ground.now (policy_of c.args.self.now.ground.now c.args.self.now.point.now) [] s) c.args.sum.now).value in
-    let below : c.scenarios.scenario < length (scenarios c.args.self.now.ground.now.stochastics) = omega (arith, c.count-scenario-end.ensures, ap length c.requires.ready.laid_out.all) in
+    let value : Scenario → Option ℤ = λ s. (meaning (place_in c.args.self.now.simple.now (policy_of c.args.self.now.simple.now c.args.self.now.point.now) [] s) c.args.sum.now).value in
+    let below : c.scenarios.scenario < length (scenarios c.args.self.now.simple.now.stochastics) = omega (arith, c.count-scenario-end.ensures, c.requires.ready.laid_out.count) in
     record {
-      sum = expected_more value (scenarios c.args.self.now.ground.now.stochastics) c.scenarios.scenario no_scenario c.weighted_in.result.value c.scenarios.total.value c.add.new.self.value _ below c.weighted_in.ensures.value c.add.ensures.sum c.scenarios.invariant.sum;
+      sum = expected_more value (scenarios c.args.self.now.simple.now.stochastics) c.scenarios.scenario no_scenario c.weighted_in.result.value c.scenarios.total.value c.add.new.self.value _ below c.weighted_in.ensures.value c.add.ensures.sum c.scenarios.invariant.sum;
       bound = rw c.add.ensures.sum (omega (arith, size_of_sum c.scenarios.total.value c.weighted_in.result.value, c.scenarios.invariant.bound, c.weighted_in.ensures.bound));
     }

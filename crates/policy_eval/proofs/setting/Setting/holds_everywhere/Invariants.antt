@@ -8,5 +8,5 @@ use Rattle.policy_eval.proofs.setting.Setting.holds_everywhere.Given as goal
 
 abbrev pub invariant-tests : goal.invariant-tests
 invariant-tests l =
-    list_all (λ (s : Scenario). (meaning (place_in l.self.ground.now (policy_of l.self.ground.now l.self.point.now) [] s) l.condition).truth) (drop l.scenario (scenarios l.self.ground.now.stochastics))
-    ≡ list_all (λ (s : Scenario). (meaning (place_in l.self.ground.now (policy_of l.self.ground.now l.self.point.now) [] s) l.condition).truth) (scenarios l.self.ground.now.stochastics)
+    list_all (λ (s : Scenario). (meaning (place_in l.self.simple.now (policy_of l.self.simple.now l.self.point.now) [] s) l.condition).truth) (drop l.scenario (scenarios l.self.simple.now.stochastics))
+    ≡ list_all (λ (s : Scenario). (meaning (place_in l.self.simple.now (policy_of l.self.simple.now l.self.point.now) [] s) l.condition).truth) (scenarios l.self.simple.now.stochastics)

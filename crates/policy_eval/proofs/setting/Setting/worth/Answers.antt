@@ -12,7 +12,7 @@ use Rattle.policy_eval.proofs.setting.Setting.worth.Goals as goal
 pub returns-in-Some-clause-defined : goal.returns-in-Some-clause-defined
 returns-in-Some-clause-defined c =
     let objective : Objective = objective_of (goal_tree c.in-Some.goal.now) in
-    let same : Some objective ≡ c.args.self.now.ground.now.objective = c.in-Some.ensures in
-    let D : Option Objective → Type 0 = λ wanted. IfSome wanted (λ (o : Objective). All (λ s. IsSome (value_in c.args.self.now.ground.now (policy_of c.args.self.now.ground.now c.args.self.now.point.now) o s)) (scenarios c.args.self.now.ground.now.stochastics)) in
+    let same : Some objective ≡ c.args.self.now.simple.now.objective = c.in-Some.ensures in
+    let D : Option Objective → Type 0 = λ wanted. IfSome wanted (λ (o : Objective). All (λ s. IsSome (value_in c.args.self.now.simple.now (policy_of c.args.self.now.simple.now c.args.self.now.point.now) o s)) (scenarios c.args.self.now.simple.now.stochastics)) in
     subst D same
-    (defined_all (λ s. value_in c.args.self.now.ground.now (policy_of c.args.self.now.ground.now c.args.self.now.point.now) objective s) (scenarios c.args.self.now.ground.now.stochastics) c.expected.result.value c.expected.ensures)
+    (defined_all (λ s. value_in c.args.self.now.simple.now (policy_of c.args.self.now.simple.now c.args.self.now.point.now) objective s) (scenarios c.args.self.now.simple.now.stochastics) c.expected.result.value c.expected.ensures)

@@ -1,0 +1,6 @@
+//! A law over the names of what a text states: they have the form of names. No code is here.
+#![tactic(auto)]
+
+mod laws;
+
+pub use laws::names_are_words;

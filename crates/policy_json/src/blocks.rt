@@ -1,0 +1,34 @@
+//! The blocks of scenarios that share a history.
+
+ghost use Rattle.std.specs.Prelude.{◌≡◌, ◌+◌, ◌≤◌, ◌<◌, ◌^◌};
+ghost use Rattle.scenario_tree.specs.Layout.{count_in, histories_in};
+ghost use Rattle.policy_json.specs.Steps.{block_in, branches_in};
+
+use scenario_tree::Tree;
+
+/// The blocks of a stage within each block of the stage before: how many they are, and how many scenarios
+/// each has.
+#[derive(Clone, Copy)]
+pub(crate) struct Blocks {
+    pub many: u32,
+    pub long: u32,
+}
+
+impl Blocks {
+    /// The blocks of the next stage.
+    pub(crate) fn after(tree: &Tree, stage: u32) -> Self
+        requires from { 1 ≤ stage }
+        requires to { stage < 24 }
+        requires some { 1 ≤ histories_in tree.now stage }
+        requires next { 1 ≤ histories_in tree.now (stage + 1) }
+        ensures many { result.many ≡ branches_in tree.now stage }
+        ensures long { result.long ≡ block_in tree.now (stage + 1) }
+        ensures few { count_in tree.now < 2 ^ 32 }
+    {
+        let next = tree.histories(stage + 1);
+        Blocks {
+            many: next / tree.histories(stage),
+            long: tree.count() / next,
+        }
+    }
+}

@@ -1,6 +1,0 @@
-pub mod Outcomes
-pub mod Variables
-pub mod Stages
-pub mod Conditions
-pub mod Grounds
-pub mod Counts

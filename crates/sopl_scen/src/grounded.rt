@@ -1,0 +1,32 @@
+//! From a ground problem to the tree of its scenarios.
+
+ghost use Rattle.std.specs.Prelude.{◌≡◌, ◌+◌, ◌⊎◌, length, Some, None, IfOk, IfErr};
+ghost use Rattle.sopl_base.specs.declared.places.Excess.{Excess};
+ghost use Rattle.sopl_ast.specs.Limits.{size_excess, usual_limits};
+ghost use Rattle.sopl_ast.specs.Unfolding.{problem_of};
+ghost use Rattle.sopl_ast.specs.WholeModel.{whole};
+ghost use Rattle.scenario_tree.specs.Layout.{IsTreeOf};
+
+use scenario_tree::Tree;
+use sopl_base::Fault;
+use sopl_unfold::Ground;
+use std::alloc::Global;
+
+/// How many instances of constraints a ground problem has, hard and chance together.
+fn constraints(ground: &Ground) -> usize
+    ensures { result ≡ length (problem_of (whole ground.now.typed.model)).hards + length (problem_of (whole ground.now.typed.model)).chances }
+{
+    ground.hards().len() + ground.chances().len()
+}
+
+/// The scenarios of a ground problem; or the first limit that is passed, of these: the weight of all scenarios (201), their number
+/// (202), instances times scenarios (209), and the bits of all decisions, one value for each history (204).
+pub fn scenarios(alloc: Global, ground: &Ground) -> Result<Tree, Fault>
+    ensures tree { IfOk result (λ tree. IsTreeOf (problem_of (whole ground.now.typed.model)).decisions (problem_of (whole ground.now.typed.model)).stochastics tree) }
+    ensures within { IfOk result (λ tree. size_excess usual_limits (problem_of (whole ground.now.typed.model)) ≡ None) }
+    ensures limit { IfErr result (λ fault. (fault ≡ Fault.NoMemory)
+        ⊎ ((e : Excess) × (fault ≡ Fault.Limit e) × (size_excess usual_limits (problem_of (whole ground.now.typed.model)) ≡ Some e))) }
+{
+    let constraints = constraints(ground);
+    Tree::of(alloc, ground.decisions(), ground.stochs(), constraints)
+}
