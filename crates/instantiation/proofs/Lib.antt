@@ -15,3 +15,5 @@ pub mod Ascending
 pub mod Tables
 pub mod Proper
 pub mod Root
+pub mod WellMade
+pub mod Searched

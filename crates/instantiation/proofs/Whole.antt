@@ -1,6 +1,8 @@
 -- A whole problem in terms says at a point what the problem says of the point's policy.
-use Rattle.std.proofs.Common.{◌≡◌, refl, sym, ap, subst, arith, ℕ, zero, suc, ℤ, pos, ◌+ℤ◌, ◌*ℤ◌, ◌≤ℤ◌, Bool, true, false, List, [], ◌∷◌, map, filter, inl, inr, All, Option, Some, None, IsSome, IfSome, IsTrue, option_map, slice_get, if◌then◌else◌}
+use Rattle.std.proofs.Common.{◌≡◌, ◌∙◌, refl, sym, ap, subst, arith, ℕ, zero, suc, ℤ, pos, ◌+ℤ◌, ◌*ℤ◌, ◌≤ℤ◌, Bool, true, false, List, [], ◌∷◌, map, filter, inl, inr, All, Option, Some, None, IsSome, IfSome, IsTrue, option_map, slice_get, if◌then◌else◌}
 use Rattle.std.specs.Option.{option_map_or}
+use Rattle.sopl_base.specs.declared.places.Direction.{Direction}
+use Rattle.sopl_base.specs.declared.places.Direction.TheVariants.{Minimize, Maximize, Nothing}
 use Rattle.sopl_ast.specs.Tree.{Tree}
 use Rattle.sopl_ast.specs.Known.{Binding}
 use Rattle.sopl_ast.specs.Numbers.{both_of, total}
@@ -15,9 +17,12 @@ use Rattle.sopl_ast.specs.Unfolding.{problem_of}
 use Rattle.policy_tree.proofs.Members.{In, Contains-In}
 use Rattle.box_rules.specs.Terms as c
 use Rattle.box_rules.specs.Values.{value, holds}
+use Rattle.program_rules.specs.Problems.{ChanceTerms, GoalTerms}
+use Rattle.program_rules.specs.Points as rules
+use Rattle.program_rules.specs.Points.{weight_where, Holds, expected_value, worst_value, goal_value}
 use Rattle.instantiation.specs.Instances.{instance}
 use Rattle.instantiation.specs.Laws.{Means}
-use Rattle.instantiation.specs.Whole.{cell_numbers, place_at, condition_at, ChanceTerms, GoalTerms, hard_terms, chance_terms, goal_terms, problem_terms, weight_where, Holds, expected_value, worst_value, goal_value}
+use Rattle.instantiation.specs.Whole.{cell_numbers, place_at, condition_at, hard_terms, chance_terms, goal_terms, problem_terms}
 use Rattle.instantiation.specs.WholeLaws.{AreArraysIn, TextsAreArrays, MeansAt, ProblemsMean}
 use Rattle.instantiation.proofs.Means.{instances_mean}
 use Rattle.instantiation.proofs.Problems.{places_agree}
@@ -43,6 +48,13 @@ all_back P Q f [] each all k d below = absurd (omega (arith, below))
 all_back P Q f (x ∷ xs) each all zero d below = each x (inl refl) (all zero (f x) (omega arith))
 all_back P Q f (x ∷ xs) each all (suc k) d below =
     all_back P Q f xs (λ y h q. each y (inr h) q) (λ j e less. all (suc j) e (omega (arith, less))) k d (omega (arith, below))
+
+-- The worse of two.
+
+same_worse : (direction : Direction) (x y : ℤ) → worse direction x y ≡ rules.worse direction x y
+same_worse Minimize x y = refl
+same_worse Maximize x y = refl
+same_worse Nothing x y = refl
 
 module _ (problem : Problem) (arrays : AreArraysIn problem) (point : List ℤ) (is : IsPoint (cells problem) point) where
   abbrev policy : Policy
@@ -102,10 +114,11 @@ module _ (problem : Problem) (arrays : AreArraysIn problem) (point : List ℤ) (
     where
       by_worst : (b : Bool)
           → (if b then worst (worse objective.direction) (value_in problem policy objective) (scenarios problem.stochastics) else expected (value_in problem policy objective) (scenarios problem.stochastics))
-          ≡ (if b then worst_value (worse objective.direction) point (goal_terms problem objective).terms else expected_value point (problem_terms problem).weights (goal_terms problem objective).terms)
+          ≡ (if b then worst_value (rules.worse objective.direction) point (goal_terms problem objective).terms else expected_value point (problem_terms problem).weights (goal_terms problem objective).terms)
       by_worst true =
           worst_same (worse objective.direction) (value_in problem policy objective) (λ s. (instance (place_at problem [] s) objective.value).term) (scenarios problem.stochastics)
           (value_is objective)
+          ∙ ap (λ choose. worst_value choose point (goal_terms problem objective).terms) (λ i x y. same_worse objective.direction x y i)
       by_worst false =
           expected_same (value_in problem policy objective) (λ s. (instance (place_at problem [] s) objective.value).term) (scenarios problem.stochastics) (value_is objective)
 

@@ -6,3 +6,4 @@ pub mod WholeLaws
 pub mod Worked
 pub mod Tables
 pub mod Root
+pub mod WellMade

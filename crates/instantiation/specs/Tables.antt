@@ -1,12 +1,13 @@
 -- The arrays of elements, and that all arrays in instances are as rules on boxes ask for.
-use Rattle.std.specs.Prelude.{◌≡◌, ◌↔◌, ℤ, ◌<ℤ◌, List, [], ◌∷◌, map, IfSome}
+use Rattle.std.specs.Prelude.{◌≡◌, ◌↔◌, ℤ, ◌<ℤ◌, List, [], ◌∷◌, map}
 use Rattle.std.specs.List.{AllByRecursion, Contains}
 use Rattle.sopl_ast.specs.Tree.{Tree}
 use Rattle.sopl_ast.specs.Instances.{Problem}
 use Rattle.box_rules.specs.Arrays.{Entry, indices}
 use Rattle.box_rules.specs.Laws.{IsTable, IsProper, IsProperCond}
 use Rattle.instantiation.specs.Instances.{Place, Instance, table_of, table_over, instance}
-use Rattle.instantiation.specs.Whole.{ChanceTerms, GoalTerms, ProblemTerms, problem_terms}
+use Rattle.program_rules.specs.Problems.{AreProperTerms}
+use Rattle.instantiation.specs.Whole.{problem_terms}
 
 -- numbers ascend: each is less than the next
 abbrev pub Ascends : List ℤ → Type 0
@@ -36,11 +37,6 @@ pub record IsProperInstance (x : Instance) : Type 0 where
 abbrev pub InstancesAreProper : Type 0
 InstancesAreProper = (place : Place) (e : Tree) → IsProperInstance (instance place e)
 
--- all arrays in a problem in terms are so
-pub record AreProperTerms (terms : ProblemTerms) : Type 0 where
-  pub hards : AllByRecursion (AllByRecursion IsProperCond) terms.hards
-  pub chances : AllByRecursion (λ (chance : ChanceTerms). AllByRecursion IsProperCond chance.conditions) terms.chances
-  pub goal : IfSome terms.goal (λ (goal : GoalTerms). AllByRecursion IsProper goal.terms)
-
+-- all arrays in the problem in terms of a problem are so
 abbrev pub ProblemsAreProper : Type 0
 ProblemsAreProper = (problem : Problem) → AreProperTerms (problem_terms problem)

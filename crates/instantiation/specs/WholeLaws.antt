@@ -11,7 +11,9 @@ use Rattle.sopl_ast.specs.Optimal.{Satisfies, numerator, denominator, direction_
 use Rattle.sopl_ast.specs.Unfolding.{problem_of, text_occurrences}
 use Rattle.unfold_laws.specs.Passing.{Passes}
 use Rattle.instantiation.specs.Laws.{AreCellsIn, AreArrays}
-use Rattle.instantiation.specs.Whole.{cell_numbers, place_at, problem_terms, Holds, worth, denominator_in, direction_in, IsBestPoint}
+use Rattle.program_rules.specs.Problems.{denominator_in, direction_in}
+use Rattle.program_rules.specs.Points.{Holds, worth}
+use Rattle.instantiation.specs.Whole.{cell_numbers, place_at, problem_terms, IsBestPoint}
 
 -- in each scenario of a problem these are the numbers of the decisions' cells
 abbrev pub CellsAreNumbered : Type 0

@@ -4,6 +4,7 @@ ghost use Rattle.instantiation.specs.Laws.{InstancesMean, PlacesAgree};
 ghost use Rattle.instantiation.specs.Root.{PointsOfBox, RootIsBox};
 ghost use Rattle.instantiation.specs.Stands.{ArraysStand, ScenariosAreWhole};
 ghost use Rattle.instantiation.specs.Tables.{InstancesAreProper, ProblemsAreProper, TablesAreSound, TablesHaveSets};
+ghost use Rattle.instantiation.specs.WellMade.{ProblemsAreWellMade, TextsAreLawful, UnbeatenIsOptimal, UnreachedIsInfeasible};
 ghost use Rattle.instantiation.specs.WholeLaws.{BestIsOptimal, CellsAreNumbered, NoneIsInfeasible, NumbersAreOne, ProblemsMean, SatisfyingHasValue, TextsAreArrays, ValuesAreSame};
 
 /// What the term of an expression is worth at a point is what the policy of the point makes of the expression; and a condition's
@@ -62,4 +63,18 @@ pub fn problems_mean()
 pub fn best_is_optimal()
     ensures optimal { BestIsOptimal }
     ensures infeasible { NoneIsInfeasible }
+{}
+
+/// The problem in terms of a text that was read and is unfolded whole is well made; so it is lawful over the box of all points, and a
+/// search may go by what closes a box. It does nothing when it runs.
+pub fn problems_are_well_made()
+    ensures law { ProblemsAreWellMade }
+    ensures lawful { TextsAreLawful }
+{}
+
+/// In a text that was read, has no mistake and is unfolded whole, the policy of a point that satisfies, and that no point of the box
+/// beats, is optimal; and where no point satisfies, no policy does. It does nothing when it runs.
+pub fn searches_find_policies()
+    ensures optimal { UnbeatenIsOptimal }
+    ensures infeasible { UnreachedIsInfeasible }
 {}

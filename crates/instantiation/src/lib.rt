@@ -7,6 +7,6 @@ mod worked;
 
 pub use laws::{
     arrays_stand, best_is_optimal, cells_are_numbered, instances_mean, places_agree, points_of_box,
-    problems_mean, tables_are_sound,
+    problems_are_well_made, problems_mean, searches_find_policies, tables_are_sound,
 };
 pub use worked::worked_terms;

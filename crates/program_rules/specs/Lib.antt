@@ -1,0 +1,7 @@
+pub mod Problems
+pub mod Points
+pub mod Objective
+pub mod Refuted
+pub mod Search
+pub mod Laws
+pub mod Worked
