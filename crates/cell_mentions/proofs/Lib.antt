@@ -1,0 +1,5 @@
+pub mod Reaching
+pub mod Forms
+pub mod Parts
+pub mod Agreement
+pub mod Points
