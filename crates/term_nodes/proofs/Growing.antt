@@ -1,5 +1,6 @@
 -- Nodes that are added change nothing of those before them.
-use Rattle.std.proofs.Common.{◌≡◌, inl, inr, ℕ, ◌<◌, ◌≤◌, zero, suc, negsuc, List, [], ◌∷◌, ◌++◌, length, get_or, arith, refl, ap, subst, sym, ◌∙◌, length-append}
+use Rattle.std.proofs.Common.{◌≡◌, inl, inr, ℕ, ◌<◌, ◌≤◌, zero, suc, negsuc, true, List, [], ◌∷◌, ◌++◌, length, get_or, arith, refl, ap, subst, sym, ◌∙◌, length-append}
+use Rattle.std.specs.List.{list_all}
 use Rattle.std.proofs.lemmas.Bool.{cases_lt}
 use Rattle.box_problem.specs.Box.{Box}
 use Rattle.term_nodes.specs.declared.nodes.Node.{Node}
@@ -8,9 +9,10 @@ use Rattle.term_nodes.specs.declared.nodes.Signed.{Signed}
 use Rattle.term_nodes.specs.declared.items.Item.{Item}
 use Rattle.box_rules.specs.Terms as rule
 use Rattle.box_rules.specs.Forms as forms
+use Rattle.box_rules.specs.Rules as rules
 use Rattle.box_rules.specs.Rules.{form}
 use Rattle.term_operations.specs.Made.{operation_term, extreme_term}
-use Rattle.term_nodes.specs.Things.{Thing, a_term, a_cond, term_in, cond_in, term_at, cond_at, thing_at, thing_of, parts_at, terms_at, conds_at, things, things_from}
+use Rattle.term_nodes.specs.Things.{Thing, a_term, a_cond, term_in, cond_in, table_in, term_at, cond_at, table_at, thing_at, thing_of, parts_at, terms_at, conds_at, things, things_from}
 use Rattle.term_nodes.specs.Built.{IsAt, IsBuilt, IsNew, IsBelow, IsSound, IsRight, PartsBelow, AllBelow, facts_of}
 use Rattle.term_nodes.proofs.Reading.{length_things}
 
@@ -43,6 +45,9 @@ parts_stay all more n (p ∷ parts) most below =
     ap (λ (t : rule.Term). rule.part p.subtracted t (parts_at (all ++ more ∷ []) parts)) (term_stays all more n p.term most below.0)
     ∙ ap (rule.part p.subtracted (term_at all p.term)) (parts_stay all more n parts most below.1)
 
+table_stays : (all : List Thing) (more : Thing) (n id : ℕ) → n ≤ length all → id < n → table_at (all ++ more ∷ []) id ≡ table_at all id
+table_stays all more n id most below = ap table_in (stays all more id (omega (arith, most, below)))
+
 terms_stay : (all : List Thing) (more : Thing) (n : ℕ) (ids : List ℕ) → n ≤ length all → AllBelow n ids → terms_at (all ++ more ∷ []) ids ≡ terms_at all ids
 terms_stay all more n [] most below = refl
 terms_stay all more n (id ∷ ids) most below =
@@ -69,6 +74,9 @@ thing_stays all more n (node.Operation op a) most below = ap (λ (t : rule.Term)
 thing_stays all more n (node.Extreme e first later) most below =
     ap (λ (t : rule.Term). a_term (extreme_term e t (terms_at (all ++ more ∷ []) later.items))) (term_stays all more n first most below.0)
     ∙ ap (λ (ts : rule.Terms). a_term (extreme_term e (term_at all first) ts)) (terms_stay all more n later.items most below.1)
+thing_stays all more n (node.Element table at) most below =
+    ap (λ (t : rule.Table). a_term (rule.Element t (terms_at (all ++ more ∷ []) at.items))) (table_stays all more n table most below.0)
+    ∙ ap (λ (ts : rule.Terms). a_term (rule.Element (table_at all table) ts)) (terms_stay all more n at.items most below.1)
 thing_stays all more n (node.Number c) most below = ap (λ (t : rule.Cond). a_term (rule.Number t)) (cond_stays all more n c most below)
 thing_stays all more n (node.Compare c) most below = two_terms (λ s t. a_cond (rule.Compare c.op s t)) all more n c.left c.right most below.0 below.1
 thing_stays all more n (node.Not c) most below = ap (λ (t : rule.Cond). a_cond (rule.Not t)) (cond_stays all more n c most below)
@@ -77,6 +85,7 @@ thing_stays all more n (node.Any conds) most below = ap (λ (cs : rule.Conds). a
 thing_stays all more n (node.Implies a c) most below =
     ap (λ (t : rule.Cond). a_cond (rule.Implies t (cond_at (all ++ more ∷ []) c))) (cond_stays all more n a most below.0)
     ∙ ap (λ (t : rule.Cond). a_cond (rule.Implies (cond_at all a) t)) (cond_stays all more n c most below.1)
+thing_stays all more n (node.Table t) most below = refl
 
 right_stays : (root : Box) (all : List Thing) (more : Thing) (n : ℕ) (x : Node) → n ≤ length all → IsBelow n x → IsRight root all x → IsRight root (all ++ more ∷ []) x
 right_stays root all more n (node.Constant z) most below is = tt
@@ -85,6 +94,8 @@ right_stays root all more n (node.Sum parts) most below is = tt
 right_stays root all more n (node.Product a b) most below is = tt
 right_stays root all more n (node.Operation op a) most below is = is
 right_stays root all more n (node.Extreme e first later) most below is = tt
+right_stays root all more n (node.Element table at) most below is =
+    subst (λ (ts : rule.Terms). list_all forms.is_constant (rules.forms root ts) ≡ true) (sym (terms_stay all more n at.items most below.1)) is
 right_stays root all more n (node.Number c) most below is = tt
 right_stays root all more n (node.Compare c) most below is =
     is ∙ sym (ap (λ (t : rule.Term). forms.plus_form (negsuc 0) (form root t) (form root (term_at (all ++ more ∷ []) c.right))) (term_stays all more n c.left most below.0)
@@ -93,6 +104,7 @@ right_stays root all more n (node.Not c) most below is = tt
 right_stays root all more n (node.All conds) most below is = tt
 right_stays root all more n (node.Any conds) most below is = tt
 right_stays root all more n (node.Implies a c) most below is = tt
+right_stays root all more n (node.Table t) most below is = tt
 
 -- what stands at a number, old or new
 old_at : (root : Box) (all : List Thing) (more : Thing) (id : ℕ) (item : Item) → id < length all → IsAt root all id item → IsAt root (all ++ more ∷ []) id item

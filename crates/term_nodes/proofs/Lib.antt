@@ -4,3 +4,4 @@ pub mod Ready
 pub mod Plain
 pub mod Ranges
 pub mod Growing
+pub mod Elements

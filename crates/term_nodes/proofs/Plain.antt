@@ -1,6 +1,5 @@
 -- A term of cells alone that is Always defined over the root has nothing but cells over each box inside it.
-use Rattle.std.proofs.Common.{◌≡◌, ℤ, pos, true, ◌&&◌, arith, refl, ap, subst, sym, ◌∙◌}
-use Rattle.std.proofs.lemmas.Int.{ints}
+use Rattle.std.proofs.Common.{◌≡◌, ℤ, pos, true, ◌&&◌, refl, ap, subst, sym, ◌∙◌}
 use Rattle.box_problem.specs.Box.{Box, IsBox, Inside}
 use Rattle.box_rules.specs.declared.answers.Defined.{Defined}
 use Rattle.box_rules.specs.declared.answers.Defined.TheVariants.{Never, Maybe, Always}

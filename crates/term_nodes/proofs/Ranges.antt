@@ -1,8 +1,8 @@
 -- What is made of one number over a box, and the least and the greatest of several.
-use Rattle.std.proofs.Common.{◌≡◌, ℕ, ◌+◌, ◌<◌, ◌≤◌, ◌^◌, pos, Bool, true, false, List, [], ◌∷◌, length, get_or, drop, arith, refl, ap, subst, sym, ◌∙◌}
+use Rattle.std.proofs.Common.{◌≡◌, ℕ, ◌+◌, ◌<◌, ◌≤◌, pos, Bool, true, false, List, [], ◌∷◌, length, get_or, drop, arith, refl, ap, subst, sym, ◌∙◌}
 use Rattle.std.specs.List.{fold}
 use Rattle.std.proofs.lemmas.List.{at_drop_more, at_drop_all}
-use Rattle.box_problem.specs.Box.{Box, IsBox}
+use Rattle.box_problem.specs.Box.{Box}
 use Rattle.box_rules.specs.Ends as ends
 use Rattle.box_rules.specs.Marks.{both, all_marks}
 use Rattle.box_rules.specs.Rules.{Reading, Near, Wide, form, forms, atoms, mark, marks, interval, intervals, folds, folded, unless_folded, chosen}

@@ -1,5 +1,5 @@
 -- Where all terms are small over the root, what is reckoned over a box inside it has room.
-use Rattle.std.proofs.Common.{◌≡◌, inl, inr, ℕ, ◌+◌, ◌-◌, ◌*◌, ◌<◌, ◌≤◌, ◌^◌, zero, suc, pos, negsuc, ◌*ℤ◌, unsigned_abs, List, [], ◌∷◌, length, get_or, drop, arith, ap, subst, sym}
+use Rattle.std.proofs.Common.{◌≡◌, inl, inr, ℕ, ◌+◌, ◌-◌, ◌*◌, ◌<◌, ◌≤◌, ◌^◌, zero, suc, pos, negsuc, ◌*ℤ◌, unsigned_abs, List, [], ◌∷◌, length, get_or, drop, arith, refl, ap, subst, sym}
 use Rattle.std.proofs.lemmas.Bool.{cases_lt}
 use Rattle.std.proofs.lemmas.Int.{unsigned_abs-mul}
 use Rattle.std.proofs.lemmas.List.{get_or_default}
@@ -9,7 +9,7 @@ use Rattle.box_rules.specs.Forms as forms
 use Rattle.box_rules.specs.Terms.{Term, Constant, Product, Sum, Parts}
 use Rattle.box_rules.specs.Rules.{Near, Wide, form, atoms, sum_atoms, product_atoms}
 use Rattle.box_rules.specs.Sizes.{weight_of, cells_weight, atoms_weight, sum_weight, size}
-use Rattle.box_rules.specs.Laws.{IsProper, AreProperParts}
+use Rattle.box_rules.specs.Laws.{IsProper, AreProper, AreProperParts, IsTable}
 use Rattle.box_rules.proofs.Bounds.{Bounds, bounded, bounded_parts, sign_size}
 use Rattle.box_rules.proofs.Sharpening.{narrow, narrow_parts}
 use Rattle.term_rules.specs.declared.forms.Form.{Form}
@@ -19,7 +19,7 @@ use Rattle.term_rules.proofs.Weights.{combined_weighted, cells_weighted, plus_si
 use Rattle.term_nodes.specs.declared.nodes.Signed.{Signed}
 use Rattle.term_nodes.specs.declared.items.Item.{Item}
 use Rattle.term_nodes.specs.declared.evaluation.Here.{Here}
-use Rattle.term_nodes.specs.Things.{Thing, term_in, term_at, parts_at, things}
+use Rattle.term_nodes.specs.Things.{Thing, no_table, term_in, table_in, term_at, terms_at, table_at, parts_at, things}
 use Rattle.term_nodes.specs.Built.{IsAt, IsBuilt, IsSoundTerm}
 use Rattle.term_nodes.specs.declared.evaluation.Sight as own
 use Rattle.term_nodes.specs.Seen.{IsReady, Sight, sight, sight_of, sum_sight}
@@ -39,6 +39,25 @@ small_term root (first ∷ rest) id all =
           let at : IsAt root (things items) id (get_or items id first) = all.each id (get_or items id first) there (get_or_default items id first (get_or items id first) there) in
           subst (λ (t : Thing). IsSoundTerm root (term_in t)) (sym at.thing) at.sound.term
       | inr past ↦ subst (λ (t : Thing). IsSoundTerm root (term_in t)) (sym (nothing_past (first ∷ rest) id past)) (nothing_small root)
+    ]
+
+-- and for proper terms and arrays
+pub terms_proper : (root : Box) (items : List Item) (ids : List ℕ) → IsBuilt root items → AreProper (terms_at (things items) ids)
+terms_proper root items [] all = tt
+terms_proper root items (id ∷ ids) all = ((small_term root items id all).proper, terms_proper root items ids all)
+
+pub no_table_is : IsTable no_table
+no_table_is = record { complete = refl; distinct = λ i j d before exists. absurd (omega (arith, exists)) }
+
+pub table_proper : (root : Box) (items : List Item) (id : ℕ) → IsBuilt root items → IsTable (table_at (things items) id)
+table_proper root [] id all = no_table_is
+table_proper root (first ∷ rest) id all =
+    elim (cases_lt id (length (first ∷ rest))) [
+      | inl there ↦
+          let items : List Item = first ∷ rest in
+          let at : IsAt root (things items) id (get_or items id first) = all.each id (get_or items id first) there (get_or_default items id first (get_or items id first) there) in
+          subst (λ (t : Thing). IsTable (table_in t)) (sym at.thing) at.sound.table
+      | inr past ↦ subst (λ (t : Thing). IsTable (table_in t)) (sym (nothing_past (first ∷ rest) id past)) no_table_is
     ]
 
 -- its interval over a box inside the root

@@ -4,13 +4,15 @@ use Rattle.std.proofs.lemmas.List.{at_drop_more, at_drop_all, get_or_default}
 use Rattle.box_problem.specs.Box.{Box}
 use Rattle.box_rules.specs.Ends as ends
 use Rattle.box_rules.specs.Forms.{sign}
-use Rattle.box_rules.specs.Marks.{both, and_truth, or_truth}
-use Rattle.box_rules.specs.Rules.{Reading, Near, form, atoms, mark, sum_atoms, truth, all_truth, any_truth}
+use Rattle.box_rules.specs.Marks.{both, all_marks, and_truth, or_truth}
+use Rattle.box_rules.specs.Terms as rule
+use Rattle.box_rules.specs.declared.answers.Defined.TheVariants.{Always}
+use Rattle.box_rules.specs.Rules.{Reading, Near, form, atoms, mark, marks, sum_atoms, truth, all_truth, any_truth}
 use Rattle.box_rules.specs.declared.answers.Truth.{Truth}
 use Rattle.term_nodes.specs.declared.nodes.Node.{Node}
 use Rattle.term_nodes.specs.declared.nodes.Signed.{Signed}
 use Rattle.term_nodes.specs.declared.items.Item.{Item}
-use Rattle.term_nodes.specs.Things.{Thing, term_in, cond_in, term_at, cond_at, thing_of, parts_at, conds_at}
+use Rattle.term_nodes.specs.Things.{Thing, term_in, cond_in, table_in, term_at, terms_at, cond_at, table_at, thing_of, parts_at, conds_at}
 use Rattle.term_nodes.specs.Built.{Facts, IsAt, IsBelow, IsSound, IsRight, PartsBelow, AllBelow}
 use Rattle.term_nodes.specs.Seen.{Sight, sight, sum_sight}
 
@@ -35,6 +37,18 @@ right_at root all id item node at is = subst (IsRight root all) is at.right
 pub plain_at : (root : Box) (all : List Thing) (id : ℕ) (item : Item) (node : Node) → IsAt root all id item → item.node ≡ node → item.facts.form.plain ≡ (form root (term_in (thing_of all node))).plain
 plain_at root all id item node at is =
     ap (λ (f : Facts). f.form.plain) at.kept ∙ ap (λ (n : Node). (form root (term_in (thing_of all n))).plain) is
+
+pub table_is : (root : Box) (all : List Thing) (id : ℕ) (item : Item) (node : Node) (t : rule.Table) → IsAt root all id item → item.node ≡ node → t ≡ table_in (thing_of all node) → t ≡ table_at all id
+table_is root all id item node t at is found =
+    found ∙ ap (λ (n : Node). table_in (thing_of all n)) (sym is) ∙ ap table_in (sym at.thing)
+
+pub next_seen_marks : (reading : Reading) (root b : Box) (all : List Thing) (xs : List ℕ) (i x : ℕ) → i < length xs → x ≡ get_or xs i x → all_marks (marks reading root b (terms_at all (drop i xs))) ≡ both (mark reading root b (term_at all x)) (all_marks (marks reading root b (terms_at all (drop (i + 1) xs))))
+next_seen_marks reading root b all xs i x below at =
+    at_drop_more (λ ys. all_marks (marks reading root b (terms_at all ys))) xs i x below
+    ∙ ap (λ (y : ℕ). both (mark reading root b (term_at all y)) (all_marks (marks reading root b (terms_at all (drop (i + 1) xs))))) (sym at)
+
+pub no_seen_marks : (reading : Reading) (root b : Box) (all : List Thing) (xs : List ℕ) (i : ℕ) → length xs ≤ i → all_marks (marks reading root b (terms_at all (drop i xs))) ≡ Always
+no_seen_marks reading root b all xs i past = at_drop_all (λ ys. all_marks (marks reading root b (terms_at all ys))) xs i past
 
 -- the parts of a sum
 pub next_part : (root b : Box) (all : List Thing) (xs : List Signed) (i : ℕ) (x : Signed) → i < length xs → x ≡ get_or xs i x → sum_sight root b (parts_at all (drop i xs)) ≡ record { ends = ends.plus (ends.scaled (sign x.subtracted) (atoms Near root b (term_at all x.term))) (sum_atoms Near root b (parts_at all (drop (i + 1) xs))); mark = both (mark Near root b (term_at all x.term)) (sum_sight root b (parts_at all (drop (i + 1) xs))).mark }

@@ -1,7 +1,8 @@
--- Which term or condition a node is.
+-- Which term, condition or array a node is.
 use Rattle.std.specs.Prelude.{ℕ, pos, List, [], ◌∷◌, ◌++◌, slice_index_or}
 use Rattle.box_rules.specs.Terms as rule
 use Rattle.term_operations.specs.Made.{operation_term, extreme_term}
+use Rattle.term_tables.specs.Kept.{table_of}
 use Rattle.term_nodes.specs.declared.nodes.Node.{Node}
 use Rattle.term_nodes.specs.declared.nodes.Node.TheVariants as node
 use Rattle.term_nodes.specs.declared.nodes.Signed.{Signed}
@@ -10,6 +11,7 @@ use Rattle.term_nodes.specs.declared.items.Item.{Item}
 pub data Thing : Type 0 where
   a_term : rule.Term → Thing
   a_cond : rule.Cond → Thing
+  a_table : rule.Table → Thing
 
 -- what is not there
 abbrev pub nothing : Thing
@@ -21,17 +23,31 @@ thing_at all id = slice_index_or all id nothing
 abbrev pub term_in : Thing → rule.Term
 term_in (a_term t) = t
 term_in (a_cond c) = rule.Constant (pos 0)
+term_in (a_table t) = rule.Constant (pos 0)
 
 abbrev pub cond_in : Thing → rule.Cond
 cond_in (a_term t) = rule.All rule.no_cond
 cond_in (a_cond c) = c
+cond_in (a_table t) = rule.All rule.no_cond
 
--- the term and the condition of a number
+-- an array that has no index
+abbrev pub no_table : rule.Table
+no_table = record { sets = [] ∷ []; items = [] }
+
+abbrev pub table_in : Thing → rule.Table
+table_in (a_term t) = no_table
+table_in (a_cond c) = no_table
+table_in (a_table t) = t
+
+-- the term, the condition and the array of a number
 abbrev pub term_at : List Thing → ℕ → rule.Term
 term_at all id = term_in (thing_at all id)
 
 abbrev pub cond_at : List Thing → ℕ → rule.Cond
 cond_at all id = cond_in (thing_at all id)
+
+abbrev pub table_at : List Thing → ℕ → rule.Table
+table_at all id = table_in (thing_at all id)
 
 -- those of several numbers
 abbrev pub parts_at : List Thing → List Signed → rule.Parts
@@ -54,12 +70,14 @@ thing_of all (node.Sum parts) = a_term (rule.Sum (parts_at all parts.items))
 thing_of all (node.Product a b) = a_term (rule.Product (term_at all a) (term_at all b))
 thing_of all (node.Operation op a) = a_term (operation_term op (term_at all a))
 thing_of all (node.Extreme e first later) = a_term (extreme_term e (term_at all first) (terms_at all later.items))
+thing_of all (node.Element table at) = a_term (rule.Element (table_at all table) (terms_at all at.items))
 thing_of all (node.Number c) = a_term (rule.Number (cond_at all c))
 thing_of all (node.Compare c) = a_cond (rule.Compare c.op (term_at all c.left) (term_at all c.right))
 thing_of all (node.Not c) = a_cond (rule.Not (cond_at all c))
 thing_of all (node.All conds) = a_cond (rule.All (conds_at all conds.items))
 thing_of all (node.Any conds) = a_cond (rule.Any (conds_at all conds.items))
 thing_of all (node.Implies a c) = a_cond (rule.Implies (cond_at all a) (cond_at all c))
+thing_of all (node.Table t) = a_table (table_of t)
 
 -- what all nodes are, behind those that are known
 abbrev pub things_from : List Thing → List Item → List Thing

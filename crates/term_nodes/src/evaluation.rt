@@ -1,6 +1,7 @@
 //! What terms and conditions are over a box.
 
-ghost use Rattle.std.specs.Prelude.{◌≡◌, ◌<◌, length, negsuc, pos};
+ghost use Rattle.std.specs.Prelude.{◌≡◌, ◌<◌, length, map, negsuc, pos, true};
+ghost use Rattle.std.specs.List.{list_all};
 ghost use Rattle.box_rules.specs.Ends as ends;
 ghost use Rattle.box_rules.specs.Forms as forms;
 ghost use Rattle.box_rules.specs.Forms.{sign};
@@ -10,11 +11,11 @@ ghost use Rattle.box_rules.specs.Terms as term;
 ghost use Rattle.box_rules.specs.declared.answers.Defined.TheVariants.{Always};
 ghost use Rattle.term_rules.specs.Shown.{IsFit, box_in, ends_at, ends_of, form_of};
 ghost use Rattle.term_operations.specs.Made.{IsPossible, extreme_term, operation_term, picked};
-ghost use Rattle.term_nodes.specs.Things.{cond_at, conds_at, parts_at, term_at, terms_at, things};
+ghost use Rattle.term_nodes.specs.Things.{cond_at, conds_at, parts_at, table_at, term_at, terms_at, things};
 ghost use Rattle.term_nodes.specs.Built.{AllBelow, IsSoundTerm, PartsBelow};
 ghost use Rattle.term_nodes.specs.Seen.{IsReady, extreme_range, sight, sight_of, sum_sight};
 
-use crate::items::{Item, form_at, item_at};
+use crate::items::{Item, form_at, item_at, table_at};
 use crate::nodes::{Comparison, Node, Signed};
 use box_rules::{Defined, Truth};
 use term_operations::{Extreme, Operation};
@@ -136,12 +137,16 @@ impl<'a> Here<'a> {
                     later.as_slice(),
                 )
             }
+            Node::Element(table, at) => {
+                self.element(item.facts.form.plain, id, *table, at.as_slice())
+            }
             Node::Number(c) => self.number(id, *c),
             Node::Compare(_) => Sight::clear(),
             Node::Not(_) => Sight::clear(),
             Node::All(_) => Sight::clear(),
             Node::Any(_) => Sight::clear(),
             Node::Implies(_, _) => Sight::clear(),
+            Node::Table(_) => Sight::clear(),
         }
     }
 
@@ -247,6 +252,54 @@ impl<'a> Here<'a> {
         taken
     }
 
+    /// What an element is over the box, whose indices are numbers over the root; it is plain where it is in the array.
+    #[cycle(seen)]
+    fn element(&self, plain: bool, limit: u32, table: u32, at: &[u32]) -> Sight
+        requires ready { IsReady self.now }
+        requires below { AllBelow limit at.now }
+        requires constant { list_all forms.is_constant (rule.forms (box_in self.now.root) (terms_at (things self.now.items.now) at.now)) ≡ true }
+        requires plain { plain ≡ (rule.form (box_in self.now.root) (term.Element (table_at (things self.now.items.now) table) (terms_at (things self.now.items.now) at.now))).plain }
+        ensures { sight_of result ≡ sight (box_in self.now.root) (box_in self.now.view) (term.Element (table_at (things self.now.items.now) table) (terms_at (things self.now.items.now) at.now)) }
+    {
+        if plain {
+            return Sight {
+                ends: Ends::zero(),
+                mark: self.marks(limit, at),
+            };
+        }
+        Sight {
+            ends: self.hull(table),
+            mark: Defined::Never,
+        }
+    }
+
+    /// The hull of all elements of an array over the box.
+    fn hull(&self, table: u32) -> Ends
+        requires ready { IsReady self.now }
+        ensures { ends_of result ≡ ends.hull_of (map (rule.item_ends (box_in self.now.view)) (table_at (things self.now.items.now) table).items) }
+    {
+        match table_at(self.items, table) {
+            Some(found) => found.hull(&self.view),
+            None => Ends::zero(),
+        }
+    }
+
+    /// The mark of several terms over the box.
+    #[cycle(seen)]
+    #[tactic(auto, using(crate::proofs::Steps::next_seen_marks, crate::proofs::Steps::no_seen_marks, crate::proofs::Steps::cond_below))]
+    fn marks(&self, limit: u32, ids: &[u32]) -> Defined
+        requires ready { IsReady self.now }
+        requires below { AllBelow limit ids.now }
+        ensures { result ≡ marks.all_marks (rule.marks rule.Near (box_in self.now.root) (box_in self.now.view) (terms_at (things self.now.items.now) ids.now)) }
+    {
+        let mut mark = Defined::Always;
+        for i in (0..ids.len()).rev() {
+            let seen = self.seen(ids[i]);
+            mark = both(seen.mark, mark);
+        }
+        mark
+    }
+
     /// What a condition as a number is over the box.
     #[cycle(seen)]
     fn number(&self, limit: u32, c: u32) -> Sight
@@ -278,12 +331,14 @@ impl<'a> Here<'a> {
             Node::Product(_, _) => Truth::True,
             Node::Operation(_, _) => Truth::True,
             Node::Extreme(_, _, _) => Truth::True,
+            Node::Element(_, _) => Truth::True,
             Node::Number(_) => Truth::True,
             Node::Compare(comparison) => self.compare(id, comparison),
             Node::Not(c) => opposite(self.truth(*c)),
             Node::All(conds) => self.all(id, conds.as_slice()),
             Node::Any(conds) => self.any(id, conds.as_slice()),
             Node::Implies(a, c) => self.implies(id, *a, *c),
+            Node::Table(_) => Truth::True,
         }
     }
 

@@ -5,12 +5,14 @@ ghost use Rattle.box_problem.specs.Box.{Box};
 ghost use Rattle.box_rules.specs.Marks.{is_always};
 ghost use Rattle.box_rules.specs.Rules.{form};
 ghost use Rattle.term_rules.specs.Shown.{form_of};
-ghost use Rattle.term_nodes.specs.Things.{nothing, term_at, thing_at, things};
+ghost use Rattle.term_tables.specs.Kept.{table_of};
+ghost use Rattle.term_nodes.specs.Things.{no_table, nothing, table_at, term_at, thing_at, things};
 ghost use Rattle.term_nodes.specs.Built.{IsAt, IsBuilt};
 
 use crate::nodes::Node;
 use box_rules::{Defined, Truth};
 use term_rules::{Ends, Form};
+use term_tables::Table;
 
 /// What is known of a node over the root box: the linear form and the mark of a term; by the wide reading the mark of a term, the interval
 /// and the weight of what is no cell in it, and the truth of a condition.
@@ -55,6 +57,31 @@ pub fn item_at(items: &[Item], id: u32) -> Option<&Item>
     ensures none { IfNone result (thing_at (things items.now) id ≡ nothing) }
 {
     items.get(id as usize)
+}
+
+/// The array of this number.
+#[tactic(auto, using(crate::proofs::Steps::table_is))]
+pub fn table_at(items: &[Item], id: u32) -> Option<&Table>
+    ensures some { (root : Box) → IsBuilt root items.now → IfSome result (λ table. table_of table.now ≡ table_at (things items.now) id) }
+    ensures none { (root : Box) → IsBuilt root items.now → IfNone result (no_table ≡ table_at (things items.now) id) }
+{
+    let item = item_at(items, id)?;
+    match &item.node {
+        Node::Table(table) => Some(table),
+        Node::Constant(_) => None,
+        Node::Cell(_) => None,
+        Node::Sum(_) => None,
+        Node::Product(_, _) => None,
+        Node::Operation(_, _) => None,
+        Node::Extreme(_, _, _) => None,
+        Node::Element(_, _) => None,
+        Node::Number(_) => None,
+        Node::Compare(_) => None,
+        Node::Not(_) => None,
+        Node::All(_) => None,
+        Node::Any(_) => None,
+        Node::Implies(_, _) => None,
+    }
 }
 
 /// The linear form of the term of this number.

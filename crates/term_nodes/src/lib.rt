@@ -7,6 +7,6 @@ mod nodes;
 mod pushes;
 
 pub use evaluation::{Here, Sight, factor};
-pub use items::{Facts, Item, form_at, item_at};
+pub use items::{Facts, Item, form_at, item_at, table_at};
 pub use nodes::{Comparison, Node, Signed};
 pub use pushes::push;

@@ -3,6 +3,7 @@
 use sopl_base::CmpOp;
 use term_operations::{Extreme, Operation};
 use term_rules::Form;
+use term_tables::Table;
 
 /// A part of a sum, and whether it is subtracted.
 #[derive(Clone, Copy, Debug, PartialEq, Eq)]
@@ -20,7 +21,7 @@ pub struct Comparison {
     pub form: Form,
 }
 
-/// A term or a condition, by the numbers of its operands.
+/// A term, a condition or an array, by the numbers of its operands.
 #[derive(Drop)]
 pub enum Node {
     Constant(i64),
@@ -29,10 +30,12 @@ pub enum Node {
     Product(u32, u32),
     Operation(Operation, u32),
     Extreme(Extreme, u32, Vec<u32>),
+    Element(u32, Vec<u32>),
     Number(u32),
     Compare(Comparison),
     Not(u32),
     All(Vec<u32>),
     Any(Vec<u32>),
     Implies(u32, u32),
+    Table(Table),
 }

@@ -9,7 +9,8 @@ use Rattle.box_rules.specs.Forms.{Coefficient}
 use Rattle.box_rules.specs.Sizes.{weight_of, cells_weight}
 use Rattle.term_rules.specs.declared.combinations.WideCoefficient.{WideCoefficient}
 use Rattle.term_rules.specs.Shown.{cells_of}
-use Rattle.term_rules.specs.Sums.{mass, narrow, wide_cells}
+use Rattle.term_rules.specs.declared.forms.Coefficient as own
+use Rattle.term_rules.specs.Sums.{mass, narrow, wide_cells, widen}
 
 pub next_weight : (root : Box) (xs : List WideCoefficient) (i : ℕ) (x : WideCoefficient) → i < length xs → x ≡ get_or xs i x → cells_weight root (wide_cells (drop i xs)) ≡ unsigned_abs x.k * weight_of (cell_ends root x.cell) + cells_weight root (wide_cells (drop (i + 1) xs))
 next_weight root xs i x below at =
@@ -60,3 +61,7 @@ small_at (y ∷ ys) (suc i) x small there at = small_at ys i x (omega (arith, sm
 pub narrow_cells : (xs : List WideCoefficient) → cells_of (map narrow xs) ≡ wide_cells xs
 narrow_cells [] = refl
 narrow_cells (x ∷ xs) = ap (λ (cs : List Coefficient). record { cell = x.cell; k = x.k } ∷ cs) (narrow_cells xs)
+
+pub widen_cells : (xs : List own.Coefficient) → wide_cells (map widen xs) ≡ cells_of xs
+widen_cells [] = refl
+widen_cells (x ∷ xs) = ap (λ cells. record { cell = x.cell; k = x.k } ∷ cells) (widen_cells xs)

@@ -52,3 +52,7 @@ weight_in root f = unsigned_abs f.constant + cells_weight root f.cells
 -- the same as it is kept with 64 bits
 abbrev pub narrow : WideCoefficient → own.Coefficient
 narrow c = record { cell = c.cell; k = c.k }
+
+-- and the other way round
+abbrev pub widen : own.Coefficient → WideCoefficient
+widen c = record { cell = c.cell; k = c.k }

@@ -9,7 +9,7 @@ ghost use Rattle.box_rules.specs.Forms as rule;
 ghost use Rattle.term_rules.specs.Shown.{cells_of, form_of};
 ghost use Rattle.term_rules.specs.Sums.{coefficient_at, combination_of, is_there, mass, mass_of, nonzero, wide_form};
 
-use crate::ends::Factor;
+use crate::ends::{Factor, WideFactor};
 use crate::forms::{Coefficient, Form};
 use std::alloc::{AllocError, Global};
 use std::collections::BTreeMap;
@@ -57,7 +57,7 @@ impl Combination {
 
     /// So many times a form more.
     #[tactic(auto, using(crate::proofs::Weights::room_for_constant, crate::proofs::Weights::room_for_cells))]
-    pub fn add(&mut self, factor: &Factor, form: &Form) -> Result<(), AllocError>
+    pub fn add(&mut self, factor: &WideFactor, form: &Form) -> Result<(), AllocError>
         requires room { mass_of (combination_of self.old) + unsigned_abs factor.now.k * mass_of (form_of form.now) < 2 ^ 127 }
         ensures { OnOk result (combination_of self.new ≡ rule.plus_form factor.now.k (combination_of self.old) (form_of form.now)) }
     {
@@ -90,7 +90,7 @@ impl Combination {
 }
 
 /// Whether nothing but cells is in a sum.
-fn stays_plain(sum: bool, form: bool, factor: &Factor) -> bool
+fn stays_plain(sum: bool, form: bool, factor: &WideFactor) -> bool
     ensures { result ≡ (sum && (form || int_eq factor.now.k (pos 0))) }
 {
     if !sum {
@@ -124,21 +124,23 @@ fn put(cells: &mut BTreeMap<u32, i128>, more: &WideCoefficient) -> Result<(), Al
 }
 
 /// So many times the constant of a form.
-fn constant_times(factor: &Factor, form: &Form) -> Wide
+fn constant_times(factor: &WideFactor, form: &Form) -> Wide
+    requires room { unsigned_abs (factor.now.k *ℤ form.now.constant) < 2 ^ 127 }
     ensures { result.k ≡ factor.now.k *ℤ form.now.constant }
 {
     Wide {
-        k: i128::from(factor.k) * i128::from(form.constant),
+        k: factor.k * i128::from(form.constant),
     }
 }
 
 /// So many times a coefficient.
-fn times(factor: &Factor, coefficient: &Coefficient) -> WideCoefficient
+fn times(factor: &WideFactor, coefficient: &Coefficient) -> WideCoefficient
+    requires room { unsigned_abs (factor.now.k *ℤ coefficient.now.k) < 2 ^ 127 }
     ensures { result ≡ record { cell = coefficient.now.cell; k = factor.now.k *ℤ coefficient.now.k } }
 {
     WideCoefficient {
         cell: coefficient.cell,
-        k: i128::from(factor.k) * i128::from(coefficient.k),
+        k: factor.k * i128::from(coefficient.k),
     }
 }
 
@@ -146,7 +148,7 @@ fn times(factor: &Factor, coefficient: &Coefficient) -> WideCoefficient
 #[tactic(auto, using(crate::proofs::Weights::room_at, crate::proofs::Weights::next_combined))]
 fn add_cells(
     cells: &mut BTreeMap<u32, i128>,
-    factor: &Factor,
+    factor: &WideFactor,
     more: &[Coefficient],
 ) -> Result<(), AllocError>
     requires room { mass (nonzero cells.old.entries) + unsigned_abs factor.now.k * mass (cells_of more.now) < 2 ^ 127 }
@@ -179,7 +181,7 @@ pub fn scaled(alloc: Global, factor: &Factor, form: &Form) -> Result<WideForm, A
     ensures { IfOk result (λ wide. wide_form wide ≡ rule.times_form factor.now.k (form_of form.now)) }
 {
     let mut sum = Combination::new(alloc);
-    sum.add(factor, form)?;
+    sum.add(&factor.widened(), form)?;
     let wide = sum.form(alloc)?;
     Ok(wide)
 }

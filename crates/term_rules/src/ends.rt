@@ -17,6 +17,23 @@ pub struct Factor {
     pub k: i64,
 }
 
+/// The same with 128 bits.
+#[derive(Clone, Copy, Debug, PartialEq, Eq)]
+pub struct WideFactor {
+    pub k: i128,
+}
+
+impl Factor {
+    /// The same number with 128 bits.
+    pub fn widened(&self) -> WideFactor
+        ensures { result.k ≡ self.now.k }
+    {
+        WideFactor {
+            k: i128::from(self.k),
+        }
+    }
+}
+
 impl Ends {
     /// 0 alone.
     pub fn zero() -> Ends

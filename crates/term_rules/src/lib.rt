@@ -9,7 +9,7 @@ mod measures;
 mod views;
 
 pub use combinations::{Combination, WideCoefficient, WideForm, scaled};
-pub use ends::{Ends, Factor};
+pub use ends::{Ends, Factor, WideFactor};
 pub use forms::{Coefficient, Form};
 pub use marks::{
     all_compare, and_truth, both, compared, none_compares, opposite, or_truth, truth_ends,

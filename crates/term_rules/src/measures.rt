@@ -5,7 +5,7 @@ ghost use Rattle.std.specs.Int.RustNames.{unsigned_abs};
 ghost use Rattle.box_rules.specs.Ends as ends;
 ghost use Rattle.box_rules.specs.Sizes as sizes;
 ghost use Rattle.term_rules.specs.Shown.{box_in, ends_of, form_of};
-ghost use Rattle.term_rules.specs.Sums.{mass, mass_of, narrow, weight_in, wide_cells, wide_form};
+ghost use Rattle.term_rules.specs.Sums.{mass, mass_of, narrow, weight_in, wide_cells, wide_form, widen};
 
 use crate::combinations::{WideCoefficient, WideForm};
 use crate::ends::{Ends, Factor};
@@ -120,6 +120,33 @@ impl WideForm {
         Ok(Form {
             constant: constant.k,
             cells: narrowed_cells(alloc, self.cells.as_slice())?,
+            plain: self.plain,
+        })
+    }
+}
+
+/// All numbers with 128 bits.
+fn widened_cells(alloc: Global, cells: &[Coefficient]) -> Result<Vec<WideCoefficient>, AllocError>
+    ensures { IfOk result (λ list. list.items ≡ map widen cells.now) }
+{
+    cells
+        .iter()
+        .map(|coefficient| WideCoefficient {
+            cell: coefficient.cell,
+            k: i128::from(coefficient.k),
+        })
+        .collect(alloc)
+}
+
+impl Form {
+    /// The same form, with numbers of 128 bits.
+    #[tactic(auto, using(crate::proofs::Weighing::widen_cells))]
+    pub fn widened(&self, alloc: Global) -> Result<WideForm, AllocError>
+        ensures { IfOk result (λ wide. wide_form wide ≡ form_of self.now) }
+    {
+        Ok(WideForm {
+            constant: i128::from(self.constant),
+            cells: widened_cells(alloc, self.cells.as_slice())?,
             plain: self.plain,
         })
     }

@@ -22,7 +22,7 @@ use Rattle.term_nodes.specs.declared.items.Facts as own
 use Rattle.term_nodes.specs.Things.{Thing, a_cond, a_term, thing_of, cond_in, cond_at, conds_at, things}
 use Rattle.term_nodes.specs.Built.{IsAt, IsBuilt, IsBelow, IsRight, IsNew, IsSound, AllBelow, facts_of, kept, of_atom, of_form, of_truth}
 use Rattle.term_nodes.proofs.Reading.{length_things, nothing_past}
-use Rattle.term_nodes.proofs.Ready.{nothing_small}
+use Rattle.term_nodes.proofs.Ready.{nothing_small, no_table_is}
 
 pub proper_at : (root : Box) (items : List Item) (id : ℕ) → IsBuilt root items → IsProperCond (cond_at (things items) id)
 proper_at root [] id all = tt
@@ -40,7 +40,7 @@ propers_at root items [] all = tt
 propers_at root items (id ∷ ids) all = (proper_at root items id all, propers_at root items ids all)
 
 pub sound_cond : (root : Box) (c : rule.Cond) → IsProperCond c → IsSound root (a_cond c)
-sound_cond root c proper = record { term = nothing_small root; cond = proper }
+sound_cond root c proper = record { term = nothing_small root; cond = proper; table = no_table_is }
 
 pub new_not : (root : Box) (items : List Item) (c : ℕ) (facts : own.Facts) → IsBuilt root items → c < length items → kept facts ≡ of_truth (opposite (truth Wide root root (cond_at (things items) c))) → IsNew root items (record { node = node.Not c; facts = facts })
 new_not root items c facts all there is = record {
@@ -98,7 +98,7 @@ pub new_term : (root : Box) (items : List Item) (n : Node) (facts : own.Facts) (
 new_term root items n facts t thing below is proper small right = record {
   below = below;
   kept = is ∙ ap (facts_of root) (sym thing);
-  sound = subst (IsSound root) (sym thing) (record { term = record { proper = proper; small = small }; cond = tt });
+  sound = subst (IsSound root) (sym thing) (record { term = record { proper = proper; small = small }; cond = tt; table = no_table_is });
   right = right;
 }
 

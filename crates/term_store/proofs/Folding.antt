@@ -1,5 +1,5 @@
 -- What is known of a term that folds to a number, or is an atom, is right.
-use Rattle.std.proofs.Common.{◌≡◌, ℕ, ◌+◌, ◌<◌, ◌≤◌, ◌^◌, ℤ, unsigned_abs, Bool, true, false, ◌&&◌, if◌then◌else◌, List, [], ◌∷◌, map, length, get_or, drop, Vec, Global, arith, refl, ap, subst, sym, ◌∙◌}
+use Rattle.std.proofs.Common.{◌≡◌, ℕ, ◌+◌, ◌<◌, ◌≤◌, ◌^◌, ℤ, unsigned_abs, Bool, true, false, ◌&&◌, List, [], ◌∷◌, map, length, get_or, drop, Vec, Global, arith, refl, ap, subst, sym, ◌∙◌}
 use Rattle.std.specs.List.{fold, list_all}
 use Rattle.std.proofs.lemmas.List.{at_drop_more, at_drop_all}
 use Rattle.box_problem.specs.Box.{Box, IsBox}
@@ -7,11 +7,10 @@ use Rattle.box_rules.specs.Ends as ends
 use Rattle.box_rules.specs.Forms.{Form, number_form, is_constant}
 use Rattle.box_rules.specs.Marks.{both, all_marks, is_always}
 use Rattle.box_rules.specs.Rules.{Near, Wide, form, forms, atoms, mark, marks, interval, intervals, folds, folded, unless_folded, chosen}
-use Rattle.box_rules.specs.Sizes.{weight_of, cells_weight, alone_weight, atoms_weight, size}
+use Rattle.box_rules.specs.Sizes.{cells_weight, alone_weight, atoms_weight, size}
 use Rattle.box_rules.specs.Laws.{IsProper, AreProper}
 use Rattle.box_rules.specs.Terms as rule
 use Rattle.box_rules.specs.declared.answers.Defined.{Defined}
-use Rattle.box_rules.specs.declared.answers.Truth.{Truth}
 use Rattle.box_rules.specs.declared.answers.Truth.TheVariants.{True}
 use Rattle.box_rules.proofs.Bounds.{bounded_whole}
 use Rattle.box_rules.proofs.FormValues.{and_first, and_second}
@@ -25,9 +24,9 @@ use Rattle.term_nodes.specs.declared.items.Item.{Item}
 use Rattle.term_nodes.specs.declared.items.Facts as facts
 use Rattle.term_nodes.specs.Things.{Thing, a_term, term_at, terms_at, things}
 use Rattle.term_nodes.specs.Built.{AllBelow, Facts, IsBuilt, IsNew, facts_of, kept}
-use Rattle.term_nodes.specs.Seen.{Sight, range, extreme_range}
+use Rattle.term_nodes.specs.Seen.{Sight, extreme_range}
 use Rattle.term_nodes.proofs.Ranges.{both_always, both_grouped}
-use Rattle.term_nodes.proofs.Ready.{small_term}
+use Rattle.term_nodes.proofs.Ready.{small_term, terms_proper}
 use Rattle.term_store.specs.Atoms.{of_folded, size_of_folded}
 use Rattle.term_store.proofs.Adding.{new_term}
 
@@ -129,10 +128,6 @@ extreme_facts root e t later is_box proper others =
 pub extreme_size : (root : Box) (e : Extreme) (t : rule.Term) (later : rule.Terms) → IsBox root → IsProper t → AreProper later → size_of_folded (folds (form root t ∷ forms root later) (both (mark Near root root t) (all_marks (marks Near root root later)))) (extreme_range Wide root root e t later).ends ≡ size root (extreme_term e t later)
 extreme_size root e t later is_box proper others =
     size_is root (extreme_term e t later) (folds (form root t ∷ forms root later) (both (mark Near root root t) (all_marks (marks Near root root later)))) (chosen (chosen_by e) (form root t) (forms root later)) (extreme_range Wide root root e t later).ends (extreme_form root e t later) (extreme_atoms Wide root root e t later) (extreme_weight root e t later) (extreme_number root e t later is_box proper others)
-
-terms_proper : (root : Box) (items : List Item) (ids : List ℕ) → IsBuilt root items → AreProper (terms_at (things items) ids)
-terms_proper root items [] all = tt
-terms_proper root items (id ∷ ids) all = ((small_term root items id all).proper, terms_proper root items ids all)
 
 abbrev all_fold : Box → rule.Term → rule.Terms → Bool
 all_fold root t later = folds (form root t ∷ forms root later) (both (mark Near root root t) (all_marks (marks Near root root later)))

@@ -4,3 +4,4 @@ pub mod Differences
 pub mod Summing
 pub mod Multiplying
 pub mod Folding
+pub mod Indexing

@@ -1,9 +1,12 @@
 -- What is known of a term that folds to a number where its operands are numbers, and is an atom else.
-use Rattle.std.specs.Prelude.{ℕ, unsigned_abs, Bool, if◌then◌else◌}
-use Rattle.box_rules.specs.Ends.{Ends}
-use Rattle.box_rules.specs.Rules.{folded, unless_folded}
+use Rattle.std.specs.Prelude.{ℕ, pos, unsigned_abs, Bool, map, Some, if◌then◌else◌}
+use Rattle.box_rules.specs.Ends.{Ends, exactly, hull_of, cell_ends}
+use Rattle.box_problem.specs.Box.{Box}
+use Rattle.box_rules.specs.Terms.{Item, Fixed, Free, Table}
+use Rattle.box_rules.specs.Rules.{folded, unless_folded, item_form, item_ends}
 use Rattle.box_rules.specs.Sizes.{alone_weight, weight_of}
 use Rattle.box_rules.specs.declared.answers.Defined.{Defined}
+use Rattle.box_rules.specs.declared.answers.Defined.TheVariants.{Never}
 use Rattle.box_rules.specs.declared.answers.Truth.TheVariants.{True}
 use Rattle.term_nodes.specs.Built.{Facts}
 use Rattle.term_nodes.specs.Seen.{Sight}
@@ -21,3 +24,22 @@ of_folded folds near seen = record {
 
 abbrev pub size_of_folded : Bool → Ends → ℕ
 size_of_folded folds a = if folds then unsigned_abs a.high else weight_of a
+
+-- what is known of the element at an index of an array, and how large it is
+abbrev pub of_item : Item → Defined → Defined → Facts
+of_item item near far = record {
+  form = item_form (Some item);
+  mark = near;
+  wide_mark = far;
+  wide = exactly (pos 0);
+  weight = 0;
+  truth = True;
+}
+
+abbrev pub size_of_item : Box → Item → ℕ
+size_of_item root (Fixed z) = unsigned_abs z
+size_of_item root (Free cell) = weight_of (cell_ends root cell)
+
+-- what is seen at an index that the array has not
+abbrev pub outside : Box → Table → Sight
+outside root table = record { ends = hull_of (map (item_ends root) table.items); mark = Never }

@@ -15,7 +15,7 @@ use box_rules::Truth;
 use sopl_base::CmpOp;
 use std::alloc::AllocError;
 use term_nodes::{Comparison, Node, Sight};
-use term_rules::{Combination, Factor, Form, both, compared};
+use term_rules::{Combination, Form, WideFactor, both, compared};
 
 impl TermStore {
     /// The linear form of a term minus another one.
@@ -28,8 +28,8 @@ impl TermStore {
         let left = self.form_known(a);
         let right = self.form_known(b);
         let mut sum = Combination::new(self.alloc);
-        sum.add(&Factor { k: 1 }, left)?;
-        sum.add(&Factor { k: -1 }, right)?;
+        sum.add(&WideFactor { k: 1 }, left)?;
+        sum.add(&WideFactor { k: -1 }, right)?;
         let wide = sum.form(self.alloc)?;
         wide.narrowed(self.alloc)
     }

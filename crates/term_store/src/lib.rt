@@ -2,6 +2,7 @@
 #![tactic(auto)]
 
 mod comparisons;
+mod elements;
 mod extremes;
 mod folded;
 mod known;

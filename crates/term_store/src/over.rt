@@ -15,7 +15,7 @@ use term_rules::{BoxView, Part};
 
 impl TermStore {
     /// The nodes and the root, beside a box.
-    fn here<'a>(&'a self, view: &BoxView<'a>) -> Here<'a>
+    pub fn here<'a>(&'a self, view: &BoxView<'a>) -> Here<'a>
         requires sound { IsSoundStore self.now }
         requires inside { Inside (box_in view.now) (root_of self.now) }
         ensures ready { IsReady result }

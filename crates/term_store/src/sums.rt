@@ -31,7 +31,8 @@ impl TermStore {
         let count = parts.len();
         for i in (0..count).rev() {
             let part = &parts[i];
-            sum.add(&factor(part.subtracted), self.form_known(part.term))?;
+            let once = factor(part.subtracted);
+            sum.add(&once.widened(), self.form_known(part.term))?;
         }
         Ok(sum)
     }

@@ -55,7 +55,7 @@ pub(crate) fn number_form(alloc: Global, number: &Factor) -> Form
 }
 
 /// A cell as a form.
-fn cell_form(alloc: Global, cell: u32) -> Result<Form, AllocError>
+pub(crate) fn cell_form(alloc: Global, cell: u32) -> Result<Form, AllocError>
     ensures { IfOk result (λ form. form_of form ≡ forms.cell_form cell) }
 {
     let mut cells = Vec::new(alloc);

@@ -1,4 +1,4 @@
-use Rattle.std.proofs.Common.{ℤ, pos, List, ◌-◌, ◌+◌, ◌<◌, ◌^◌, ◌*ℤ◌, unsigned_abs, get_or, ap, sym, subst}
+use Rattle.std.proofs.Common.{arith, ℤ, pos, List, ◌-◌, ◌+◌, ◌<◌, ◌^◌, ◌*ℤ◌, unsigned_abs, get_or, ap, sym, subst}
 use Rattle.box_rules.specs.Forms as rule
 use Rattle.term_rules.specs.declared.combinations.WideCoefficient.{WideCoefficient}
 use Rattle.term_rules.specs.declared.forms.Coefficient.{Coefficient}
@@ -17,3 +17,9 @@ put-requires c =
           (subst (λ (cells : List rule.Coefficient). mass cells + unsigned_abs k < 2 ^ 127) (sym c.loop-i.invariant)
           (room_back c.args.factor.now.k (nonzero c.args.cells.now.entries) c.args.more.now c.loop-i.i none c.loop-i-test.true c.loop-i.auto.i c.requires.room));
     }
+
+pub times-requires : goal.times-requires
+times-requires c =
+    let none : Coefficient = record { cell = 0; k = pos 0 } in
+    let all = room_back c.args.factor.now.k (nonzero c.args.cells.now.entries) c.args.more.now c.loop-i.i none c.loop-i-test.true c.loop-i.auto.i c.requires.room in
+    record { room = omega (arith, all) }

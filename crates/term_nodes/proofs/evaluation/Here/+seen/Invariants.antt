@@ -1,4 +1,5 @@
 use Rattle.std.proofs.Common.{◌≡◌, ◌+◌, ◌*◌, drop}
+use Rattle.box_rules.specs.Marks.{all_marks}
 use Rattle.box_rules.specs.Rules as rule
 use Rattle.term_rules.specs.Shown.{box_in, ends_of}
 use Rattle.term_nodes.specs.Things.{conds_at, parts_at, term_at, terms_at, things}
@@ -15,6 +16,9 @@ decreases-any l = 4 * l.limit
 abbrev pub decreases-compare : goal.decreases-compare
 decreases-compare l = 4 * l.limit
 
+abbrev pub decreases-element : goal.decreases-element
+decreases-element l = 4 * l.limit + 1
+
 abbrev pub decreases-extreme : goal.decreases-extreme
 decreases-extreme l = 4 * l.limit + 1
 
@@ -23,6 +27,9 @@ decreases-extreme_range l = 4 * l.limit
 
 abbrev pub decreases-implies : goal.decreases-implies
 decreases-implies l = 4 * l.limit
+
+abbrev pub decreases-marks : goal.decreases-marks
+decreases-marks l = 4 * l.limit
 
 abbrev pub decreases-number : goal.decreases-number
 decreases-number l = 4 * l.limit
@@ -57,6 +64,10 @@ abbrev pub invariant-extreme_range-loop-id : goal.invariant-extreme_range-loop-i
 invariant-extreme_range-loop-id l =
     taken rule.Near (box_in l.self.root) (box_in l.self.view) l.extreme (ends_of l.taken.ends) l.taken.mark (terms_at (things l.self.items.now) (drop l.id-index l.later))
     ≡ taken rule.Near (box_in l.self.root) (box_in l.self.view) l.extreme (rule.interval rule.Near (box_in l.self.root) (box_in l.self.view) (term_at (things l.self.items.now) l.first)) (rule.mark rule.Near (box_in l.self.root) (box_in l.self.view) (term_at (things l.self.items.now) l.first)) (terms_at (things l.self.items.now) l.later)
+
+abbrev pub invariant-marks-loop-i : goal.invariant-marks-loop-i
+invariant-marks-loop-i l =
+    l.mark ≡ all_marks (rule.marks rule.Near (box_in l.self.root) (box_in l.self.view) (terms_at (things l.self.items.now) (drop l.i l.ids)))
 
 abbrev pub invariant-sum-loop-i : goal.invariant-sum-loop-i
 invariant-sum-loop-i l =

@@ -1,0 +1,221 @@
+//! Arrays are added, and their elements at indices that are numbers.
+
+ghost use Rattle.std.specs.Prelude.{◌≡◌, ◌<◌, true, false, Some, length, map, IfOk, OnErr, option_map};
+ghost use Rattle.std.specs.List.{list_all};
+ghost use Rattle.box_rules.specs.Arrays.{item_at};
+ghost use Rattle.box_rules.specs.Ends as ends;
+ghost use Rattle.box_rules.specs.Forms as forms;
+ghost use Rattle.box_rules.specs.Laws.{IsTable};
+ghost use Rattle.box_rules.specs.Marks as marks;
+ghost use Rattle.box_rules.specs.Rules as rule;
+ghost use Rattle.box_rules.specs.Sizes as sizes;
+ghost use Rattle.box_rules.specs.Terms as term;
+ghost use Rattle.box_rules.specs.declared.answers.Defined.TheVariants.{Never};
+ghost use Rattle.term_rules.specs.Shown.{box_in, ends_of, form_of};
+ghost use Rattle.term_tables.specs.Kept.{item_of, table_of};
+ghost use Rattle.term_nodes.specs.Built.{AllBelow, facts_of, kept};
+ghost use Rattle.term_nodes.specs.Things.{a_table, a_term, table_at, term_at, terms_at};
+ghost use Rattle.term_store.specs.Atoms.{of_folded, of_item, outside, size_of_folded, size_of_item};
+ghost use Rattle.term_store.specs.Stores.{IsAdded, IsMeasured, IsSoundStore, all, root_of};
+
+use crate::folded::folded_facts;
+use crate::known::condition;
+use crate::store::TermStore;
+use crate::terms::{cell_form, measured, number_form};
+use box_rules::{Defined, Truth};
+use sopl_base::Fault;
+use std::alloc::{AllocError, Global};
+use term_nodes::{Facts, Node, Sight, table_at};
+use term_rules::{BoxView, Ends, Factor, Form, both, weight_of};
+use term_tables::{Element, Table};
+
+/// The form of an element, where its size is at most 2^40.
+fn item_form(alloc: Global, element: &Element, root: &BoxView) -> Result<Form, Fault>
+    ensures form { IfOk result (λ form. form_of form ≡ rule.item_form (Some (item_of element.now))) }
+    ensures measured { IsMeasured (size_of_item (box_in root.now) (item_of element.now)) result }
+{
+    match element {
+        Element::Fixed(number) => {
+            measured(u128::from(number.unsigned_abs()))?;
+            Ok(number_form(alloc, &Factor { k: *number }))
+        }
+        Element::Free(cell) => {
+            measured(u128::from(weight_of(&root.cell(*cell))))?;
+            let form = cell_form(alloc, *cell)?;
+            Ok(form)
+        }
+    }
+}
+
+impl TermStore {
+    /// An array, with one element for each of its indices.
+    pub fn table(&mut self, table: Table) -> Result<u32, AllocError>
+        requires sound { IsSoundStore self.old }
+        requires table { IsTable (table_of table) }
+        ensures sound { IsSoundStore self.new }
+        ensures root { root_of self.new ≡ root_of self.old }
+        ensures added { IfOk result (λ id. IsAdded (all self.old) (all self.new) id (a_table (table_of table))) }
+        ensures err { OnErr result (all self.new ≡ all self.old) }
+    {
+        self.add(Node::Table(table), condition(self.alloc, Truth::True))
+    }
+
+    /// Whether terms are numbers over the root box.
+    pub fn are_numbers(&self, ids: &[u32]) -> bool
+        requires sound { IsSoundStore self.now }
+        requires exist { AllBelow (length (all self.now)) ids.now }
+        ensures { result ≡ list_all forms.is_constant (rule.forms (root_of self.now) (terms_at (all self.now) ids.now)) }
+    {
+        self.all_constant(ids)
+    }
+
+    /// The marks of terms over the root box, together.
+    #[tactic(auto, using(term_nodes::proofs::Steps::next_seen_marks, term_nodes::proofs::Steps::no_seen_marks, term_nodes::proofs::Steps::cond_below))]
+    fn all_marks(&self, ids: &[u32]) -> Defined
+        requires sound { IsSoundStore self.now }
+        requires exist { AllBelow (length self.now.items.items) ids.now }
+        ensures { result ≡ marks.all_marks (rule.marks rule.Near (root_of self.now) (root_of self.now) (terms_at (all self.now) ids.now)) }
+    {
+        let mut mark = Defined::Always;
+        for i in (0..ids.len()).rev() {
+            let here = self.mark_known(ids[i]);
+            mark = both(here, mark);
+        }
+        mark
+    }
+
+    /// The same by the wide reading.
+    #[tactic(auto, using(term_nodes::proofs::Steps::next_seen_marks, term_nodes::proofs::Steps::no_seen_marks, term_nodes::proofs::Steps::cond_below))]
+    fn all_wide_marks(&self, ids: &[u32]) -> Defined
+        requires sound { IsSoundStore self.now }
+        requires exist { AllBelow (length self.now.items.items) ids.now }
+        ensures { result ≡ marks.all_marks (rule.marks rule.Wide (root_of self.now) (root_of self.now) (terms_at (all self.now) ids.now)) }
+    {
+        let mut mark = Defined::Always;
+        for i in (0..ids.len()).rev() {
+            let here = self.wide_mark_known(ids[i]);
+            mark = both(here, mark);
+        }
+        mark
+    }
+
+    /// The mark of a term over the root box, by the wide reading.
+    fn wide_mark_known(&self, id: u32) -> Defined
+        requires sound { IsSoundStore self.now }
+        requires exists { id < length self.now.items.items }
+        ensures { result ≡ rule.mark rule.Wide (root_of self.now) (root_of self.now) (term_at (all self.now) id) }
+    {
+        self.wide_known(id).mark
+    }
+
+    /// The constants of the forms of terms.
+    #[tactic(auto, using(crate::proofs::Indexing::next_numbers, crate::proofs::Indexing::no_numbers, term_nodes::proofs::Steps::cond_below))]
+    fn constants(&self, ids: &[u32]) -> Result<Vec<i64>, AllocError>
+        requires sound { IsSoundStore self.now }
+        requires exist { AllBelow (length self.now.items.items) ids.now }
+        ensures { IfOk result (λ list. list.items ≡ map (λ (f : forms.Form). f.constant) (rule.forms (root_of self.now) (terms_at (all self.now) ids.now))) }
+    {
+        let mut list = Vec::new(self.alloc);
+        for id in ids {
+            list.push(self.form_known(*id).constant)?;
+        }
+        Ok(list)
+    }
+
+    /// The element of an array at an index, if the index is one of the array's.
+    fn element_at(&self, table: u32, index: &[i64]) -> Option<Element>
+        requires sound { IsSoundStore self.now }
+        ensures { option_map item_of result ≡ item_at (table_at (all self.now) table) index.now }
+    {
+        match table_at(self.items.as_slice(), table) {
+            Some(found) => found.at(index),
+            None => None,
+        }
+    }
+
+    /// The element of an array at indices that are numbers, if they are an index of the array's.
+    fn element_known(&self, table: u32, at: &[u32]) -> Result<Option<Element>, AllocError>
+        requires sound { IsSoundStore self.now }
+        requires exist { AllBelow (length self.now.items.items) at.now }
+        ensures { IfOk result (λ found. option_map item_of found ≡ item_at (table_at (all self.now) table) (map (λ (f : forms.Form). f.constant) (rule.forms (root_of self.now) (terms_at (all self.now) at.now)))) }
+    {
+        let index = self.constants(at)?;
+        Ok(self.element_at(table, index.as_slice()))
+    }
+
+    /// The hull of all elements of an array over the root box.
+    fn hull_known(&self, table: u32) -> Ends
+        requires sound { IsSoundStore self.now }
+        ensures { ends_of result ≡ ends.hull_of (map (rule.item_ends (root_of self.now)) (table_at (all self.now) table).items) }
+    {
+        match table_at(self.items.as_slice(), table) {
+            Some(found) => found.hull(&self.root()),
+            None => Ends::zero(),
+        }
+    }
+
+    /// What is known of an element that is this one, where its size is at most 2^40.
+    fn inside_facts(&self, element: &Element, at: &[u32]) -> Result<Facts, Fault>
+        requires sound { IsSoundStore self.now }
+        requires exist { AllBelow (length self.now.items.items) at.now }
+        ensures facts { IfOk result (λ facts. kept facts ≡ of_item (item_of element.now) (marks.all_marks (rule.marks rule.Near (root_of self.now) (root_of self.now) (terms_at (all self.now) at.now))) (marks.all_marks (rule.marks rule.Wide (root_of self.now) (root_of self.now) (terms_at (all self.now) at.now)))) }
+        ensures measured { IsMeasured (size_of_item (root_of self.now) (item_of element.now)) result }
+    {
+        let form = item_form(self.alloc, element, &self.root())?;
+        Ok(Facts {
+            form,
+            mark: self.all_marks(at),
+            wide_mark: self.all_wide_marks(at),
+            wide: Ends::zero(),
+            weight: 0,
+            truth: Truth::True,
+        })
+    }
+
+    /// What is known of an element that an array has not, where its size is at most 2^40.
+    fn outside_facts(&self, table: u32) -> Result<Facts, Fault>
+        requires sound { IsSoundStore self.now }
+        ensures facts { IfOk result (λ facts. kept facts ≡ of_folded false Never (outside (root_of self.now) (table_at (all self.now) table))) }
+        ensures measured { IsMeasured (size_of_folded false (outside (root_of self.now) (table_at (all self.now) table)).ends) result }
+    {
+        let hull = self.hull_known(table);
+        let wide = Sight {
+            ends: hull,
+            mark: Defined::Never,
+        };
+        folded_facts(self.alloc, false, Defined::Never, &wide)
+    }
+
+    /// What is known of an element, where its size is at most 2^40.
+    fn element_facts(&self, table: u32, at: &[u32]) -> Result<Facts, Fault>
+        requires sound { IsSoundStore self.now }
+        requires exist { AllBelow (length self.now.items.items) at.now }
+        requires constant { list_all forms.is_constant (rule.forms (root_of self.now) (terms_at (all self.now) at.now)) ≡ true }
+        ensures facts { IfOk result (λ facts. kept facts ≡ facts_of (root_of self.now) (a_term (term.Element (table_at (all self.now) table) (terms_at (all self.now) at.now)))) }
+        ensures measured { IsMeasured (sizes.size (root_of self.now) (term.Element (table_at (all self.now) table) (terms_at (all self.now) at.now))) result }
+    {
+        let found = self.element_known(table, at)?;
+        match found {
+            Some(element) => self.inside_facts(&element, at),
+            None => self.outside_facts(table),
+        }
+    }
+
+    /// The element of an array at indices that are numbers.
+    pub fn element(&mut self, table: u32, at: &[u32]) -> Result<u32, Fault>
+        requires sound { IsSoundStore self.old }
+        requires table { table < length (all self.old) }
+        requires exist { AllBelow (length (all self.old)) at.now }
+        requires constant { list_all forms.is_constant (rule.forms (root_of self.old) (terms_at (all self.old) at.now)) ≡ true }
+        ensures sound { IsSoundStore self.new }
+        ensures root { root_of self.new ≡ root_of self.old }
+        ensures added { IfOk result (λ id. IsAdded (all self.old) (all self.new) id (a_term (term.Element (table_at (all self.old) table) (terms_at (all self.old) at.now)))) }
+        ensures measured { IsMeasured (sizes.size (root_of self.old) (term.Element (table_at (all self.old) table) (terms_at (all self.old) at.now))) result }
+        ensures err { OnErr result (all self.new ≡ all self.old) }
+    {
+        let facts = self.element_facts(table, at)?;
+        let list = Vec::from_slice(self.alloc, at)?;
+        let id = self.add(Node::Element(table, list), facts)?;
+        Ok(id)
+    }
+}

@@ -1,0 +1,9 @@
+//! Arrays of numbers and cells: the element at an index, and the interval of all elements over a box.
+#![tactic(auto)]
+
+mod elements;
+mod lookups;
+mod tables;
+
+pub use elements::Element;
+pub use tables::Table;

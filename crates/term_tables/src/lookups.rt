@@ -1,0 +1,54 @@
+//! The element at an index, one dimension after the other.
+
+ghost use Rattle.std.specs.Prelude.{◌≡◌, ◌*◌, ℕ, [], ◌∷◌, length, option_map};
+ghost use Rattle.box_rules.specs.Arrays.{item_in, paired};
+ghost use Rattle.term_tables.specs.Kept.{block, item_of, items_of};
+
+use crate::elements::Element;
+
+/// The elements at the indices that begin with a number, if the set has it, where their count is given.
+#[tactic(auto, using(crate::proofs::Blocks::next_block, crate::proofs::Blocks::no_block))]
+fn block<'a>(
+    elements: &'a [Element],
+    set: &[i64],
+    width: usize,
+    number: &i64,
+) -> Option<&'a [Element]>
+    requires complete { length elements.now ≡ length set.now * width }
+    ensures { option_map (λ found. found.now) result ≡ block number.now set.now width elements.now }
+{
+    let mut left = elements;
+    for here in set {
+        let (first, later) = left.split_at(width);
+        if *here == *number {
+            return Some(first);
+        }
+        left = later;
+    }
+    None
+}
+
+/// The elements at the indices that begin with a number, if the set has it: each number of the set has equally many.
+#[tactic(auto, using(crate::proofs::Blocks::no_numbers, crate::proofs::Blocks::divided_count))]
+pub(crate) fn part<'a>(elements: &'a [Element], set: &[i64], number: &i64) -> Option<&'a [Element]>
+    ensures { (width : ℕ) → length elements.now ≡ length set.now * width → option_map (λ found. found.now) result ≡ block number.now set.now width elements.now }
+{
+    if set.is_empty() {
+        return None;
+    }
+    if elements.len() % set.len() != 0 {
+        return None;
+    }
+    block(elements, set, elements.len() / set.len(), number)
+}
+
+/// The element that is left where an index is at its end.
+pub(crate) fn last(elements: &[Element], rest: &[i64]) -> Option<Element>
+    requires one { length elements.now ≡ 1 }
+    ensures { option_map item_of result ≡ item_in (paired ([] ∷ []) (items_of elements.now)) rest.now }
+{
+    if !rest.is_empty() {
+        return None;
+    }
+    Some(elements[0])
+}
