@@ -1,0 +1,48 @@
+use Rattle.std.proofs.Common.{◌≡◌, ◌+◌, ◌*◌, drop}
+use Rattle.term_rules.specs.Shown.{box_in}
+use Rattle.term_nodes.specs.Things.{conds_at, parts_at, terms_at, things}
+use Rattle.cell_mentions.specs.Mentions.{conds_mention, parts_mention, terms_mention}
+use Rattle.term_cells.specs.Cells.{with_cells}
+use Rattle.term_cells.proofs.walk.Nodes.+term.Given as goal
+
+abbrev pub decreases-both_conds : goal.decreases-both_conds
+decreases-both_conds l = 3 * l.limit
+
+abbrev pub decreases-both_terms : goal.decreases-both_terms
+decreases-both_terms l = 3 * l.limit
+
+abbrev pub decreases-cond : goal.decreases-cond
+decreases-cond l = 3 * l.id + 2
+
+abbrev pub decreases-conds : goal.decreases-conds
+decreases-conds l = 3 * l.limit
+
+abbrev pub decreases-element : goal.decreases-element
+decreases-element l = 3 * l.limit + 1
+
+abbrev pub decreases-first_and_later : goal.decreases-first_and_later
+decreases-first_and_later l = 3 * l.limit + 1
+
+abbrev pub decreases-parts : goal.decreases-parts
+decreases-parts l = 3 * l.limit
+
+abbrev pub decreases-term : goal.decreases-term
+decreases-term l = 3 * l.id + 2
+
+abbrev pub decreases-terms : goal.decreases-terms
+decreases-terms l = 3 * l.limit
+
+abbrev pub invariant-conds-ids : goal.invariant-conds-ids
+invariant-conds-ids l =
+    with_cells l.cells.keys (conds_mention (box_in l.self.root) (conds_at (things l.self.items.now) (drop l.id-index l.ids)))
+    ≡ with_cells l.fn.cells.keys (conds_mention (box_in l.self.root) (conds_at (things l.self.items.now) l.ids))
+
+abbrev pub invariant-parts-parts : goal.invariant-parts-parts
+invariant-parts-parts l =
+    with_cells l.cells.keys (parts_mention (box_in l.self.root) (parts_at (things l.self.items.now) (drop l.part-index l.parts)))
+    ≡ with_cells l.fn.cells.keys (parts_mention (box_in l.self.root) (parts_at (things l.self.items.now) l.parts))
+
+abbrev pub invariant-terms-ids : goal.invariant-terms-ids
+invariant-terms-ids l =
+    with_cells l.cells.keys (terms_mention (box_in l.self.root) (terms_at (things l.self.items.now) (drop l.id-index l.ids)))
+    ≡ with_cells l.fn.cells.keys (terms_mention (box_in l.self.root) (terms_at (things l.self.items.now) l.ids))

@@ -1,0 +1,233 @@
+//! Each node that a term or a condition is made of is visited, once for each time that it stands there.
+
+ghost use Rattle.std.specs.Prelude.{◌≡◌, ◌<◌, ◌++◌, OnOk, if◌then◌else◌};
+ghost use Rattle.box_rules.specs.Terms as term;
+ghost use Rattle.box_rules.specs.Rules as rule;
+ghost use Rattle.term_rules.specs.Shown.{box_in, form_of};
+ghost use Rattle.term_nodes.specs.Built.{AllBelow, IsBuilt, PartsBelow};
+ghost use Rattle.term_nodes.specs.Things.{cond_at, conds_at, parts_at, table_at, term_at, terms_at, things};
+ghost use Rattle.cell_mentions.specs.Mentions.{cond_mentions, conds_mention, mentions, parts_mention, table_mentions, terms_mention};
+ghost use Rattle.term_cells.specs.Cells.{form_cells, with_cells};
+
+use crate::elements::{put_elements, put_form};
+use crate::kept::put;
+use std::alloc::AllocError;
+use std::collections::BTreeSet;
+use term_nodes::{Item, Node, Signed, item_at, table_at};
+use term_rules::{BoxView, Form};
+
+/// Nodes, and the root box that they were built over, which no call here reads.
+#[derive(Clone, Copy)]
+pub struct Nodes<'a> {
+    pub items: &'a [Item],
+    pub root: BoxView<'a>,
+}
+
+impl<'a> Nodes<'a> {
+    /// Puts the cells that a term mentions into a set.
+    #[cycle(term)]
+    #[tactic(auto, using(crate::proofs::Walking::term_of_node, crate::proofs::Walking::no_term_here, crate::proofs::Walking::of_operation, crate::proofs::Walking::of_extreme, crate::proofs::Walking::form_of_node, term_nodes::proofs::Steps::below_at))]
+    pub(crate) fn term(&self, id: u32, cells: &mut BTreeSet<u32>) -> Result<(), AllocError>
+        requires built { IsBuilt (box_in self.now.root) self.now.items.now }
+        ensures { OnOk result (cells.new.keys ≡ with_cells cells.old.keys (mentions (box_in self.now.root) (term_at (things self.now.items.now) id))) }
+    {
+        let Some(item) = item_at(self.items, id) else {
+            return Ok(());
+        };
+        match &item.node {
+            Node::Constant(_) => Ok(()),
+            Node::Cell(cell) => put(cells, *cell),
+            Node::Sum(parts) => self.parts(id, parts.as_slice(), cells),
+            Node::Product(a, b) => self.both_terms(id, *a, *b, cells),
+            Node::Operation(_, a) => self.term(*a, cells),
+            Node::Extreme(_, first, later) => self.first_and_later(
+                id,
+                *first,
+                later.as_slice(),
+                cells,
+            ),
+            Node::Element(table, at) => {
+                self.element(&item.facts.form, id, *table, at.as_slice(), cells)
+            }
+            Node::Number(c) => self.cond(*c, cells),
+            Node::Compare(_) => Ok(()),
+            Node::Not(_) => Ok(()),
+            Node::All(_) => Ok(()),
+            Node::Any(_) => Ok(()),
+            Node::Implies(_, _) => Ok(()),
+            Node::Table(_) => Ok(()),
+        }
+    }
+
+    /// Puts the cells that the parts of a sum mention into a set.
+    #[cycle(term)]
+    #[tactic(auto, using(crate::proofs::Walking::next_part, crate::proofs::Walking::no_part_left, term_nodes::proofs::Steps::part_below))]
+    fn parts(
+        &self,
+        limit: u32,
+        parts: &[Signed],
+        cells: &mut BTreeSet<u32>,
+    ) -> Result<(), AllocError>
+        requires built { IsBuilt (box_in self.now.root) self.now.items.now }
+        requires below { PartsBelow limit parts.now }
+        ensures { OnOk result (cells.new.keys ≡ with_cells cells.old.keys (parts_mention (box_in self.now.root) (parts_at (things self.now.items.now) parts.now))) }
+    {
+        'parts: for part in parts {
+            self.term(part.term, cells)?;
+        }
+        Ok(())
+    }
+
+    /// Puts the cells that several terms mention into a set.
+    #[cycle(term)]
+    #[tactic(auto, using(crate::proofs::Walking::next_term, crate::proofs::Walking::no_term_left, term_nodes::proofs::Steps::cond_below))]
+    fn terms(&self, limit: u32, ids: &[u32], cells: &mut BTreeSet<u32>) -> Result<(), AllocError>
+        requires built { IsBuilt (box_in self.now.root) self.now.items.now }
+        requires below { AllBelow limit ids.now }
+        ensures { OnOk result (cells.new.keys ≡ with_cells cells.old.keys (terms_mention (box_in self.now.root) (terms_at (things self.now.items.now) ids.now))) }
+    {
+        'ids: for id in ids {
+            self.term(*id, cells)?;
+        }
+        Ok(())
+    }
+
+    /// Puts the cells that two terms mention into a set.
+    #[cycle(term)]
+    #[tactic(auto, using(crate::proofs::Inserting::two_lists))]
+    fn both_terms(
+        &self,
+        limit: u32,
+        a: u32,
+        b: u32,
+        cells: &mut BTreeSet<u32>,
+    ) -> Result<(), AllocError>
+        requires built { IsBuilt (box_in self.now.root) self.now.items.now }
+        requires left { a < limit }
+        requires right { b < limit }
+        ensures { OnOk result (cells.new.keys ≡ with_cells cells.old.keys (mentions (box_in self.now.root) (term_at (things self.now.items.now) a) ++ mentions (box_in self.now.root) (term_at (things self.now.items.now) b))) }
+    {
+        self.term(a, cells)?;
+        self.term(b, cells)
+    }
+
+    /// Puts the cells that one term and several more mention into a set.
+    #[cycle(term)]
+    #[tactic(auto, using(crate::proofs::Inserting::two_lists))]
+    fn first_and_later(
+        &self,
+        limit: u32,
+        first: u32,
+        later: &[u32],
+        cells: &mut BTreeSet<u32>,
+    ) -> Result<(), AllocError>
+        requires built { IsBuilt (box_in self.now.root) self.now.items.now }
+        requires first { first < limit }
+        requires below { AllBelow limit later.now }
+        ensures { OnOk result (cells.new.keys ≡ with_cells cells.old.keys (mentions (box_in self.now.root) (term_at (things self.now.items.now) first) ++ terms_mention (box_in self.now.root) (terms_at (things self.now.items.now) later.now))) }
+    {
+        self.term(first, cells)?;
+        self.terms(limit, later, cells)
+    }
+
+    /// Puts the cells that an element mentions into a set, where its linear form is given.
+    #[cycle(term)]
+    #[tactic(auto, using(crate::proofs::Inserting::two_lists, crate::proofs::Putting::element_told))]
+    fn element(
+        &self,
+        form: &Form,
+        limit: u32,
+        table: u32,
+        at: &[u32],
+        cells: &mut BTreeSet<u32>,
+    ) -> Result<(), AllocError>
+        requires built { IsBuilt (box_in self.now.root) self.now.items.now }
+        requires below { AllBelow limit at.now }
+        requires form { form_of form.now ≡ rule.form (box_in self.now.root) (term.Element (table_at (things self.now.items.now) table) (terms_at (things self.now.items.now) at.now)) }
+        ensures { OnOk result (cells.new.keys ≡ with_cells cells.old.keys (mentions (box_in self.now.root) (term.Element (table_at (things self.now.items.now) table) (terms_at (things self.now.items.now) at.now)))) }
+    {
+        self.named(form, table, cells)?;
+        self.terms(limit, at, cells)
+    }
+
+    /// Puts the cells of a form into a set if nothing else is in it, and else those of an array.
+    #[tactic(auto, using(crate::proofs::Putting::of_form, crate::proofs::Putting::of_table, crate::proofs::Putting::of_no_table))]
+    fn named(&self, form: &Form, table: u32, cells: &mut BTreeSet<u32>) -> Result<(), AllocError>
+        requires built { IsBuilt (box_in self.now.root) self.now.items.now }
+        ensures { OnOk result (cells.new.keys ≡ with_cells cells.old.keys (if (form_of form.now).plain then form_cells (form_of form.now).cells else table_mentions (table_at (things self.now.items.now) table))) }
+    {
+        if form.plain {
+            return put_form(form, cells);
+        }
+        match table_at(self.items, table) {
+            Some(found) => put_elements(found.elements.as_slice(), cells),
+            None => Ok(()),
+        }
+    }
+
+    /// Puts the cells that a condition mentions into a set.
+    #[cycle(term)]
+    #[tactic(auto, using(crate::proofs::Walking::cond_of_node, crate::proofs::Walking::no_cond_here, term_nodes::proofs::Steps::below_at))]
+    pub(crate) fn cond(&self, id: u32, cells: &mut BTreeSet<u32>) -> Result<(), AllocError>
+        requires built { IsBuilt (box_in self.now.root) self.now.items.now }
+        ensures { OnOk result (cells.new.keys ≡ with_cells cells.old.keys (cond_mentions (box_in self.now.root) (cond_at (things self.now.items.now) id))) }
+    {
+        let Some(item) = item_at(self.items, id) else {
+            return Ok(());
+        };
+        match &item.node {
+            Node::Constant(_) => Ok(()),
+            Node::Cell(_) => Ok(()),
+            Node::Sum(_) => Ok(()),
+            Node::Product(_, _) => Ok(()),
+            Node::Operation(_, _) => Ok(()),
+            Node::Extreme(_, _, _) => Ok(()),
+            Node::Element(_, _) => Ok(()),
+            Node::Number(_) => Ok(()),
+            Node::Compare(comparison) => self.both_terms(
+                id,
+                comparison.left,
+                comparison.right,
+                cells,
+            ),
+            Node::Not(c) => self.cond(*c, cells),
+            Node::All(conds) => self.conds(id, conds.as_slice(), cells),
+            Node::Any(conds) => self.conds(id, conds.as_slice(), cells),
+            Node::Implies(a, c) => self.both_conds(id, *a, *c, cells),
+            Node::Table(_) => Ok(()),
+        }
+    }
+
+    /// Puts the cells that several conditions mention into a set.
+    #[cycle(term)]
+    #[tactic(auto, using(crate::proofs::Walking::next_cond, crate::proofs::Walking::no_cond_left, term_nodes::proofs::Steps::cond_below))]
+    fn conds(&self, limit: u32, ids: &[u32], cells: &mut BTreeSet<u32>) -> Result<(), AllocError>
+        requires built { IsBuilt (box_in self.now.root) self.now.items.now }
+        requires below { AllBelow limit ids.now }
+        ensures { OnOk result (cells.new.keys ≡ with_cells cells.old.keys (conds_mention (box_in self.now.root) (conds_at (things self.now.items.now) ids.now))) }
+    {
+        'ids: for id in ids {
+            self.cond(*id, cells)?;
+        }
+        Ok(())
+    }
+
+    /// Puts the cells that two conditions mention into a set.
+    #[cycle(term)]
+    #[tactic(auto, using(crate::proofs::Inserting::two_lists))]
+    fn both_conds(
+        &self,
+        limit: u32,
+        a: u32,
+        c: u32,
+        cells: &mut BTreeSet<u32>,
+    ) -> Result<(), AllocError>
+        requires built { IsBuilt (box_in self.now.root) self.now.items.now }
+        requires left { a < limit }
+        requires right { c < limit }
+        ensures { OnOk result (cells.new.keys ≡ with_cells cells.old.keys (cond_mentions (box_in self.now.root) (cond_at (things self.now.items.now) a) ++ cond_mentions (box_in self.now.root) (cond_at (things self.now.items.now) c))) }
+    {
+        self.cond(a, cells)?;
+        self.cond(c, cells)
+    }
+}

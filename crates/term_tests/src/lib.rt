@@ -1,0 +1,5 @@
+//! Tests of the store of terms: terms, conditions and elements over a small root box, and what is refused for its size.
+#![tactic(auto)]
+
+#[cfg(test)]
+mod tests;

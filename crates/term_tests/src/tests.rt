@@ -1,0 +1,351 @@
+ghost use Rattle.std.specs.Prelude.{◌≡◌, IfOk};
+ghost use Rattle.box_rules.specs.Laws.{IsTable};
+ghost use Rattle.term_tables.specs.Kept.{table_of};
+ghost use Rattle.term_store.specs.Stores.{IsSoundStore};
+
+use box_rules::{Defined, Truth};
+use sopl_base::{CmpOp, Fault, Interval};
+use std::alloc::{AllocError, Global};
+use term_nodes::Signed;
+use term_operations::Divisor;
+use term_store::TermStore;
+use term_tables::{Element, Table};
+
+/// A store over x from -7 to 9 and y from -5 to 4.
+fn small(alloc: Global) -> Result<TermStore, AllocError>
+    ensures sound { IfOk result (λ store. IsSoundStore store) }
+{
+    let mut roots = Vec::new(alloc);
+    for (lo, hi) in [(-7, 9), (-5, 4)] {
+        if let Some(interval) = Interval::new(lo, hi) {
+            roots.push(interval)?;
+        }
+    }
+    let store = TermStore::new(alloc, roots.as_slice())?;
+    Ok(store)
+}
+
+/// The sum of two terms, or their difference.
+fn sum(store: &mut TermStore, a: u32, subtracted: bool, b: u32) -> Result<u32, Fault>
+    requires sound { IsSoundStore store.old }
+    ensures sound { IsSoundStore store.new }
+{
+    let count = store.count();
+    if a >= count || b >= count {
+        return Err(Fault::NoMemory);
+    }
+    let first = Signed {
+        subtracted: false,
+        term: a,
+    };
+    let second = Signed {
+        subtracted,
+        term: b,
+    };
+    store.sum(&[first, second])
+}
+
+/// The product of two terms.
+fn product(store: &mut TermStore, a: u32, b: u32) -> Result<u32, Fault>
+    requires sound { IsSoundStore store.old }
+    ensures sound { IsSoundStore store.new }
+{
+    let count = store.count();
+    if a >= count || b >= count {
+        return Err(Fault::NoMemory);
+    }
+    store.product(a, b)
+}
+
+/// A comparison of two terms.
+fn compare(store: &mut TermStore, op: CmpOp, a: u32, b: u32) -> Result<u32, Fault>
+    requires sound { IsSoundStore store.old }
+    ensures sound { IsSoundStore store.new }
+{
+    let count = store.count();
+    if a >= count || b >= count {
+        return Err(Fault::NoMemory);
+    }
+    let id = store.compare(op, a, b)?;
+    Ok(id)
+}
+
+/// A term divided by -2, and what is left of it by 4.
+fn divided(store: &mut TermStore, a: u32) -> Result<(u32, u32), Fault>
+    requires sound { IsSoundStore store.old }
+    ensures sound { IsSoundStore store.new }
+{
+    if a >= store.count() {
+        return Err(Fault::NoMemory);
+    }
+    let quotient = store.quotient(a, &Divisor { number: -2 })?;
+    if a >= store.count() {
+        return Err(Fault::NoMemory);
+    }
+    let remainder = store.remainder(a, &Divisor { number: 4 })?;
+    Ok((quotient, remainder))
+}
+
+/// The size of a term.
+fn size(store: &mut TermStore, a: u32) -> Result<u32, Fault>
+    requires sound { IsSoundStore store.old }
+    ensures sound { IsSoundStore store.new }
+{
+    if a >= store.count() {
+        return Err(Fault::NoMemory);
+    }
+    store.size(a)
+}
+
+/// The least and the greatest of two terms.
+fn extremes(store: &mut TermStore, a: u32, b: u32) -> Result<(u32, u32), Fault>
+    requires sound { IsSoundStore store.old }
+    ensures sound { IsSoundStore store.new }
+{
+    let count = store.count();
+    if a >= count || b >= count {
+        return Err(Fault::NoMemory);
+    }
+    let least = store.least(a, &[b])?;
+    let count = store.count();
+    if a >= count || b >= count {
+        return Err(Fault::NoMemory);
+    }
+    let greatest = store.greatest(a, &[b])?;
+    Ok((least, greatest))
+}
+
+/// Whether a term has this interval and this mark over the root.
+fn marked(store: &TermStore, id: u32, low: i64, high: i64, mark: Defined) -> bool
+    requires sound { IsSoundStore store.now }
+{
+    if id >= store.count() {
+        return false;
+    }
+    let seen = store.range_of(id, &store.root());
+    seen.ends.low == low && seen.ends.high == high && seen.mark == mark
+}
+
+/// Whether a term has this interval over the root, and is Always defined.
+fn lies(store: &TermStore, id: u32, low: i64, high: i64) -> bool
+    requires sound { IsSoundStore store.now }
+{
+    marked(store, id, low, high, Defined::Always)
+}
+
+/// The terms of x and y that are looked at, and their intervals.
+fn intervals(store: &mut TermStore) -> Result<bool, Fault>
+    requires sound { IsSoundStore store.old }
+    ensures sound { IsSoundStore store.new }
+{
+    let x = store.cell(0)?;
+    let y = store.cell(1)?;
+    let both = sum(store, x, false, y)?;
+    let difference = sum(store, x, true, y)?;
+    let none = sum(store, x, true, x)?;
+    let times = product(store, x, y)?;
+    let never = product(store, none, times)?;
+    Ok(
+        lies(store, both, -12, 13)
+            && lies(store, difference, -11, 14)
+            && lies(store, none, 0, 0)
+            && lies(store, times, -45, 36)
+            && lies(store, never, 0, 0),
+    )
+}
+
+/// What is made of x and y, and the intervals of it.
+fn made(store: &mut TermStore) -> Result<bool, Fault>
+    requires sound { IsSoundStore store.old }
+    ensures sound { IsSoundStore store.new }
+{
+    let x = store.cell(0)?;
+    let y = store.cell(1)?;
+    let (quotient, remainder) = divided(store, x)?;
+    let size = size(store, x)?;
+    let (least, greatest) = extremes(store, x, y)?;
+    Ok(
+        lies(store, quotient, -4, 3)
+            && lies(store, remainder, -3, 3)
+            && lies(store, size, 0, 9)
+            && lies(store, least, -7, 4)
+            && lies(store, greatest, -5, 9),
+    )
+}
+
+#[test]
+fn made_over_the_root(rt: HostRuntime) {
+    let mut store = small(rt.alloc()).expect(&rt, "memory");
+    assert_eq!(rt; made(&mut store), Ok(true));
+}
+
+/// What is made of the number -7.
+fn folded(store: &mut TermStore) -> Result<bool, Fault>
+    requires sound { IsSoundStore store.old }
+    ensures sound { IsSoundStore store.new }
+{
+    let number = store.constant(-7)?;
+    let (quotient, remainder) = divided(store, number)?;
+    let (least, greatest) = extremes(store, quotient, remainder)?;
+    Ok(
+        lies(store, quotient, 3, 3)
+            && lies(store, remainder, -3, -3)
+            && lies(store, least, -3, -3)
+            && lies(store, greatest, 3, 3),
+    )
+}
+
+#[test]
+fn numbers_fold(rt: HostRuntime) {
+    let mut store = small(rt.alloc()).expect(&rt, "memory");
+    assert_eq!(rt; folded(&mut store), Ok(true));
+}
+
+#[test]
+fn intervals_over_the_root(rt: HostRuntime) {
+    let mut store = small(rt.alloc()).expect(&rt, "memory");
+    assert_eq!(rt; intervals(&mut store), Ok(true));
+}
+
+/// Comparisons of x and y, and what they are over the root.
+fn truths(store: &mut TermStore) -> Result<bool, Fault>
+    requires sound { IsSoundStore store.old }
+    ensures sound { IsSoundStore store.new }
+{
+    let x = store.cell(0)?;
+    let y = store.cell(1)?;
+    let less = compare(store, CmpOp::Lt, x, y)?;
+    let same = compare(store, CmpOp::Le, x, x)?;
+    let other = compare(store, CmpOp::Ne, y, y)?;
+    let view = store.root();
+    Ok(
+        store.kleene(less, &view) == Truth::Unknown
+            && store.kleene(same, &view) == Truth::True
+            && store.kleene(other, &view) == Truth::False,
+    )
+}
+
+#[test]
+fn truths_over_the_root(rt: HostRuntime) {
+    let mut store = small(rt.alloc()).expect(&rt, "memory");
+    assert_eq!(rt; truths(&mut store), Ok(true));
+}
+
+#[test]
+fn refused_for_its_size(rt: HostRuntime) {
+    let mut store = small(rt.alloc()).expect(&rt, "memory");
+    assert!(rt; store.constant(1 << 40).is_ok(), "the greatest number");
+    match store.constant(-(1 << 40) - 1) {
+        Err(Fault::Limit(excess)) => assert_eq!(rt; excess.counted, (1 << 40) + 1),
+        _ => assert!(rt; false, "a limit"),
+    }
+}
+
+/// An array over 1 and 3.
+#[tactic(auto, using(crate::proofs::Arrays::pair_is))]
+fn pair(alloc: Global, first: Element, second: Element) -> Result<Table, AllocError>
+    ensures proper { IfOk result (λ table. IsTable (table_of table)) }
+{
+    let set = Vec::from_slice(alloc, &[1, 3])?;
+    let mut sets = Vec::new(alloc);
+    sets.push(set)?;
+    let elements = Vec::from_slice(alloc, &[first, second])?;
+    Ok(Table { sets, elements })
+}
+
+/// An array with an index set that is empty.
+#[tactic(auto, using(crate::proofs::Arrays::empty_is))]
+fn empty(alloc: Global) -> Result<Table, AllocError>
+    ensures proper { IfOk result (λ table. IsTable (table_of table)) }
+{
+    let mut sets = Vec::new(alloc);
+    sets.push(Vec::new(alloc))?;
+    Ok(Table {
+        sets,
+        elements: Vec::new(alloc),
+    })
+}
+
+/// The element of an array at a number.
+fn element(store: &mut TermStore, table: u32, number: i64) -> Result<u32, Fault>
+    requires sound { IsSoundStore store.old }
+    ensures sound { IsSoundStore store.new }
+{
+    let index = store.constant(number)?;
+    let count = store.count();
+    if table >= count || index >= count {
+        return Err(Fault::NoMemory);
+    }
+    if !store.are_numbers(&[index]) {
+        return Err(Fault::NoMemory);
+    }
+    store.element(table, &[index])
+}
+
+/// The elements at 1, at 3 and at 2, and how they are seen: 10, x, and nothing that is defined.
+fn elements(store: &mut TermStore, array: Table) -> Result<bool, Fault>
+    requires sound { IsSoundStore store.old }
+    requires proper { IsTable (table_of array) }
+    ensures sound { IsSoundStore store.new }
+{
+    let table = store.table(array)?;
+    let first = element(store, table, 1)?;
+    let second = element(store, table, 3)?;
+    let none = element(store, table, 2)?;
+    Ok(
+        lies(store, first, 10, 10)
+            && lies(store, second, -7, 9)
+            && marked(store, none, -7, 10, Defined::Never),
+    )
+}
+
+/// An element of an array that has none.
+fn element_of_none(store: &mut TermStore, array: Table) -> Result<bool, Fault>
+    requires sound { IsSoundStore store.old }
+    requires proper { IsTable (table_of array) }
+    ensures sound { IsSoundStore store.new }
+{
+    let table = store.table(array)?;
+    let none = element(store, table, 1)?;
+    Ok(marked(store, none, 0, 0, Defined::Never))
+}
+
+#[test]
+fn elements_over_the_root(rt: HostRuntime) {
+    let mut store = small(rt.alloc()).expect(&rt, "memory");
+    let array = pair(rt.alloc(), Element::Fixed(10), Element::Free(0)).expect(&rt, "memory");
+    assert_eq!(rt; elements(&mut store, array), Ok(true));
+    let array = empty(rt.alloc()).expect(&rt, "memory");
+    assert_eq!(rt; element_of_none(&mut store, array), Ok(true));
+}
+
+/// Whether a term of the size 2^40 + 1 is refused.
+fn refused(outcome: Result<u32, Fault>) -> bool {
+    match outcome {
+        Err(Fault::Limit(excess)) => excess.counted == (1 << 40) + 1,
+        _ => false,
+    }
+}
+
+/// Elements of an array that has a number of the size 2^40 + 1 at 3: that at 1 is there, the others are refused.
+fn large(store: &mut TermStore, array: Table) -> Result<bool, Fault>
+    requires sound { IsSoundStore store.old }
+    requires proper { IsTable (table_of array) }
+    ensures sound { IsSoundStore store.new }
+{
+    let table = store.table(array)?;
+    element(store, table, 1)?;
+    let at_three = refused(element(store, table, 3));
+    let outside = refused(element(store, table, 2));
+    Ok(at_three && outside)
+}
+
+#[test]
+fn elements_refused_for_their_size(rt: HostRuntime) {
+    let mut store = small(rt.alloc()).expect(&rt, "memory");
+    let most = Element::Fixed((1 << 40) + 1);
+    let array = pair(rt.alloc(), Element::Fixed(10), most).expect(&rt, "memory");
+    assert_eq!(rt; large(&mut store, array), Ok(true));
+}
+
+mod mentions;
