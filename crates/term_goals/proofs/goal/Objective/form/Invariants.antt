@@ -1,0 +1,10 @@
+use Rattle.std.proofs.Common.{◌≡◌, drop}
+use Rattle.program_rules.specs.Objective.{expected_form}
+use Rattle.term_rules.specs.Shown.{box_in}
+use Rattle.term_rules.specs.Sums.{combination_of}
+use Rattle.term_nodes.specs.Things.{things}
+use Rattle.term_goals.specs.Goals.{terms_of}
+use Rattle.term_goals.proofs.goal.Objective.form.Given as goal
+
+abbrev pub invariant-loop-i : goal.invariant-loop-i
+invariant-loop-i l = combination_of l.sum ≡ expected_form (box_in l.here.root) (drop l.i l.self.weights.now) (terms_of (things l.here.items.now) (drop l.i l.self.terms.now))

@@ -1,0 +1,128 @@
+//! How large an objective is.
+
+ghost use Rattle.std.specs.Prelude.{◌≡◌, ◌+◌, ◌<◌, ◌^◌, ◌+ℤ◌, ◌*ℤ◌, pos, length, slice_index_or, unsigned_abs, IfOk, false};
+ghost use Rattle.box_rules.specs.Globals.{total};
+ghost use Rattle.box_rules.specs.Sizes.{atoms_weight, size};
+ghost use Rattle.program_rules.specs.Objective.{greatest_size};
+ghost use Rattle.term_rules.specs.Shown.{box_in};
+ghost use Rattle.term_nodes.specs.Built.{AllBelow};
+ghost use Rattle.term_nodes.specs.Seen.{IsReady};
+ghost use Rattle.term_nodes.specs.Things.{term_at, things};
+ghost use Rattle.term_goals.specs.Goals.{AreWeights, IsMeasured, goal_size, terms_of};
+
+use sopl_base::{Excess, Fault};
+use std::alloc::{AllocError, Global};
+use term_nodes::{Here, form_at};
+use term_rules::WideFactor;
+
+/// The greatest size of an expected objective.
+const MOST: i128 = 1 << 126;
+
+/// The weight of a scenario.
+pub(crate) fn scenario_weight(weights: &[i128], scenario: usize) -> WideFactor
+    requires exists { scenario < length weights.now }
+    ensures { result.k ≡ slice_index_or weights.now scenario (pos 0) }
+{
+    WideFactor {
+        k: weights[scenario],
+    }
+}
+
+/// The sum of two numbers.
+fn plus(a: &WideFactor, b: &WideFactor) -> WideFactor
+    requires room { unsigned_abs a.now.k + unsigned_abs b.now.k < 2 ^ 127 }
+    ensures { result.k ≡ a.now.k +ℤ b.now.k }
+{
+    WideFactor { k: a.k + b.k }
+}
+
+/// The weight of all scenarios.
+#[tactic(auto, using(crate::proofs::Weights::next_total, crate::proofs::Weights::no_total))]
+fn total(weights: &[i128]) -> WideFactor
+    requires weights { AreWeights weights.now }
+    ensures { result.k ≡ total weights.now }
+{
+    let mut sum = WideFactor { k: 0 };
+    for i in (0..weights.len()).rev() {
+        let weight = scenario_weight(weights, i);
+        sum = plus(&weight, &sum);
+    }
+    sum
+}
+
+/// The weight of what is no cell in a term.
+#[tactic(auto, using(term_nodes::proofs::Reading::weight_is))]
+fn weight_at(here: &Here, id: u32) -> u64
+    requires ready { IsReady here.now }
+    requires exists { id < length here.now.items.now }
+    ensures { result ≡ atoms_weight (box_in here.now.root) (term_at (things here.now.items.now) id) }
+{
+    here.items[id as usize].facts.weight
+}
+
+/// The size of a term.
+fn size_at(alloc: Global, here: &Here, id: u32) -> Result<u128, AllocError>
+    requires ready { IsReady here.now }
+    requires exists { id < length here.now.items.now }
+    ensures { IfOk result (λ found. found ≡ size (box_in here.now.root) (term_at (things here.now.items.now) id)) }
+{
+    let wide = form_at(here.items, id).widened(alloc)?;
+    Ok(wide.weight(&here.root) + u128::from(weight_at(here, id)))
+}
+
+/// The greatest size of several terms.
+#[tactic(auto, using(crate::proofs::Weights::next_greatest, crate::proofs::Weights::no_greatest))]
+fn greatest_size(alloc: Global, here: &Here, terms: &[u32]) -> Result<u128, AllocError>
+    requires ready { IsReady here.now }
+    requires exist { AllBelow (length here.now.items.now) terms.now }
+    ensures { IfOk result (λ most. most ≡ greatest_size (box_in here.now.root) (terms_of (things here.now.items.now) terms.now)) }
+{
+    let mut most = 0;
+    for i in (0..terms.len()).rev() {
+        let size = size_at(alloc, here, terms[i])?;
+        most = size.max(most);
+    }
+    Ok(most)
+}
+
+/// A size and one more.
+fn one_more(size: u128) -> WideFactor
+    requires room { size < 2 ^ 126 }
+    ensures { result.k ≡ pos (size + 1) }
+{
+    WideFactor {
+        k: size as i128 + 1,
+    }
+}
+
+/// Refuses a product above 2^126.
+#[tactic(auto, using(crate::proofs::Weights::product_refused, crate::proofs::Weights::product_passes))]
+fn measured_product(a: &WideFactor, b: &WideFactor) -> Result<(), Fault>
+    ensures { IsMeasured false (a.now.k *ℤ b.now.k) result }
+{
+    let size = a.k.saturating_mul(b.k);
+    if size > MOST {
+        return Err(Fault::Limit(Excess {
+            code: 207,
+            counted: size,
+            limit: MOST,
+        }));
+    }
+    Ok(())
+}
+
+/// Refuses an expected objective whose size passes 2^126.
+pub(crate) fn measured(
+    alloc: Global,
+    here: &Here,
+    weights: &[i128],
+    terms: &[u32],
+) -> Result<(), Fault>
+    requires ready { IsReady here.now }
+    requires weights { AreWeights weights.now }
+    requires exist { AllBelow (length here.now.items.now) terms.now }
+    ensures { IsMeasured false (goal_size (box_in here.now.root) weights.now (terms_of (things here.now.items.now) terms.now)) result }
+{
+    let most = greatest_size(alloc, here, terms)?;
+    measured_product(&total(weights), &one_more(most))
+}
