@@ -1,0 +1,13 @@
+use Rattle.std.proofs.Common.{rules, ◌≤ℤ◌, pos, sym, subst, SFits}
+use Rattle.std.proofs.lemmas.Int.{to_z-of_z}
+use Rattle.std.specs.Int.{w128}
+use Rattle.term_rules.specs.Shown.{box_in}
+use Rattle.sopl_term.specs.Programs.{conditions_of, root_in, things_in}
+use Rattle.sopl_term.proofs.Weighing.{left_up}
+use Rattle.sopl_term.proofs.program.Program.too_few.Goals as goal
+
+pub reaches-requires-clause-sum_low : goal.reaches-requires-clause-sum_low
+reaches-requires-clause-sum_low c =
+    let fits : SFits w128 c.weight_left-left.result.sum = search rules in
+    rw (to_z-of_z w128 c.weight_left-left.result.sum fits) (subst (λ s. pos 0 ≤ℤ s) (sym c.weight_left-left.ensures)
+    (left_up (root_in c.args.self.now) (box_in c.args.view.now) c.args.self.now.weights.items (conditions_of (things_in c.args.self.now) c.args.chance.now.conditions) c.requires.made.problem.weighs))
