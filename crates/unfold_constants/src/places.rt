@@ -30,7 +30,20 @@ impl<'a> Known<'a> {
         ensures met { Walks count.old.counted count.new.counted (range_occurrences (known_in self.now) None (range_of range.now)) result }
         ensures numbers { IfOk result (λ numbers. numbers_of (known_in self.now) (range_of range.now) ≡ Some (shown numbers)) }
     {
-        self.range_numbers(count, None, range)
+        self.range_inside(count, None, range)
+    }
+
+    /// The same, inside the constant expression that begins at `whole`, to which the ends belong; with none, each of them is a constant place of its own.
+    pub fn range_inside(
+        &self,
+        count: &mut Count,
+        whole: Option<usize>,
+        range: &'a RangeText,
+    ) -> Result<Numbers<'a>, Fault>
+        ensures met { Walks count.old.counted count.new.counted (range_occurrences (known_in self.now) whole (range_of range.now)) result }
+        ensures numbers { IfOk result (λ numbers. numbers_of (known_in self.now) (range_of range.now) ≡ Some (shown numbers)) }
+    {
+        self.range_numbers(count, whole, range)
     }
 
     /// The ends of a range, of which each is a constant place of its own.

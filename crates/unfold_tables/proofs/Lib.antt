@@ -6,3 +6,4 @@ mod Distinct
 mod Upward
 mod Fronts
 mod TooMany
+mod Named

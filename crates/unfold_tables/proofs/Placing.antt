@@ -38,7 +38,7 @@ start_appended name (p ∷ ps) key n = on (start_appended name ps key n) (pointw
     on rest true = refl
     on rest false = rest
 
-none_of : (a b : Bool) → (a || b) ≡ false → (a ≡ false) × (b ≡ false)
+pub none_of : (a b : Bool) → (a || b) ≡ false → (a ≡ false) × (b ≡ false)
 none_of true b h = absurd (true≢false h)
 none_of false b h = (refl, h)
 

@@ -14,8 +14,8 @@ use std::alloc::{AllocError, Global};
 #[derive(Drop)]
 pub struct Elements {
     alloc: Global,
-    first: IndexMap<Vec<i64>, i64>,
-    again: Vec<(Vec<i64>, i64)>,
+    pub(crate) first: IndexMap<Vec<i64>, i64>,
+    pub(crate) again: Vec<(Vec<i64>, i64)>,
 }
 
 impl Elements {

@@ -82,7 +82,7 @@ impl Table {
     }
 
     /// The entries from the first one of a name on.
-    fn entries_of(&self, name: &Name) -> &[Entry]
+    pub(crate) fn entries_of(&self, name: &Name) -> &[Entry]
         ensures { result.now ≡ drop (start_of name.now self.now.places.entries (length self.now.entries.items)) self.now.entries.items }
     {
         &self.entries.as_slice()[self.start(name)..]
@@ -119,7 +119,7 @@ impl Table {
 
 impl Entry {
     /// Whether it has this name.
-    fn is(&self, name: &Name) -> bool
+    pub(crate) fn is(&self, name: &Name) -> bool
         ensures { result ≡ bytes_eq name.now self.now.name.items }
     {
         name.as_slice() == self.name.as_slice()
