@@ -1,90 +1,86 @@
--- Elements whose indices are numbers over the root, over a box.
-use Rattle.std.proofs.Common.{◌≡◌, ℤ, pos, Bool, true, false, List, map, Option, Some, None, if◌then◌else◌, refl, ap, sym, ◌∙◌}
-use Rattle.std.specs.List.{list_all}
-use Rattle.box_problem.specs.Box.{Box, IsBox}
+-- Elements of arrays over a box.
+use Rattle.std.proofs.Common.{◌≡◌, ℕ, ◌<◌, pos, Bool, true, false, List, [], ◌∷◌, ◌++◌, length, arith, append-nil, refl, ap, sym, ◌∙◌}
+use Rattle.box_problem.specs.Box.{Box}
 use Rattle.box_rules.specs.declared.answers.Defined.{Defined}
-use Rattle.box_rules.specs.declared.answers.Defined.TheVariants.{Never}
-use Rattle.box_rules.specs.Arrays.{item_at}
+use Rattle.box_rules.specs.declared.answers.Defined.TheVariants.{Never, Maybe, Always}
+use Rattle.box_rules.specs.Arrays.{are_covered, reached}
 use Rattle.box_rules.specs.Ends as ends
-use Rattle.box_rules.specs.Forms.{Form, atom_form, is_constant}
-use Rattle.box_rules.specs.Marks.{all_marks}
-use Rattle.box_rules.specs.Rules.{Reading, Near, form, forms, atoms, mark, marks, intervals, unless_folded, item_form, item_ends, element_ends, element_mark}
-use Rattle.box_rules.specs.Terms.{Item, Fixed, Free, Table, Terms, Element}
-use Rattle.box_rules.specs.Laws.{IsTable, AreProper}
-use Rattle.term_operations.proofs.Constants.{constant_intervals}
-use Rattle.term_tables.specs.Kept.{items_of, table_of}
+use Rattle.box_rules.specs.Marks.{both, all_marks}
+use Rattle.box_rules.specs.Rules.{Reading, Near, form, interval, mark, marks, intervals, unless_folded, element_ends, element_mark, reached_mark}
+use Rattle.box_rules.specs.Terms.{Table, Terms, Element}
+use Rattle.term_tables.specs.Kept.{table_of}
 use Rattle.term_tables.specs.declared.tables.Table as own
-use Rattle.term_tables.proofs.FixedIndices.{inside_mark, outside_mark, outside_ends}
-use Rattle.term_nodes.specs.Seen.{Sight, sight}
-use Rattle.term_nodes.specs.Things.{no_table}
-use Rattle.term_nodes.proofs.Ranges.{same_sight}
+use Rattle.term_nodes.specs.Built.{AllBelow}
+use Rattle.term_nodes.specs.Seen.{Sight, sight, element_sight}
+use Rattle.term_nodes.specs.Things.{Thing, no_table, term_at, terms_at}
+use Rattle.term_nodes.proofs.Ranges.{same_sight, both_always, both_grouped}
 
--- the numbers that are the indices
-abbrev pub numbers : Box → Terms → List ℤ
-numbers root ts = map (λ (f : Form). f.constant) (forms root ts)
+-- an element of which the intervals of the indices are given
+both_never : (m : Defined) → both m Never ≡ Never
+both_never Never = refl
+both_never Maybe = refl
+both_never Always = refl
 
-abbrev pub AreConstant : Box → Terms → Type 0
-AreConstant root ts = list_all is_constant (forms root ts) ≡ true
+none_reached : (b : Box) (es : List ends.Ends) (m : Defined) → element_sight b no_table m es ≡ record { ends = ends.exactly (pos 0); mark = Never }
+none_reached b es m = same_sight (element_ends Near b es no_table) (ends.exactly (pos 0)) (element_mark no_table m es) Never refl (both_never m)
 
-pub element_is : (root : Box) (table : Table) (ts : Terms) → AreConstant root ts → form root (Element table ts) ≡ item_form (item_at table (numbers root ts))
-element_is root table ts all = ap (λ (b : Bool). if b then item_form (item_at table (numbers root ts)) else atom_form) all
+pub within_none : (b : Box) (table : Table) (m : Defined) (es : List ends.Ends) (a : ends.Ends) → no_table ≡ table → a ≡ ends.exactly (pos 0) → (◌≡◌ {A = Sight}) (record { ends = a; mark = Never }) (element_sight b table m es)
+within_none b table m es a missing zero =
+    ap (λ (e : ends.Ends). record { ends = e; mark = Never }) zero ∙ sym (none_reached b es m) ∙ ap (λ (t : Table). element_sight b t m es) missing
 
-by_item : (P : Option Item → Type 0) (v : Option Item) → (v ≡ None → P None) → ((item : Item) → v ≡ Some item → P (Some item)) → P v
-by_item P None missing found = missing refl
-by_item P (Some item) missing found = found item refl
+pub within_table : (b : Box) (t : own.Table) (table : Table) (m : Defined) (es : List ends.Ends) (a : ends.Ends) (n : Defined) → table_of t ≡ table → a ≡ element_ends Near b es (table_of t) → n ≡ reached_mark (are_covered es (table_of t).sets) (reached es (table_of t)) → (◌≡◌ {A = Sight}) (record { ends = a; mark = both m n }) (element_sight b table m es)
+within_table b t table m es a n found is marked =
+    same_sight a (element_ends Near b es (table_of t)) (both m n) (element_mark (table_of t) m es) is (ap (both m) marked)
+    ∙ ap (λ (u : Table). element_sight b u m es) found
 
-pub item_is_plain : (item : Item) → (item_form (Some item)).plain ≡ true
-item_is_plain (Fixed z) = refl
-item_is_plain (Free cell) = refl
+-- one index after the other, from the last to the first
+intervals_behind : (reading : Reading) (root b : Box) (all : List Thing) (xs : List ℕ) (x : ℕ) (es : List ends.Ends) → intervals reading root b (terms_at all (xs ++ x ∷ [])) ++ es ≡ intervals reading root b (terms_at all xs) ++ interval reading root b (term_at all x) ∷ es
+intervals_behind reading root b all [] x es = refl
+intervals_behind reading root b all (y ∷ xs) x es = ap (λ (ds : List ends.Ends). interval reading root b (term_at all y) ∷ ds) (intervals_behind reading root b all xs x es)
 
--- intervals and marks
-mark_at : (reading : Reading) (root b : Box) (table : Table) (ts : Terms) → IsBox b → AreProper ts → AreConstant root ts → mark reading root b (Element table ts) ≡ element_mark table (all_marks (marks reading root b ts)) (map ends.exactly (numbers root ts))
-mark_at reading root b table ts is_box proper all =
-    ap (element_mark table (all_marks (marks reading root b ts))) (constant_intervals reading root b ts is_box proper all)
+marks_behind : (reading : Reading) (root b : Box) (all : List Thing) (xs : List ℕ) (x : ℕ) (m : Defined) → both (all_marks (marks reading root b (terms_at all (xs ++ x ∷ [])))) m ≡ both (all_marks (marks reading root b (terms_at all xs))) (both (mark reading root b (term_at all x)) m)
+marks_behind reading root b all [] x m = both_grouped (mark reading root b (term_at all x)) Always m
+marks_behind reading root b all (y ∷ xs) x m =
+    both_grouped (mark reading root b (term_at all y)) (all_marks (marks reading root b (terms_at all (xs ++ x ∷ [])))) m
+    ∙ ap (both (mark reading root b (term_at all y))) (marks_behind reading root b all xs x m)
+    ∙ sym (both_grouped (mark reading root b (term_at all y)) (all_marks (marks reading root b (terms_at all xs))) (both (mark reading root b (term_at all x)) m))
 
-pub inside_marked : (reading : Reading) (root b : Box) (table : Table) (ts : Terms) (item : Item) → IsBox b → IsTable table → AreProper ts → AreConstant root ts → item_at table (numbers root ts) ≡ Some item → mark reading root b (Element table ts) ≡ all_marks (marks reading root b ts)
-inside_marked reading root b table ts item is_box is_table proper all found =
-    mark_at reading root b table ts is_box proper all ∙ inside_mark table (all_marks (marks reading root b ts)) (numbers root ts) item is_table found
+pub below_last : (limit : ℕ) (xs : List ℕ) (x : ℕ) → AllBelow limit (xs ++ x ∷ []) → AllBelow limit xs × (x < limit)
+below_last limit [] x below = (tt, below.0)
+below_last limit (y ∷ xs) x below = let later = below_last limit xs x below.1 in ((below.0, later.0), later.1)
 
-pub inside_atoms : (reading : Reading) (root b : Box) (table : Table) (ts : Terms) → (form root (Element table ts)).plain ≡ true → atoms reading root b (Element table ts) ≡ ends.exactly (pos 0)
-inside_atoms reading root b table ts plain =
-    ap (λ (f : Bool). unless_folded f (element_ends reading b (intervals reading root b ts) table)) plain
+-- what is left of the indices, and the intervals and the marks that were seen
+abbrev pub behind : Reading → Box → Box → List Thing → List ℕ → Defined → List ends.Ends → Table → Sight
+behind reading root b all xs m es table = element_sight b table (both (all_marks (marks reading root b (terms_at all xs))) m) (intervals reading root b (terms_at all xs) ++ es)
 
-pub outside_marked : (reading : Reading) (root b : Box) (table : Table) (ts : Terms) → IsBox b → AreProper ts → AreConstant root ts → item_at table (numbers root ts) ≡ None → mark reading root b (Element table ts) ≡ Never
-outside_marked reading root b table ts is_box proper all none =
-    mark_at reading root b table ts is_box proper all ∙ outside_mark table (all_marks (marks reading root b ts)) (numbers root ts) none
+pub last_index : (reading : Reading) (root b : Box) (all : List Thing) (at xs : List ℕ) (x : ℕ) (m : Defined) (es : List ends.Ends) (table : Table) → at ≡ xs ++ x ∷ [] → behind reading root b all xs (both (mark reading root b (term_at all x)) m) (interval reading root b (term_at all x) ∷ es) table ≡ behind reading root b all at m es table
+last_index reading root b all at xs x m es table is =
+    sym (
+    ap (λ (ys : List ℕ). behind reading root b all ys m es table) is
+    ∙ ap (λ (n : Defined). element_sight b table n (intervals reading root b (terms_at all (xs ++ x ∷ [])) ++ es)) (marks_behind reading root b all xs x m)
+    ∙ ap (element_sight b table (both (all_marks (marks reading root b (terms_at all xs))) (both (mark reading root b (term_at all x)) m))) (intervals_behind reading root b all xs x es)
+    )
 
-pub outside_atoms : (reading : Reading) (root b : Box) (table : Table) (ts : Terms) → IsBox b → IsTable table → AreProper ts → AreConstant root ts → item_at table (numbers root ts) ≡ None → atoms reading root b (Element table ts) ≡ ends.hull_of (map (item_ends b) table.items)
-outside_atoms reading root b table ts is_box is_table proper all none =
-    ap (λ (f : Form). unless_folded f.plain (element_ends reading b (intervals reading root b ts) table)) (element_is root table ts all ∙ ap item_form none)
-    ∙ ap (λ (es : List ends.Ends). element_ends reading b es table) (constant_intervals reading root b ts is_box proper all)
-    ∙ outside_ends reading b table (numbers root ts) is_table.complete none
+-- an element at all its indices
+pub whole : (reading : Reading) (root b : Box) (all : List Thing) (at : List ℕ) (table : Table) → behind reading root b all at Always [] table ≡ element_sight b table (all_marks (marks reading root b (terms_at all at))) (intervals reading root b (terms_at all at))
+whole reading root b all at table =
+    ap (λ (m : Defined). element_sight b table m (intervals reading root b (terms_at all at) ++ [])) (both_always (all_marks (marks reading root b (terms_at all at))))
+    ∙ ap (element_sight b table (all_marks (marks reading root b (terms_at all at)))) (append-nil (intervals reading root b (terms_at all at)))
 
--- the hull of all elements of an array
-pub hull_found : (b : Box) (t : own.Table) (table : Table) (a : ends.Ends) → table_of t ≡ table → a ≡ ends.hull_of (map (item_ends b) (items_of t.elements.items)) → a ≡ ends.hull_of (map (item_ends b) table.items)
-hull_found b t table a found hull = hull ∙ ap (λ (u : Table). ends.hull_of (map (item_ends b) u.items)) found
+element_seen : (root b : Box) (table : Table) (ts : Terms) (plain : Bool) → plain ≡ (form root (Element table ts)).plain → sight root b (Element table ts) ≡ record { ends = unless_folded plain (element_ends Near b (intervals Near root b ts) table); mark = element_mark table (all_marks (marks Near root b ts)) (intervals Near root b ts) }
+element_seen root b table ts plain is =
+    ap (λ (f : Bool). record { ends = unless_folded f (element_ends Near b (intervals Near root b ts) table); mark = element_mark table (all_marks (marks Near root b ts)) (intervals Near root b ts) }) (sym is)
 
-pub hull_missing : (b : Box) (table : Table) (a : ends.Ends) → no_table ≡ table → a ≡ ends.exactly (pos 0) → a ≡ ends.hull_of (map (item_ends b) table.items)
-hull_missing b table a missing zero = zero ∙ ap (λ (u : Table). ends.hull_of (map (item_ends b) u.items)) missing
+pub element_plain : (root b : Box) (all : List Thing) (at : List ℕ) (table : Table) (plain : Bool) (a : ends.Ends) (r : Sight) → plain ≡ (form root (Element table (terms_at all at))).plain → plain ≡ true → a ≡ ends.exactly (pos 0) → r ≡ behind Near root b all at Always [] table → (◌≡◌ {A = Sight}) (record { ends = a; mark = r.mark }) (sight root b (Element table (terms_at all at)))
+element_plain root b all at table plain a r plain_is met zero is =
+    ap (λ (e : ends.Ends). record { ends = e; mark = r.mark }) zero
+    ∙ ap (λ (s : Sight). record { ends = ends.exactly (pos 0); mark = s.mark }) (is ∙ whole Near root b all at table)
+    ∙ sym (element_seen root b table (terms_at all at) true (sym met ∙ plain_is))
 
--- what is seen of it
-pub element_inside : (root b : Box) (table : Table) (ts : Terms) (plain : Bool) (a : ends.Ends) (m : Defined) → IsBox b → IsTable table → AreProper ts → AreConstant root ts → plain ≡ (form root (Element table ts)).plain → plain ≡ true → a ≡ ends.exactly (pos 0) → m ≡ all_marks (marks Near root b ts) → (◌≡◌ {A = Sight}) (record { ends = a; mark = m }) (sight root b (Element table ts))
-element_inside root b table ts plain a m is_box is_table proper all plain_is met zero marked =
-    let in_form : (form root (Element table ts)).plain ≡ true = sym plain_is ∙ met in
-    by_item (λ v. item_at table (numbers root ts) ≡ v → (◌≡◌ {A = Sight}) (record { ends = a; mark = m }) (sight root b (Element table ts))) (item_at table (numbers root ts))
-    (λ missing none.
-    let out : (form root (Element table ts)).plain ≡ false = ap (λ (f : Form). f.plain) (element_is root table ts all ∙ ap item_form none) in absurd (cc))
-    (λ item there found.
-    same_sight a (atoms Near root b (Element table ts)) m (mark Near root b (Element table ts)) (zero ∙ sym (inside_atoms Near root b table ts in_form)) (marked ∙ sym (inside_marked Near root b table ts item is_box is_table proper all found)))
-    refl
+pub element_alone : (root b : Box) (all : List Thing) (at : List ℕ) (table : Table) (plain : Bool) (r : Sight) → plain ≡ (form root (Element table (terms_at all at))).plain → plain ≡ false → r ≡ behind Near root b all at Always [] table → r ≡ sight root b (Element table (terms_at all at))
+element_alone root b all at table plain r plain_is unmet is =
+    is ∙ whole Near root b all at table ∙ sym (element_seen root b table (terms_at all at) false (sym unmet ∙ plain_is))
 
-pub element_outside : (root b : Box) (table : Table) (ts : Terms) (plain : Bool) (a : ends.Ends) → IsBox b → IsTable table → AreProper ts → AreConstant root ts → plain ≡ (form root (Element table ts)).plain → plain ≡ false → a ≡ ends.hull_of (map (item_ends b) table.items) → (◌≡◌ {A = Sight}) (record { ends = a; mark = Never }) (sight root b (Element table ts))
-element_outside root b table ts plain a is_box is_table proper all plain_is unmet hull =
-    by_item (λ v. item_at table (numbers root ts) ≡ v → (◌≡◌ {A = Sight}) (record { ends = a; mark = Never }) (sight root b (Element table ts))) (item_at table (numbers root ts))
-    (λ missing none.
-    same_sight a (atoms Near root b (Element table ts)) Never (mark Near root b (Element table ts)) (hull ∙ sym (outside_atoms Near root b table ts is_box is_table proper all none)) (sym (outside_marked Near root b table ts is_box proper all none)))
-    (λ item there found.
-    let in_form : (form root (Element table ts)).plain ≡ true = ap (λ (f : Form). f.plain) (element_is root table ts all ∙ ap item_form found) ∙ item_is_plain item in
-    let out : (form root (Element table ts)).plain ≡ false = sym plain_is ∙ unmet in
-    absurd (cc))
-    refl
+pub no_index : (reading : Reading) (root b : Box) (all : List Thing) (at : List ℕ) (m : Defined) (es : List ends.Ends) (table : Table) → length at ≡ 0 → element_sight b table m es ≡ behind reading root b all at m es table
+no_index reading root b all [] m es table none = refl
+no_index reading root b all (x ∷ at) m es table none = absurd (omega (arith, none))

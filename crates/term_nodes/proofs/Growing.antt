@@ -1,6 +1,5 @@
 -- Nodes that are added change nothing of those before them.
-use Rattle.std.proofs.Common.{◌≡◌, inl, inr, ℕ, ◌<◌, ◌≤◌, zero, suc, negsuc, true, List, [], ◌∷◌, ◌++◌, length, get_or, arith, refl, ap, subst, sym, ◌∙◌, length-append}
-use Rattle.std.specs.List.{list_all}
+use Rattle.std.proofs.Common.{◌≡◌, inl, inr, ℕ, ◌<◌, ◌≤◌, zero, suc, negsuc, List, [], ◌∷◌, ◌++◌, length, get_or, arith, refl, ap, subst, sym, ◌∙◌, length-append}
 use Rattle.std.proofs.lemmas.Bool.{cases_lt}
 use Rattle.box_problem.specs.Box.{Box}
 use Rattle.term_nodes.specs.declared.nodes.Node.{Node}
@@ -9,7 +8,6 @@ use Rattle.term_nodes.specs.declared.nodes.Signed.{Signed}
 use Rattle.term_nodes.specs.declared.items.Item.{Item}
 use Rattle.box_rules.specs.Terms as rule
 use Rattle.box_rules.specs.Forms as forms
-use Rattle.box_rules.specs.Rules as rules
 use Rattle.box_rules.specs.Rules.{form}
 use Rattle.term_operations.specs.Made.{operation_term, extreme_term}
 use Rattle.term_nodes.specs.Things.{Thing, a_term, a_cond, term_in, cond_in, table_in, term_at, cond_at, table_at, thing_at, thing_of, parts_at, terms_at, conds_at, things, things_from}
@@ -94,8 +92,7 @@ right_stays root all more n (node.Sum parts) most below is = tt
 right_stays root all more n (node.Product a b) most below is = tt
 right_stays root all more n (node.Operation op a) most below is = is
 right_stays root all more n (node.Extreme e first later) most below is = tt
-right_stays root all more n (node.Element table at) most below is =
-    subst (λ (ts : rule.Terms). list_all forms.is_constant (rules.forms root ts) ≡ true) (sym (terms_stay all more n at.items most below.1)) is
+right_stays root all more n (node.Element table at) most below is = tt
 right_stays root all more n (node.Number c) most below is = tt
 right_stays root all more n (node.Compare c) most below is =
     is ∙ sym (ap (λ (t : rule.Term). forms.plus_form (negsuc 0) (form root t) (form root (term_at (all ++ more ∷ []) c.right))) (term_stays all more n c.left most below.0)

@@ -1,11 +1,9 @@
 -- What is known of each node, and that it is right.
-use Rattle.std.specs.Prelude.{◌≡◌, ℕ, ◌<◌, ◌≤◌, ◌^◌, pos, negsuc, true, List, [], ◌∷◌, length, get_or}
-use Rattle.std.specs.List.{list_all}
+use Rattle.std.specs.Prelude.{◌≡◌, ℕ, ◌<◌, ◌≤◌, ◌^◌, pos, negsuc, List, [], ◌∷◌, length, get_or}
 use Rattle.box_problem.specs.Box.{Box}
 use Rattle.box_rules.specs.Ends as ends
 use Rattle.box_rules.specs.Forms as forms
 use Rattle.box_rules.specs.Terms.{Term}
-use Rattle.box_rules.specs.Rules as rules
 use Rattle.box_rules.specs.Rules.{Near, Wide, form, mark, atoms, truth}
 use Rattle.box_rules.specs.Sizes.{atoms_weight, size}
 use Rattle.box_rules.specs.Laws.{IsProper, IsProperCond, IsTable}
@@ -21,7 +19,7 @@ use Rattle.term_nodes.specs.declared.nodes.Node.TheVariants as node
 use Rattle.term_nodes.specs.declared.nodes.Signed.{Signed}
 use Rattle.term_nodes.specs.declared.items.Item.{Item}
 use Rattle.term_nodes.specs.declared.items.Facts as own
-use Rattle.term_nodes.specs.Things.{Thing, term_in, cond_in, table_in, term_at, terms_at, thing_at, thing_of, things}
+use Rattle.term_nodes.specs.Things.{Thing, term_in, cond_in, table_in, term_at, thing_at, thing_of, things}
 
 pub record Facts : Type 0 where
   pub form : forms.Form
@@ -119,7 +117,7 @@ IsBelow id (node.Any conds) = AllBelow id conds.items
 IsBelow id (node.Implies a c) = (a < id) × (c < id)
 IsBelow id (node.Table t) = Unit {0}
 
--- a divisor can be reckoned with, the indices of an element are numbers, and the form of a comparison is that of the difference
+-- a divisor can be reckoned with, and the form of a comparison is that of the difference
 abbrev pub IsRight : Box → List Thing → Node → Type 0
 IsRight root all (node.Constant z) = Unit {0}
 IsRight root all (node.Cell cell) = Unit {0}
@@ -127,7 +125,7 @@ IsRight root all (node.Sum parts) = Unit {0}
 IsRight root all (node.Product a b) = Unit {0}
 IsRight root all (node.Operation op a) = IsPossible op
 IsRight root all (node.Extreme e first later) = Unit {0}
-IsRight root all (node.Element table at) = list_all forms.is_constant (rules.forms root (terms_at all at.items)) ≡ true
+IsRight root all (node.Element table at) = Unit {0}
 IsRight root all (node.Number c) = Unit {0}
 IsRight root all (node.Compare c) =
     form_of c.form ≡ forms.plus_form (negsuc 0) (form root (term_at all c.left)) (form root (term_at all c.right))

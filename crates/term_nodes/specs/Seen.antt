@@ -1,9 +1,10 @@
 -- What terms are over a box.
+use Rattle.std.specs.Prelude.{List}
 use Rattle.box_problem.specs.Box.{Box, IsBox, Inside}
 use Rattle.box_rules.specs.Ends as ends
 use Rattle.std.specs.List.{fold}
 use Rattle.box_rules.specs.Marks.{both, all_marks}
-use Rattle.box_rules.specs.Terms.{Term, Terms, Parts}
+use Rattle.box_rules.specs.Terms.{Table, Term, Terms, Parts}
 use Rattle.box_rules.specs.Rules as rule
 use Rattle.box_rules.specs.declared.answers.Defined.{Defined}
 use Rattle.term_operations.specs.declared.extremes.Extreme.{Extreme}
@@ -36,6 +37,13 @@ abbrev pub extreme_range : rule.Reading → Box → Box → Extreme → Term →
 extreme_range reading root b e t later = record {
   ends = fold (picked e) (rule.interval reading root b t) (rule.intervals reading root b later);
   mark = both (rule.mark reading root b t) (all_marks (rule.marks reading root b later));
+}
+
+-- an element of which the marks of the indices, all together, and their intervals are given
+abbrev pub element_sight : Box → Table → Defined → List ends.Ends → Sight
+element_sight b table marks intervals = record {
+  ends = rule.element_ends rule.Near b intervals table;
+  mark = rule.element_mark table marks intervals;
 }
 
 -- what a term is over the root, by the wide reading

@@ -1,7 +1,6 @@
 //! What terms and conditions are over a box.
 
-ghost use Rattle.std.specs.Prelude.{◌≡◌, ◌<◌, length, map, negsuc, pos, true};
-ghost use Rattle.std.specs.List.{list_all};
+ghost use Rattle.std.specs.Prelude.{◌≡◌, ◌<◌, ◌≤◌, ◌++◌, length, negsuc, pos};
 ghost use Rattle.box_rules.specs.Ends as ends;
 ghost use Rattle.box_rules.specs.Forms as forms;
 ghost use Rattle.box_rules.specs.Forms.{sign};
@@ -10,10 +9,11 @@ ghost use Rattle.box_rules.specs.Rules as rule;
 ghost use Rattle.box_rules.specs.Terms as term;
 ghost use Rattle.box_rules.specs.declared.answers.Defined.TheVariants.{Always};
 ghost use Rattle.term_rules.specs.Shown.{IsFit, box_in, ends_at, ends_of, form_of};
+ghost use Rattle.term_tables.specs.Within.{ranges_of};
 ghost use Rattle.term_operations.specs.Made.{IsPossible, extreme_term, operation_term, picked};
 ghost use Rattle.term_nodes.specs.Things.{cond_at, conds_at, parts_at, table_at, term_at, terms_at, things};
 ghost use Rattle.term_nodes.specs.Built.{AllBelow, IsSoundTerm, PartsBelow};
-ghost use Rattle.term_nodes.specs.Seen.{IsReady, extreme_range, sight, sight_of, sum_sight};
+ghost use Rattle.term_nodes.specs.Seen.{IsReady, element_sight, extreme_range, sight, sight_of, sum_sight};
 
 use crate::items::{Item, form_at, item_at, table_at};
 use crate::nodes::{Comparison, Node, Signed};
@@ -22,6 +22,7 @@ use term_operations::{Extreme, Operation};
 use term_rules::{
     BoxView, Ends, Factor, and_truth, both, compared, opposite, or_truth, truth_ends,
 };
+use term_tables::Ranges;
 
 /// The interval of what is no cell in a term, and its mark.
 #[derive(Clone, Copy, Debug)]
@@ -252,52 +253,67 @@ impl<'a> Here<'a> {
         taken
     }
 
-    /// What an element is over the box, whose indices are numbers over the root; it is plain where it is in the array.
+    /// What an element is over the box; where it is one item whatever the box, it is plain.
     #[cycle(seen)]
+    #[tactic(auto, using(crate::proofs::Elements::element_plain, crate::proofs::Elements::element_alone))]
     fn element(&self, plain: bool, limit: u32, table: u32, at: &[u32]) -> Sight
         requires ready { IsReady self.now }
+        requires exists { limit < length self.now.items.now }
         requires below { AllBelow limit at.now }
-        requires constant { list_all forms.is_constant (rule.forms (box_in self.now.root) (terms_at (things self.now.items.now) at.now)) ≡ true }
         requires plain { plain ≡ (rule.form (box_in self.now.root) (term.Element (table_at (things self.now.items.now) table) (terms_at (things self.now.items.now) at.now))).plain }
         ensures { sight_of result ≡ sight (box_in self.now.root) (box_in self.now.view) (term.Element (table_at (things self.now.items.now) table) (terms_at (things self.now.items.now) at.now)) }
     {
+        let range = self.element_range(limit, table, at, Defined::Always, &Ranges::End);
         if plain {
             return Sight {
                 ends: Ends::zero(),
-                mark: self.marks(limit, at),
+                mark: range.mark,
             };
         }
-        Sight {
-            ends: self.hull(table),
-            mark: Defined::Never,
-        }
+        range
     }
 
-    /// The hull of all elements of an array over the box.
-    fn hull(&self, table: u32) -> Ends
-        requires ready { IsReady self.now }
-        ensures { ends_of result ≡ ends.hull_of (map (rule.item_ends (box_in self.now.view)) (table_at (things self.now.items.now) table).items) }
-    {
-        match table_at(self.items, table) {
-            Some(found) => found.hull(&self.view),
-            None => Ends::zero(),
-        }
-    }
-
-    /// The mark of several terms over the box.
+    /// What an element is over the box, where the intervals of the indices behind these are given, and their mark.
     #[cycle(seen)]
-    #[tactic(auto, using(crate::proofs::Steps::next_seen_marks, crate::proofs::Steps::no_seen_marks, crate::proofs::Steps::cond_below))]
-    fn marks(&self, limit: u32, ids: &[u32]) -> Defined
+    #[tactic(auto, using(crate::proofs::Elements::last_index, crate::proofs::Elements::no_index))]
+    pub fn element_range(
+        &self,
+        limit: u32,
+        table: u32,
+        at: &[u32],
+        mark: Defined,
+        behind: &Ranges,
+    ) -> Sight
         requires ready { IsReady self.now }
-        requires below { AllBelow limit ids.now }
-        ensures { result ≡ marks.all_marks (rule.marks rule.Near (box_in self.now.root) (box_in self.now.view) (terms_at (things self.now.items.now) ids.now)) }
+        requires exists { limit ≤ length self.now.items.now }
+        requires below { AllBelow limit at.now }
+        ensures { sight_of result ≡ element_sight (box_in self.now.view) (table_at (things self.now.items.now) table) (marks.both (marks.all_marks (rule.marks rule.Near (box_in self.now.root) (box_in self.now.view) (terms_at (things self.now.items.now) at.now))) mark) (rule.intervals rule.Near (box_in self.now.root) (box_in self.now.view) (terms_at (things self.now.items.now) at.now) ++ ranges_of behind.now) }
     {
-        let mut mark = Defined::Always;
-        for i in (0..ids.len()).rev() {
-            let seen = self.seen(ids[i]);
-            mark = both(seen.mark, mark);
+        let Some((last, before)) = at.split_last() else {
+            return self.element_within(table, mark, behind);
+        };
+        let range = self.range(*last);
+        let ranges = Ranges::First(range.ends, &*behind);
+        self.element_range(limit, table, before, both(range.mark, mark), &ranges)
+    }
+
+    /// What an element is over the box, where the intervals of its indices are given, and their mark.
+    #[tactic(auto, using(crate::proofs::Elements::within_table, crate::proofs::Elements::within_none))]
+    pub fn element_within(&self, table: u32, mark: Defined, ranges: &Ranges) -> Sight
+        requires ready { IsReady self.now }
+        ensures { sight_of result ≡ element_sight (box_in self.now.view) (table_at (things self.now.items.now) table) mark (ranges_of ranges.now) }
+    {
+        let Some(found) = table_at(self.items, table) else {
+            return Sight {
+                ends: Ends::zero(),
+                mark: Defined::Never,
+            };
+        };
+        let within = found.within(ranges, &self.view);
+        Sight {
+            ends: within.ends,
+            mark: both(mark, within.mark),
         }
-        mark
     }
 
     /// What a condition as a number is over the box.

@@ -1,31 +1,32 @@
--- What is known of elements whose indices are numbers is right.
-use Rattle.std.proofs.Common.{◌≡◌, ℕ, ◌+◌, ◌<◌, ◌≤◌, ◌^◌, ℤ, pos, unsigned_abs, true, false, List, [], ◌∷◌, ◌++◌, length, get_or, drop, Option, Some, None, option_map, Vec, Global, append_assoc, append-nil, arith, refl, ap, subst, sym, ◌∙◌}
+-- What is known of elements of arrays is right.
+use Rattle.std.proofs.Common.{◌≡◌, ℕ, ◌+◌, ◌<◌, ◌≤◌, ◌^◌, ℤ, pos, Bool, true, false, if◌then◌else◌, List, map, [], ◌∷◌, ◌++◌, length, get_or, drop, Option, None, Vec, Global, append_assoc, append-nil, refl, ap, subst, sym, ◌∙◌}
+use Rattle.std.specs.List.{list_all}
 use Rattle.std.proofs.lemmas.List.{at_drop_more, at_drop_all}
-use Rattle.box_problem.specs.Box.{Box, IsBox}
+use Rattle.box_problem.specs.Box.{Box}
 use Rattle.box_rules.specs.Arrays.{item_at}
 use Rattle.box_rules.specs.Ends as ends
-use Rattle.box_rules.specs.Forms.{Form}
-use Rattle.box_rules.specs.Marks.{all_marks}
-use Rattle.box_rules.specs.Rules.{Near, Wide, form, atoms, mark, marks, folded, item_form}
-use Rattle.box_rules.specs.Sizes.{cells_weight, alone_weight, atoms_weight, size}
-use Rattle.box_rules.specs.Laws.{IsTable, AreProper}
+use Rattle.box_rules.specs.Forms.{Form, atom_form, is_constant}
+use Rattle.box_rules.specs.Marks.{both}
+use Rattle.box_rules.specs.Rules.{Near, Wide, form, forms, atoms, mark, intervals, unless_folded, item_form, item_ends, element_form, element_ends, element_mark}
+use Rattle.box_rules.specs.Sizes.{size}
+use Rattle.box_rules.specs.Laws.{IsTable}
 use Rattle.box_rules.specs.Terms as rule
 use Rattle.box_rules.specs.declared.answers.Defined.{Defined}
-use Rattle.box_rules.specs.declared.answers.Defined.TheVariants.{Never}
 use Rattle.box_rules.specs.declared.answers.Truth.TheVariants.{True}
-use Rattle.term_tables.specs.Kept.{item_of, table_of}
-use Rattle.term_tables.specs.declared.elements.Element.{Element}
+use Rattle.term_tables.specs.Kept.{items_of, table_of}
 use Rattle.term_tables.specs.declared.tables.Table as own
 use Rattle.term_nodes.specs.declared.nodes.Node.TheVariants as node
 use Rattle.term_nodes.specs.declared.items.Item.{Item}
 use Rattle.term_nodes.specs.declared.items.Facts as facts
-use Rattle.term_nodes.specs.Things.{Thing, a_term, term_at, terms_at, table_at, things}
+use Rattle.term_nodes.specs.Things.{Thing, no_table, a_term, term_at, terms_at, table_at, things}
 use Rattle.term_nodes.specs.Built.{AllBelow, IsBuilt, IsNew, facts_of, kept, of_truth}
-use Rattle.term_nodes.proofs.Elements.{AreConstant, numbers, element_is, item_is_plain, inside_marked, inside_atoms, outside_marked, outside_atoms}
+use Rattle.term_nodes.specs.Seen.{Sight, element_sight, range}
+use Rattle.term_nodes.proofs.Elements.{behind, last_index, no_index}
 use Rattle.term_nodes.proofs.Ready.{nothing_small, table_proper, terms_proper}
-use Rattle.term_store.specs.Atoms.{of_folded, of_item, outside, size_of_folded, size_of_item}
+use Rattle.term_tables.proofs.Reaching.{all_read}
+use Rattle.term_store.specs.Atoms.{any_element, of_folded, size_of_folded}
 use Rattle.term_store.proofs.Adding.{new_term}
-use Rattle.term_store.proofs.Folding.{facts_are, known, size_is}
+use Rattle.term_store.proofs.Folding.{facts_are, size_is}
 
 -- an array
 pub new_table : (root : Box) (items : List Item) (t : own.Table) (f : facts.Facts) → IsTable (table_of t) → kept f ≡ of_truth True → IsNew root items (record { node = node.Table t; facts = f })
@@ -36,91 +37,65 @@ new_table root items t f proper is = record {
   right = tt;
 }
 
--- an element that an array has
-module _ (root : Box) (table : rule.Table) (ts : rule.Terms) (item : rule.Item) (is_box : IsBox root) (is_table : IsTable table) (proper : AreProper ts) (all : AreConstant root ts) (found : item_at table (numbers root ts) ≡ Some item) where
-  form_is : form root (rule.Element table ts) ≡ item_form (Some item)
-  form_is = element_is root table ts all ∙ ap item_form found
+-- the item that an element is, if its indices are numbers
+abbrev pub numbers : Box → rule.Terms → List ℤ
+numbers root ts = map (λ (f : Form). f.constant) (forms root ts)
 
-  plain_is : (form root (rule.Element table ts)).plain ≡ true
-  plain_is = ap (λ (f : Form). f.plain) form_is ∙ item_is_plain item
+pub no_numbers_form : (table : rule.Table) (fs : List Form) → list_all is_constant fs ≡ false → item_form None ≡ element_form table fs
+no_numbers_form table fs some = sym (ap (λ (b : Bool). if b then item_form (item_at table (map (λ (f : Form). f.constant) fs)) else atom_form) some)
 
-  light : (f : Form) (a : ends.Ends) → f.plain ≡ true → alone_weight f a ≡ 0
-  light f a plain = rw plain refl
+pub numbers_form : (table : rule.Table) (fs : List Form) (v : Option rule.Item) → list_all is_constant fs ≡ true → v ≡ item_at table (map (λ (f : Form). f.constant) fs) → item_form v ≡ element_form table fs
+numbers_form table fs v all found =
+    ap item_form found ∙ sym (ap (λ (b : Bool). if b then item_form (item_at table (map (λ (f : Form). f.constant) fs)) else atom_form) all)
 
-  weight_is : atoms_weight root (rule.Element table ts) ≡ 0
-  weight_is = light (form root (rule.Element table ts)) (atoms Wide root root (rule.Element table ts)) plain_is
+-- the mark of an element by the wide reading, one index after the other
+pub no_wide : (root b : Box) (here all : List Thing) (table : ℕ) (at : List ℕ) (m : Defined) (es : List ends.Ends) (r : Sight) → length at ≡ 0 → r ≡ element_sight b (table_at here table) m es → here ≡ all → r.mark ≡ (behind Wide root root all at m es (table_at all table)).mark
+no_wide root b here all table at m es r none is same =
+    ap (λ (s : Sight). s.mark) is
+    ∙ ap (λ (ts : List Thing). element_mark (table_at ts table) m es) same
+    ∙ ap (λ (s : Sight). s.mark) (no_index Wide root root all at m es (table_at all table) none)
 
-  pub inside_kept : of_item item (all_marks (marks Near root root ts)) (all_marks (marks Wide root root ts)) ≡ facts_of root (a_term (rule.Element table ts))
-  inside_kept =
-      let near = inside_marked Near root root table ts item is_box is_table proper all found in
-      let far = inside_marked Wide root root table ts item is_box is_table proper all found in
-      let t : rule.Term = rule.Element table ts in
-      sym (
-      ap (λ (f : Form). known f (mark Near root root t) (mark Wide root root t) (atoms Wide root root t) (atoms_weight root t)) form_is
-      ∙ ap (λ (m : Defined). known (item_form (Some item)) m (mark Wide root root t) (atoms Wide root root t) (atoms_weight root t)) near
-      ∙ ap (λ (m : Defined). known (item_form (Some item)) (all_marks (marks Near root root ts)) m (atoms Wide root root t) (atoms_weight root t)) far
-      ∙ ap (λ (e : ends.Ends). known (item_form (Some item)) (all_marks (marks Near root root ts)) (all_marks (marks Wide root root ts)) e (atoms_weight root t)) (inside_atoms Wide root root table ts plain_is)
-      ∙ ap (known (item_form (Some item)) (all_marks (marks Near root root ts)) (all_marks (marks Wide root root ts)) (ends.exactly (pos 0))) weight_is
-      )
+pub last_wide : (root : Box) (all : List Thing) (table : ℕ) (at xs : List ℕ) (x : ℕ) (m n : Defined) (es : List ends.Ends) (r : Sight) → at ≡ xs ++ x ∷ [] → r ≡ range Wide root root (term_at all x) → n ≡ (behind Wide root root all xs (both r.mark m) (r.ends ∷ es) (table_at all table)).mark → n ≡ (behind Wide root root all at m es (table_at all table)).mark
+last_wide root all table at xs x m n es r is seen later =
+    later
+    ∙ ap (λ (s : Sight). (behind Wide root root all xs (both s.mark m) (s.ends ∷ es) (table_at all table)).mark) seen
+    ∙ ap (λ (s : Sight). s.mark) (last_index Wide root root all at xs x m es (table_at all table) is)
 
-  item_size : (i : rule.Item) → unsigned_abs (item_form (Some i)).constant + cells_weight root (item_form (Some i)).cells + 0 ≡ size_of_item root i
-  item_size (rule.Fixed z) = omega arith
-  item_size (rule.Free cell) = omega arith
+-- an element that may be any of the array's
+module _ (root : Box) (table : rule.Table) (ts : rule.Terms) (is_table : IsTable table) (none : item_form None ≡ element_form table (forms root ts)) where
+  any_atoms : atoms Wide root root (rule.Element table ts) ≡ ends.hull_of (map (item_ends root) table.items)
+  any_atoms =
+      ap (λ (f : Form). unless_folded f.plain (element_ends Wide root (intervals Wide root root ts) table)) (sym none)
+      ∙ ap ends.hull_of (all_read root table is_table.complete)
 
-  pub inside_size : size_of_item root item ≡ size root (rule.Element table ts)
-  inside_size =
-      sym (
-      ap (λ (f : Form). unsigned_abs f.constant + cells_weight root f.cells + atoms_weight root (rule.Element table ts)) form_is
-      ∙ ap (λ (n : ℕ). unsigned_abs (item_form (Some item)).constant + cells_weight root (item_form (Some item)).cells + n) weight_is
-      ∙ item_size item
-      )
+  pub any_kept : (near : Defined) (wide : Sight) → near ≡ mark Near root root (rule.Element table ts) → wide ≡ any_element root table ts → of_folded false near wide ≡ facts_of root (a_term (rule.Element table ts))
+  any_kept near wide is_near is_wide =
+      ap (of_folded false near) is_wide
+      ∙ facts_are root (rule.Element table ts) false (pos 0) (any_element root table ts).ends (sym none) any_atoms refl (λ same. absurd (cc))
+      near (mark Wide root root (rule.Element table ts)) (sym is_near) refl
 
--- an element that an array has not
-module _ (root : Box) (table : rule.Table) (ts : rule.Terms) (is_box : IsBox root) (is_table : IsTable table) (proper : AreProper ts) (all : AreConstant root ts) (none : item_at table (numbers root ts) ≡ None) where
-  atom_is : form root (rule.Element table ts) ≡ folded false (pos 0)
-  atom_is = element_is root table ts all ∙ ap item_form none
+  pub any_sized : (a : ends.Ends) → a ≡ (any_element root table ts).ends → size_of_folded false a ≡ size root (rule.Element table ts)
+  any_sized a is =
+      ap (size_of_folded false) is
+      ∙ size_is root (rule.Element table ts) false (pos 0) (any_element root table ts).ends (sym none) any_atoms refl (λ same. absurd (cc))
 
-  pub outside_kept : of_folded false Never (outside root table) ≡ facts_of root (a_term (rule.Element table ts))
-  outside_kept =
-      facts_are root (rule.Element table ts) false (pos 0) (outside root table).ends atom_is (outside_atoms Wide root root table ts is_box is_table proper all none) refl (λ same. absurd (cc))
-      Never Never (outside_marked Near root root table ts is_box proper all none) (outside_marked Wide root root table ts is_box proper all none)
+-- the hull of all elements of an array
+pub hull_found : (b : Box) (t : own.Table) (table : rule.Table) (a : ends.Ends) → table_of t ≡ table → a ≡ ends.hull_of (map (item_ends b) (items_of t.elements.items)) → a ≡ ends.hull_of (map (item_ends b) table.items)
+hull_found b t table a found hull = hull ∙ ap (λ (u : rule.Table). ends.hull_of (map (item_ends b) u.items)) found
 
-  pub outside_size : size_of_folded false (outside root table).ends ≡ size root (rule.Element table ts)
-  outside_size =
-      size_is root (rule.Element table ts) false (pos 0) (outside root table).ends atom_is (outside_atoms Wide root root table ts is_box is_table proper all none) refl (λ same. absurd (cc))
-
--- the same from what a look-up gives
-module _ (root : Box) (items : List Item) (table : ℕ) (at : List ℕ) (found : Option Element) (is_box : IsBox root) (all : IsBuilt root items) (constant : AreConstant root (terms_at (things items) at)) (looked : option_map item_of found ≡ item_at (table_at (things items) table) (numbers root (terms_at (things items) at))) where
-  item_is : (v : Option Element) → found ≡ v → item_at (table_at (things items) table) (numbers root (terms_at (things items) at)) ≡ option_map item_of v
-  item_is v is = sym looked ∙ ap (option_map item_of) is
-
-  pub kept_inside : (element : Element) → found ≡ Some element → of_item (item_of element) (all_marks (marks Near root root (terms_at (things items) at))) (all_marks (marks Wide root root (terms_at (things items) at))) ≡ facts_of root (a_term (rule.Element (table_at (things items) table) (terms_at (things items) at)))
-  kept_inside element is =
-      inside_kept root (table_at (things items) table) (terms_at (things items) at) (item_of element) is_box (table_proper root items table all) (terms_proper root items at all) constant (item_is (Some element) is)
-
-  pub size_inside : (element : Element) → found ≡ Some element → size_of_item root (item_of element) ≡ size root (rule.Element (table_at (things items) table) (terms_at (things items) at))
-  size_inside element is =
-      inside_size root (table_at (things items) table) (terms_at (things items) at) (item_of element) is_box (table_proper root items table all) (terms_proper root items at all) constant (item_is (Some element) is)
-
-  pub kept_outside : found ≡ None → of_folded false Never (outside root (table_at (things items) table)) ≡ facts_of root (a_term (rule.Element (table_at (things items) table) (terms_at (things items) at)))
-  kept_outside is =
-      outside_kept root (table_at (things items) table) (terms_at (things items) at) is_box (table_proper root items table all) (terms_proper root items at all) constant (item_is None is)
-
-  pub size_outside : found ≡ None → size_of_folded false (outside root (table_at (things items) table)).ends ≡ size root (rule.Element (table_at (things items) table) (terms_at (things items) at))
-  size_outside is =
-      outside_size root (table_at (things items) table) (terms_at (things items) at) is_box (table_proper root items table all) (terms_proper root items at all) constant (item_is None is)
+pub hull_missing : (b : Box) (table : rule.Table) (a : ends.Ends) → no_table ≡ table → a ≡ ends.exactly (pos 0) → a ≡ ends.hull_of (map (item_ends b) table.items)
+hull_missing b table a missing zero = zero ∙ ap (λ (u : rule.Table). ends.hull_of (map (item_ends b) u.items)) missing
 
 -- an array as it is kept
 pub seen_table : (root : Box) (items others : List Item) (table : ℕ) (t : rule.Table) → others ≡ items → IsBuilt root items → ((r : Box) → IsBuilt r others → t ≡ table_at (things others) table) → t ≡ table_at (things items) table
 seen_table root items others table t same all found =
     found root (subst (IsBuilt root) (sym same) all) ∙ ap (λ (xs : List Item). table_at (things xs) table) same
 
-pub new_element : (root : Box) (items : List Item) (table : ℕ) (at : List ℕ) (list : Vec ℕ Global) (f : facts.Facts) → IsBuilt root items → table < length items → AllBelow (length items) at → list.items ≡ at → AreConstant root (terms_at (things items) at) → kept f ≡ facts_of root (a_term (rule.Element (table_at (things items) table) (terms_at (things items) at))) → size root (rule.Element (table_at (things items) table) (terms_at (things items) at)) ≤ 2 ^ 40 → IsNew root items (record { node = node.Element table list; facts = f })
-new_element root items table at list f all there below same constant is small =
+pub new_element : (root : Box) (items : List Item) (table : ℕ) (at : List ℕ) (list : Vec ℕ Global) (f : facts.Facts) → IsBuilt root items → table < length items → AllBelow (length items) at → list.items ≡ at → kept f ≡ facts_of root (a_term (rule.Element (table_at (things items) table) (terms_at (things items) at))) → size root (rule.Element (table_at (things items) table) (terms_at (things items) at)) ≤ 2 ^ 40 → IsNew root items (record { node = node.Element table list; facts = f })
+new_element root items table at list f all there below same is small =
     new_term root items (node.Element table list) f (rule.Element (table_at (things items) table) (terms_at (things items) at)) (ap (λ (ids : List ℕ). a_term (rule.Element (table_at (things items) table) (terms_at (things items) ids))) same)
     (there, subst (AllBelow (length items)) (sym same) below) is
-    (table_proper root items table all, terms_proper root items at all) small
-    (subst (λ (ids : List ℕ). AreConstant root (terms_at (things items) ids)) (sym same) constant)
+    (table_proper root items table all, terms_proper root items at all) small tt
 
 -- steps over the indices
 pub next_numbers : (root : Box) (made : List ℤ) (all : List Thing) (xs : List ℕ) (i x : ℕ) → i < length xs → x ≡ get_or xs i x → made ++ numbers root (terms_at all (drop i xs)) ≡ (made ++ (form root (term_at all x)).constant ∷ []) ++ numbers root (terms_at all (drop (i + 1) xs))

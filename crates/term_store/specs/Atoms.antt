@@ -2,11 +2,10 @@
 use Rattle.std.specs.Prelude.{ℕ, pos, unsigned_abs, Bool, map, Some, if◌then◌else◌}
 use Rattle.box_rules.specs.Ends.{Ends, exactly, hull_of, cell_ends}
 use Rattle.box_problem.specs.Box.{Box}
-use Rattle.box_rules.specs.Terms.{Item, Fixed, Free, Table}
-use Rattle.box_rules.specs.Rules.{folded, unless_folded, item_form, item_ends}
+use Rattle.box_rules.specs.Terms.{Item, Fixed, Free, Table, Terms, Element}
+use Rattle.box_rules.specs.Rules.{Wide, folded, unless_folded, item_form, item_ends, mark}
 use Rattle.box_rules.specs.Sizes.{alone_weight, weight_of}
 use Rattle.box_rules.specs.declared.answers.Defined.{Defined}
-use Rattle.box_rules.specs.declared.answers.Defined.TheVariants.{Never}
 use Rattle.box_rules.specs.declared.answers.Truth.TheVariants.{True}
 use Rattle.term_nodes.specs.Built.{Facts}
 use Rattle.term_nodes.specs.Seen.{Sight}
@@ -40,6 +39,9 @@ abbrev pub size_of_item : Box → Item → ℕ
 size_of_item root (Fixed z) = unsigned_abs z
 size_of_item root (Free cell) = weight_of (cell_ends root cell)
 
--- what is seen at an index that the array has not
-abbrev pub outside : Box → Table → Sight
-outside root table = record { ends = hull_of (map (item_ends root) table.items); mark = Never }
+-- an element over the root box by the wide reading, whichever it is
+abbrev pub any_element : Box → Table → Terms → Sight
+any_element root table indices = record {
+  ends = hull_of (map (item_ends root) table.items);
+  mark = mark Wide root root (Element table indices);
+}

@@ -1,7 +1,6 @@
-//! Arrays are added, and their elements at indices that are numbers.
+//! Arrays are added, and their elements.
 
-ghost use Rattle.std.specs.Prelude.{◌≡◌, ◌<◌, true, false, Some, length, map, IfOk, OnErr, option_map};
-ghost use Rattle.std.specs.List.{list_all};
+ghost use Rattle.std.specs.Prelude.{◌≡◌, ◌<◌, ◌++◌, Some, length, map, IfOk, OnErr, option_map};
 ghost use Rattle.box_rules.specs.Arrays.{item_at};
 ghost use Rattle.box_rules.specs.Ends as ends;
 ghost use Rattle.box_rules.specs.Forms as forms;
@@ -10,12 +9,13 @@ ghost use Rattle.box_rules.specs.Marks as marks;
 ghost use Rattle.box_rules.specs.Rules as rule;
 ghost use Rattle.box_rules.specs.Sizes as sizes;
 ghost use Rattle.box_rules.specs.Terms as term;
-ghost use Rattle.box_rules.specs.declared.answers.Defined.TheVariants.{Never};
 ghost use Rattle.term_rules.specs.Shown.{box_in, ends_of, form_of};
 ghost use Rattle.term_tables.specs.Kept.{item_of, table_of};
+ghost use Rattle.term_tables.specs.Within.{ranges_of};
 ghost use Rattle.term_nodes.specs.Built.{AllBelow, facts_of, kept};
-ghost use Rattle.term_nodes.specs.Things.{a_table, a_term, table_at, term_at, terms_at};
-ghost use Rattle.term_store.specs.Atoms.{of_folded, of_item, outside, size_of_folded, size_of_item};
+ghost use Rattle.term_nodes.specs.Seen.{sight_of};
+ghost use Rattle.term_nodes.specs.Things.{a_table, a_term, table_at, terms_at};
+ghost use Rattle.term_store.specs.Atoms.{any_element, of_item, size_of_item};
 ghost use Rattle.term_store.specs.Stores.{IsAdded, IsMeasured, IsSoundStore, all, root_of};
 
 use crate::folded::folded_facts;
@@ -27,7 +27,7 @@ use sopl_base::Fault;
 use std::alloc::{AllocError, Global};
 use term_nodes::{Facts, Node, Sight, table_at};
 use term_rules::{BoxView, Ends, Factor, Form, both, weight_of};
-use term_tables::{Element, Table};
+use term_tables::{Element, Ranges, Table};
 
 /// The form of an element, where its size is at most 2^40.
 fn item_form(alloc: Global, element: &Element, root: &BoxView) -> Result<Form, Fault>
@@ -47,6 +47,28 @@ fn item_form(alloc: Global, element: &Element, root: &BoxView) -> Result<Form, F
     }
 }
 
+/// What is known of an element that is this item, where its size is at most 2^40.
+fn item_facts(
+    alloc: Global,
+    element: &Element,
+    root: &BoxView,
+    mark: Defined,
+    wide_mark: Defined,
+) -> Result<Facts, Fault>
+    ensures facts { IfOk result (λ facts. kept facts ≡ of_item (item_of element.now) mark wide_mark) }
+    ensures measured { IsMeasured (size_of_item (box_in root.now) (item_of element.now)) result }
+{
+    let form = item_form(alloc, element, root)?;
+    Ok(Facts {
+        form,
+        mark,
+        wide_mark,
+        wide: Ends::zero(),
+        weight: 0,
+        truth: Truth::True,
+    })
+}
+
 impl TermStore {
     /// An array, with one element for each of its indices.
     pub fn table(&mut self, table: Table) -> Result<u32, AllocError>
@@ -58,54 +80,6 @@ impl TermStore {
         ensures err { OnErr result (all self.new ≡ all self.old) }
     {
         self.add(Node::Table(table), condition(self.alloc, Truth::True))
-    }
-
-    /// Whether terms are numbers over the root box.
-    pub fn are_numbers(&self, ids: &[u32]) -> bool
-        requires sound { IsSoundStore self.now }
-        requires exist { AllBelow (length (all self.now)) ids.now }
-        ensures { result ≡ list_all forms.is_constant (rule.forms (root_of self.now) (terms_at (all self.now) ids.now)) }
-    {
-        self.all_constant(ids)
-    }
-
-    /// The marks of terms over the root box, together.
-    #[tactic(auto, using(term_nodes::proofs::Steps::next_seen_marks, term_nodes::proofs::Steps::no_seen_marks, term_nodes::proofs::Steps::cond_below))]
-    fn all_marks(&self, ids: &[u32]) -> Defined
-        requires sound { IsSoundStore self.now }
-        requires exist { AllBelow (length self.now.items.items) ids.now }
-        ensures { result ≡ marks.all_marks (rule.marks rule.Near (root_of self.now) (root_of self.now) (terms_at (all self.now) ids.now)) }
-    {
-        let mut mark = Defined::Always;
-        for i in (0..ids.len()).rev() {
-            let here = self.mark_known(ids[i]);
-            mark = both(here, mark);
-        }
-        mark
-    }
-
-    /// The same by the wide reading.
-    #[tactic(auto, using(term_nodes::proofs::Steps::next_seen_marks, term_nodes::proofs::Steps::no_seen_marks, term_nodes::proofs::Steps::cond_below))]
-    fn all_wide_marks(&self, ids: &[u32]) -> Defined
-        requires sound { IsSoundStore self.now }
-        requires exist { AllBelow (length self.now.items.items) ids.now }
-        ensures { result ≡ marks.all_marks (rule.marks rule.Wide (root_of self.now) (root_of self.now) (terms_at (all self.now) ids.now)) }
-    {
-        let mut mark = Defined::Always;
-        for i in (0..ids.len()).rev() {
-            let here = self.wide_mark_known(ids[i]);
-            mark = both(here, mark);
-        }
-        mark
-    }
-
-    /// The mark of a term over the root box, by the wide reading.
-    fn wide_mark_known(&self, id: u32) -> Defined
-        requires sound { IsSoundStore self.now }
-        requires exists { id < length self.now.items.items }
-        ensures { result ≡ rule.mark rule.Wide (root_of self.now) (root_of self.now) (term_at (all self.now) id) }
-    {
-        self.wide_known(id).mark
     }
 
     /// The constants of the forms of terms.
@@ -133,12 +107,16 @@ impl TermStore {
         }
     }
 
-    /// The element of an array at indices that are numbers, if they are an index of the array's.
+    /// The item that an element is whatever the box: its indices are numbers, and an index of the array's.
+    #[tactic(auto, using(crate::proofs::Indexing::no_numbers_form, crate::proofs::Indexing::numbers_form))]
     fn element_known(&self, table: u32, at: &[u32]) -> Result<Option<Element>, AllocError>
         requires sound { IsSoundStore self.now }
         requires exist { AllBelow (length self.now.items.items) at.now }
-        ensures { IfOk result (λ found. option_map item_of found ≡ item_at (table_at (all self.now) table) (map (λ (f : forms.Form). f.constant) (rule.forms (root_of self.now) (terms_at (all self.now) at.now)))) }
+        ensures { IfOk result (λ found. rule.item_form (option_map item_of found) ≡ rule.element_form (table_at (all self.now) table) (rule.forms (root_of self.now) (terms_at (all self.now) at.now))) }
     {
+        if !self.all_constant(at) {
+            return Ok(None);
+        }
         let index = self.constants(at)?;
         Ok(self.element_at(table, index.as_slice()))
     }
@@ -154,59 +132,68 @@ impl TermStore {
         }
     }
 
-    /// What is known of an element that is this one, where its size is at most 2^40.
-    fn inside_facts(&self, element: &Element, at: &[u32]) -> Result<Facts, Fault>
+    /// The mark of an element over the root box.
+    fn element_mark(&self, table: u32, at: &[u32]) -> Defined
         requires sound { IsSoundStore self.now }
         requires exist { AllBelow (length self.now.items.items) at.now }
-        ensures facts { IfOk result (λ facts. kept facts ≡ of_item (item_of element.now) (marks.all_marks (rule.marks rule.Near (root_of self.now) (root_of self.now) (terms_at (all self.now) at.now))) (marks.all_marks (rule.marks rule.Wide (root_of self.now) (root_of self.now) (terms_at (all self.now) at.now)))) }
-        ensures measured { IsMeasured (size_of_item (root_of self.now) (item_of element.now)) result }
+        ensures { result ≡ rule.mark rule.Near (root_of self.now) (root_of self.now) (term.Element (table_at (all self.now) table) (terms_at (all self.now) at.now)) }
     {
-        let form = item_form(self.alloc, element, &self.root())?;
-        Ok(Facts {
-            form,
-            mark: self.all_marks(at),
-            wide_mark: self.all_wide_marks(at),
-            wide: Ends::zero(),
-            weight: 0,
-            truth: Truth::True,
-        })
+        let root = self.root();
+        let here = self.here(&root);
+        here.element_range(self.count(), table, at, Defined::Always, &Ranges::End)
+            .mark
     }
 
-    /// What is known of an element that an array has not, where its size is at most 2^40.
-    fn outside_facts(&self, table: u32) -> Result<Facts, Fault>
+    /// The mark of an element over the root box by the wide reading, where the intervals of the indices behind these are given, and their
+    /// mark.
+    #[tactic(auto, using(crate::proofs::Indexing::no_wide))]
+    fn element_wide_mark(&self, table: u32, at: &[u32], mark: Defined, behind: &Ranges) -> Defined
         requires sound { IsSoundStore self.now }
-        ensures facts { IfOk result (λ facts. kept facts ≡ of_folded false Never (outside (root_of self.now) (table_at (all self.now) table))) }
-        ensures measured { IsMeasured (size_of_folded false (outside (root_of self.now) (table_at (all self.now) table)).ends) result }
+        requires exist { AllBelow (length self.now.items.items) at.now }
+        ensures { result ≡ rule.element_mark (table_at (all self.now) table) (marks.both (marks.all_marks (rule.marks rule.Wide (root_of self.now) (root_of self.now) (terms_at (all self.now) at.now))) mark) (rule.intervals rule.Wide (root_of self.now) (root_of self.now) (terms_at (all self.now) at.now) ++ ranges_of behind.now) }
     {
-        let hull = self.hull_known(table);
-        let wide = Sight {
-            ends: hull,
-            mark: Defined::Never,
+        let Some((last, before)) = at.split_last() else {
+            let root = self.root();
+            return self.here(&root).element_within(table, mark, behind).mark;
         };
-        folded_facts(self.alloc, false, Defined::Never, &wide)
+        let range = self.range_known(*last);
+        let ranges = Ranges::First(range.ends, &*behind);
+        self.element_wide_mark(table, before, both(range.mark, mark), &ranges)
+    }
+
+    /// What an element is over the root box, by the wide reading: any of the array's.
+    fn element_wide(&self, table: u32, at: &[u32]) -> Sight
+        requires sound { IsSoundStore self.now }
+        requires exist { AllBelow (length self.now.items.items) at.now }
+        ensures { sight_of result ≡ any_element (root_of self.now) (table_at (all self.now) table) (terms_at (all self.now) at.now) }
+    {
+        Sight {
+            ends: self.hull_known(table),
+            mark: self.element_wide_mark(table, at, Defined::Always, &Ranges::End),
+        }
     }
 
     /// What is known of an element, where its size is at most 2^40.
     fn element_facts(&self, table: u32, at: &[u32]) -> Result<Facts, Fault>
         requires sound { IsSoundStore self.now }
         requires exist { AllBelow (length self.now.items.items) at.now }
-        requires constant { list_all forms.is_constant (rule.forms (root_of self.now) (terms_at (all self.now) at.now)) ≡ true }
         ensures facts { IfOk result (λ facts. kept facts ≡ facts_of (root_of self.now) (a_term (term.Element (table_at (all self.now) table) (terms_at (all self.now) at.now)))) }
         ensures measured { IsMeasured (sizes.size (root_of self.now) (term.Element (table_at (all self.now) table) (terms_at (all self.now) at.now))) result }
     {
         let found = self.element_known(table, at)?;
+        let mark = self.element_mark(table, at);
+        let wide = self.element_wide(table, at);
         match found {
-            Some(element) => self.inside_facts(&element, at),
-            None => self.outside_facts(table),
+            Some(element) => { item_facts(self.alloc, &element, &self.root(), mark, wide.mark) }
+            None => folded_facts(self.alloc, false, mark, &wide),
         }
     }
 
-    /// The element of an array at indices that are numbers.
+    /// The element of an array at indices.
     pub fn element(&mut self, table: u32, at: &[u32]) -> Result<u32, Fault>
         requires sound { IsSoundStore self.old }
         requires table { table < length (all self.old) }
         requires exist { AllBelow (length (all self.old)) at.now }
-        requires constant { list_all forms.is_constant (rule.forms (root_of self.old) (terms_at (all self.old) at.now)) ≡ true }
         ensures sound { IsSoundStore self.new }
         ensures root { root_of self.new ≡ root_of self.old }
         ensures added { IfOk result (λ id. IsAdded (all self.old) (all self.new) id (a_term (term.Element (table_at (all self.old) table) (terms_at (all self.old) at.now)))) }

@@ -11,13 +11,13 @@ use Rattle.term_tables.specs.declared.elements.Element.{Element}
 use Rattle.term_tables.specs.Kept.{block, item_of, items_of, sets_of}
 
 -- the indices that begin with a number
-abbrev under : ℤ → List (List ℤ) → List (List ℤ)
+abbrev pub under : ℤ → List (List ℤ) → List (List ℤ)
 under number lists = map (λ later. number ∷ later) lists
 
 abbrev pub all_under : List ℤ → List (List ℤ) → List (List ℤ)
 all_under set lists = flat_map (λ number. map (λ later. number ∷ later) lists) set
 
-length_under : (number : ℤ) (lists : List (List ℤ)) → length (under number lists) ≡ length lists
+pub length_under : (number : ℤ) (lists : List (List ℤ)) → length (under number lists) ≡ length lists
 length_under number [] = refl
 length_under number (xs ∷ lists) = ap suc (length_under number lists)
 
@@ -26,7 +26,7 @@ length_all [] lists = sym (zero-mul (length lists))
 length_all (number ∷ set) lists = omega (arith, length-append (under number lists) (all_under set lists), length_under number lists, length_all set lists)
 
 -- pairs of lists behind one another
-paired_append : (xs ys : List (List ℤ)) (items : List Item) → length xs ≤ length items → paired (xs ++ ys) items ≡ paired xs (take (length xs) items) ++ paired ys (drop (length xs) items)
+pub paired_append : (xs ys : List (List ℤ)) (items : List Item) → length xs ≤ length items → paired (xs ++ ys) items ≡ paired xs (take (length xs) items) ++ paired ys (drop (length xs) items)
 paired_append [] ys items most = refl
 paired_append (x ∷ xs) ys [] most = absurd (omega (arith, most))
 paired_append (x ∷ xs) ys (item ∷ items) most =

@@ -1,3 +1,4 @@
 pub mod Blocks
+pub mod Covering
+pub mod Reaching
 pub mod Hulls
-pub mod FixedIndices

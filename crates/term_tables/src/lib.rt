@@ -3,7 +3,9 @@
 
 mod elements;
 mod lookups;
+mod ranges;
 mod tables;
 
 pub use elements::Element;
+pub use ranges::{Ranges, Within, covered};
 pub use tables::Table;

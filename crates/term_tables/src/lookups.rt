@@ -1,6 +1,6 @@
 //! The element at an index, one dimension after the other.
 
-ghost use Rattle.std.specs.Prelude.{◌≡◌, ◌*◌, ℕ, [], ◌∷◌, length, option_map};
+ghost use Rattle.std.specs.Prelude.{◌≡◌, ◌<◌, ◌*◌, ℕ, [], ◌∷◌, length, option_map};
 ghost use Rattle.box_rules.specs.Arrays.{item_in, paired};
 ghost use Rattle.term_tables.specs.Kept.{block, item_of, items_of};
 
@@ -26,6 +26,17 @@ fn block<'a>(
         left = later;
     }
     None
+}
+
+/// How many elements each number of a set has, where all have equally many; 0 where the set is empty.
+#[tactic(auto, using(crate::proofs::Blocks::is_divided))]
+pub(crate) fn width(elements: &[Element], set: &[i64]) -> usize
+    ensures { (width : ℕ) → 0 < length set.now → length elements.now ≡ length set.now * width → result ≡ width }
+{
+    if set.is_empty() {
+        return 0;
+    }
+    elements.len() / set.len()
 }
 
 /// The elements at the indices that begin with a number, if the set has it: each number of the set has equally many.

@@ -3,6 +3,8 @@ ghost use Rattle.box_rules.specs.Arrays.{indices};
 ghost use Rattle.term_tables.specs.Kept.{table_of};
 
 use super::*;
+use crate::ranges::{Ranges, covered};
+use box_rules::Defined;
 use std::alloc::{AllocError, Global};
 use term_rules::Part;
 
@@ -88,4 +90,55 @@ fn nothing_in_an_empty_array(rt: HostRuntime) {
     };
     assert_eq!(rt; table.hull(&view), Ends { low: 0, high: 0 });
     assert_eq!(rt; table.at(&[0]), None);
+}
+
+#[test]
+fn covered_intervals(rt: HostRuntime) {
+    let cases: [(i64, i64, &[i64], bool); 8] = [
+        (2, 2, &[2], true),
+        (2, 4, &[2, 3, 4], true),
+        (2, 4, &[4, 2, 3], true),
+        (2, 4, &[2, 4], false),
+        (2, 5, &[2, 3, 4], false),
+        (1, 4, &[2, 3, 4], false),
+        (-(1 << 41), 1 << 41, &[-(1 << 41)], false),
+        (0, 0, &[], false),
+    ];
+    for (low, high, set, want) in cases {
+        assert_eq!(rt; covered(&Ends { low, high }, set), want);
+    }
+}
+
+#[test]
+fn elements_within_intervals(rt: HostRuntime) {
+    let table = grid(rt.alloc()).expect(&rt, "memory");
+    let view = BoxView {
+        lows: &[-5, -7],
+        highs: &[4, 9],
+        part: None,
+    };
+    let cases = [
+        ((1, 1), (2, 2), (12, 12), Defined::Always),
+        ((1, 1), (5, 5), (-7, 9), Defined::Always),
+        ((3, 3), (2, 5), (32, 35), Defined::Maybe),
+        ((3, 4), (2, 2), (32, 32), Defined::Maybe),
+        ((1, 3), (7, 7), (-5, 17), Defined::Maybe),
+        ((0, 9), (0, 9), (-7, 35), Defined::Maybe),
+        ((2, 2), (2, 7), (-7, 35), Defined::Never),
+        ((1, 1), (3, 4), (-7, 35), Defined::Never),
+    ];
+    for (first, second, hull, mark) in cases {
+        let behind = Ranges::First(ends(second), &Ranges::End);
+        let within = table.within(&Ranges::First(ends(first), &behind), &view);
+        assert_eq!(rt; within.ends, ends(hull));
+        assert!(rt; within.mark == mark, "the mark");
+    }
+}
+
+/// An interval by its ends.
+fn ends(pair: (i64, i64)) -> Ends {
+    Ends {
+        low: pair.0,
+        high: pair.1,
+    }
 }

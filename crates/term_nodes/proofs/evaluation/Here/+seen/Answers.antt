@@ -1,15 +1,16 @@
-use Rattle.std.proofs.Common.{arith, ℕ, ◌<◌, ◌-◌, false, get_or, ap, sym, ◌∙◌}
+use Rattle.std.proofs.Common.{arith, rules, ℕ, ◌<◌, ◌-◌, Fits, w64, false, length, get_or, ap, subst, sym, ◌∙◌}
 use Rattle.std.proofs.lemmas.List.{get_or_default}
 use Rattle.term_operations.specs.Made.{made}
 use Rattle.term_rules.specs.Shown.{box_in, ends_of}
 use Rattle.term_nodes.specs.declared.nodes.Signed.{Signed}
+use Rattle.term_nodes.specs.Built.{AllBelow}
 use Rattle.term_nodes.specs.Seen.{sight_of}
 use Rattle.term_nodes.specs.Things.{table_at, term_at, terms_at, things}
 use Rattle.term_nodes.proofs.Steps.{cond_back, cond_below, part_back, all_parts}
 use Rattle.term_nodes.proofs.Plain.{plain_seen}
-use Rattle.term_nodes.proofs.Ready.{difference_seen, times_seen, sum_seen, range_fit, table_proper, terms_proper}
+use Rattle.term_nodes.proofs.Ready.{difference_seen, times_seen, sum_seen, range_fit}
 use Rattle.term_nodes.proofs.Ranges.{operation_small, operation_folded, operation_alone, extreme_folded, extreme_alone}
-use Rattle.term_nodes.proofs.Elements.{element_inside, element_outside}
+use Rattle.term_nodes.proofs.Elements.{below_last, element_plain, element_alone}
 use Rattle.term_nodes.proofs.evaluation.Here.+seen.Goals as goal
 
 pub all-truth-here-requires : goal.all-truth-here-requires
@@ -78,21 +79,30 @@ extreme-returns t c =
     extreme_alone (box_in c.args.self.now.root) (box_in c.args.self.now.view) c.args.extreme (term_at (things c.args.self.now.items.now) c.args.first) (terms_at (things c.args.self.now.items.now) c.args.later.now) c.args.plain (sight_of c.extreme_range-range.result)
     c.requires.plain c.if-plain.false c.extreme_range-range.ensures
 
-pub marks-seen-seen-requires : goal.marks-seen-seen-requires
-marks-seen-seen-requires t c =
-    (omega (arith, cond_back c.args.limit c.args.ids.now c.loop-i.i 0 c.requires.below c.loop-i-test.true c.loop-i.auto.i), c.requires.ready)
+pub element-element_range-range-requires : goal.element-element_range-range-requires
+element-element_range-range-requires t c =
+    let few : Fits w64 (length c.args.at.now) = search rules in
+    (omega (arith, few), (c.requires.ready, (omega (arith, c.requires.exists), c.requires.below)))
+
+pub element_range-range-range-requires : goal.element_range-range-range-requires
+element_range-range-range-requires t c =
+    let below = below_last c.args.limit c.in-Some.before.now c.in-Some.last.now (subst (AllBelow c.args.limit) c.in-Some.ensures.cases.0 c.requires.below) in
+    (omega (arith, below.1), (c.requires.ready, omega (arith, below.1, c.requires.exists)))
+
+pub element_range-element_range-requires : goal.element_range-element_range-requires
+element_range-element_range-requires t c =
+    let below = below_last c.args.limit c.in-Some.before.now c.in-Some.last.now (subst (AllBelow c.args.limit) c.in-Some.ensures.cases.0 c.requires.below) in
+    (omega (arith, c.in-Some.ensures.cases.1), (c.requires.ready, (c.requires.exists, below.0)))
 
 pub element-returns-then-plain : goal.element-returns-then-plain
 element-returns-then-plain t c =
-    element_inside (box_in c.args.self.now.root) (box_in c.args.self.now.view) (table_at (things c.args.self.now.items.now) c.args.table) (terms_at (things c.args.self.now.items.now) c.args.at.now) c.args.plain (ends_of c.zero.result) c.marks.result
-    c.requires.ready.inside.is_box (table_proper (box_in c.args.self.now.root) c.args.self.now.items.now c.args.table c.requires.ready.built) (terms_proper (box_in c.args.self.now.root) c.args.self.now.items.now c.args.at.now c.requires.ready.built)
-    c.requires.constant c.requires.plain c.if-plain.true c.zero.ensures c.marks.ensures
+    element_plain (box_in c.args.self.now.root) (box_in c.args.self.now.view) (things c.args.self.now.items.now) c.args.at.now (table_at (things c.args.self.now.items.now) c.args.table) c.args.plain (ends_of c.zero.result) (sight_of c.element_range-range.result)
+    c.requires.plain c.if-plain.true c.zero.ensures c.element_range-range.ensures
 
 pub element-returns : goal.element-returns
 element-returns t c =
-    element_outside (box_in c.args.self.now.root) (box_in c.args.self.now.view) (table_at (things c.args.self.now.items.now) c.args.table) (terms_at (things c.args.self.now.items.now) c.args.at.now) c.args.plain (ends_of c.hull.result)
-    c.requires.ready.inside.is_box (table_proper (box_in c.args.self.now.root) c.args.self.now.items.now c.args.table c.requires.ready.built) (terms_proper (box_in c.args.self.now.root) c.args.self.now.items.now c.args.at.now c.requires.ready.built)
-    c.requires.constant c.requires.plain c.if-plain.false c.hull.ensures
+    element_alone (box_in c.args.self.now.root) (box_in c.args.self.now.view) (things c.args.self.now.items.now) c.args.at.now (table_at (things c.args.self.now.items.now) c.args.table) c.args.plain (sight_of c.element_range-range.result)
+    c.requires.plain c.if-plain.false c.element_range-range.ensures
 
 pub extreme_range-range-other-requires : goal.extreme_range-range-other-requires
 extreme_range-range-other-requires t c =

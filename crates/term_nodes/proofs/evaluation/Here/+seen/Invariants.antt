@@ -1,5 +1,4 @@
-use Rattle.std.proofs.Common.{◌≡◌, ◌+◌, ◌*◌, drop}
-use Rattle.box_rules.specs.Marks.{all_marks}
+use Rattle.std.proofs.Common.{◌≡◌, ℕ, ◌+◌, ◌*◌, ◌^◌, drop, length}
 use Rattle.box_rules.specs.Rules as rule
 use Rattle.term_rules.specs.Shown.{box_in, ends_of}
 use Rattle.term_nodes.specs.Things.{conds_at, parts_at, term_at, terms_at, things}
@@ -7,50 +6,57 @@ use Rattle.term_nodes.specs.Seen.{sight_of, sum_sight}
 use Rattle.term_nodes.proofs.Ranges.{taken}
 use Rattle.term_nodes.proofs.evaluation.Here.+seen.Given as goal
 
+-- more than the indices of an element are, and four times that
+abbrev most : ℕ
+most = 2 ^ 64
+
+abbrev wide : ℕ
+wide = 4 * most
+
 abbrev pub decreases-all : goal.decreases-all
-decreases-all l = 4 * l.limit
+decreases-all l = wide * l.limit
 
 abbrev pub decreases-any : goal.decreases-any
-decreases-any l = 4 * l.limit
+decreases-any l = wide * l.limit
 
 abbrev pub decreases-compare : goal.decreases-compare
-decreases-compare l = 4 * l.limit
+decreases-compare l = wide * l.limit
 
 abbrev pub decreases-element : goal.decreases-element
-decreases-element l = 4 * l.limit + 1
+decreases-element l = wide * l.limit + most
+
+abbrev pub decreases-element_range : goal.decreases-element_range
+decreases-element_range l = wide * l.limit + length l.at.now
 
 abbrev pub decreases-extreme : goal.decreases-extreme
-decreases-extreme l = 4 * l.limit + 1
+decreases-extreme l = wide * l.limit + 1
 
 abbrev pub decreases-extreme_range : goal.decreases-extreme_range
-decreases-extreme_range l = 4 * l.limit
+decreases-extreme_range l = wide * l.limit
 
 abbrev pub decreases-implies : goal.decreases-implies
-decreases-implies l = 4 * l.limit
-
-abbrev pub decreases-marks : goal.decreases-marks
-decreases-marks l = 4 * l.limit
+decreases-implies l = wide * l.limit
 
 abbrev pub decreases-number : goal.decreases-number
-decreases-number l = 4 * l.limit
+decreases-number l = wide * l.limit
 
 abbrev pub decreases-operation : goal.decreases-operation
-decreases-operation l = 4 * l.limit
+decreases-operation l = wide * l.limit
 
 abbrev pub decreases-product : goal.decreases-product
-decreases-product l = 4 * l.limit
+decreases-product l = wide * l.limit
 
 abbrev pub decreases-range : goal.decreases-range
-decreases-range l = 4 * l.id + 3
+decreases-range l = wide * l.id + 2 * most + 1
 
 abbrev pub decreases-seen : goal.decreases-seen
-decreases-seen l = 4 * l.id + 2
+decreases-seen l = wide * l.id + 2 * most
 
 abbrev pub decreases-sum : goal.decreases-sum
-decreases-sum l = 4 * l.limit
+decreases-sum l = wide * l.limit
 
 abbrev pub decreases-truth : goal.decreases-truth
-decreases-truth l = 4 * l.id + 2
+decreases-truth l = wide * l.id + 2 * most
 
 abbrev pub invariant-all-loop-i : goal.invariant-all-loop-i
 invariant-all-loop-i l =
@@ -64,10 +70,6 @@ abbrev pub invariant-extreme_range-loop-id : goal.invariant-extreme_range-loop-i
 invariant-extreme_range-loop-id l =
     taken rule.Near (box_in l.self.root) (box_in l.self.view) l.extreme (ends_of l.taken.ends) l.taken.mark (terms_at (things l.self.items.now) (drop l.id-index l.later))
     ≡ taken rule.Near (box_in l.self.root) (box_in l.self.view) l.extreme (rule.interval rule.Near (box_in l.self.root) (box_in l.self.view) (term_at (things l.self.items.now) l.first)) (rule.mark rule.Near (box_in l.self.root) (box_in l.self.view) (term_at (things l.self.items.now) l.first)) (terms_at (things l.self.items.now) l.later)
-
-abbrev pub invariant-marks-loop-i : goal.invariant-marks-loop-i
-invariant-marks-loop-i l =
-    l.mark ≡ all_marks (rule.marks rule.Near (box_in l.self.root) (box_in l.self.view) (terms_at (things l.self.items.now) (drop l.i l.ids)))
 
 abbrev pub invariant-sum-loop-i : goal.invariant-sum-loop-i
 invariant-sum-loop-i l =

@@ -2,10 +2,9 @@ use Rattle.std.proofs.Common.{◌≡◌, ℕ, ◌+◌, ℤ, List, [], ◌∷◌,
 use Rattle.std.proofs.lemmas.List.{get_or_default}
 use Rattle.box_rules.specs.Forms.{Form}
 use Rattle.term_nodes.specs.Things.{terms_at}
-use Rattle.term_nodes.proofs.Elements.{numbers}
 use Rattle.term_nodes.proofs.Steps.{cond_below}
 use Rattle.term_store.specs.Stores.{all, root_of}
-use Rattle.term_store.proofs.Indexing.{next_numbers}
+use Rattle.term_store.proofs.Indexing.{next_numbers, numbers}
 use Rattle.term_store.proofs.store.TermStore.constants.Goals as goal
 
 pub form_known-requires-clause-exists : goal.form_known-requires-clause-exists

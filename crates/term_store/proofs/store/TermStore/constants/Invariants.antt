@@ -1,6 +1,6 @@
 use Rattle.std.proofs.Common.{◌≡◌, ◌++◌, drop}
 use Rattle.term_nodes.specs.Things.{terms_at}
-use Rattle.term_nodes.proofs.Elements.{numbers}
+use Rattle.term_store.proofs.Indexing.{numbers}
 use Rattle.term_store.specs.Stores.{all, root_of}
 use Rattle.term_store.proofs.store.TermStore.constants.Given as goal
 

@@ -5,9 +5,8 @@ use Rattle.box_rules.specs.Rules.{item_ends}
 use Rattle.term_rules.specs.Shown.{ends_of}
 use Rattle.term_tables.specs.Kept.{items_of, table_of}
 use Rattle.term_nodes.specs.Things.{no_table, table_at, things}
-use Rattle.term_nodes.proofs.Elements.{hull_found, hull_missing}
+use Rattle.term_store.proofs.Indexing.{hull_found, hull_missing, seen_table}
 use Rattle.term_store.specs.Stores.{root_of}
-use Rattle.term_store.proofs.Indexing.{seen_table}
 use Rattle.term_store.proofs.store.TermStore.hull_known.Goals as goal
 
 pub returns-in-Some : goal.returns-in-Some
