@@ -1,31 +1,28 @@
 -- What was built stays where more is added.
-use Rattle.std.proofs.Common.{◌≡◌, ◌∙◌, refl, ap, sym, subst, arith, ℕ, zero, suc, None, ◌<◌, ◌≤◌, List, [], ◌∷◌, ◌++◌, map, length, length-append, Option, option_map, IfSome}
+use Rattle.std.proofs.Common.{◌≡◌, ◌∙◌, refl, ap, sym, subst, arith, ℕ, zero, suc, None, ◌<◌, ◌≤◌, List, [], ◌∷◌, ◌++◌, map, length, length-append, get_or, inl, inr, Option}
+use Rattle.std.proofs.lemmas.Bool.{cases_lt}
+use Rattle.std.proofs.lemmas.List.{get_or_past}
 use Rattle.std.specs.List.{AllByRecursion}
 use Rattle.box_problem.specs.Box.{Box}
 use Rattle.box_rules.specs.Terms.{Cond}
-use Rattle.program_rules.specs.Problems.{ChanceTerms, GoalTerms, ProblemTerms, IsProblem}
+use Rattle.program_rules.specs.Problems.{ChanceTerms, ProblemTerms, IsProblem}
 use Rattle.term_nodes.specs.Built.{AllBelow}
-use Rattle.term_nodes.specs.Things.{Thing, thing_at, cond_at, cond_in}
+use Rattle.box_rules.specs.Terms.{Cell}
+use Rattle.term_goals.specs.Goals.{AreCells}
+use Rattle.term_nodes.specs.Things.{Thing, nothing, thing_at, cond_at, cond_in, term_at, term_in}
 use Rattle.term_store.specs.Stores.{IsSoundStore, IsAdded, root_of, all}
 use Rattle.term_store.specs.declared.store.TermStore.{TermStore}
-use Rattle.sopl_term.specs.declared.program.Conditions.{Conditions}
-use Rattle.sopl_term.specs.declared.program.ChanceConditions.{ChanceConditions}
-use Rattle.sopl_term.specs.declared.program.Program.{Program}
-use Rattle.term_goals.specs.Goals.{goal_of}
-use Rattle.term_goals.specs.declared.goal.Goal.{Goal}
+use Rattle.term_program.specs.declared.draft.Conditions.{Conditions}
+use Rattle.term_program.specs.declared.draft.ChanceConditions.{ChanceConditions}
+use Rattle.term_program.specs.declared.draft.Draft.{Draft}
 use Rattle.sopl_term.specs.declared.builder.Builder.{Builder}
-use Rattle.sopl_term.specs.Programs.{HasConditions, IsGoalOf, IsMade, conditions_of, chance_of, problem_in, root_in, things_in}
-use Rattle.sopl_term.specs.Built.{IsBuilding, IsKept, built}
+use Rattle.term_program.specs.Drafts.{HasConditions, IsDraft, conditions_of, chance_of, draft_problem, draft_root, draft_things}
+use Rattle.sopl_term.specs.Built.{Grows, IsBuilding, IsKept, built}
 
 stays : (all : List Thing) (more : Thing) (id : ℕ) → id < length all → thing_at (all ++ more ∷ []) id ≡ thing_at all id
 stays [] more id there = absurd (omega (arith, there))
 stays (x ∷ all) more zero there = refl
 stays (x ∷ all) more (suc id) there = stays all more id (omega (arith, there))
-
--- no fewer things, and each number stands for the same
-pub record Grows (before after : List Thing) : Type 0 where
-  pub more : length before ≤ length after
-  pub same : (id : ℕ) → id < length before → thing_at after id ≡ thing_at before id
 
 grows_added : (before after : List Thing) (id : ℕ) (thing : Thing) → IsAdded before after id thing → Grows before after
 grows_added before after id thing added = record {
@@ -74,57 +71,65 @@ more_chances : (n m : ℕ) (chances : List ChanceConditions) → n ≤ m → All
 more_chances n m [] most there = tt
 more_chances n m (c ∷ chances) most there = (all_below n m c.conditions.ids.items most there.0, more_chances n m chances most there.1)
 
--- a program over another store
-abbrev pub over : Program → TermStore → Program
+-- what is a cell exists, and stays one
+node_exists : (all : List Thing) (node cell : ℕ) → term_at all node ≡ Cell cell → node < length all
+node_exists all node cell is =
+    elim (cases_lt node (length all)) [
+      | inl there ↦ there
+      | inr past ↦ absurd (no_cell cell (sym (ap term_in (get_or_past all node nothing past)) ∙ is))
+    ]
+  where
+    no_cell : (cell : ℕ) → ¬ term_in nothing ≡ Cell cell
+    no_cell cell e = cc
+
+cells_kept : (root other : Box) (before after : List Thing) (nodes : List ℕ) → other ≡ root → Grows before after → AreCells root before nodes → AreCells other after nodes
+cells_kept root other before after nodes is grows are = record {
+  each_cell = are.each_cell ∙ sym (ap (λ (b : Box). length b.lows) is);
+  is_cell = λ cell there.
+      let node : ℕ = get_or nodes cell 0 in
+      ap term_in (grows.same node (node_exists before node cell (are.is_cell cell there))) ∙ are.is_cell cell there;
+}
+
+-- a draft over another store
+abbrev pub over : Draft → TermStore → Draft
 over p s = record p { store = s }
 
 -- a problem of these constraints, without an objective
-abbrev of_constraints : Program → List (List Cond) → List ChanceTerms → ProblemTerms
+abbrev of_constraints : Draft → List (List Cond) → List ChanceTerms → ProblemTerms
 of_constraints p hards chances = record { weights = p.weights.items; whole = p.whole; hards = hards; chances = chances; goal = None }
 
-abbrev of_all : Program → List Thing → Option GoalTerms → ProblemTerms
-of_all p things goal = record { weights = p.weights.items; whole = p.whole; hards = map (conditions_of things) p.hards.items; chances = map (chance_of things) p.chances.items; goal = goal }
+same_problem : (p : Draft) (s : TermStore) → IsDraft p → Grows (draft_things p) (all s) → draft_problem (over p s) ≡ draft_problem p
+same_problem p s made grows =
+    ap (λ (hs : List (List Cond)). of_constraints p hs (map (chance_of (all s)) p.chances.items)) (same_hards (draft_things p) (all s) p.hards.items grows made.hards)
+    ∙ ap (λ (cs : List ChanceTerms). of_constraints p (map (conditions_of (draft_things p)) p.hards.items) cs) (same_chances (draft_things p) (all s) p.chances.items grows made.chances)
 
-open_problem : (p : Program) (s : TermStore) → p.goal ≡ None → problem_in (over p s) ≡ of_constraints p (map (conditions_of (all s)) p.hards.items) (map (chance_of (all s)) p.chances.items)
-open_problem p s is = ap (λ (g : Option Goal). of_all p (all s) (option_map (goal_of (all s)) g)) is
-
-same_problem : (p : Program) (s : TermStore) → IsMade p → p.goal ≡ None → Grows (things_in p) (all s) → problem_in (over p s) ≡ problem_in p
-same_problem p s made is grows =
-    open_problem p s is
-    ∙ ap (λ (hs : List (List Cond)). of_constraints p hs (map (chance_of (all s)) p.chances.items)) (same_hards (things_in p) (all s) p.hards.items grows made.hards)
-    ∙ ap (λ (cs : List ChanceTerms). of_constraints p (map (conditions_of (things_in p)) p.hards.items) cs) (same_chances (things_in p) (all s) p.chances.items grows made.chances)
-    ∙ sym (open_problem p p.store is)
-
--- nothing is asked of an objective that is not there
-pub no_goal : (P : Goal → Type 0) (goal : Option Goal) → goal ≡ None → IfSome goal P
-no_goal P goal is = subst (λ g. IfSome g P) (sym is) tt
-
-still_made : (p : Program) (s : TermStore) → IsMade p → p.goal ≡ None → IsSoundStore s → root_of s ≡ root_in p → Grows (things_in p) (all s) → IsMade (over p s)
-still_made p s made is sound root grows = record {
+still_made : (p : Draft) (s : TermStore) → IsDraft p → IsSoundStore s → root_of s ≡ draft_root p → Grows (draft_things p) (all s) → IsDraft (over p s)
+still_made p s made sound root grows = record {
   store = sound;
+  nodes = cells_kept (draft_root p) (root_of s) (draft_things p) (all s) p.nodes.items root grows made.nodes;
   cells = made.cells ∙ sym (ap (λ (b : Box). length b.lows) root);
-  problem = subst IsProblem (sym (same_problem p s made is grows)) made.problem;
+  problem = subst IsProblem (sym (same_problem p s made grows)) made.problem;
   light = made.light;
   few_scenarios = made.few_scenarios;
   few_hards = made.few_hards;
   few_chances = made.few_chances;
-  hards = more_hards (length (things_in p)) (length (all s)) p.hards.items grows.more made.hards;
-  chances = more_chances (length (things_in p)) (length (all s)) p.chances.items grows.more made.chances;
+  hards = more_hards (length (draft_things p)) (length (all s)) p.hards.items grows.more made.hards;
+  chances = more_chances (length (draft_things p)) (length (all s)) p.chances.items grows.more made.chances;
   thresholds = made.thresholds;
-  goal = no_goal (IsGoalOf (over p s)) p.goal is;
 }
 
-kept_over : (b : Builder) (s : TermStore) → IsBuilding b → IsSoundStore s → root_of s ≡ root_in b.program → Grows (built b) (all s) → IsKept b (record b { program = over b.program s })
+kept_over : (b : Builder) (s : TermStore) → IsBuilding b → IsSoundStore s → root_of s ≡ draft_root b.draft → Grows (built b) (all s) → IsKept b (record b { draft = over b.draft s })
 kept_over b s building sound root grows = record {
-  building = record { made = still_made b.program s building.made building.to_come sound root grows; to_come = building.to_come };
+  building = still_made b.draft s building sound root grows;
   root = root;
-  problem = same_problem b.program s building.made building.to_come grows;
+  problem = same_problem b.draft s building grows;
+  grows = grows;
   direction = refl;
   worst = refl;
 }
 
-pub kept_added : (b : Builder) (s : TermStore) (id : ℕ) (thing : Thing) → IsBuilding b → IsSoundStore s → root_of s ≡ root_in b.program → IsAdded (built b) (all s) id thing → IsKept b (record b { program = over b.program s })
+pub kept_added : (b : Builder) (s : TermStore) (id : ℕ) (thing : Thing) → IsBuilding b → IsSoundStore s → root_of s ≡ draft_root b.draft → IsAdded (built b) (all s) id thing → IsKept b (record b { draft = over b.draft s })
 kept_added b s id thing building sound root added = kept_over b s building sound root (grows_added (built b) (all s) id thing added)
 
-pub kept_same : (b : Builder) (s : TermStore) → IsBuilding b → IsSoundStore s → root_of s ≡ root_in b.program → all s ≡ built b → IsKept b (record b { program = over b.program s })
+pub kept_same : (b : Builder) (s : TermStore) → IsBuilding b → IsSoundStore s → root_of s ≡ draft_root b.draft → all s ≡ built b → IsKept b (record b { draft = over b.draft s })
 kept_same b s building sound root is = kept_over b s building sound root (grows_same (built b) (all s) is)

@@ -1,10 +1,6 @@
-pub mod Weighing
-pub mod Reasons
+pub mod CellTerms
 pub mod Keeping
 pub mod Hards
 pub mod Chances
 pub mod Finishing
-pub mod Goals
-pub mod Ranges
 pub mod Lists
-pub mod Comparisons

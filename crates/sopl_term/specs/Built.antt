@@ -1,40 +1,79 @@
 -- What the calls of a builder do.
-use Rattle.std.specs.Prelude.{◌≡◌, ℕ, ℤ, pos, Bool, List, [], ◌∷◌, ◌++◌, length, map, Option, None, Some}
+use Rattle.std.specs.Prelude.{◌≡◌, ◌<◌, ◌≤◌, ◌-◌, ◌^◌, ◌≤ℤ◌, ℕ, ℤ, pos, negsuc, Bool, List, [], ◌∷◌, ◌++◌, length, map, Option, None, Some}
+use Rattle.std.specs.List.{range_with_len}
 use Rattle.box_rules.specs.Terms as rule
+use Rattle.sopl_base.specs.declared.places.Interval.{Interval}
+use Rattle.term_store.specs.Stores.{IsSoundStore, all, root_of}
+use Rattle.term_store.specs.declared.store.TermStore.{TermStore}
 use Rattle.sopl_base.specs.declared.places.Direction.{Direction}
 use Rattle.sopl_base.specs.declared.places.Direction.TheVariants.{Minimize, Maximize, Nothing}
 use Rattle.program_rules.specs.Problems.{GoalTerms, ProblemTerms}
 use Rattle.term_nodes.specs.Things.{Thing, a_term, cond_at, term_at, terms_at, thing_at}
 use Rattle.term_nodes.specs.declared.nodes.Signed.{Signed}
-use Rattle.sopl_term.specs.declared.ids.TermId.{TermId}
-use Rattle.sopl_term.specs.declared.ids.CondId.{CondId}
+use Rattle.term_program.specs.declared.ids.TermId.{TermId}
+use Rattle.term_program.specs.declared.ids.CondId.{CondId}
 use Rattle.sopl_term.specs.declared.builder.Builder.{Builder}
-use Rattle.sopl_term.specs.Programs.{IsMade, problem_in, root_in, things_in}
+use Rattle.box_problem.specs.Box.{Box}
+use Rattle.term_program.specs.Drafts.{IsDraft, draft_problem, draft_root, draft_things}
 
 -- what stands at each number
 abbrev pub built : Builder → List Thing
-built b = things_in b.program
+built b = draft_things b.draft
 
--- a program that is being built: it is as it is made, and its objective is still to come
-pub record IsBuilding (b : Builder) : Type 0 where
-  pub made : IsMade b.program
-  pub to_come : b.program.goal ≡ None
+-- the box of all points, the constraints so far, and what the objective is to be
+abbrev pub root_built : Builder → Box
+root_built b = draft_root b.draft
 
--- what was added before is as it was: each number stands for the same, and so are the root, the constraints and what the objective is to be
+abbrev pub problem_built : Builder → ProblemTerms
+problem_built b = draft_problem b.draft
+
+abbrev pub asked_direction : Builder → Direction
+asked_direction b = b.direction
+
+abbrev pub asked_worst : Builder → Bool
+asked_worst b = b.worst
+
+-- a program that is being built
+abbrev pub IsBuilding : Builder → Type 0
+IsBuilding b = IsDraft b.draft
+
+-- the ends of a cell's interval lie within 2^40
+pub record IsNear (i : Interval) : Type 0 where
+  pub low : negsuc (2 ^ 40 - 1) ≤ℤ i.lo
+  pub high : i.hi ≤ℤ pos (2 ^ 40)
+
+-- so many cells as terms
+abbrev pub cell_terms : ℕ → List Thing
+cell_terms count = map (λ (cell : ℕ). a_term (rule.Cell cell)) (range_with_len 0 count)
+
+-- a store to which so many cells are added, with their numbers
+pub record HasCells (before after : TermStore) (ids : List ℕ) (count : ℕ) : Type 0 where
+  pub sound : IsSoundStore after
+  pub root : root_of after ≡ root_of before
+  pub things : all after ≡ cell_terms count
+  pub nodes : ids ≡ map (λ (cell : ℕ). cell) (range_with_len 0 count)
+
+-- no fewer things, and each number stands for the same
+pub record Grows (before after : List Thing) : Type 0 where
+  pub more : length before ≤ length after
+  pub same : (id : ℕ) → id < length before → thing_at after id ≡ thing_at before id
+
+-- what was added before is as it was: what each number stands for, the root, the constraints, and what the objective is to be
 pub record IsKept (before after : Builder) : Type 0 where
   pub building : IsBuilding after
-  pub root : root_in after.program ≡ root_in before.program
-  pub problem : problem_in after.program ≡ problem_in before.program
-  pub direction : after.direction ≡ before.direction
-  pub worst : after.worst ≡ before.worst
+  pub root : root_built after ≡ root_built before
+  pub problem : problem_built after ≡ problem_built before
+  pub grows : Grows (built before) (built after)
+  pub direction : asked_direction after ≡ asked_direction before
+  pub worst : asked_worst after ≡ asked_worst before
 
 -- nothing but constraints was added
 pub record IsUnder (before after : Builder) : Type 0 where
   pub building : IsBuilding after
-  pub root : root_in after.program ≡ root_in before.program
+  pub root : root_built after ≡ root_built before
   pub things : built after ≡ built before
-  pub direction : after.direction ≡ before.direction
-  pub worst : after.worst ≡ before.worst
+  pub direction : asked_direction after ≡ asked_direction before
+  pub worst : asked_worst after ≡ asked_worst before
 
 -- the numbers of terms, of conditions, and of the parts of a sum
 abbrev pub term_ids : List TermId → List ℕ
@@ -70,9 +109,6 @@ greatest_at things (first ∷ later) = rule.Greatest (term_at things first.0) (t
 abbrev pub goal_asked : Builder → List TermId → Option GoalTerms
 goal_asked b [] = None
 goal_asked b (first ∷ later) = Some (record { direction = b.direction; worst = b.worst; terms = map (term_at (built b)) (term_ids (first ∷ later)) })
-
-abbrev pub with_goal : ProblemTerms → Option GoalTerms → ProblemTerms
-with_goal terms goal = record terms { goal = goal }
 
 -- the terms of an objective: one for each scenario where there is a direction, and none where there is none
 abbrev pub FitsDirection : Direction → ℕ → List TermId → Type 0

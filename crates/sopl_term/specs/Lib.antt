@@ -1,3 +1,1 @@
-pub mod Programs
 pub mod Built
-pub mod Comparisons

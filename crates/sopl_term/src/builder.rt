@@ -6,18 +6,18 @@ ghost use Rattle.std.specs.Int.RustNames.{FitsSigned};
 ghost use Rattle.std.specs.List.{AllByRecursion};
 ghost use Rattle.box_problem.specs.Box.{box_of};
 ghost use Rattle.box_rules.specs.Globals.{total};
-ghost use Rattle.sopl_term.specs.Built.{IsBuilding, built};
-ghost use Rattle.sopl_term.specs.Programs.{problem_in, root_in};
+ghost use Rattle.sopl_term.specs.Built.{IsBuilding, IsNear, asked_direction, asked_worst, built, cell_terms, problem_built, root_built};
 
-use crate::program::Program;
+use crate::cells::cell_nodes;
 use sopl_base::{Direction, Interval};
 use std::alloc::{AllocError, Global};
+use term_program::Draft;
 use term_store::TermStore;
 
 /// A program that is being built.
 #[derive(Drop)]
 pub struct Builder {
-    pub(crate) program: Program,
+    pub(crate) draft: Draft,
     pub(crate) direction: Direction,
     pub(crate) worst: bool,
 }
@@ -29,8 +29,8 @@ struct Sum {
 }
 
 impl Builder {
-    /// A program over the cells of these intervals and the scenarios of these weights, with no term and no constraint yet. What the direction
-    /// and the worst scenario mean, the objective decides that comes last.
+    /// A program over the cells of these intervals, whose ends lie within 2^40, and the scenarios of these weights, with a term for each cell and no
+    /// constraint yet. What the direction and the worst scenario mean, the objective decides that comes last.
     pub fn new(
         alloc: Global,
         roots: &[Interval],
@@ -39,30 +39,32 @@ impl Builder {
         worst: bool,
     ) -> Result<Builder, AllocError>
         requires few_cells { length roots.now < 2 ^ 32 }
+        requires near { AllByRecursion IsNear roots.now }
         requires first { 1 ≤ length weights.now }
         requires few_scenarios { length weights.now < 2 ^ 32 }
         requires weighs { AllByRecursion (λ weight. pos 1 ≤ℤ weight) weights.now }
         requires light { total weights.now ≤ℤ pos (2 ^ 100) }
         ensures building { IfOk result (λ builder. IsBuilding builder) }
-        ensures root { IfOk result (λ builder. root_in builder.program ≡ box_of roots.now) }
-        ensures empty { IfOk result (λ builder. built builder ≡ []) }
-        ensures problem { IfOk result (λ builder. problem_in builder.program ≡ record { weights = weights.now; whole = total weights.now; hards = []; chances = []; goal = None }) }
-        ensures direction { IfOk result (λ builder. builder.direction ≡ direction) }
-        ensures worst { IfOk result (λ builder. builder.worst ≡ worst) }
+        ensures root { IfOk result (λ builder. root_built builder ≡ box_of roots.now) }
+        ensures things { IfOk result (λ builder. built builder ≡ cell_terms (length roots.now)) }
+        ensures problem { IfOk result (λ builder. problem_built builder ≡ record { weights = weights.now; whole = total weights.now; hards = []; chances = []; goal = None }) }
+        ensures direction { IfOk result (λ builder. asked_direction builder ≡ direction) }
+        ensures worst { IfOk result (λ builder. asked_worst builder ≡ worst) }
     {
-        let store = TermStore::new(alloc, roots)?;
+        let mut store = TermStore::new(alloc, roots)?;
+        let nodes = cell_nodes(alloc, &mut store, roots.len() as u32)?;
         let list = Vec::from_slice(alloc, weights)?;
         let whole = sum_of(weights);
         Ok(Builder {
-            program: Program {
+            draft: Draft {
                 alloc,
                 store,
                 cells: roots.len() as u32,
+                nodes,
                 weights: list,
                 whole: whole.weight,
                 hards: Vec::new(alloc),
                 chances: Vec::new(alloc),
-                goal: None,
             },
             direction,
             worst,
@@ -71,7 +73,7 @@ impl Builder {
 }
 
 /// The sum of weights.
-#[tactic(auto, using(crate::proofs::Weighing::next_total, crate::proofs::Weighing::no_total, crate::proofs::Weighing::total_fits))]
+#[tactic(auto, using(term_program::proofs::Weighing::next_total, term_program::proofs::Weighing::no_total, term_program::proofs::Weighing::total_fits))]
 fn sum_of(weights: &[i128]) -> Sum
     requires weighs { AllByRecursion (λ weight. pos 1 ≤ℤ weight) weights.now }
     requires light { total weights.now ≤ℤ pos (2 ^ 100) }

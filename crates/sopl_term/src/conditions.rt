@@ -8,9 +8,9 @@ ghost use Rattle.term_store.specs.Stores.{IsAdded};
 ghost use Rattle.sopl_term.specs.Built.{IsBuilding, IsKept, built, cond_ids};
 
 use crate::builder::Builder;
-use crate::ids::{CondId, TermId};
 use sopl_base::CmpOp;
 use std::alloc::{AllocError, Global};
+use term_program::{CondId, TermId};
 
 /// The numbers of conditions.
 pub(crate) fn numbers_of(alloc: Global, conds: &[CondId]) -> Result<Vec<u32>, AllocError>
@@ -30,7 +30,7 @@ impl Builder {
         ensures added { IfOk result (λ id. IsAdded (built self.old) (built self.new) id.0 (a_cond (term.Compare op (term_at (built self.old) a.0) (term_at (built self.old) b.0)))) }
         ensures err { OnErr result (built self.new ≡ built self.old) }
     {
-        let id = self.program.store.compare(op, a.0, b.0)?;
+        let id = self.draft.store.compare(op, a.0, b.0)?;
         Ok(CondId(id))
     }
 
@@ -42,7 +42,7 @@ impl Builder {
         ensures added { IfOk result (λ id. IsAdded (built self.old) (built self.new) id.0 (a_cond (term.Not (cond_at (built self.old) a.0)))) }
         ensures err { OnErr result (built self.new ≡ built self.old) }
     {
-        let id = self.program.store.not(a.0)?;
+        let id = self.draft.store.not(a.0)?;
         Ok(CondId(id))
     }
 
@@ -55,7 +55,7 @@ impl Builder {
         ensures added { IfOk result (λ id. IsAdded (built self.old) (built self.new) id.0 (a_cond (term.Implies (cond_at (built self.old) a.0) (cond_at (built self.old) b.0)))) }
         ensures err { OnErr result (built self.new ≡ built self.old) }
     {
-        let id = self.program.store.implies(a.0, b.0)?;
+        let id = self.draft.store.implies(a.0, b.0)?;
         Ok(CondId(id))
     }
 
@@ -67,8 +67,8 @@ impl Builder {
         ensures added { IfOk result (λ id. IsAdded (built self.old) (built self.new) id.0 (a_cond (term.All (conds_at (built self.old) (cond_ids parts.now))))) }
         ensures err { OnErr result (built self.new ≡ built self.old) }
     {
-        let ids = numbers_of(self.program.alloc, parts)?;
-        let id = self.program.store.all(ids.as_slice())?;
+        let ids = numbers_of(self.draft.alloc, parts)?;
+        let id = self.draft.store.all(ids.as_slice())?;
         Ok(CondId(id))
     }
 
@@ -80,8 +80,8 @@ impl Builder {
         ensures added { IfOk result (λ id. IsAdded (built self.old) (built self.new) id.0 (a_cond (term.Any (conds_at (built self.old) (cond_ids parts.now))))) }
         ensures err { OnErr result (built self.new ≡ built self.old) }
     {
-        let ids = numbers_of(self.program.alloc, parts)?;
-        let id = self.program.store.any(ids.as_slice())?;
+        let ids = numbers_of(self.draft.alloc, parts)?;
+        let id = self.draft.store.any(ids.as_slice())?;
         Ok(CondId(id))
     }
 }

@@ -1,17 +1,9 @@
-//! Numbers of terms, conditions and arrays, and sets of indices.
+//! Numbers of arrays, and sets of indices.
 
 ghost use Rattle.std.specs.Prelude.{◌≡◌, [], ◌∷◌, ◌++◌, OnOk, OnErr};
 
 use std::alloc::{AllocError, Global};
 use std::marker::Model;
-
-/// The number of a term of a program or a builder.
-#[derive(Clone, Copy, Debug, PartialEq, Eq)]
-pub struct TermId(pub u32);
-
-/// The number of a condition of a program or a builder.
-#[derive(Clone, Copy, Debug, PartialEq, Eq)]
-pub struct CondId(pub u32);
 
 /// The number of an array of a builder.
 #[derive(Clone, Copy, Debug, PartialEq, Eq)]

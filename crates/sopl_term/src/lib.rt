@@ -1,24 +1,21 @@
-//! A compiled problem: terms and conditions over cells, with no syntax, and what they are over the box of a store.
+//! A compiled problem: terms and conditions over cells, with no syntax, and what they are over the box of a store. A program is built call by call.
 #![tactic(auto)]
 
 mod builder;
-mod closing;
+mod cells;
 mod conditions;
 mod constraints;
 mod finish;
 mod ids;
-mod over;
-mod program;
-mod shapes;
 mod tables;
 mod terms;
 
+pub use box_rules::{Defined, Truth};
 pub use builder::Builder;
-pub use closing::{refuted, refuted_in};
-pub use ids::{CondId, Indices, TableId, TermId};
-pub use over::{Range, goal_ends, goal_ends_in, kleene, kleene_in, range_in, range_of};
-pub use program::{ChanceConditions, Conditions, Program};
-pub use shapes::Form;
-
-#[cfg(test)]
-mod tests;
+pub use ids::{Indices, TableId};
+pub use term_goals::Atom;
+pub use term_program::{
+    CondId, Form, Program, Range, TermId, end_at, goal_ends, goal_ends_in, kleene, kleene_in,
+    range_in, range_of, refuted, refuted_at, refuted_in,
+};
+pub use term_rules::Coefficient;

@@ -1,25 +1,22 @@
 //! Arrays are added, and their elements.
 
-ghost use Rattle.std.specs.Prelude.{◌≡◌, ◌<◌, true, length, map, IfOk, OnErr};
-ghost use Rattle.std.specs.List.{list_all};
-ghost use Rattle.box_rules.specs.Forms as forms;
+ghost use Rattle.std.specs.Prelude.{◌≡◌, ◌<◌, length, map, IfOk, OnErr};
 ghost use Rattle.box_rules.specs.Laws.{IsTable};
-ghost use Rattle.box_rules.specs.Rules as rule;
 ghost use Rattle.box_rules.specs.Sizes as sizes;
 ghost use Rattle.box_rules.specs.Terms as term;
 ghost use Rattle.term_tables.specs.Kept as kept;
 ghost use Rattle.term_nodes.specs.Built.{AllBelow};
 ghost use Rattle.term_nodes.specs.Things.{a_table, a_term, table_at, terms_at, thing_at};
 ghost use Rattle.term_store.specs.Stores.{IsAdded, IsMeasured};
-ghost use Rattle.sopl_term.specs.Built.{IsBuilding, IsKept, built, item_of, table_of, term_ids};
-ghost use Rattle.sopl_term.specs.Programs.{root_in};
+ghost use Rattle.sopl_term.specs.Built.{IsBuilding, IsKept, built, item_of, root_built, table_of, term_ids};
 
 use crate::builder::Builder;
-use crate::ids::{Indices, TableId, TermId};
+use crate::ids::{Indices, TableId};
 use crate::terms::term_numbers;
 use sopl_base::Fault;
 use std::alloc::{AllocError, Global};
 use term_nodes::{Node, item_at};
+use term_program::TermId;
 use term_tables::{Element, Table};
 
 /// The numbers of index sets.
@@ -41,8 +38,8 @@ impl Builder {
         requires building { IsBuilding self.now }
         ensures { kept.item_of result ≡ item_of (thing_at (built self.now) id.0) }
     {
-        let root = self.program.store.root();
-        let here = self.program.store.here(&root);
+        let root = self.draft.store.root();
+        let here = self.draft.store.here(&root);
         let Some(item) = item_at(here.items, id.0) else {
             return Element::Fixed(0);
         };
@@ -58,7 +55,7 @@ impl Builder {
         requires building { IsBuilding self.now }
         ensures { IfOk result (λ list. kept.items_of list.items ≡ map (λ (id : TermId). item_of (thing_at (built self.now) id.0)) items.now) }
     {
-        let mut list = Vec::new(self.program.alloc);
+        let mut list = Vec::new(self.draft.alloc);
         for id in items {
             list.push(self.element_of(*id))?;
         }
@@ -74,24 +71,35 @@ impl Builder {
         ensures err { OnErr result (built self.new ≡ built self.old) }
     {
         let elements = self.elements_of(items)?;
-        let sets = copied(self.program.alloc, sets)?;
-        let id = self.program.store.table(Table { sets, elements })?;
+        let sets = copied(self.draft.alloc, sets)?;
+        let id = self.draft.store.table(Table { sets, elements })?;
         Ok(TableId(id))
     }
 
-    /// The element of an array at indices that are numbers over the box of all points.
+    /// An array by its sets and its elements, which are numbers and cells as they are: no term is added, so no size is measured.
+    pub fn array(&mut self, table: Table) -> Result<TableId, AllocError>
+        requires building { IsBuilding self.old }
+        requires table { IsTable (kept.table_of table) }
+        ensures kept { IsKept self.old self.new }
+        ensures added { IfOk result (λ id. IsAdded (built self.old) (built self.new) id.0 (a_table (kept.table_of table))) }
+        ensures err { OnErr result (built self.new ≡ built self.old) }
+    {
+        let id = self.draft.store.table(table)?;
+        Ok(TableId(id))
+    }
+
+    /// The element of an array at indices, one for each dimension; at other indices than the array's it is undefined.
     pub fn element(&mut self, table: TableId, at: &[TermId]) -> Result<TermId, Fault>
         requires building { IsBuilding self.old }
         requires table { table.0 < length (built self.old) }
         requires exist { AllBelow (length (built self.old)) (term_ids at.now) }
-        requires constant { list_all forms.is_constant (rule.forms (root_in self.old.program) (terms_at (built self.old) (term_ids at.now))) ≡ true }
         ensures kept { IsKept self.old self.new }
         ensures added { IfOk result (λ id. IsAdded (built self.old) (built self.new) id.0 (a_term (term.Element (table_at (built self.old) table.0) (terms_at (built self.old) (term_ids at.now))))) }
-        ensures measured { IsMeasured (sizes.size (root_in self.old.program) (term.Element (table_at (built self.old) table.0) (terms_at (built self.old) (term_ids at.now)))) result }
+        ensures measured { IsMeasured (sizes.size (root_built self.old) (term.Element (table_at (built self.old) table.0) (terms_at (built self.old) (term_ids at.now)))) result }
         ensures err { OnErr result (built self.new ≡ built self.old) }
     {
-        let ids = term_numbers(self.program.alloc, at)?;
-        let id = self.program.store.element(table.0, ids.as_slice())?;
+        let ids = term_numbers(self.draft.alloc, at)?;
+        let id = self.draft.store.element(table.0, ids.as_slice())?;
         Ok(TermId(id))
     }
 }

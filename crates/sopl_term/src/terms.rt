@@ -7,15 +7,14 @@ ghost use Rattle.term_operations.specs.Made.{IsDivisor};
 ghost use Rattle.term_nodes.specs.Built.{AllBelow, PartsBelow};
 ghost use Rattle.term_nodes.specs.Things.{a_term, cond_at, parts_at, term_at};
 ghost use Rattle.term_store.specs.Stores.{IsAdded, IsMeasured};
-ghost use Rattle.sopl_term.specs.Built.{IsBuilding, IsKept, built, greatest_at, least_at, signed_of, term_ids};
-ghost use Rattle.sopl_term.specs.Programs.{root_in};
+ghost use Rattle.sopl_term.specs.Built.{IsBuilding, IsKept, built, greatest_at, least_at, root_built, signed_of, term_ids};
 
 use crate::builder::Builder;
-use crate::ids::{CondId, TermId};
 use sopl_base::Fault;
 use std::alloc::{AllocError, Global};
 use term_nodes::Signed;
 use term_operations::Divisor;
+use term_program::{CondId, TermId};
 
 /// The parts of a sum, by their numbers.
 fn signed(alloc: Global, parts: &[(bool, TermId)]) -> Result<Vec<Signed>, AllocError>
@@ -44,23 +43,23 @@ impl Builder {
         requires building { IsBuilding self.old }
         ensures kept { IsKept self.old self.new }
         ensures added { IfOk result (λ id. IsAdded (built self.old) (built self.new) id.0 (a_term (term.Constant value))) }
-        ensures measured { IsMeasured (sizes.size (root_in self.old.program) (term.Constant value)) result }
+        ensures measured { IsMeasured (sizes.size (root_built self.old) (term.Constant value)) result }
         ensures err { OnErr result (built self.new ≡ built self.old) }
     {
-        let id = self.program.store.constant(value)?;
+        let id = self.draft.store.constant(value)?;
         Ok(TermId(id))
     }
 
     /// A cell.
     pub fn cell(&mut self, cell: u32) -> Result<TermId, Fault>
         requires building { IsBuilding self.old }
-        requires exists { cell < length (root_in self.old.program).lows }
+        requires exists { cell < length (root_built self.old).lows }
         ensures kept { IsKept self.old self.new }
         ensures added { IfOk result (λ id. IsAdded (built self.old) (built self.new) id.0 (a_term (term.Cell cell))) }
-        ensures measured { IsMeasured (sizes.size (root_in self.old.program) (term.Cell cell)) result }
+        ensures measured { IsMeasured (sizes.size (root_built self.old) (term.Cell cell)) result }
         ensures err { OnErr result (built self.new ≡ built self.old) }
     {
-        let id = self.program.store.cell(cell)?;
+        let id = self.draft.store.cell(cell)?;
         Ok(TermId(id))
     }
 
@@ -70,11 +69,11 @@ impl Builder {
         requires exist { PartsBelow (length (built self.old)) (signed_of parts.now) }
         ensures kept { IsKept self.old self.new }
         ensures added { IfOk result (λ id. IsAdded (built self.old) (built self.new) id.0 (a_term (term.Sum (parts_at (built self.old) (signed_of parts.now))))) }
-        ensures measured { IsMeasured (sizes.size (root_in self.old.program) (term.Sum (parts_at (built self.old) (signed_of parts.now)))) result }
+        ensures measured { IsMeasured (sizes.size (root_built self.old) (term.Sum (parts_at (built self.old) (signed_of parts.now)))) result }
         ensures err { OnErr result (built self.new ≡ built self.old) }
     {
-        let list = signed(self.program.alloc, parts)?;
-        let id = self.program.store.sum(list.as_slice())?;
+        let list = signed(self.draft.alloc, parts)?;
+        let id = self.draft.store.sum(list.as_slice())?;
         Ok(TermId(id))
     }
 
@@ -85,10 +84,10 @@ impl Builder {
         requires right { b.0 < length (built self.old) }
         ensures kept { IsKept self.old self.new }
         ensures added { IfOk result (λ id. IsAdded (built self.old) (built self.new) id.0 (a_term (term.Product (term_at (built self.old) a.0) (term_at (built self.old) b.0)))) }
-        ensures measured { IsMeasured (sizes.size (root_in self.old.program) (term.Product (term_at (built self.old) a.0) (term_at (built self.old) b.0))) result }
+        ensures measured { IsMeasured (sizes.size (root_built self.old) (term.Product (term_at (built self.old) a.0) (term_at (built self.old) b.0))) result }
         ensures err { OnErr result (built self.new ≡ built self.old) }
     {
-        let id = self.program.store.product(a.0, b.0)?;
+        let id = self.draft.store.product(a.0, b.0)?;
         Ok(TermId(id))
     }
 
@@ -99,11 +98,11 @@ impl Builder {
         requires divisor { IsDivisor divisor }
         ensures kept { IsKept self.old self.new }
         ensures added { IfOk result (λ id. IsAdded (built self.old) (built self.new) id.0 (a_term (term.Quotient (term_at (built self.old) a.0) divisor))) }
-        ensures measured { IsMeasured (sizes.size (root_in self.old.program) (term.Quotient (term_at (built self.old) a.0) divisor)) result }
+        ensures measured { IsMeasured (sizes.size (root_built self.old) (term.Quotient (term_at (built self.old) a.0) divisor)) result }
         ensures err { OnErr result (built self.new ≡ built self.old) }
     {
         let by = Divisor { number: divisor };
-        let id = self.program.store.quotient(a.0, &by)?;
+        let id = self.draft.store.quotient(a.0, &by)?;
         Ok(TermId(id))
     }
 
@@ -114,11 +113,11 @@ impl Builder {
         requires divisor { IsDivisor divisor }
         ensures kept { IsKept self.old self.new }
         ensures added { IfOk result (λ id. IsAdded (built self.old) (built self.new) id.0 (a_term (term.Remainder (term_at (built self.old) a.0) divisor))) }
-        ensures measured { IsMeasured (sizes.size (root_in self.old.program) (term.Remainder (term_at (built self.old) a.0) divisor)) result }
+        ensures measured { IsMeasured (sizes.size (root_built self.old) (term.Remainder (term_at (built self.old) a.0) divisor)) result }
         ensures err { OnErr result (built self.new ≡ built self.old) }
     {
         let by = Divisor { number: divisor };
-        let id = self.program.store.remainder(a.0, &by)?;
+        let id = self.draft.store.remainder(a.0, &by)?;
         Ok(TermId(id))
     }
 
@@ -128,10 +127,10 @@ impl Builder {
         requires exists { a.0 < length (built self.old) }
         ensures kept { IsKept self.old self.new }
         ensures added { IfOk result (λ id. IsAdded (built self.old) (built self.new) id.0 (a_term (term.Size (term_at (built self.old) a.0)))) }
-        ensures measured { IsMeasured (sizes.size (root_in self.old.program) (term.Size (term_at (built self.old) a.0))) result }
+        ensures measured { IsMeasured (sizes.size (root_built self.old) (term.Size (term_at (built self.old) a.0))) result }
         ensures err { OnErr result (built self.new ≡ built self.old) }
     {
-        let id = self.program.store.size(a.0)?;
+        let id = self.draft.store.size(a.0)?;
         Ok(TermId(id))
     }
 
@@ -141,10 +140,10 @@ impl Builder {
         requires exists { cond.0 < length (built self.old) }
         ensures kept { IsKept self.old self.new }
         ensures added { IfOk result (λ id. IsAdded (built self.old) (built self.new) id.0 (a_term (term.Number (cond_at (built self.old) cond.0)))) }
-        ensures measured { IsMeasured (sizes.size (root_in self.old.program) (term.Number (cond_at (built self.old) cond.0))) result }
+        ensures measured { IsMeasured (sizes.size (root_built self.old) (term.Number (cond_at (built self.old) cond.0))) result }
         ensures err { OnErr result (built self.new ≡ built self.old) }
     {
-        let id = self.program.store.number(cond.0)?;
+        let id = self.draft.store.number(cond.0)?;
         Ok(TermId(id))
     }
 
@@ -155,14 +154,14 @@ impl Builder {
         requires exist { AllBelow (length (built self.old)) (term_ids parts.now) }
         ensures kept { IsKept self.old self.new }
         ensures added { IfOk result (λ id. IsAdded (built self.old) (built self.new) id.0 (a_term (least_at (built self.old) parts.now))) }
-        ensures measured { IsMeasured (sizes.size (root_in self.old.program) (least_at (built self.old) parts.now)) result }
+        ensures measured { IsMeasured (sizes.size (root_built self.old) (least_at (built self.old) parts.now)) result }
         ensures err { OnErr result (built self.new ≡ built self.old) }
     {
         let Some((first, later)) = parts.split_first() else {
             return Err(Fault::NoMemory);
         };
-        let ids = term_numbers(self.program.alloc, later)?;
-        let id = self.program.store.least(first.0, ids.as_slice())?;
+        let ids = term_numbers(self.draft.alloc, later)?;
+        let id = self.draft.store.least(first.0, ids.as_slice())?;
         Ok(TermId(id))
     }
 
@@ -173,14 +172,14 @@ impl Builder {
         requires exist { AllBelow (length (built self.old)) (term_ids parts.now) }
         ensures kept { IsKept self.old self.new }
         ensures added { IfOk result (λ id. IsAdded (built self.old) (built self.new) id.0 (a_term (greatest_at (built self.old) parts.now))) }
-        ensures measured { IsMeasured (sizes.size (root_in self.old.program) (greatest_at (built self.old) parts.now)) result }
+        ensures measured { IsMeasured (sizes.size (root_built self.old) (greatest_at (built self.old) parts.now)) result }
         ensures err { OnErr result (built self.new ≡ built self.old) }
     {
         let Some((first, later)) = parts.split_first() else {
             return Err(Fault::NoMemory);
         };
-        let ids = term_numbers(self.program.alloc, later)?;
-        let id = self.program.store.greatest(first.0, ids.as_slice())?;
+        let ids = term_numbers(self.draft.alloc, later)?;
+        let id = self.draft.store.greatest(first.0, ids.as_slice())?;
         Ok(TermId(id))
     }
 }

@@ -1,5 +1,6 @@
 -- Cells as terms in a list.
-use Rattle.std.proofs.Common.{◌≡◌, ℕ, ◌+◌, ◌<◌, ◌≤◌, pos, ◌≤ℤ◌, List, [], ◌∷◌, ◌++◌, length, get_or, drop, arith, ap, sym, ◌∙◌}
+use Rattle.std.proofs.Common.{◌≡◌, ℕ, ◌+◌, ◌<◌, ◌≤◌, pos, ◌≤ℤ◌, List, [], ◌∷◌, ◌++◌, length, get_or, drop, arith, ap, sym, ◌∙◌, inl, inr}
+use Rattle.std.proofs.lemmas.Bool.{cases_lt}
 use Rattle.std.proofs.lemmas.Int.{ints, clamps}
 use Rattle.std.proofs.lemmas.List.{at_drop_all, get_or_default, get_or_past}
 use Rattle.box_problem.specs.Box.{Box, IsBox, Inside}
@@ -11,13 +12,15 @@ use Rattle.box_rules.proofs.Narrowing.{within_cell}
 use Rattle.box_rules.proofs.Products.{one-*ℤ}
 use Rattle.term_rules.specs.declared.combinations.WideCoefficient.{WideCoefficient}
 use Rattle.term_rules.specs.Sums.{wide_cells}
-use Rattle.term_nodes.specs.Things.{Thing, term_at}
+use Rattle.term_nodes.specs.declared.items.Item.{Item}
+use Rattle.term_nodes.specs.Things.{Thing, nothing, term_at, term_in, things}
+use Rattle.term_nodes.proofs.Reading.{nothing_past}
 use Rattle.term_goals.specs.declared.sums.Atom.{Atom}
-use Rattle.term_goals.specs.Goals.{AreCells, listed_ends}
+use Rattle.term_goals.specs.Goals.{AreCells, AtomsExist, listed_ends}
 use Rattle.term_goals.proofs.Steps.{next_cells}
 use Rattle.term_goals.proofs.Summing.{zero_plus, clear_part}
 use Rattle.term_goals.proofs.Leaves.{plus_zero, plus_assoc, same_ends}
-use Rattle.term_goals.proofs.Growing.{listed_more}
+use Rattle.term_goals.proofs.Growing.{atom_exists, listed_more}
 
 once : (a : ends.Ends) → a.low ≤ℤ a.high → ends.scaled (pos 1) a ≡ a
 once a ordered =
@@ -61,3 +64,18 @@ cell_skip root b all nodes xs i d list result are inside below past before =
 pub cells_done : (b : Box) (xs : List WideCoefficient) (i : ℕ) (list result : ends.Ends) → length xs ≤ i → ends.plus list (cells_ends b (wide_cells (drop i xs))) ≡ result → list ≡ result
 cells_done b xs i list result past before =
     sym (plus_zero list) ∙ ap (ends.plus list) (sym (at_drop_all (λ ys. cells_ends b (wide_cells ys)) xs i past)) ∙ before
+
+-- what is a cell exists
+node_exists : (items : List Item) (node cell : ℕ) → term_at (things items) node ≡ Cell cell → node < length items
+node_exists items node cell is =
+    elim (cases_lt node (length items)) [
+      | inl there ↦ there
+      | inr past ↦ absurd (no_cell cell (sym (ap term_in (nothing_past items node past)) ∙ is))
+    ]
+  where
+    no_cell : (cell : ℕ) → ¬ term_in nothing ≡ Cell cell
+    no_cell cell e = cc
+
+pub cell_exists : (items : List Item) (nodes : List ℕ) (x : WideCoefficient) (node : ℕ) (list next : List Atom) (atom : Atom) (root : Box) → AreCells root (things items) nodes → node ≡ get_or nodes x.cell 0 → x.cell < length nodes → next ≡ list ++ atom ∷ [] → atom ≡ record { k = x.k; term = node } → AtomsExist (length items) list → AtomsExist (length items) next
+cell_exists items nodes x node list next atom root are node_is there next_is atom_is all =
+    atom_exists (length items) list next atom x.k node all (node_exists items node x.cell (ap (term_at (things items)) node_is ∙ are.is_cell x.cell there)) next_is atom_is

@@ -32,7 +32,7 @@ use Rattle.term_nodes.specs.Things.{Thing, nothing, table_at, term_in, term_at, 
 use Rattle.term_nodes.proofs.Ready.{small_term}
 use Rattle.term_nodes.proofs.Steps.{next_part}
 use Rattle.term_goals.specs.declared.sums.Atom.{Atom}
-use Rattle.term_goals.specs.Goals.{all_weight, atoms_ends, listed_ends}
+use Rattle.term_goals.specs.Goals.{AtomsExist, all_weight, atoms_ends, listed_ends}
 use Rattle.term_goals.proofs.Steps.{next_atoms}
 use Rattle.term_goals.proofs.Summing.{zero_plus, clear_scaled}
 use Rattle.term_goals.proofs.Leaves.{scaled_plus, scaled_twice, scaled_zero, plus_zero, plus_assoc, leaf_interval, weighs, times_other}
@@ -256,3 +256,12 @@ atom_step root b all xs i d k list next result below k_is next_is before =
 pub atoms_done : (root b : Box) (all : List Thing) (xs : List Atom) (i : ℕ) (list result : ends.Ends) → length xs ≤ i → ends.plus list (atoms_ends root b all (drop i xs)) ≡ result → list ≡ result
 atoms_done root b all xs i list result past before =
     sym (plus_zero list) ∙ ap (ends.plus list) (sym (at_drop_all (λ ys. atoms_ends root b all ys) xs i past)) ∙ before
+
+-- one atom more exists
+pub atom_exists : (n : ℕ) (list next : List Atom) (atom : Atom) (k : ℤ) (id : ℕ) → AtomsExist n list → id < n → next ≡ list ++ atom ∷ [] → atom ≡ record { k = k; term = id } → AtomsExist n next
+atom_exists n list next atom k id all there next_is atom_is =
+    subst (AtomsExist n) (sym next_is) (more list all (subst (λ (a : Atom). a.term < n) (sym atom_is) there))
+  where
+    more : (xs : List Atom) → AtomsExist n xs → atom.term < n → AtomsExist n (xs ++ atom ∷ [])
+    more [] all here = (here, tt)
+    more (x ∷ xs) all here = (all.0, more xs all.1 here)

@@ -5,7 +5,7 @@ use Rattle.std.specs.List.{AllByRecursion}
 use Rattle.std.specs.Option.{option_map_or}
 use Rattle.sopl_base.specs.declared.places.Fault.{Fault}
 use Rattle.sopl_base.specs.declared.places.Fault.TheVariants.{Limit, NoMemory}
-use Rattle.box_problem.specs.Box.{Box}
+use Rattle.box_problem.specs.Box.{Box, Inside}
 use Rattle.box_rules.specs.Ends.{Ends, exactly, plus, scaled}
 use Rattle.box_rules.specs.Globals.{total}
 use Rattle.box_rules.specs.Rules.{Near, form, atoms, interval}
@@ -46,6 +46,15 @@ atoms_ends root b all (a ∷ later) = plus (scaled a.k (atoms Near root b (term_
 abbrev pub listed_ends : Box → Box → List Thing → List Atom → Ends
 listed_ends root b all [] = exactly (pos 0)
 listed_ends root b all (a ∷ later) = plus (scaled a.k (interval Near root b (term_at all a.term))) (listed_ends root b all later)
+
+-- each of the terms exists
+abbrev pub AtomsExist : ℕ → List Atom → Type 0
+AtomsExist count atoms = AllByRecursion (λ (a : Atom). a.term < count) atoms
+
+-- a list that grows: over each box inside the root it and what is left have the interval that the list before and all had, and its terms exist
+pub record Listed (root : Box) (all : List Thing) (count : ℕ) (before list : List Atom) (left whole : Box → Ends) : Type 0 where
+  pub sum : (b : Box) → Inside b root → plus (listed_ends root b all list) (left b) ≡ plus (listed_ends root b all before) (whole b)
+  pub exist : AtomsExist count before → AtomsExist count list
 
 -- numbers of terms: for each cell of the root the term that it is
 pub record AreCells (root : Box) (all : List Thing) (nodes : List ℕ) : Type 0 where

@@ -12,7 +12,7 @@ ghost use Rattle.term_rules.specs.Sums.{wide_cells};
 ghost use Rattle.term_nodes.specs.Built.{PartsBelow};
 ghost use Rattle.term_nodes.specs.Seen.{IsReady};
 ghost use Rattle.term_nodes.specs.Things.{parts_at, term_at, things};
-ghost use Rattle.term_goals.specs.Goals.{AreCells, HasRoom, all_weight, atoms_ends, listed_ends};
+ghost use Rattle.term_goals.specs.Goals.{AreCells, AtomsExist, HasRoom, all_weight, atoms_ends, listed_ends};
 
 use crate::sums::{Atom, Summed};
 use std::alloc::{AllocError, Global};
@@ -36,8 +36,10 @@ fn add_leaf(
     times: &WideFactor,
     id: u32,
 ) -> Result<(), AllocError>
+    requires exists { id < length here.now.items.now }
     requires leaf { rule.form (box_in here.now.root) (term_at (things here.now.items.now) id) ≡ forms.atom_form }
-    ensures { (b : Box) → OnOk result (listed_ends (box_in here.now.root) b (things here.now.items.now) list.new.items ≡ ends.plus (listed_ends (box_in here.now.root) b (things here.now.items.now) list.old.items) (ends.scaled times.now.k (rule.atoms rule.Near (box_in here.now.root) b (term_at (things here.now.items.now) id)))) }
+    ensures sum { (b : Box) → OnOk result (listed_ends (box_in here.now.root) b (things here.now.items.now) list.new.items ≡ ends.plus (listed_ends (box_in here.now.root) b (things here.now.items.now) list.old.items) (ends.scaled times.now.k (rule.atoms rule.Near (box_in here.now.root) b (term_at (things here.now.items.now) id)))) }
+    ensures exist { OnOk result (AtomsExist (length here.now.items.now) list.old.items → AtomsExist (length here.now.items.now) list.new.items) }
 {
     list.push(Atom::times(times, id))?;
     Ok(())
@@ -49,7 +51,8 @@ fn add_leaf(
 fn add(list: &mut Vec<Atom>, here: &Here, times: &WideFactor, id: u32) -> Result<(), AllocError>
     requires ready { IsReady here.now }
     requires room { unsigned_abs times.now.k * atoms_weight (box_in here.now.root) (term_at (things here.now.items.now) id) < 2 ^ 127 }
-    ensures { (b : Box) → Inside b (box_in here.now.root) → OnOk result (listed_ends (box_in here.now.root) b (things here.now.items.now) list.new.items ≡ ends.plus (listed_ends (box_in here.now.root) b (things here.now.items.now) list.old.items) (ends.scaled times.now.k (rule.atoms rule.Near (box_in here.now.root) b (term_at (things here.now.items.now) id)))) }
+    ensures sum { (b : Box) → Inside b (box_in here.now.root) → OnOk result (listed_ends (box_in here.now.root) b (things here.now.items.now) list.new.items ≡ ends.plus (listed_ends (box_in here.now.root) b (things here.now.items.now) list.old.items) (ends.scaled times.now.k (rule.atoms rule.Near (box_in here.now.root) b (term_at (things here.now.items.now) id)))) }
+    ensures exist { OnOk result (AtomsExist (length here.now.items.now) list.old.items → AtomsExist (length here.now.items.now) list.new.items) }
 {
     let Some(item) = item_at(here.items, id) else {
         return Ok(());
@@ -88,7 +91,8 @@ fn add_parts(
     requires below { PartsBelow limit parts.now }
     requires small { unsigned_abs times.now.k < 2 ^ 127 }
     requires room { unsigned_abs times.now.k * sum_weight (box_in here.now.root) (parts_at (things here.now.items.now) parts.now) < 2 ^ 127 }
-    ensures { (b : Box) → Inside b (box_in here.now.root) → OnOk result (listed_ends (box_in here.now.root) b (things here.now.items.now) list.new.items ≡ ends.plus (listed_ends (box_in here.now.root) b (things here.now.items.now) list.old.items) (ends.scaled times.now.k (rule.sum_atoms rule.Near (box_in here.now.root) b (parts_at (things here.now.items.now) parts.now)))) }
+    ensures sum { (b : Box) → Inside b (box_in here.now.root) → OnOk result (listed_ends (box_in here.now.root) b (things here.now.items.now) list.new.items ≡ ends.plus (listed_ends (box_in here.now.root) b (things here.now.items.now) list.old.items) (ends.scaled times.now.k (rule.sum_atoms rule.Near (box_in here.now.root) b (parts_at (things here.now.items.now) parts.now)))) }
+    ensures exist { OnOk result (AtomsExist (length here.now.items.now) list.old.items → AtomsExist (length here.now.items.now) list.new.items) }
 {
     for part in parts {
         let signed = product(times, &factor(part.subtracted));
@@ -114,7 +118,8 @@ fn add_product(
     requires is { term_at (things here.now.items.now) id ≡ term.Product (term_at (things here.now.items.now) a) (term_at (things here.now.items.now) b) }
     requires other { (rule.form (box_in here.now.root) (term_at (things here.now.items.now) id)).plain ≡ false }
     requires room { unsigned_abs times.now.k * atoms_weight (box_in here.now.root) (term_at (things here.now.items.now) id) < 2 ^ 127 }
-    ensures { (part : Box) → Inside part (box_in here.now.root) → OnOk result (listed_ends (box_in here.now.root) part (things here.now.items.now) list.new.items ≡ ends.plus (listed_ends (box_in here.now.root) part (things here.now.items.now) list.old.items) (ends.scaled times.now.k (rule.atoms rule.Near (box_in here.now.root) part (term_at (things here.now.items.now) id)))) }
+    ensures sum { (part : Box) → Inside part (box_in here.now.root) → OnOk result (listed_ends (box_in here.now.root) part (things here.now.items.now) list.new.items ≡ ends.plus (listed_ends (box_in here.now.root) part (things here.now.items.now) list.old.items) (ends.scaled times.now.k (rule.atoms rule.Near (box_in here.now.root) part (term_at (things here.now.items.now) id)))) }
+    ensures exist { OnOk result (AtomsExist (length here.now.items.now) list.old.items → AtomsExist (length here.now.items.now) list.new.items) }
 {
     let f = form_at(here.items, a);
     if f.is_constant() {
@@ -131,7 +136,8 @@ fn add_product(
 fn add_atoms(list: &mut Vec<Atom>, here: &Here, atoms: &[Atom]) -> Result<(), AllocError>
     requires ready { IsReady here.now }
     requires room { all_weight (box_in here.now.root) (things here.now.items.now) atoms.now < 2 ^ 127 }
-    ensures { (b : Box) → Inside b (box_in here.now.root) → OnOk result (listed_ends (box_in here.now.root) b (things here.now.items.now) list.new.items ≡ ends.plus (listed_ends (box_in here.now.root) b (things here.now.items.now) list.old.items) (atoms_ends (box_in here.now.root) b (things here.now.items.now) atoms.now)) }
+    ensures sum { (b : Box) → Inside b (box_in here.now.root) → OnOk result (listed_ends (box_in here.now.root) b (things here.now.items.now) list.new.items ≡ ends.plus (listed_ends (box_in here.now.root) b (things here.now.items.now) list.old.items) (atoms_ends (box_in here.now.root) b (things here.now.items.now) atoms.now)) }
+    ensures exist { OnOk result (AtomsExist (length here.now.items.now) list.old.items → AtomsExist (length here.now.items.now) list.new.items) }
 {
     for atom in atoms {
         add(list, here, &atom.factor(), atom.term)?;
@@ -168,7 +174,8 @@ fn add_cells(
 ) -> Result<(), AllocError>
     requires ready { IsReady here.now }
     requires nodes { AreCells (box_in here.now.root) (things here.now.items.now) nodes.now }
-    ensures { (b : Box) → Inside b (box_in here.now.root) → OnOk result (listed_ends (box_in here.now.root) b (things here.now.items.now) list.new.items ≡ ends.plus (listed_ends (box_in here.now.root) b (things here.now.items.now) list.old.items) (forms.cells_ends b (wide_cells cells.now))) }
+    ensures sum { (b : Box) → Inside b (box_in here.now.root) → OnOk result (listed_ends (box_in here.now.root) b (things here.now.items.now) list.new.items ≡ ends.plus (listed_ends (box_in here.now.root) b (things here.now.items.now) list.old.items) (forms.cells_ends b (wide_cells cells.now))) }
+    ensures exist { OnOk result (AtomsExist (length here.now.items.now) list.old.items → AtomsExist (length here.now.items.now) list.new.items) }
 {
     for cell in cells {
         let Some(node) = node_of(nodes, cell.cell) else {
@@ -189,7 +196,8 @@ pub(crate) fn listed(
     requires ready { IsReady here.now }
     requires nodes { AreCells (box_in here.now.root) (things here.now.items.now) nodes.now }
     requires room { HasRoom (box_in here.now.root) (things here.now.items.now) summed.now }
-    ensures { (b : Box) → Inside b (box_in here.now.root) → IfOk result (λ list. listed_ends (box_in here.now.root) b (things here.now.items.now) list.items ≡ ends.plus (forms.cells_ends b (wide_cells summed.now.form.cells.items)) (atoms_ends (box_in here.now.root) b (things here.now.items.now) summed.now.atoms.items)) }
+    ensures sum { (b : Box) → Inside b (box_in here.now.root) → IfOk result (λ list. listed_ends (box_in here.now.root) b (things here.now.items.now) list.items ≡ ends.plus (forms.cells_ends b (wide_cells summed.now.form.cells.items)) (atoms_ends (box_in here.now.root) b (things here.now.items.now) summed.now.atoms.items)) }
+    ensures exist { IfOk result (λ list. AtomsExist (length here.now.items.now) list.items) }
 {
     let mut list = Vec::new(alloc);
     add_cells(&mut list, here, nodes, summed.form.cells.as_slice())?;

@@ -1,4 +1,5 @@
-//! Tests of the store of terms: terms, conditions and elements over a small root box, and what is refused for its size.
+//! Tests of the store of terms, of the builder and of programs: terms, conditions and elements over a small root box, what is refused for its size, and what
+//! closes boxes.
 #![tactic(auto)]
 
 #[cfg(test)]

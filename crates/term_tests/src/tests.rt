@@ -276,9 +276,6 @@ fn element(store: &mut TermStore, table: u32, number: i64) -> Result<u32, Fault>
     if table >= count || index >= count {
         return Err(Fault::NoMemory);
     }
-    if !store.are_numbers(&[index]) {
-        return Err(Fault::NoMemory);
-    }
     store.element(table, &[index])
 }
 
@@ -348,4 +345,8 @@ fn elements_refused_for_their_size(rt: HostRuntime) {
     assert_eq!(rt; large(&mut store, array), Ok(true));
 }
 
+mod builders;
+mod indices;
 mod mentions;
+mod programs;
+mod roots;

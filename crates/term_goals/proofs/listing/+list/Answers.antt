@@ -14,8 +14,8 @@ use Rattle.term_goals.specs.Goals.{listed_ends}
 use Rattle.term_goals.proofs.Growing.{plain_added, small_at, term_is, part_room, part_step, parts_done, left_room, right_room, left_is, right_is}
 use Rattle.term_goals.proofs.listing.+list.Goals as goal
 
-pub add-returns-then-item : goal.add-returns-then-item
-add-returns-then-item t c = λ b inside.
+pub add-returns-then-item-clause-sum : goal.add-returns-then-item-clause-sum
+add-returns-then-item-clause-sum t c = λ b inside.
     plain_added c.args.here.now b c.args.list.now.items c.args.times.now.k c.args.id c.in-Some.item.now c.requires.ready (c.in-Some.ensures.some (box_in c.args.here.now.root) c.requires.ready.built) c.if-item.true inside
 
 pub add-add_parts-requires : goal.add-add_parts-requires
@@ -50,19 +50,22 @@ add_parts-add-requires t c =
     (omega (arith, there), (c.requires.ready, part_room root all c.args.parts.now c.loop-part.part-index none c.args.times.now.k c.product-signed.result.k c.loop-part-test.true is c.requires.room))
 
 pub add_parts-loop-part-preserved : goal.add_parts-loop-part-preserved
-add_parts-loop-part-preserved t c = λ b inside.
-    let root = box_in c.args.here.now.root in
-    let all = things c.args.here.now.items.now in
-    let none : Signed = record { subtracted = false; term = 0 } in
-    let is = c.product-signed.ensures ∙ ap (λ (z : ℤ). c.args.times.now.k *ℤ z) c.factor.ensures in
-    part_step c.args.here.now b c.args.parts.now c.loop-part.part-index none c.args.times.now.k c.product-signed.result.k (listed_ends root b all c.loop-part.list.items) (listed_ends root b all c.add.new.list.items) _
-    c.requires.ready inside c.loop-part-test.true is (c.in_ok-add.ensures b inside) (c.loop-part.invariant b inside)
+add_parts-loop-part-preserved t c = record {
+  sum = λ b inside.
+      let root = box_in c.args.here.now.root in
+      let all = things c.args.here.now.items.now in
+      let none : Signed = record { subtracted = false; term = 0 } in
+      let is = c.product-signed.ensures ∙ ap (λ (z : ℤ). c.args.times.now.k *ℤ z) c.factor.ensures in
+      part_step c.args.here.now b c.args.parts.now c.loop-part.part-index none c.args.times.now.k c.product-signed.result.k (listed_ends root b all c.loop-part.list.items) (listed_ends root b all c.add.new.list.items) _
+      c.requires.ready inside c.loop-part-test.true is (c.in_ok-add.ensures.sum b inside) (c.loop-part.invariant.sum b inside);
+  exist = λ all. c.in_ok-add.ensures.exist (c.loop-part.invariant.exist all);
+}
 
-pub add_parts-returns : goal.add_parts-returns
-add_parts-returns t c = λ b inside.
+pub add_parts-returns-clause-sum : goal.add_parts-returns-clause-sum
+add_parts-returns-clause-sum t c = λ b inside.
     let root = box_in c.args.here.now.root in
     let all = things c.args.here.now.items.now in
-    parts_done root b all c.args.parts.now c.loop-part.part-index c.args.times.now.k (listed_ends root b all c.loop-part.list.items) _ c.loop-part-test.false (c.loop-part.invariant b inside)
+    parts_done root b all c.args.parts.now c.loop-part.part-index c.args.times.now.k (listed_ends root b all c.loop-part.list.items) _ c.loop-part-test.false (c.loop-part.invariant.sum b inside)
 
 pub add_product-product-requires : goal.add_product-product-requires
 add_product-product-requires t c =
@@ -85,8 +88,8 @@ add_product-add-requires t c =
     let room = left_room root (term_at all c.args.a) (term_at all c.args.b) (term_at all c.args.id) c.args.times.now.k c.requires.is left c.requires.other c.requires.room in
     (omega (arith, c.requires.right), (c.requires.ready, subst (λ (z : ℤ). unsigned_abs z * atoms_weight root (term_at all c.args.b) < 2 ^ 127) (sym product) room.0))
 
-pub add_product-returns-then-is_constant : goal.add_product-returns-then-is_constant
-add_product-returns-then-is_constant t c = λ b inside.
+pub add_product-returns-then-is_constant-clause-sum : goal.add_product-returns-then-is_constant-clause-sum
+add_product-returns-then-is_constant-clause-sum t c = λ b inside.
     let root = box_in c.args.here.now.root in
     let all = things c.args.here.now.items.now in
     let f_is = c.form_at-f.ensures root c.requires.ready.built in
@@ -94,7 +97,7 @@ add_product-returns-then-is_constant t c = λ b inside.
     let constant = c.factor.ensures ∙ ap (λ (f : Form). f.constant) f_is in
     let product = c.product.ensures ∙ ap (λ (z : ℤ). c.args.times.now.k *ℤ z) constant in
     let same = ap (λ (z : ℤ). ends.scaled z (atoms Near root b (term_at all c.args.b))) product ∙ left_is root b (term_at all c.args.a) (term_at all c.args.b) (term_at all c.args.id) c.args.times.now.k c.requires.is left in
-    subst (λ (e : ends.Ends). OnOk c.add.result (listed_ends root b all c.add.new.list.items ≡ ends.plus (listed_ends root b all c.args.list.now.items) e)) same (c.add.ensures b inside)
+    subst (λ (e : ends.Ends). OnOk c.add.result (listed_ends root b all c.add.new.list.items ≡ ends.plus (listed_ends root b all c.args.list.now.items) e)) same (c.add.ensures.sum b inside)
 
 pub add_product-product-requires-then-is_constant-2 : goal.add_product-product-requires-then-is_constant-2
 add_product-product-requires-then-is_constant-2 t c =
@@ -121,8 +124,8 @@ add_product-add-requires-then-is_constant-2 t c =
     let room = right_room root (term_at all c.args.a) (term_at all c.args.b) (term_at all c.args.id) c.args.times.now.k c.requires.is left right c.requires.other c.requires.room in
     (omega (arith, c.requires.left), (c.requires.ready, subst (λ (z : ℤ). unsigned_abs z * atoms_weight root (term_at all c.args.a) < 2 ^ 127) (sym product) room.0))
 
-pub add_product-returns-then-is_constant-2 : goal.add_product-returns-then-is_constant-2
-add_product-returns-then-is_constant-2 t c = λ b inside.
+pub add_product-returns-then-is_constant-2-clause-sum : goal.add_product-returns-then-is_constant-2-clause-sum
+add_product-returns-then-is_constant-2-clause-sum t c = λ b inside.
     let root = box_in c.args.here.now.root in
     let all = things c.args.here.now.items.now in
     let f_is = c.form_at-f.ensures root c.requires.ready.built in
@@ -132,4 +135,7 @@ add_product-returns-then-is_constant-2 t c = λ b inside.
     let constant = c.factor-then-is_constant-2.ensures ∙ ap (λ (f : Form). f.constant) g_is in
     let product = c.product-then-is_constant-2.ensures ∙ ap (λ (z : ℤ). c.args.times.now.k *ℤ z) constant in
     let same = ap (λ (z : ℤ). ends.scaled z (atoms Near root b (term_at all c.args.a))) product ∙ right_is root b (term_at all c.args.a) (term_at all c.args.b) (term_at all c.args.id) c.args.times.now.k c.requires.is left right in
-    subst (λ (e : ends.Ends). OnOk c.add-then-is_constant-2.result (listed_ends root b all c.add-then-is_constant-2.new.list.items ≡ ends.plus (listed_ends root b all c.args.list.now.items) e)) same (c.add-then-is_constant-2.ensures b inside)
+    subst (λ (e : ends.Ends). OnOk c.add-then-is_constant-2.result (listed_ends root b all c.add-then-is_constant-2.new.list.items ≡ ends.plus (listed_ends root b all c.args.list.now.items) e)) same (c.add-then-is_constant-2.ensures.sum b inside)
+
+pub add_parts-returns-clause-exist : goal.add_parts-returns-clause-exist
+add_parts-returns-clause-exist t c = c.loop-part.invariant.exist

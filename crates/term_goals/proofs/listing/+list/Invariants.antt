@@ -1,10 +1,9 @@
-use Rattle.std.proofs.Common.{◌≡◌, ◌+◌, ◌*◌, drop}
-use Rattle.box_problem.specs.Box.{Box, Inside}
+use Rattle.std.proofs.Common.{◌+◌, ◌*◌, drop, length}
 use Rattle.box_rules.specs.Ends as ends
 use Rattle.box_rules.specs.Rules.{Near, sum_atoms}
 use Rattle.term_rules.specs.Shown.{box_in}
 use Rattle.term_nodes.specs.Things.{parts_at, things}
-use Rattle.term_goals.specs.Goals.{listed_ends}
+use Rattle.term_goals.specs.Goals.{Listed}
 use Rattle.term_goals.proofs.listing.+list.Given as goal
 
 abbrev pub decreases-add : goal.decreases-add
@@ -18,6 +17,5 @@ decreases-add_product l = 2 * l.id
 
 abbrev pub invariant-add_parts-loop-part : goal.invariant-add_parts-loop-part
 invariant-add_parts-loop-part l =
-    (b : Box) → Inside b (box_in l.here.root)
-    → ends.plus (listed_ends (box_in l.here.root) b (things l.here.items.now) l.list.items) (ends.scaled l.times.k (sum_atoms Near (box_in l.here.root) b (parts_at (things l.here.items.now) (drop l.part-index l.parts))))
-    ≡ ends.plus (listed_ends (box_in l.here.root) b (things l.here.items.now) l.initial.list.items) (ends.scaled l.times.k (sum_atoms Near (box_in l.here.root) b (parts_at (things l.here.items.now) l.parts)))
+    Listed (box_in l.here.root) (things l.here.items.now) (length l.here.items.now) l.initial.list.items l.list.items (λ b. ends.scaled l.times.k (sum_atoms Near (box_in l.here.root) b (parts_at (things l.here.items.now) (drop l.part-index l.parts))))
+    (λ b. ends.scaled l.times.k (sum_atoms Near (box_in l.here.root) b (parts_at (things l.here.items.now) l.parts)))

@@ -1,9 +1,9 @@
-use Rattle.std.proofs.Common.{rules, sym, subst}
-use Rattle.sopl_term.specs.Programs.{IsMade}
-use Rattle.sopl_term.proofs.Finishing.{ended_made}
+use Rattle.std.proofs.Common.{rules}
+use Rattle.sopl_term.proofs.Finishing.{ended_sound, none_size}
 use Rattle.sopl_term.proofs.builder.Builder.goal.Goals as goal
 
-pub returns-in-Ok-clause-made : goal.returns-in-Ok-clause-made
-returns-in-Ok-clause-made c =
-    subst IsMade (sym c.with_goal.ensures)
-    (ended_made c.args.self c.args.terms.now c.in-Ok.goal (search rules) c.requires.building c.requires.fits c.in-Ok.ensures.direction c.in-Ok.ensures.terms c.in-Ok.ensures.kept)
+pub returns-then-is_empty-clause-measured : goal.returns-then-is_empty-clause-measured
+returns-then-is_empty-clause-measured c = λ expected. none_size c.args.self c.requires.building c.args.terms.now (search rules)
+
+pub new-requires-in-Ok-clause-problem : goal.new-requires-in-Ok-clause-problem
+new-requires-in-Ok-clause-problem c = ended_sound c.args.self c.in-Ok.goal c.requires.building c.args.terms.now (search rules) c.requires.fits c.in-Ok.ensures.direction c.in-Ok.ensures.terms

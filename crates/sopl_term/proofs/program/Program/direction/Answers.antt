@@ -1,5 +1,0 @@
-use Rattle.sopl_term.proofs.Goals.{direction_kept}
-use Rattle.sopl_term.proofs.program.Program.direction.Goals as goal
-
-pub returns-in-Some : goal.returns-in-Some
-returns-in-Some c = direction_kept c.args.self.now c.in-Some.goal c.in-Some.is c.direction.result c.direction.ensures

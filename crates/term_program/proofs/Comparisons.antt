@@ -1,0 +1,174 @@
+-- Comparisons and their linear forms.
+use Rattle.std.proofs.Common.{◌≡◌, ◌∙◌, refl, ap, sym, arith, ℕ, ◌<◌, negsuc, Bool, true, false, ◌&&◌, List, length, [], ◌∷◌, Option, Some, None, option_map, if◌then◌else◌, get_or, inl, inr}
+use Rattle.std.proofs.lemmas.Bool.{cases_lt}
+use Rattle.std.proofs.lemmas.List.{get_or_default}
+use Rattle.sopl_base.specs.declared.places.CmpOp.{CmpOp}
+use Rattle.box_rules.proofs.FormValues.{by_bool}
+use Rattle.term_nodes.proofs.Reading.{nothing_past}
+use Rattle.term_program.specs.declared.program.Program.{Program}
+use Rattle.term_program.specs.declared.shapes.Form.TheVariants as shape
+use Rattle.term_program.specs.Programs.{IsMade, root_in, things_in}
+use Rattle.box_problem.specs.Box.{Box}
+use Rattle.box_rules.specs.Forms as forms
+use Rattle.box_rules.specs.Marks.{both, is_always}
+use Rattle.box_rules.specs.Rules.{Near, form, mark}
+use Rattle.box_rules.specs.Terms.{Term, Cond, Compare, Not, All, Any, Implies, AllDifferent, Cumulative}
+use Rattle.term_nodes.specs.declared.items.Item.{Item}
+use Rattle.term_nodes.specs.declared.nodes.Node.{Node}
+use Rattle.term_nodes.specs.declared.nodes.Node.TheVariants as node
+use Rattle.term_nodes.specs.declared.nodes.Comparison.{Comparison}
+use Rattle.term_nodes.specs.Built.{IsAt, IsBuilt}
+use Rattle.term_nodes.specs.Things.{Thing, nothing, cond_in, cond_at, term_at, thing_at, thing_of, things}
+use Rattle.term_nodes.proofs.Steps.{below_at, right_at}
+use Rattle.term_program.specs.Comparisons.{Difference, IsComparison, difference_of, is_comparison, is_linear_pair, linear_in, shape_in}
+
+-- a node is a comparison
+abbrev pub is_compare : Node → Bool
+is_compare (node.Compare c) = true
+is_compare x = false
+
+cond_is : (root : Box) (all : List Thing) (id : ℕ) (item : Item) (x : Node) → IsAt root all id item → item.node ≡ x → cond_at all id ≡ cond_in (thing_of all x)
+cond_is root all id item x at is = ap cond_in at.thing ∙ ap (λ (n : Node). cond_in (thing_of all n)) is
+
+pub compared_there : (root : Box) (all : List Thing) (id : ℕ) (item : Item) (c : Comparison) → IsAt root all id item → item.node ≡ node.Compare c → id < length all → IsComparison root all id c
+compared_there root all id item c at is exists =
+    let below = below_at root all id item (node.Compare c) at is in
+    record {
+      is = cond_is root all id item (node.Compare c) at is;
+      form = right_at root all id item (node.Compare c) at is;
+      left = omega (arith, below.0, exists);
+      right = omega (arith, below.1, exists);
+    }
+
+other_cond : (all : List Thing) (x : Node) → is_compare x ≡ false → is_comparison (cond_in (thing_of all x)) ≡ false
+other_cond all (node.Constant z) other = refl
+other_cond all (node.Cell cell) other = refl
+other_cond all (node.Sum parts) other = refl
+other_cond all (node.Product a b) other = refl
+other_cond all (node.Operation op a) other = refl
+other_cond all (node.Extreme e first later) other = refl
+other_cond all (node.Element table at) other = refl
+other_cond all (node.Number c) other = refl
+other_cond all (node.Compare c) other = cc
+other_cond all (node.Not c) other = refl
+other_cond all (node.All conds) other = refl
+other_cond all (node.Any conds) other = refl
+other_cond all (node.Implies a c) other = refl
+other_cond all (node.Table t) other = refl
+
+pub not_compared : (root : Box) (all : List Thing) (id : ℕ) (item : Item) (x : Node) → IsAt root all id item → item.node ≡ x → is_compare x ≡ false → is_comparison (cond_at all id) ≡ false
+not_compared root all id item x at is other = ap is_comparison (cond_is root all id item x at is) ∙ other_cond all x other
+
+pub nothing_compared : (all : List Thing) (id : ℕ) → thing_at all id ≡ nothing → is_comparison (cond_at all id) ≡ false
+nothing_compared all id none = ap (λ (t : Thing). is_comparison (cond_in t)) none
+
+-- the linear comparison
+module _ (root : Box) (all : List Thing) (id : ℕ) (c : Comparison) (there : IsComparison root all id c) where
+  chosen : (b : Bool) → is_linear_pair root (term_at all c.left) (term_at all c.right) ≡ b → linear_in root (cond_at all id) ≡ (if b then Some (record { op = c.op; form = forms.plus_form (negsuc 0) (form root (term_at all c.left)) (form root (term_at all c.right)) }) else None)
+  chosen b is =
+      ap (linear_in root) there.is
+      ∙ ap (λ (t : Bool). if t then Some (record { op = c.op; form = forms.plus_form (negsuc 0) (form root (term_at all c.left)) (form root (term_at all c.right)) }) else None) is
+
+  pub linear_there : c.form.plain ≡ true → true ≡ is_always (both (mark Near root root (term_at all c.left)) (mark Near root root (term_at all c.right))) → linear_in root (cond_at all id) ≡ Some (difference_of c)
+  linear_there is always =
+      chosen true (ap (λ (f : forms.Form). f.plain && is_always (both (mark Near root root (term_at all c.left)) (mark Near root root (term_at all c.right)))) (sym there.form)
+      ∙ ap (λ (p : Bool). p && is_always (both (mark Near root root (term_at all c.left)) (mark Near root root (term_at all c.right)))) is ∙ sym always)
+      ∙ ap (λ (f : forms.Form). Some (record { op = c.op; form = f })) (sym there.form)
+
+  pub not_plain : c.form.plain ≡ false → linear_in root (cond_at all id) ≡ None
+  not_plain is =
+      chosen false (ap (λ (f : forms.Form). f.plain && is_always (both (mark Near root root (term_at all c.left)) (mark Near root root (term_at all c.right)))) (sym there.form)
+      ∙ ap (λ (p : Bool). p && is_always (both (mark Near root root (term_at all c.left)) (mark Near root root (term_at all c.right)))) is)
+
+  pub not_defined : c.form.plain ≡ true → false ≡ is_always (both (mark Near root root (term_at all c.left)) (mark Near root root (term_at all c.right))) → linear_in root (cond_at all id) ≡ None
+  not_defined is other =
+      chosen false (ap (λ (f : forms.Form). f.plain && is_always (both (mark Near root root (term_at all c.left)) (mark Near root root (term_at all c.right)))) (sym there.form)
+      ∙ ap (λ (p : Bool). p && is_always (both (mark Near root root (term_at all c.left)) (mark Near root root (term_at all c.right)))) is ∙ sym other)
+
+pub no_comparison : (root : Box) (c : Cond) → is_comparison c ≡ false → linear_in root c ≡ None
+no_comparison root (Compare op a b) other = cc
+no_comparison root (Not c) other = refl
+no_comparison root (All conds) other = refl
+no_comparison root (Any conds) other = refl
+no_comparison root (Implies a c) other = refl
+no_comparison root (AllDifferent terms) other = refl
+no_comparison root (Cumulative tasks capacity) other = refl
+
+-- no condition that is built is of all terms or of tasks
+abbrev is_global : Cond → Bool
+is_global (AllDifferent terms) = true
+is_global (Cumulative tasks capacity) = true
+is_global other = false
+
+node_global : (all : List Thing) (x : Node) → is_global (cond_in (thing_of all x)) ≡ false
+node_global all (node.Constant z) = refl
+node_global all (node.Cell cell) = refl
+node_global all (node.Sum parts) = refl
+node_global all (node.Product a b) = refl
+node_global all (node.Operation op a) = refl
+node_global all (node.Extreme e first later) = refl
+node_global all (node.Element table at) = refl
+node_global all (node.Number c) = refl
+node_global all (node.Compare c) = refl
+node_global all (node.Not c) = refl
+node_global all (node.All conds) = refl
+node_global all (node.Any conds) = refl
+node_global all (node.Implies a c) = refl
+node_global all (node.Table t) = refl
+
+no_global : (root : Box) (items : List Item) (id : ℕ) → IsBuilt root items → is_global (cond_at (things items) id) ≡ false
+no_global root [] id all = ap (λ (t : Thing). is_global (cond_in t)) (nothing_past [] id (omega arith))
+no_global root (first ∷ rest) id all =
+    elim (cases_lt id (length (first ∷ rest))) [
+      | inl there ↦
+          let items : List Item = first ∷ rest in
+          let at : IsAt root (things items) id (get_or items id first) = all.each id (get_or items id first) there (get_or_default items id first (get_or items id first) there) in
+          ap (λ (t : Thing). is_global (cond_in t)) at.thing ∙ node_global (things items) (get_or items id first).node
+      | inr past ↦ ap (λ (t : Thing). is_global (cond_in t)) (nothing_past (first ∷ rest) id past)
+    ]
+
+pair : Box → CmpOp → Term → Term → Difference
+pair root op a b = record { op = op; form = forms.plus_form (negsuc 0) (form root a) (form root b) }
+
+abbrev if_linear : Bool → Difference → Option Difference
+if_linear t d = if t then Some d else None
+
+is_some_not : (d : Difference) → Some d ≡ None → ⊥
+is_some_not d is = cc
+
+pair_shape : (root : Box) (op : CmpOp) (a b : Term) → linear_in root (Compare op a b) ≡ None → shape.Other ≡ shape_in root (Compare op a b)
+unfolding pair
+pair_shape root op a b none =
+    by_bool (λ t. if_linear t (pair root op a b) ≡ None → shape.Other ≡ (if t then shape.Linear else shape.Other)) (is_linear_pair root a b)
+    (λ met is. absurd (is_some_not (pair root op a b) is)) (λ unmet is. refl) none
+
+other_shape : (root : Box) (c : Cond) → is_global c ≡ false → linear_in root c ≡ None → shape.Other ≡ shape_in root c
+other_shape root (Compare op a b) other none = pair_shape root op a b none
+other_shape root (Not c) other none = refl
+other_shape root (All conds) other none = refl
+other_shape root (Any conds) other none = refl
+other_shape root (Implies a c) other none = refl
+other_shape root (AllDifferent terms) other none = cc
+other_shape root (Cumulative tasks capacity) other none = cc
+
+pub built_shape : (p : Program) (id : ℕ) → IsMade p → linear_in (root_in p) (cond_at (things_in p) id) ≡ None → shape.Other ≡ shape_in (root_in p) (cond_at (things_in p) id)
+built_shape p id made none = other_shape (root_in p) (cond_at (things_in p) id) (no_global (root_in p) p.draft.store.items.items id made.draft.store.built) none
+
+-- a condition of the form of linear comparisons is one
+no_shape : (root : Box) (c : Cond) → shape_in root c ≡ shape.Linear → ¬ linear_in root c ≡ None
+unfolding pair
+no_shape root (Compare op a b) linear none =
+    by_bool (λ t. (if t then shape.Linear else shape.Other) ≡ shape.Linear → ¬ if_linear t (pair root op a b) ≡ None) (is_linear_pair root a b)
+    (λ met is. is_some_not (pair root op a b)) (λ unmet is. absurd (not_other is)) linear none
+  where
+    not_other : ¬ shape.Other ≡ shape.Linear
+    not_other is = cc
+no_shape root (Not c) linear none = cc
+no_shape root (All conds) linear none = cc
+no_shape root (Any conds) linear none = cc
+no_shape root (Implies a c) linear none = cc
+no_shape root (AllDifferent terms) linear none = cc
+no_shape root (Cumulative tasks capacity) linear none = cc
+
+pub no_linear : {A : Type 0} (root : Box) (c : Cond) (f : Difference → A) (x : A) → shape_in root c ≡ shape.Linear → linear_in root c ≡ None → option_map f (linear_in root c) ≡ Some x
+no_linear root c f x linear none = absurd (no_shape root c linear none)

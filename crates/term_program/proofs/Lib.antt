@@ -1,0 +1,6 @@
+pub mod Lists
+pub mod Weighing
+pub mod Reasons
+pub mod Goals
+pub mod Ranges
+pub mod Comparisons

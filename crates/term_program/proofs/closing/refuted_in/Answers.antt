@@ -1,0 +1,13 @@
+use Rattle.std.proofs.Common.{rules, subst, sym}
+use Rattle.box_problem.specs.Box.{Box, Inside}
+use Rattle.term_rules.specs.Shown.{IsPart, box_under}
+use Rattle.term_rules.proofs.Inner.{part_inside}
+use Rattle.term_program.specs.Programs.{root_in}
+use Rattle.term_program.proofs.closing.refuted_in.Goals as goal
+
+pub closes-requires-clause-inside : goal.closes-requires-clause-inside
+closes-requires-clause-inside c =
+    let part : IsPart (root_in c.args.program.now) c.part_of.result = search rules in
+    subst (λ (b : Box). Inside b (root_in c.args.program.now)) (sym c.replaced-changed.ensures)
+    (part_inside (root_in c.args.program.now) (box_under c.view_of.result) c.part_of.result
+    (subst (λ (b : Box). Inside b (root_in c.args.program.now)) (sym c.view_of.ensures.under) c.requires.inside) part)

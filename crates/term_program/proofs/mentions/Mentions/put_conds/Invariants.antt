@@ -1,0 +1,7 @@
+use Rattle.std.proofs.Common.{take}
+use Rattle.term_program.specs.Drafts.{draft_root, draft_things}
+use Rattle.term_program.specs.Mentions.{Gained, cond_lists}
+use Rattle.term_program.proofs.mentions.Mentions.put_conds.Given as goal
+
+abbrev pub invariant-ids : goal.invariant-ids
+invariant-ids l = Gained (cond_lists (draft_root l.draft) (draft_things l.draft)) l.fn.self l.self (take l.id-index l.ids)

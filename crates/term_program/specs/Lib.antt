@@ -1,0 +1,5 @@
+pub mod Drafts
+pub mod Mentions
+pub mod Programs
+pub mod Comparisons
+pub mod OnePoint

@@ -1,0 +1,208 @@
+//! Elements of arrays at indices that are cells, elements and conditions.
+
+ghost use Rattle.std.specs.Prelude.{◌≡◌, IfOk};
+ghost use Rattle.box_rules.specs.Laws.{IsTable};
+ghost use Rattle.term_tables.specs.Kept.{table_of};
+ghost use Rattle.term_store.specs.Stores.{IsSoundStore};
+
+use super::{compare, marked, pair};
+use box_rules::Defined;
+use sopl_base::{CmpOp, Fault, Interval};
+use std::alloc::{AllocError, Global};
+use term_store::TermStore;
+use term_tables::{Element, Table};
+
+/// A store over cells by which arrays are indexed; cell 0 is an element.
+fn indexed(alloc: Global) -> Result<TermStore, AllocError>
+    ensures sound { IfOk result (λ store. IsSoundStore store) }
+{
+    let mut roots = Vec::new(alloc);
+    for (lo, hi) in [
+        (-7, 9),
+        (1, 1),
+        (2, 2),
+        (1, 2),
+        (0, 3),
+        (3, 9),
+        (4, 9),
+        (2, 3),
+    ] {
+        if let Some(interval) = Interval::new(lo, hi) {
+            roots.push(interval)?;
+        }
+    }
+    let store = TermStore::new(alloc, roots.as_slice())?;
+    Ok(store)
+}
+
+/// The element of an array at an index.
+fn at_one(store: &mut TermStore, table: u32, index: u32) -> Result<u32, Fault>
+    requires sound { IsSoundStore store.old }
+    ensures sound { IsSoundStore store.new }
+{
+    let count = store.count();
+    if table >= count || index >= count {
+        return Err(Fault::NoMemory);
+    }
+    store.element(table, &[index])
+}
+
+/// The element of an array of two dimensions.
+fn at_two(store: &mut TermStore, table: u32, row: u32, column: u32) -> Result<u32, Fault>
+    requires sound { IsSoundStore store.old }
+    ensures sound { IsSoundStore store.new }
+{
+    let count = store.count();
+    if table >= count || row >= count || column >= count {
+        return Err(Fault::NoMemory);
+    }
+    store.element(table, &[row, column])
+}
+
+/// An array over 1 and 2, and over 2 and 3.
+#[tactic(auto, using(crate::proofs::Arrays::grid_is))]
+fn grid(alloc: Global) -> Result<Table, AllocError>
+    ensures proper { IfOk result (λ table. IsTable (table_of table)) }
+{
+    let rows = Vec::from_slice(alloc, &[1, 2])?;
+    let columns = Vec::from_slice(alloc, &[2, 3])?;
+    let mut sets = Vec::new(alloc);
+    sets.push(rows)?;
+    sets.push(columns)?;
+    let x = Element::Free(0);
+    let elements = Vec::from_slice(
+        alloc,
+        &[
+            Element::Fixed(12),
+            x,
+            Element::Fixed(22),
+            Element::Fixed(23),
+        ],
+    )?;
+    Ok(Table { sets, elements })
+}
+
+/// Whether an element has this interval and this mark over the root.
+fn seen(
+    store: &mut TermStore,
+    table: u32,
+    cell: u32,
+    hull: (i64, i64),
+    mark: Defined,
+) -> Result<bool, Fault>
+    requires sound { IsSoundStore store.old }
+    ensures sound { IsSoundStore store.new }
+{
+    let index = store.cell(cell)?;
+    let id = at_one(store, table, index)?;
+    Ok(marked(store, id, hull.0, hull.1, mark))
+}
+
+/// Elements of 10 at 1 and x at 3, at cells.
+fn at_cells(store: &mut TermStore, array: Table) -> Result<bool, Fault>
+    requires sound { IsSoundStore store.old }
+    requires proper { IsTable (table_of array) }
+    ensures sound { IsSoundStore store.new }
+{
+    let table = store.table(array)?;
+    for (cell, hull, mark) in [
+        (1, (10, 10), Defined::Always),
+        (2, (-7, 10), Defined::Never),
+        (3, (10, 10), Defined::Maybe),
+        (4, (-7, 10), Defined::Maybe),
+        (5, (-7, 9), Defined::Maybe),
+        (6, (-7, 10), Defined::Never),
+    ] {
+        if !seen(store, table, cell, hull, mark)? {
+            return Ok(false);
+        }
+    }
+    Ok(true)
+}
+
+/// Elements of two dimensions, at cells.
+fn at_pairs(store: &mut TermStore, array: Table) -> Result<bool, Fault>
+    requires sound { IsSoundStore store.old }
+    requires proper { IsTable (table_of array) }
+    ensures sound { IsSoundStore store.new }
+{
+    let table = store.table(array)?;
+    for (row, column, hull, mark) in [
+        (3, 7, (-7, 23), Defined::Always),
+        (3, 2, (12, 22), Defined::Always),
+        (2, 7, (22, 23), Defined::Always),
+        (1, 5, (-7, 9), Defined::Maybe),
+        (4, 2, (12, 22), Defined::Maybe),
+        (3, 6, (-7, 23), Defined::Never),
+    ] {
+        let first = store.cell(row)?;
+        let second = store.cell(column)?;
+        let id = at_two(store, table, first, second)?;
+        if !marked(store, id, hull.0, hull.1, mark) {
+            return Ok(false);
+        }
+    }
+    Ok(true)
+}
+
+/// Elements of 10 at 1 and x at 3, at elements of 3 at 1 and 1 at 3.
+fn at_elements(store: &mut TermStore, array: Table, inner: Table) -> Result<bool, Fault>
+    requires sound { IsSoundStore store.old }
+    requires proper { IsTable (table_of array) }
+    requires inner { IsTable (table_of inner) }
+    ensures sound { IsSoundStore store.new }
+{
+    let outer = store.table(array)?;
+    let inner = store.table(inner)?;
+    for (cell, hull, mark) in [
+        (1, (-7, 9), Defined::Always),
+        (2, (-7, 10), Defined::Never),
+        (3, (-7, 9), Defined::Maybe),
+        (4, (-7, 10), Defined::Maybe),
+    ] {
+        let index = store.cell(cell)?;
+        let element = at_one(store, inner, index)?;
+        let id = at_one(store, outer, element)?;
+        if !marked(store, id, hull.0, hull.1, mark) {
+            return Ok(false);
+        }
+    }
+    Ok(true)
+}
+
+/// The element at whether two cells are the same, as a number.
+fn at_condition(store: &mut TermStore, array: Table) -> Result<bool, Fault>
+    requires sound { IsSoundStore store.old }
+    requires proper { IsTable (table_of array) }
+    ensures sound { IsSoundStore store.new }
+{
+    let table = store.table(array)?;
+    let a = store.cell(2)?;
+    let b = store.cell(3)?;
+    let same = compare(store, CmpOp::Eq, a, b)?;
+    if same >= store.count() {
+        return Err(Fault::NoMemory);
+    }
+    let number = store.number(same)?;
+    let id = at_one(store, table, number)?;
+    Ok(marked(store, id, 10, 10, Defined::Maybe))
+}
+
+#[test]
+fn elements_at_cells(rt: HostRuntime) {
+    let mut store = indexed(rt.alloc()).expect(&rt, "memory");
+    let array = pair(rt.alloc(), Element::Fixed(10), Element::Free(0)).expect(&rt, "memory");
+    assert_eq!(rt; at_cells(&mut store, array), Ok(true));
+    let array = grid(rt.alloc()).expect(&rt, "memory");
+    assert_eq!(rt; at_pairs(&mut store, array), Ok(true));
+}
+
+#[test]
+fn elements_at_terms(rt: HostRuntime) {
+    let mut store = indexed(rt.alloc()).expect(&rt, "memory");
+    let array = pair(rt.alloc(), Element::Fixed(10), Element::Free(0)).expect(&rt, "memory");
+    let inner = pair(rt.alloc(), Element::Fixed(3), Element::Fixed(1)).expect(&rt, "memory");
+    assert_eq!(rt; at_elements(&mut store, array, inner), Ok(true));
+    let array = pair(rt.alloc(), Element::Fixed(10), Element::Free(0)).expect(&rt, "memory");
+    assert_eq!(rt; at_condition(&mut store, array), Ok(true));
+}
