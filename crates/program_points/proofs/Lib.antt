@@ -1,0 +1,7 @@
+pub mod PointBoxes
+pub mod Loops
+pub mod Reasons
+pub mod Verdicts
+pub mod Roots
+pub mod Growing
+pub mod Judging
