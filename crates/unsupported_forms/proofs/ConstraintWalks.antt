@@ -1,0 +1,39 @@
+-- Walks over constraints.
+use Rattle.std.proofs.Common.{◌≡◌, refl, ℕ, zero, suc, ◌+◌, ◌<◌, ◌≤◌, List, [], ◌∷◌, arith, map, length, get_or, drop, append-nil, Option}
+use Rattle.std.proofs.lemmas.Grind.{flat_map-append}
+use Rattle.sopl_ast.specs.declared.constraints.Cons.{Cons}
+use Rattle.sopl_ast.specs.Constraints.{cons_tree}
+use Rattle.sopl_ast.specs.Tree.{Tree}
+use Rattle.sopl_ast.specs.Unfolding.{conditions_of, all_conditions}
+use Rattle.sopl_ast.specs.Whole.{conses}
+use Rattle.unsupported_forms.specs.Forms.{places, places_in, lesser, least_of}
+use Rattle.unsupported_forms.specs.Weights.{weight_cons, weight_conses}
+use Rattle.unsupported_forms.proofs.Minimum.{lesser_none}
+use Rattle.unsupported_forms.proofs.Walks.{walk_more, walk_end}
+
+-- a constraint weighs less than its list
+pub weight-constraint : (xs : List Cons) (i : ℕ) (d : Cons) → i < length xs → weight_cons (cons_tree (get_or xs i d)) < weight_conses (conses (map cons_tree xs))
+weight-constraint [] i d h = absurd (omega arith)
+weight-constraint (x ∷ xs) zero d h = omega arith
+weight-constraint (x ∷ xs) (suc i) d h = omega (arith, weight-constraint xs i d (omega arith))
+
+-- the places in a single expression
+pub in_one : (decisions : List (List ℕ)) (e : Tree) → places_in decisions (e ∷ []) ≡ places decisions e
+in_one decisions e = append-nil (places decisions e)
+
+-- the places in the conditions of constraints
+abbrev in_conditions : List (List ℕ) → List Cons → List ℕ
+in_conditions decisions xs = places_in decisions (all_conditions (conses (map cons_tree xs)))
+
+module _ (decisions : List (List ℕ)) (first : Option ℕ) (xs : List Cons) (i : ℕ) where
+  pub constraints_more : (x : Cons) → i < length xs → x ≡ get_or xs i x →
+      lesser (lesser first (least_of (places_in decisions (conditions_of (cons_tree x))))) (least_of (places_in decisions (all_conditions (conses (map cons_tree (drop (i + 1) xs))))))
+      ≡ lesser first (least_of (places_in decisions (all_conditions (conses (map cons_tree (drop i xs))))))
+  constraints_more x below at =
+      walk_more (in_conditions decisions) first xs i (places_in decisions (conditions_of (cons_tree x))) x below at
+      (flat_map-append (places decisions) (conditions_of (cons_tree x)) (all_conditions (conses (map cons_tree (drop (i + 1) xs)))))
+
+  pub constraints_end : length xs ≤ i → lesser first (least_of (places_in decisions (all_conditions (conses (map cons_tree (drop i xs)))))) ≡ first
+  constraints_end past = walk_end (in_conditions decisions) first xs i refl past
+
+pub ruleset constraint_walks = (weight-constraint, lesser_none, in_one, constraints_more, constraints_end)
