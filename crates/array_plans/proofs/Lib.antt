@@ -1,0 +1,4 @@
+pub mod Planned
+mod Noting
+mod Ordering
+mod Columns

@@ -1,0 +1,166 @@
+-- What binders give, where their ranges pass.
+use Rattle.std.proofs.Common.{◌≡◌, refl, sym, ap, ap₂, subst, ◌∙◌, ℕ, ◌-◌, ◌≤◌, ℤ, length, take, drop, get_or, arith, List, [], ◌∷◌, ◌++◌, Option, Some, None, is_some, T, option_map, option_and_then}
+use Rattle.std.proofs.Math.Seq.{take-length}
+use Rattle.std.proofs.lemmas.List.{append_assoc, append-nil}
+use Rattle.std.specs.List.{flat_map, AllByRecursion}
+use Rattle.std.specs.Option.{unwrap_or}
+use Rattle.sopl_ast.specs.Tree.{Range, Named, Ends, Binders, no_binder, binder, place_of}
+use Rattle.sopl_ast.specs.Lists.{BinderTree, binders}
+use Rattle.sopl_ast.specs.Numbers.{both_of, all_of, joined, up_to, count_between}
+use Rattle.sopl_ast.specs.Known.{Known, with_bound}
+use Rattle.sopl_ast.specs.Constants.{value_or_zero, bindings, all_bindings, numbers_of, numbers_in}
+use Rattle.sopl_ast.specs.Occurrences.{Occurrence, Counted, too_many, constant_occurrences, range_occurrences, binding_occurrences}
+use Rattle.unfold_laws.specs.Passing.{Passes}
+use Rattle.unfold_laws.proofs.Passing.{parts_pass, passes_counted, each_passes, value_given}
+use Rattle.unfold_laws.proofs.Declared.{all_append}
+use Rattle.binder_places.specs.Walked.{AreMet, RangesPass, BodiesPass}
+
+-- what is there is what stands in place of nothing
+there : {A : Type 0} (o : Option A) (x d : A) → o ≡ Some x → o ≡ Some (unwrap_or o d)
+there o x d is = is ∙ ap Some (sym (ap (λ p. unwrap_or p d) is))
+
+-- a range has its numbers
+pub range_there : (known : Known) (whole : Option ℕ) (range : Range) → Passes (range_occurrences known whole range)
+    → numbers_of known range ≡ Some (numbers_in known range)
+range_there known whole (Named name at) is = refl
+range_there known whole (Ends lo hi) is =
+    let least = unwrap_or whole (place_of lo) in
+    let greatest = unwrap_or whole (place_of hi) in
+    let first = parts_pass (constant_occurrences known least lo)
+    (constant_occurrences known greatest hi ++ too_many 208 (count_between (value_or_zero known lo) (value_or_zero known hi))) is in
+    let second = parts_pass (constant_occurrences known greatest hi) (too_many 208 (count_between (value_or_zero known lo) (value_or_zero known hi))) first.1 in
+    let a = value_given known least lo first.0 in
+    let b = value_given known greatest hi second.0 in
+    there (numbers_of known (Ends lo hi)) (up_to a.0 b.0) [] (λ i. both_of up_to (a.1 i) (b.1 i))
+
+-- what follows of each
+pub each_of : {A : Type 0} (P Q : A → Type 0) → ((x : A) → P x → Q x) → (xs : List A) → AllByRecursion P xs → AllByRecursion Q xs
+each_of P Q so [] all = tt
+each_of P Q so (x ∷ xs) all = (so x all.0, each_of P Q so xs all.1)
+
+-- what holds of each part of each
+each_joined : {A B : Type 0} (P : B → Type 0) (f : A → List B) (xs : List A) → AllByRecursion (λ x. AllByRecursion P (f x)) xs → AllByRecursion P (flat_map f xs)
+each_joined P f [] all = tt
+each_joined P f (x ∷ xs) all = all_append P (f x) (flat_map f xs) all.0 (each_joined P f xs all.1)
+
+-- one list before others, each of them there
+one_there : (o : Option (List Known)) (x : List Known) (p : Option (List (List Known))) (xs : List Known) → o ≡ Some x → option_map joined p ≡ Some xs
+    → option_map joined (both_of (λ y ys. y ∷ ys) o p) ≡ Some (x ++ xs)
+one_there o x None xs is more = absurd (subst (λ q. T (is_some q)) (sym more) tt)
+one_there o x (Some lists) xs is more =
+    ap (λ q. option_map joined (both_of (λ y ys. y ∷ ys) q (Some lists))) is ∙ ap (option_map (λ l. x ++ l)) more
+
+-- lists that are all there, one behind the other
+all_there : (f : ℤ → Option (List Known)) (g : ℤ → List Known) (ns : List ℤ) → AllByRecursion (λ n. f n ≡ Some (g n)) ns
+    → option_map joined (all_of f ns) ≡ Some (flat_map g ns)
+all_there f g [] all = refl
+all_there f g (n ∷ ns) all = one_there (f n) (g n) (all_of f ns) (flat_map g ns) all.0 (all_there f g ns all.1)
+
+-- the places at each of some numbers of a name
+abbrev pub places_at : Known → List ℕ → Binders → List ℤ → List Known
+places_at known name more ns = flat_map (λ n. all_bindings (with_bound name n known) more) ns
+
+-- the ranges of the binders that follow pass at each of some numbers of a name
+abbrev pub AreMetAt : Known → Option ℕ → List ℕ → Binders → List ℤ → Type 0
+AreMetAt known whole name more ns = AllByRecursion (λ number. AreMet (with_bound name number known) whole more) ns
+
+module _ (known : Known) (whole : Option ℕ) (name : List ℕ) (at : ℕ) (range : Range) (more : Binders) where
+  -- the places of a binder, where those that follow it have theirs
+  step_there : Passes (range_occurrences known whole range)
+      → AllByRecursion (λ n. bindings (with_bound name n known) more ≡ Some (all_bindings (with_bound name n known) more)) (numbers_in known range)
+      → bindings known (binder name at range more) ≡ Some (places_at known name more (numbers_in known range))
+  step_there passes each =
+      (λ i. option_and_then (λ numbers. option_map joined (all_of (λ number. bindings (with_bound name number known) more) numbers)) (range_there known whole range passes i))
+      ∙ all_there (λ n. bindings (with_bound name n known) more) (λ n. all_bindings (with_bound name n known) more) (numbers_in known range) each
+
+-- all places are there
+places_there : (bs : Binders) (known : Known) (whole : Option ℕ) → AreMet known whole bs → bindings known bs ≡ Some (all_bindings known bs)
+places_there no_binder known whole are = refl
+places_there (binder name at range more) known whole are =
+    there (bindings known (binder name at range more)) (places_at known name more (numbers_in known range)) []
+    (step_there known whole name at range more are.0
+    (each_of (λ n. AreMet (with_bound name n known) whole more) (λ n. bindings (with_bound name n known) more ≡ Some (all_bindings (with_bound name n known) more))
+    (λ n met. places_there more (with_bound name n known) whole met) (numbers_in known range) are.1))
+
+-- the places of a binder are those of each of its numbers
+pub places_step : (known : Known) (whole : Option ℕ) (name : List ℕ) (at : ℕ) (range : Range) (more : Binders) → AreMet known whole (binder name at range more)
+    → all_bindings known (binder name at range more) ≡ places_at known name more (numbers_in known range)
+places_step known whole name at range more are =
+    ap (λ o. unwrap_or o [])
+    (step_there known whole name at range more are.0
+    (each_of (λ n. AreMet (with_bound name n known) whole more) (λ n. bindings (with_bound name n known) more ≡ Some (all_bindings (with_bound name n known) more))
+    (λ n met. places_there more (with_bound name n known) whole met) (numbers_in known range) are.1))
+
+pub ranges_pass : RangesPass
+ranges_pass no_binder known whole each is = tt
+ranges_pass (binder name at range more) known whole each is =
+    let both = parts_pass (range_occurrences known whole range)
+    (flat_map (λ number. Counted ∷ binding_occurrences (with_bound name number known) whole more each) (numbers_in known range)) is in (
+      both.0,
+      each_of (λ n. Passes (Counted ∷ binding_occurrences (with_bound name n known) whole more each)) (λ n. AreMet (with_bound name n known) whole more)
+          (λ n counted. ranges_pass more (with_bound name n known) whole each (passes_counted (binding_occurrences (with_bound name n known) whole more each) counted))
+          (numbers_in known range)
+          (each_passes (λ number. Counted ∷ binding_occurrences (with_bound name number known) whole more each) (numbers_in known range) both.1),
+    )
+
+pub bodies_pass : BodiesPass
+bodies_pass no_binder known whole each is = (is, tt)
+bodies_pass (binder name at range more) known whole each is =
+    let both = parts_pass (range_occurrences known whole range)
+    (flat_map (λ number. Counted ∷ binding_occurrences (with_bound name number known) whole more each) (numbers_in known range)) is in
+    subst (λ list. AllByRecursion (λ here. Passes (each here)) list)
+    (sym (places_step known whole name at range more (ranges_pass (binder name at range more) known whole each is)))
+    (each_joined (λ here. Passes (each here)) (λ n. all_bindings (with_bound name n known) more) (numbers_in known range)
+    (each_of (λ n. Passes (Counted ∷ binding_occurrences (with_bound name n known) whole more each))
+    (λ n. AllByRecursion (λ here. Passes (each here)) (all_bindings (with_bound name n known) more))
+    (λ n counted. bodies_pass more (with_bound name n known) whole each (passes_counted (binding_occurrences (with_bound name n known) whole more each) counted))
+    (numbers_in known range)
+    (each_passes (λ number. Counted ∷ binding_occurrences (with_bound name number known) whole more each) (numbers_in known range) both.1)))
+
+-- what is left to be added, where these places are found: those of each number that is left, whose binders pass
+pub record IsLeft (known : Known) (whole : Option ℕ) (name : List ℕ) (more : Binders) (left : List ℤ) (found all : List Known) : Type 0 where
+  pub met : AreMetAt known whole name more left
+  pub places : found ++ places_at known name more left ≡ all
+
+-- at first, all numbers are left
+pub left_first : (known : Known) (whole : Option ℕ) (name : List ℕ) (at : ℕ) (range : Range) (more bs : Binders) (left : List ℤ) (found : List Known)
+    → bs ≡ binder name at range more → AreMet known whole bs → left ≡ numbers_in known range
+    → IsLeft known whole name more left found (found ++ all_bindings known bs)
+left_first known whole name at range more bs left found same are is =
+    let met : AreMet known whole (binder name at range more) = subst (AreMet known whole) same are in
+    record {
+      met = subst (AreMetAt known whole name more) (sym is) met.1;
+      places = ap (λ l. found ++ places_at known name more l) is
+          ∙ ap (λ l. found ++ l) (sym (ap (all_bindings known) same ∙ places_step known whole name at range more met));
+    }
+
+-- the first binder, and those that follow it
+pub first_binder : (over : List BinderTree) (b d : BinderTree) → 1 ≤ length over → b ≡ get_or over 0 d
+    → binders over ≡ binder b.name b.at b.range (binders (take (length over - 1) (drop 1 over)))
+first_binder [] b d one is = absurd (omega (arith, one))
+first_binder (x ∷ xs) b d one is =
+    let few : length xs ≡ length (x ∷ xs) - 1 = omega arith in
+    ap₂ (λ (y : BinderTree) ys. binder y.name y.at y.range (binders ys)) (sym is) (sym (subst (λ n. take n xs ≡ xs) few (take-length xs)))
+
+module _ (known : Known) (whole : Option ℕ) (name : List ℕ) (more : Binders) (left : List ℤ) (found all : List Known) where
+  -- the binders that follow pass at the first number
+  pub left_met : (n : ℤ) (ns : List ℤ) → left ≡ n ∷ ns → IsLeft known whole name more left found all → AreMet (with_bound name n known) whole more
+  left_met n ns is l = (subst (AreMetAt known whole name more) is l.met).0
+
+  -- the places of the first number are added
+  pub left_more : (n : ℤ) (ns : List ℤ) (here : Known) (later : List Known) → left ≡ n ∷ ns → here ≡ with_bound name n known
+      → later ≡ found ++ all_bindings here more → IsLeft known whole name more left found all → IsLeft known whole name more ns later all
+  left_more n ns here later is at added l =
+      record {
+        met = (subst (AreMetAt known whole name more) is l.met).1;
+        places = ap (λ f. f ++ places_at known name more ns) (added ∙ ap (λ k. found ++ all_bindings k more) at)
+            ∙ append_assoc found (all_bindings (with_bound name n known) more) (places_at known name more ns)
+            ∙ ap (λ rest. found ++ places_at known name more rest) (sym is)
+            ∙ l.places;
+      }
+
+  -- no number is left
+  pub left_none : left ≡ [] → IsLeft known whole name more left found all → found ≡ all
+  left_none is l = sym (ap (λ rest. found ++ places_at known name more rest) is ∙ append-nil found) ∙ l.places
+
+pub ruleset binding = (left_met, left_none)

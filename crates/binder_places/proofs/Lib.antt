@@ -1,0 +1,4 @@
+pub mod Passed
+pub mod Copied
+pub mod Binding
+pub mod Walking

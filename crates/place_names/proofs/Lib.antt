@@ -1,0 +1,5 @@
+mod Grouping
+mod TreePlaces
+mod Listing
+mod Labels
+mod Planning

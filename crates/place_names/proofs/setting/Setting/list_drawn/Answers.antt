@@ -1,0 +1,22 @@
+use Rattle.std.proofs.Common.{rules, ◌≤◌, ◌<◌, sym, ap, ◌∙◌, ◌++◌, map, length}
+use Rattle.place_names.specs.Variables.{drawn_entry, drawn_name, entry_from}
+use Rattle.place_names.proofs.Listing.{seen_are, listed_end, number_exists}
+use Rattle.place_names.proofs.setting.Setting.list_drawn.Goals as goal
+
+pub drawn_source-requires : goal.drawn_source-requires
+drawn_source-requires c =
+    let within : c.numbers.number-index < length c.numbers-numbers.result.now = search rules in
+    record {
+      exists =
+          number_exists drawn_name c.args.self.now.stochs.now c.args.name.now c.numbers-numbers.result.now c.numbers.number-index
+          (c.numbers-numbers.ensures (map drawn_name c.args.self.now.stochs.now) c.args.self.now.drawn_named) within;
+    }
+
+pub returns : goal.returns
+returns c tree i =
+    let past : length c.numbers-numbers.result.now ≤ c.numbers.number-index = search rules in
+    sym (listed_end (drawn_entry c.args.self.now.stochs.now) c.numbers-numbers.result.now c.numbers.number-index c.numbers.found.items past tree i)
+    ∙ c.numbers.invariant tree i
+    ∙ ap (λ l. map (entry_from tree i) c.args.found.now.items ++ l)
+    (ap (map (drawn_entry c.args.self.now.stochs.now tree i)) (c.numbers-numbers.ensures (map drawn_name c.args.self.now.stochs.now) c.args.self.now.drawn_named)
+    ∙ sym (seen_are c.args.name.now c.args.self.now.stochs.now tree i))
