@@ -2,21 +2,7 @@
 #![tactic(auto)]
 
 #[cfg(test)]
-mod expression_texts;
-#[cfg(test)]
-mod grammar_tests;
-#[cfg(test)]
-mod kind_tests;
-#[cfg(test)]
-mod model_texts;
-#[cfg(test)]
-mod nesting_texts;
-#[cfg(test)]
-mod printed;
-#[cfg(test)]
 mod tests;
-#[cfg(test)]
-mod unfold_tests;
 
 ghost use Rattle.std.specs.Prelude.{◌≡◌};
 ghost use Rattle.sopl_io.specs.Files.{standard_output, not_begun};

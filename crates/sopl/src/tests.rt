@@ -2,13 +2,10 @@
 
 ghost use Rattle.std.specs.Prelude.{None};
 
-use sopl_ast::Name;
-use sopl_base::{Reason, Side, Step, Steps};
 use sopl_io::{
     Failed, FileSink, FileSource, MemSink, MemSource, Sink, Source, read_all, write_all,
 };
 use sopl_run::{Status, Word, Words, run};
-use sopl_unfold::{Env, Index};
 use std::alloc::{AllocError, Global};
 use std::process::Abort;
 use std::test::Fail;
@@ -373,40 +370,6 @@ fn one_byte_at_a_time(rt: HostRuntime) -> Result<(), Fail> {
     assert_eq!(rt; ended, Status::Done);
     assert_eq!(rt; answer.taken.as_slice(), ORDER_ANSWER.as_bytes());
     assert_eq!(rt; log.taken.len(), 0);
-    Ok(())
-}
-
-/// What the lists hold that no command fills yet.
-#[test]
-fn names_and_indices(rt: HostRuntime) -> Result<(), Fail> {
-    let alloc = rt.alloc();
-    let mut name = Name::new(alloc);
-    let mut index = Index::new(alloc);
-    for (byte, number) in [(b'd', 3), (b'2', -5)] {
-        name.push(byte)?;
-        index.push(number)?;
-    }
-    assert_eq!(rt; name.as_slice(), b"d2".as_slice());
-    assert_eq!(rt; index.as_slice(), [3, -5].as_slice());
-    let mut env = Env::new(alloc);
-    env.push((name, 4))?;
-    assert_eq!(rt; env.as_slice().len(), 1);
-    Ok(())
-}
-
-#[test]
-fn steps_in_order(rt: HostRuntime) -> Result<(), Fail> {
-    let mut steps = Steps::new(rt.alloc());
-    for (cell, side, k) in [(0, Side::Le, 3), (7, Side::Ge, -1)] {
-        steps.push(Step {
-            reason: Reason::Bound,
-            cell,
-            side,
-            k,
-        })?;
-    }
-    assert_eq!(rt; steps.as_slice().len(), 2);
-    assert_eq!(rt; steps.as_slice()[1].cell, 7);
     Ok(())
 }
 

@@ -5,13 +5,13 @@ use Rattle.std.specs.Io.KnownBytes.{Keeps, Appends}
 use Rattle.sopl_io.specs.Causes.{Rose}
 use Rattle.sopl_io.specs.Stock.{Stock, text_of}
 use Rattle.sopl_io.specs.Transfer.{AppendsPrefix}
+use Rattle.text_replies.specs.Replies.{Ends}
+use Rattle.text_replies.specs.declared.command.Command.{Command}
+use Rattle.text_replies.specs.declared.status.Status.{Status}
+use Rattle.text_replies.specs.declared.status.Status.TheVariants.{Usage, ReadFault, WriteFault, NoMemory}
+use Rattle.text_replies.proofs.Ends.{end_status, ends_once, reply_ends as text_reply_ends}
 use Rattle.sopl_run.specs.Words.{Request, request_of}
-use Rattle.sopl_run.specs.Replies.{Asked, asked_in, IsModelText, Ends, solved, shown, refused_text, not_solved, limited_text, IsReply, optimal, infeasible, scenes, refused, not_yet, limited, usage, read_fault, Answers, whole, front, nothing, EndedEarly, EndsSo, EndsWhen}
-use Rattle.sopl_run.specs.declared.command.Command.{Command}
-use Rattle.sopl_run.specs.declared.command.Command.TheVariants.{Solve, Tree}
-use Rattle.sopl_run.specs.declared.status.Status.{Status}
-use Rattle.sopl_run.specs.declared.status.Status.TheVariants.{Done, Usage, Refused, Limit, ReadFault, WriteFault, NoMemory}
-use Rattle.sopl_run.proofs.Ends.{IsEnd, end_status, ends_once}
+use Rattle.sopl_run.specs.Replies.{Asked, asked_in, IsModelText, IsReply, replied, usage, read_fault, Answers, whole, front, nothing, EndedEarly, EndsSo, EndsWhen}
 
 -- a run that ended early says nothing of the text
 early_so : (asked : Option Asked) (status : Status) → EndedEarly status → EndsSo asked status
@@ -98,12 +98,7 @@ module _ (words : List (List ℕ)) (stock : Option Stock) (before now : ℕ) whe
 
   -- each reply tells
   reply_tells : (status : Status) (line : List ℕ) → IsReply words stock before now status line → Tells words stock before now status
-  reply_tells status line (optimal text problem policy value is simple best) = text_tells Solve text Done is (solved problem simple)
-  reply_tells status line (infeasible text problem is simple none) = text_tells Solve text Done is (solved problem simple)
-  reply_tells status line (scenes text problem is accepted) = text_tells Tree text Done is (shown problem accepted)
-  reply_tells status line (refused command text refusal is reason) = text_tells command text Refused is (refused_text command refusal reason)
-  reply_tells status line (not_yet text problem is larger) = text_tells Solve text Refused is (not_solved problem larger)
-  reply_tells status line (limited command text excess is over) = text_tells command text Limit is (limited_text command excess over)
+  reply_tells status line (replied command text s l is reply) = text_tells command text s is (text_reply_ends text command s l reply)
   reply_tells status line (usage none) = usage_tells none
   reply_tells status line (read_fault named rose) = fault_tells named rose
 

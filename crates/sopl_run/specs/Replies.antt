@@ -1,25 +1,15 @@
 -- Which reply goes with which words and why, and what a sink took of it.
-use Rattle.std.specs.Prelude.{◌≡◌, ◌⊎◌, ℕ, ℤ, pos, codes, List, Option, Some, None, IsSome, IfSome, option_map, option_and_then}
+use Rattle.std.specs.Prelude.{◌≡◌, ◌⊎◌, ℕ, codes, List, Option, Some, None, IsSome, IfSome, option_map, option_and_then}
 use Rattle.std.specs.Io.KnownBytes.{Keeps, Appends}
 use Rattle.sopl_io.specs.Causes.{Rose}
 use Rattle.sopl_io.specs.Stock.{Stock, text_of, with_name}
 use Rattle.sopl_io.specs.Transfer.{AppendsPrefix}
-use Rattle.sopl_base.specs.declared.places.Excess.{Excess}
-use Rattle.sopl_base.specs.declared.places.Refusal.{Refusal}
-use Rattle.sopl_ast.specs.Accepted.{AcceptedText, IsRefusedFor}
-use Rattle.sopl_ast.specs.Instances.{Problem}
-use Rattle.sopl_ast.specs.Limits.{usual_limits}
-use Rattle.sopl_ast.specs.Policies.{Policy}
-use Rattle.sopl_ast.specs.Optimal.{IsOptimal, IsInfeasible}
-use Rattle.tree_json.specs.Answer.{tree_data}
-use Rattle.text_problem.specs.Faults.{IsLimitedToday}
-use Rattle.text_problem.specs.Simple.{SimpleText, IsNotYet}
-use Rattle.sopl_run.specs.Words.{Request, model_of, request_of}
-use Rattle.sopl_run.specs.Answers.{word_data, refused_data, limit_data, optimal_data, line_of}
-use Rattle.sopl_run.specs.declared.command.Command.{Command}
-use Rattle.sopl_run.specs.declared.command.Command.TheVariants.{Solve, Tree}
-use Rattle.sopl_run.specs.declared.status.Status.{Status}
-use Rattle.sopl_run.specs.declared.status.Status.TheVariants.{Done, Usage, Refused, Limit, ReadFault, WriteFault, NoMemory}
+use Rattle.text_replies.specs.Answers.{word_data, line_of}
+use Rattle.text_replies.specs.Replies.{Ends, IsTextReply}
+use Rattle.text_replies.specs.declared.command.Command.{Command}
+use Rattle.text_replies.specs.declared.status.Status.{Status}
+use Rattle.text_replies.specs.declared.status.Status.TheVariants.{Usage, ReadFault, WriteFault, NoMemory}
+use Rattle.sopl_run.specs.Words.{Request, request_of}
 
 -- the words ask for the command on a file, and this is the file's text: the one that the source's stock gives for it, where the stock is told
 pub record IsModelText (command : Command) (words : List (List ℕ)) (stock : Option Stock) (text : List ℕ) : Type 0 where
@@ -28,39 +18,11 @@ pub record IsModelText (command : Command) (words : List (List ℕ)) (stock : Op
   pub commanded : request.command ≡ command
   pub given : IfSome stock (λ s. text ≡ text_of s request.model)
 
--- how a command ends on a text, where nothing fails
-pub data Ends (text : List ℕ) : Command → Status → Type 0 where
-  -- the text is accepted and of a form that is solved today
-  solved : (problem : Problem) → SimpleText text problem → Ends text Solve Done
-  -- the text is accepted
-  shown : (problem : Problem) → AcceptedText usual_limits text problem → Ends text Tree Done
-  -- the text breaks a rule
-  refused_text : (command : Command) (refusal : Refusal) → IsRefusedFor text refusal → Ends text command Refused
-  -- the text is accepted and of a form that is not solved yet
-  not_solved : (problem : Problem) → IsNotYet text problem → Ends text Solve Refused
-  -- the text passes a limit
-  limited_text : (command : Command) (excess : Excess) → IsLimitedToday text excess → Ends text command Limit
-
 -- a reply to the words: the status that it ends with, its line, and why it comes; the stock is the source's, and the counts are those of its faults
 pub data IsReply (words : List (List ℕ)) (stock : Option Stock) (before now : ℕ) : Status → List ℕ → Type 0 where
-  -- the text states a problem, and this policy of it is optimal and has this value
-  optimal : (text : List ℕ) (problem : Problem) (policy : Policy) (value : ℤ) → IsModelText Solve words stock text → SimpleText text problem
-      → IsOptimal problem policy value → IsReply words stock before now Done (line_of (optimal_data problem policy value))
-  -- the text states a problem, and no policy of it satisfies
-  infeasible : (text : List ℕ) (problem : Problem) → IsModelText Solve words stock text → SimpleText text problem → IsInfeasible problem
-      → IsReply words stock before now Done (line_of (word_data (codes "infeasible")))
-  -- the text states a problem with these scenarios
-  scenes : (text : List ℕ) (problem : Problem) → IsModelText Tree words stock text → AcceptedText usual_limits text problem
-      → IsReply words stock before now Done (line_of (tree_data problem.decisions problem.stochastics))
-  -- the text is refused by this code at this place
-  refused : (command : Command) (text : List ℕ) (refusal : Refusal) → IsModelText command words stock text → IsRefusedFor text refusal
-      → IsReply words stock before now Refused (line_of (refused_data (pos refusal.at) (pos refusal.code)))
-  -- the text is accepted, but of a form that is not solved yet: 117 at 0
-  not_yet : (text : List ℕ) (problem : Problem) → IsModelText Solve words stock text → IsNotYet text problem
-      → IsReply words stock before now Refused (line_of (refused_data (pos 0) (pos 117)))
-  -- the text passes this limit
-  limited : (command : Command) (text : List ℕ) (excess : Excess) → IsModelText command words stock text → IsLimitedToday text excess
-      → IsReply words stock before now Limit (line_of (limit_data excess))
+  -- a reply to the command on the text of the file that the words name
+  replied : (command : Command) (text : List ℕ) (status : Status) (line : List ℕ) → IsModelText command words stock text
+      → IsTextReply text command status line → IsReply words stock before now status line
   -- the words are not of the form
   usage : request_of words ≡ None → IsReply words stock before now Usage (line_of (word_data (codes "usage")))
   -- the words name a file, and the source failed

@@ -1,8 +1,8 @@
 -- The words of the command line, after the program's name.
 use Rattle.std.specs.Prelude.{ℕ, Bool, false, not, nat_eq, codes, List, [], ◌∷◌, Option, Some, None, option_map, if◌then◌else◌}
 use Rattle.std.specs.Str.{bytes_eq}
-use Rattle.sopl_run.specs.declared.command.Command.{Command}
-use Rattle.sopl_run.specs.declared.command.Command.TheVariants.{Solve, Tree}
+use Rattle.text_replies.specs.declared.command.Command.{Command}
+use Rattle.text_replies.specs.declared.command.Command.TheVariants.{Solve, Tree}
 
 -- a command, and the file of the model that it works on
 pub record Request : Type 0 where

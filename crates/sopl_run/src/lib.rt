@@ -1,15 +1,11 @@
-//! The top call: words of the command line, a source and two sinks in, one answer line and a status out.
+//! The top call: the words of the command line, a source and two sinks in, one answer line and a status out.
+//!
+//! `run` reads the words and the text of the model; what the command is answered on that text is the reply of `text_replies`.
 #![tactic(auto)]
 
-mod answer;
-mod command;
-mod lines;
-mod reply;
-mod solve;
-mod status;
 mod top;
 mod words;
 
-pub use status::Status;
+pub use text_replies::Status;
 pub use top::run;
 pub use words::{Word, Words};

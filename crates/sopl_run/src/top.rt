@@ -6,13 +6,10 @@ ghost use Rattle.sopl_io.specs.Causes.{Rose};
 ghost use Rattle.sopl_run.specs.Words.{model_of, request_of};
 ghost use Rattle.sopl_run.specs.Replies.{asked_in, IsReply, Answers, EndsSo, EndsWhen, begun_names, IsUntouched};
 
-use crate::answer::reply_to;
-use crate::lines::word_line;
-use crate::reply::Reply;
-use crate::status::Status;
 use crate::words::{Words, asked};
 use sopl_io::{ReadStop, Sink, Source, read_all, write_all};
 use std::alloc::{AllocError, Global};
+use text_replies::{Reply, Status, reply_to, word_line};
 
 /// The bytes of a model text that are read at most: one more than a text may have.
 const MOST_READ: usize = 1_048_577;

@@ -4,9 +4,9 @@ ghost use Rattle.std.specs.Prelude.{◌≡◌, [], ◌∷◌, ◌++◌, OnOk, On
 ghost use Rattle.sopl_run.specs.Words.{request_of, command_named as named, is_file_word as is_file_word_of};
 ghost use Rattle.sopl_run.specs.Shown.{request_shown};
 
-use crate::command::Command;
 use std::alloc::{AllocError, Global};
 use std::marker::Model;
+use text_replies::Command;
 
 /// A word of the command line.
 #[derive(Debug, Drop)]

@@ -1,0 +1,4 @@
+pub mod Best
+pub mod Answered
+pub mod Grounds
+pub mod Ends

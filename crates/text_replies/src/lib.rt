@@ -1,0 +1,18 @@
+//! What a command on a text is answered: a status, and a line of JSON.
+//!
+//! `reply_to` takes the command and the bytes of the text. What the words of the command line ask for, and what a run reads
+//! and writes, is said by `sopl_run` above.
+#![tactic(auto)]
+
+mod answer;
+mod command;
+mod lines;
+mod reply;
+mod solve;
+mod status;
+
+pub use answer::reply_to;
+pub use command::Command;
+pub use lines::word_line;
+pub use reply::Reply;
+pub use status::Status;

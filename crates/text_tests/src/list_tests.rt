@@ -1,0 +1,39 @@
+//! What the lists hold that no text fills yet.
+
+use sopl_ast::Name;
+use sopl_base::{Reason, Side, Step, Steps};
+use sopl_unfold::{Env, Index};
+use std::test::Fail;
+
+#[test]
+fn names_and_indices(rt: HostRuntime) -> Result<(), Fail> {
+    let alloc = rt.alloc();
+    let mut name = Name::new(alloc);
+    let mut index = Index::new(alloc);
+    for (byte, number) in [(b'd', 3), (b'2', -5)] {
+        name.push(byte)?;
+        index.push(number)?;
+    }
+    assert_eq!(rt; name.as_slice(), b"d2".as_slice());
+    assert_eq!(rt; index.as_slice(), [3, -5].as_slice());
+    let mut env = Env::new(alloc);
+    env.push((name, 4))?;
+    assert_eq!(rt; env.as_slice().len(), 1);
+    Ok(())
+}
+
+#[test]
+fn steps_in_order(rt: HostRuntime) -> Result<(), Fail> {
+    let mut steps = Steps::new(rt.alloc());
+    for (cell, side, k) in [(0, Side::Le, 3), (7, Side::Ge, -1)] {
+        steps.push(Step {
+            reason: Reason::Bound,
+            cell,
+            side,
+            k,
+        })?;
+    }
+    assert_eq!(rt; steps.as_slice().len(), 2);
+    assert_eq!(rt; steps.as_slice()[1].cell, 7);
+    Ok(())
+}
