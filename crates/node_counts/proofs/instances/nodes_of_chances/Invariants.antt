@@ -1,0 +1,15 @@
+-- The constraints that are left are yet to be counted.
+use Rattle.std.proofs.Common.{drop, map}
+use Rattle.std.specs.List.{sum_by}
+use Rattle.sopl_ast.specs.Instances.{Chance}
+use Rattle.unfold_laws.specs.Conditions.{IsMet}
+use Rattle.unfold_tables.specs.Tables.{now_of, table_known}
+use Rattle.node_counts.specs.Counted.{nodes_at}
+use Rattle.node_counts.proofs.Counting.{IsLeft}
+use Rattle.node_counts.proofs.instances.nodes_of_chances.Given as goal
+
+abbrev pub invariant-chances : goal.invariant-chances
+invariant-chances l =
+    IsLeft (λ (c : Chance). IsMet (table_known l.table) (map now_of l.conditions) c.text c.bound)
+    (λ (c : Chance). nodes_at (table_known l.table) (map now_of l.conditions) c.text c.bound) l.sum.count (drop l.chance-index l.chances)
+    (sum_by (λ (c : Chance). nodes_at (table_known l.table) (map now_of l.conditions) c.text c.bound) l.chances)

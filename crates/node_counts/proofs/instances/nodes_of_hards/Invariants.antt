@@ -1,0 +1,15 @@
+-- The constraints that are left are yet to be counted.
+use Rattle.std.proofs.Common.{drop, map}
+use Rattle.std.specs.List.{sum_by}
+use Rattle.sopl_ast.specs.Instances.{Hard}
+use Rattle.unfold_laws.specs.Conditions.{IsMet}
+use Rattle.unfold_tables.specs.Tables.{now_of, table_known}
+use Rattle.node_counts.specs.Counted.{nodes_at}
+use Rattle.node_counts.proofs.Counting.{IsLeft}
+use Rattle.node_counts.proofs.instances.nodes_of_hards.Given as goal
+
+abbrev pub invariant-hards : goal.invariant-hards
+invariant-hards l =
+    IsLeft (λ (h : Hard). IsMet (table_known l.table) (map now_of l.conditions) h.text h.bound)
+    (λ (h : Hard). nodes_at (table_known l.table) (map now_of l.conditions) h.text h.bound) l.sum.count (drop l.hard-index l.hards)
+    (sum_by (λ (h : Hard). nodes_at (table_known l.table) (map now_of l.conditions) h.text h.bound) l.hards)
