@@ -1,5 +1,7 @@
 mod Grouping
-mod TreePlaces
+pub mod TreePlaces
 mod Listing
 mod Labels
 mod Planning
+mod FirstScalar
+mod There

@@ -1,5 +1,5 @@
 -- The elements of a name, by where they come from.
-use Rattle.std.proofs.Common.{arith, ◌≡◌, refl, sym, ap, ◌∙◌, ℕ, zero, suc, ◌+◌, ◌<◌, ◌≤◌, Bool, true, false, cond, List, [], ◌∷◌, ◌++◌, length, map, get_or, slice_index_or, drop, subst, Result, Ok, Err, OnOk}
+use Rattle.std.proofs.Common.{arith, ◌≡◌, refl, sym, ap, ◌∙◌, ℕ, zero, suc, ◌+◌, ◌<◌, ◌≤◌, ℤ, Bool, true, false, cond, List, [], ◌∷◌, ◌++◌, length, map, get_or, slice_index_or, drop, subst, Result, Ok, Err, OnOk}
 use Rattle.std.proofs.lemmas.List.{at_drop_more, at_drop_all, append_assoc, append-nil, map-append, length-map}
 use Rattle.std.specs.List.{filter, range_with_len}
 use Rattle.std.specs.Str.{bytes_eq}
@@ -165,6 +165,19 @@ module _ (xs : List ConstantElement) (k : ℕ) where
       → map (entry_from tree i) found ++ map constant_entry (map element_shown (drop k xs)) ≡ map (entry_from tree i) found
   fixed_end found past tree i =
       ap (λ rest. map (entry_from tree i) found ++ rest) (at_drop_all (λ rest. map constant_entry (map element_shown rest)) xs k past) ∙ append-nil (map (entry_from tree i) found)
+
+same_default : (xs : List ConstantElement) (k : ℕ) (d e : ConstantElement) → k < length xs → get_or xs k d ≡ get_or xs k e
+same_default [] k d e below = absurd (omega (arith, below))
+same_default (x ∷ xs) zero d e below = refl
+same_default (x ∷ xs) (suc k) d e below = same_default xs k d e (omega (arith, below))
+
+-- the one at a place
+pub fixed_at : (xs : List ConstantElement) (k : ℕ) (d : ConstantElement) (z : ℤ) (old new : List Source) → k < length xs → z ≡ (get_or xs k d).value
+    → new ≡ old ++ (record { index = (get_or xs k d).index; origin = Fixed z }) ∷ [] → (tree : Layout) (i : ℕ)
+    → map (entry_from tree i) new ++ map constant_entry (map element_shown (drop (k + 1) xs)) ≡ map (entry_from tree i) old ++ map constant_entry (map element_shown (drop k xs))
+fixed_at xs k d z old new below same is =
+    fixed_more xs k (get_or xs k d) old new below (same_default xs k d (get_or xs k d) below)
+    (is ∙ ap (λ y. old ++ (record { index = (get_or xs k d).index; origin = Fixed y }) ∷ []) same)
 
 -- constants, whatever comes
 pub constants_either : {A B : Type 0} (result : Result A B) (old new : List Source) (name : List ℕ) (ks : List Constant) (elements : List ConstantElement) → map element_shown elements ≡ elements_named name ks

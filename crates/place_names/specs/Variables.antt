@@ -1,5 +1,6 @@
 -- The names of variables, and the elements of an array by where they come from.
-use Rattle.std.specs.Prelude.{ℕ, pos, List, [], get_or}
+use Rattle.std.specs.Prelude.{◌<◌, ℕ, pos, List, [], get_or}
+use Rattle.std.specs.List.{AllByRecursion}
 use Rattle.sopl_ast.specs.Instances.{Decision, Stochastic}
 use Rattle.scenario_tree.specs.Layout.{Layout, cell_in, value_in}
 use Rattle.scenario_tree.specs.Levels.{no_variable}
@@ -15,6 +16,16 @@ drawn_name s = s.name
 
 abbrev pub decided_name : Decision → List ℕ
 decided_name d = d.name
+
+-- a value is a constant, or that of one of so many stochastic variables or of so many decisions
+abbrev pub OriginExists : ℕ → ℕ → Origin → Type 0
+OriginExists drawn decided (Fixed z) = Unit {0}
+OriginExists drawn decided (Drawn j) = j < drawn
+OriginExists drawn decided (Decided j) = j < decided
+
+-- so are the values of all these elements
+abbrev pub AreThere : ℕ → ℕ → List Source → Type 0
+AreThere drawn decided sources = AllByRecursion (λ (source : Source). OriginExists drawn decided source.origin) sources
 
 -- the item that an element is in a scenario
 abbrev pub item_from : Layout → ℕ → Origin → c.Item

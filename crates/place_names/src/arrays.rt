@@ -1,6 +1,7 @@
 //! The array of a name, once for all scenarios.
 
-ghost use Rattle.std.specs.Prelude.{◌≡◌, ℕ, map, IfOk};
+ghost use Rattle.std.specs.Prelude.{◌≡◌, ℕ, length, map, IfOk};
+ghost use Rattle.std.specs.List.{AllByRecursion};
 ghost use Rattle.scenario_tree.specs.Layout.{Layout};
 ghost use Rattle.sopl_ast.specs.Known.{Known};
 ghost use Rattle.instantiation.specs.Instances.{elements, table_of};
@@ -9,7 +10,7 @@ ghost use Rattle.unfold_tables.specs.Tables.{table_known};
 ghost use Rattle.place_names.specs.Grouped.{now_of};
 ghost use Rattle.place_names.specs.Places.{place_in};
 ghost use Rattle.place_names.specs.Tables.{index_shown, items_in, table_in};
-ghost use Rattle.place_names.specs.Variables.{entry_from, item_from};
+ghost use Rattle.place_names.specs.Variables.{AreThere, OriginExists, entry_from, item_from};
 
 use crate::origins::{Origin, Source};
 use crate::setting::Setting;
@@ -27,8 +28,9 @@ pub struct Array {
 impl Setting<'_> {
     /// The array of a name. At an index that no element has, as there is none where the elements have all indices of some sets, stands 0.
     pub fn array(&self, alloc: Global, name: &Name) -> Result<Array, AllocError>
-        ensures { IfOk result (λ array. (known : Known) (tree : Layout) (i : ℕ) → known.constants ≡ (table_known self.now.table.now).constants
+        ensures table { IfOk result (λ array. (known : Known) (tree : Layout) (i : ℕ) → known.constants ≡ (table_known self.now.table.now).constants
             → table_in tree i array ≡ table_of (elements (place_in self.now.decisions.now self.now.stochs.now tree i known) name.now)) }
+        ensures there { IfOk result (λ array. AllByRecursion (OriginExists (length self.now.stochs.now) (length self.now.decisions.now)) array.origins.items) }
     {
         let sources = self.sources(alloc, name)?;
         array_of(alloc, sources.as_slice())
@@ -37,7 +39,8 @@ impl Setting<'_> {
 
 /// The array of elements.
 fn array_of(alloc: Global, sources: &[Source<'_>]) -> Result<Array, AllocError>
-    ensures { IfOk result (λ array. (tree : Layout) (i : ℕ) → table_in tree i array ≡ table_of (map (entry_from tree i) sources.now)) }
+    ensures table { IfOk result (λ array. (tree : Layout) (i : ℕ) → table_in tree i array ≡ table_of (map (entry_from tree i) sources.now)) }
+    ensures there { IfOk result (λ array. (drawn decided : ℕ) → AreThere drawn decided sources.now → AllByRecursion (OriginExists drawn decided) array.origins.items) }
 {
     let indices = indices_of(alloc, sources)?;
     let plan = Plan::of(alloc, indices.as_slice())?;
@@ -66,7 +69,8 @@ fn origins_at(
     sources: &[Source<'_>],
     order: &[Option<usize>],
 ) -> Result<Vec<Origin>, AllocError>
-    ensures { IfOk result (λ origins. (tree : Layout) (i : ℕ) → map (item_from tree i) origins.items ≡ map (picked (items_in tree i sources.now)) order.now) }
+    ensures items { IfOk result (λ origins. (tree : Layout) (i : ℕ) → map (item_from tree i) origins.items ≡ map (picked (items_in tree i sources.now)) order.now) }
+    ensures there { IfOk result (λ origins. (drawn decided : ℕ) → AreThere drawn decided sources.now → AllByRecursion (OriginExists drawn decided) origins.items) }
 {
     let mut origins = Vec::new(alloc);
     'order: for place in order {
@@ -76,9 +80,10 @@ fn origins_at(
 }
 
 /// Where the item of this number comes from; where there is none, from the constant 0.
-#[tactic(auto, using(crate::proofs::Planning::picked_some, crate::proofs::Planning::picked_none))]
+#[tactic(auto, using(crate::proofs::Planning::picked_some, crate::proofs::Planning::picked_none, crate::proofs::There::there_at))]
 fn origin_at(sources: &[Source<'_>], place: Option<usize>) -> Origin
-    ensures { (tree : Layout) (i : ℕ) → item_from tree i result ≡ picked (items_in tree i sources.now) place }
+    ensures item { (tree : Layout) (i : ℕ) → item_from tree i result ≡ picked (items_in tree i sources.now) place }
+    ensures there { (drawn decided : ℕ) → AreThere drawn decided sources.now → OriginExists drawn decided result }
 {
     let Some(place) = place else {
         return Origin::Fixed(0);

@@ -6,6 +6,7 @@ mod arrays;
 mod laws;
 mod names;
 mod origins;
+mod scalars;
 mod setting;
 #[cfg(test)]
 mod tests;

@@ -20,7 +20,7 @@ impl Names {
     #[tactic(auto, using(crate::proofs::Grouping::name_grouped, crate::proofs::Grouping::all_grouped))]
     pub fn of(alloc: Global, names: &[&Name]) -> Result<Names, AllocError>
         requires few { length names.now ≤ 2 ^ 32 }
-        ensures { IfOk result (λ grouped. IsGrouped grouped (map now_of names.now)) }
+        ensures grouped { IfOk result (λ grouped. IsGrouped grouped (map now_of names.now)) }
     {
         let mut grouped = Names {
             groups: IndexMap::new(alloc),
@@ -33,7 +33,7 @@ impl Names {
 
     /// The numbers of the things with a name, ascending.
     pub fn numbers(&self, name: &Name) -> &[u32]
-        ensures { (all : List (List ℕ)) → IsGrouped self.now all → result.now ≡ numbers_of name.now 0 all }
+        ensures numbers { (all : List (List ℕ)) → IsGrouped self.now all → result.now ≡ numbers_of name.now 0 all }
     {
         match self.groups.get(name.as_slice()) {
             Some(numbers) => numbers.as_slice(),

@@ -7,7 +7,7 @@ ghost use Rattle.instantiation.specs.Instances.{constant_elements, decided_eleme
 ghost use Rattle.unfold_tables.specs.Listed.{element_shown};
 ghost use Rattle.unfold_tables.specs.Tables.{table_known};
 ghost use Rattle.place_names.specs.Places.{cells_at, place_in, values_at};
-ghost use Rattle.place_names.specs.Variables.{decided_entry, drawn_entry, entry_from};
+ghost use Rattle.place_names.specs.Variables.{AreThere, OriginExists, decided_entry, drawn_entry, entry_from};
 ghost use Rattle.place_names.specs.Listing.{constant_entry};
 
 use crate::setting::Setting;
@@ -33,8 +33,9 @@ pub struct Source<'a> {
 impl<'a> Setting<'a> {
     /// The elements of a name: those of its constants, then its stochastic variables, then its decisions.
     pub(crate) fn sources(&self, alloc: Global, name: &Name) -> Result<Vec<Source<'a>>, AllocError>
-        ensures { IfOk result (λ list. (known : Known) (tree : Layout) (i : ℕ) → known.constants ≡ (table_known self.now.table.now).constants
+        ensures elements { IfOk result (λ list. (known : Known) (tree : Layout) (i : ℕ) → known.constants ≡ (table_known self.now.table.now).constants
             → map (entry_from tree i) list.items ≡ elements (place_in self.now.decisions.now self.now.stochs.now tree i known) name.now) }
+        ensures there { IfOk result (λ list. AreThere (length self.now.stochs.now) (length self.now.decisions.now) list.items) }
     {
         let mut found = Vec::new(alloc);
         self.list_constants(alloc, name, &mut found)?;
@@ -50,18 +51,20 @@ impl<'a> Setting<'a> {
         name: &Name,
         found: &mut Vec<Source<'a>>,
     ) -> Result<(), AllocError>
-        ensures { OnOk result ((tree : Layout) (i : ℕ) → map (entry_from tree i) found.new.items
+        ensures elements { OnOk result ((tree : Layout) (i : ℕ) → map (entry_from tree i) found.new.items
             ≡ map (entry_from tree i) found.old.items ++ constant_elements name.now (table_known self.now.table.now).constants) }
+        ensures there { OnOk result ((drawn decided : ℕ) → AreThere drawn decided found.old.items → AreThere drawn decided found.new.items) }
     {
         let elements = self.table.elements_of(alloc, name)?;
         list_fixed(elements.as_slice(), found)
     }
 
     /// Lists the elements of stochastic variables behind others.
-    #[tactic(auto, using(crate::proofs::Listing::drawn_more))]
+    #[tactic(auto, using(crate::proofs::Listing::drawn_more, crate::proofs::There::there_more))]
     fn list_drawn(&self, name: &Name, found: &mut Vec<Source<'a>>) -> Result<(), AllocError>
-        ensures { OnOk result ((tree : Layout) (i : ℕ) → map (entry_from tree i) found.new.items
+        ensures elements { OnOk result ((tree : Layout) (i : ℕ) → map (entry_from tree i) found.new.items
             ≡ map (entry_from tree i) found.old.items ++ seen_elements name.now self.now.stochs.now (values_at tree (length self.now.stochs.now) i)) }
+        ensures there { OnOk result (AreThere (length self.now.stochs.now) (length self.now.decisions.now) found.old.items → AreThere (length self.now.stochs.now) (length self.now.decisions.now) found.new.items) }
     {
         let numbers = self.drawn.numbers(name);
         'numbers: for number in numbers {
@@ -71,10 +74,11 @@ impl<'a> Setting<'a> {
     }
 
     /// Lists the elements of decisions behind others.
-    #[tactic(auto, using(crate::proofs::Listing::decided_more))]
+    #[tactic(auto, using(crate::proofs::Listing::decided_more, crate::proofs::There::there_more))]
     fn list_decided(&self, name: &Name, found: &mut Vec<Source<'a>>) -> Result<(), AllocError>
-        ensures { OnOk result ((tree : Layout) (i : ℕ) → map (entry_from tree i) found.new.items
+        ensures elements { OnOk result ((tree : Layout) (i : ℕ) → map (entry_from tree i) found.new.items
             ≡ map (entry_from tree i) found.old.items ++ decided_elements name.now self.now.decisions.now (cells_at tree (length self.now.decisions.now) i)) }
+        ensures there { OnOk result (AreThere (length self.now.stochs.now) (length self.now.decisions.now) found.old.items → AreThere (length self.now.stochs.now) (length self.now.decisions.now) found.new.items) }
     {
         let numbers = self.decided.numbers(name);
         'numbers: for number in numbers {
@@ -84,9 +88,10 @@ impl<'a> Setting<'a> {
     }
 
     /// The element of a stochastic variable.
-    fn drawn_source(&self, number: u32) -> Source<'a>
+    pub(crate) fn drawn_source(&self, number: u32) -> Source<'a>
         requires exists { number < length self.now.stochs.now }
-        ensures { (tree : Layout) (i : ℕ) → entry_from tree i result ≡ drawn_entry self.now.stochs.now tree i number }
+        ensures element { (tree : Layout) (i : ℕ) → entry_from tree i result ≡ drawn_entry self.now.stochs.now tree i number }
+        ensures there { OriginExists (length self.now.stochs.now) (length self.now.decisions.now) result.origin }
     {
         let stochs = self.stochs;
         let stoch = &stochs[number as usize];
@@ -97,9 +102,10 @@ impl<'a> Setting<'a> {
     }
 
     /// The element of a decision.
-    fn decided_source(&self, number: u32) -> Source<'a>
+    pub(crate) fn decided_source(&self, number: u32) -> Source<'a>
         requires exists { number < length self.now.decisions.now }
-        ensures { (tree : Layout) (i : ℕ) → entry_from tree i result ≡ decided_entry self.now.decisions.now tree i number }
+        ensures element { (tree : Layout) (i : ℕ) → entry_from tree i result ≡ decided_entry self.now.decisions.now tree i number }
+        ensures there { OriginExists (length self.now.stochs.now) (length self.now.decisions.now) result.origin }
     {
         let decisions = self.decisions;
         let decision = &decisions[number as usize];
@@ -111,13 +117,14 @@ impl<'a> Setting<'a> {
 }
 
 /// Lists elements of constants behind others.
-#[tactic(auto, using(crate::proofs::Listing::fixed_more, crate::proofs::Listing::fixed_end))]
+#[tactic(auto, using(crate::proofs::Listing::fixed_more, crate::proofs::Listing::fixed_end, crate::proofs::There::there_more))]
 fn list_fixed<'a>(
     elements: &[ConstantElement<'a>],
     found: &mut Vec<Source<'a>>,
 ) -> Result<(), AllocError>
-    ensures { OnOk result ((tree : Layout) (i : ℕ) → map (entry_from tree i) found.new.items
+    ensures elements { OnOk result ((tree : Layout) (i : ℕ) → map (entry_from tree i) found.new.items
         ≡ map (entry_from tree i) found.old.items ++ map constant_entry (map element_shown elements.now)) }
+    ensures there { OnOk result ((drawn decided : ℕ) → AreThere drawn decided found.old.items → AreThere drawn decided found.new.items) }
 {
     'elements: for element in elements {
         found.push(Source {

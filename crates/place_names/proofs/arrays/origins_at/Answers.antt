@@ -1,15 +1,24 @@
 use Rattle.std.proofs.Common.{rules, ◌≤◌, ◌<◌, sym, ◌∙◌, length}
 use Rattle.place_names.proofs.Planning.{origin_more, origins_end}
+use Rattle.place_names.proofs.There.{exists_more}
 use Rattle.place_names.proofs.arrays.origins_at.Goals as goal
 
 pub order-preserved : goal.order-preserved
-order-preserved c tree i =
-    let within : c.order.place-index < length c.args.order.now = search rules in
-    origin_more c.args.sources.now c.args.order.now c.order.place-index _ c.origin_at.result c.order.origins.items c.push.new.self.items within c.origin_at.ensures
-    c.in_ok-push.ensures.items tree i
-    ∙ c.order.invariant tree i
+order-preserved c =
+    let within : c.order.place-index < length c.args.order.now = search rules in (
+      (λ tree i.
+          origin_more c.args.sources.now c.args.order.now c.order.place-index _ c.origin_at.result c.order.origins.items c.push.new.self.items within c.origin_at.ensures.item
+          c.in_ok-push.ensures.items tree i
+          ∙ c.order.invariant.0 tree i),
+      (λ drawn decided there.
+          exists_more drawn decided c.order.origins.items c.push.new.self.items c.origin_at.result c.in_ok-push.ensures.items (c.origin_at.ensures.there drawn decided there)
+          (c.order.invariant.1 drawn decided there)),
+    )
 
-pub returns : goal.returns
-returns c tree i =
+pub returns-clause-items : goal.returns-clause-items
+returns-clause-items c tree i =
     let past : length c.args.order.now ≤ c.order.place-index = search rules in
-    sym (origins_end c.args.sources.now c.args.order.now c.order.place-index c.order.origins.items past tree i) ∙ c.order.invariant tree i
+    sym (origins_end c.args.sources.now c.args.order.now c.order.place-index c.order.origins.items past tree i) ∙ c.order.invariant.0 tree i
+
+pub returns-clause-there : goal.returns-clause-there
+returns-clause-there c = c.order.invariant.1

@@ -8,4 +8,4 @@ pub returns : goal.returns
 returns c =
     let past : length c.args.decisions.now ≤ c.decisions.decision-index = search rules in
     grouped_either c.of.result (map now_of c.as_slice.result.now) (map decided_name c.args.decisions.now)
-    (ap (map now_of) c.as_slice.ensures.value ∙ sym (decided_labels c.args.decisions.now c.decisions.decision-index c.decisions.names.items past) ∙ c.decisions.invariant) c.of.ensures
+    (ap (map now_of) c.as_slice.ensures.value ∙ sym (decided_labels c.args.decisions.now c.decisions.decision-index c.decisions.names.items past) ∙ c.decisions.invariant) c.of.ensures.grouped

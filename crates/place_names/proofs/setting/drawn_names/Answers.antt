@@ -8,4 +8,4 @@ pub returns : goal.returns
 returns c =
     let past : length c.args.stochs.now ≤ c.stochs.stoch-index = search rules in
     grouped_either c.of.result (map now_of c.as_slice.result.now) (map drawn_name c.args.stochs.now)
-    (ap (map now_of) c.as_slice.ensures.value ∙ sym (drawn_labels c.args.stochs.now c.stochs.stoch-index c.stochs.names.items past) ∙ c.stochs.invariant) c.of.ensures
+    (ap (map now_of) c.as_slice.ensures.value ∙ sym (drawn_labels c.args.stochs.now c.stochs.stoch-index c.stochs.names.items past) ∙ c.stochs.invariant) c.of.ensures.grouped

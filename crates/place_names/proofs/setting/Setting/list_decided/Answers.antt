@@ -9,14 +9,17 @@ decided_source-requires c =
     record {
       exists =
           number_exists decided_name c.args.self.now.decisions.now c.args.name.now c.numbers-numbers.result.now c.numbers.number-index
-          (c.numbers-numbers.ensures (map decided_name c.args.self.now.decisions.now) c.args.self.now.decided_named) within;
+          (c.numbers-numbers.ensures.numbers (map decided_name c.args.self.now.decisions.now) c.args.self.now.decided_named) within;
     }
 
-pub returns : goal.returns
-returns c tree i =
+pub returns-clause-elements : goal.returns-clause-elements
+returns-clause-elements c tree i =
     let past : length c.numbers-numbers.result.now ≤ c.numbers.number-index = search rules in
     sym (listed_end (decided_entry c.args.self.now.decisions.now) c.numbers-numbers.result.now c.numbers.number-index c.numbers.found.items past tree i)
-    ∙ c.numbers.invariant tree i
+    ∙ c.numbers.invariant.0 tree i
     ∙ ap (λ l. map (entry_from tree i) c.args.found.now.items ++ l)
-    (ap (map (decided_entry c.args.self.now.decisions.now tree i)) (c.numbers-numbers.ensures (map decided_name c.args.self.now.decisions.now) c.args.self.now.decided_named)
+    (ap (map (decided_entry c.args.self.now.decisions.now tree i)) (c.numbers-numbers.ensures.numbers (map decided_name c.args.self.now.decisions.now) c.args.self.now.decided_named)
     ∙ sym (decided_are c.args.name.now c.args.self.now.decisions.now tree i))
+
+pub returns-clause-there : goal.returns-clause-there
+returns-clause-there c = c.numbers.invariant.1

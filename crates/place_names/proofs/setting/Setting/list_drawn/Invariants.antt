@@ -1,10 +1,11 @@
-use Rattle.std.proofs.Common.{◌≡◌, ◌++◌, ℕ, map, drop}
+use Rattle.std.proofs.Common.{◌≡◌, ◌++◌, ℕ, length, map, drop}
 use Rattle.scenario_tree.specs.Layout.{Layout}
-use Rattle.place_names.specs.Variables.{drawn_entry, entry_from}
+use Rattle.place_names.specs.Variables.{AreThere, drawn_entry, entry_from}
 use Rattle.place_names.proofs.setting.Setting.list_drawn.Given as goal
 
 abbrev pub invariant-numbers : goal.invariant-numbers
 invariant-numbers l =
-    (tree : Layout) (i : ℕ)
+    ((tree : Layout) (i : ℕ)
     → map (entry_from tree i) l.found.items ++ map (drawn_entry l.self.stochs.now tree i) (drop l.number-index l.numbers)
-    ≡ map (entry_from tree i) l.fn.found.items ++ map (drawn_entry l.self.stochs.now tree i) l.numbers
+    ≡ map (entry_from tree i) l.fn.found.items ++ map (drawn_entry l.self.stochs.now tree i) l.numbers)
+    × (AreThere (length l.self.stochs.now) (length l.self.decisions.now) l.fn.found.items → AreThere (length l.self.stochs.now) (length l.self.decisions.now) l.found.items)

@@ -1,0 +1,7 @@
+pub mod Growing
+mod CellDomains
+mod Cells
+mod Copies
+mod Keeping
+mod Listing
+pub mod Naming

@@ -1,0 +1,4 @@
+pub mod Domains
+pub mod Fixed
+pub mod Scenes
+pub mod Works
