@@ -1,0 +1,98 @@
+-- What an expression asks for that passes, and in which no form stands that has no term yet.
+use Rattle.std.proofs.Common.{◌≡◌, refl, ℕ, List, [], ◌∷◌, ◌++◌, None, if◌then◌else◌}
+use Rattle.std.specs.List.{AllByRecursion}
+use Rattle.sopl_ast.specs.declared.operators.MulOp.TheVariants.{Times, Div, Mod}
+use Rattle.sopl_ast.specs.Constants.{all_bindings}
+use Rattle.sopl_ast.specs.Known.{Known}
+use Rattle.sopl_ast.specs.Occurrences.{divisor_occurrences, expression_occurrences, expressions_occurrences, factors_occurrences, parts_occurrences, terms_occurrences}
+use Rattle.sopl_ast.specs.Tree as t
+use Rattle.sopl_ast.specs.Tree.{Tree, Shape, Trees, Terms, Factors, Node, no_tree, tree, no_term, term, no_factor, factor, place_of}
+use Rattle.binder_places.proofs.Binding.{each_of, ranges_pass}
+use Rattle.binder_places.proofs.Passed.{divisor_nonzero, divisor_part}
+use Rattle.unfold_laws.specs.Passing.{Passes}
+use Rattle.unfold_laws.proofs.Bindings.{all_given}
+use Rattle.unfold_laws.proofs.Passing.{parts_pass, value_given}
+use Rattle.unsupported_forms.specs.Forms.{all_places, factor_places, is_unsupported, part_places, places, term_places}
+use Rattle.expression_terms.specs.Buildable.{AreBuildable, Divides, FactorsAreBuildable, IsBuildable, ShapeIsBuildable, TermsAreBuildable}
+use Rattle.expression_terms.specs.Supported.{IsSupported}
+
+none_both : (xs ys : List ℕ) → xs ++ ys ≡ [] → (xs ≡ []) × (ys ≡ [])
+none_both [] ys is = (refl, is)
+none_both (x ∷ xs) ys is = absurd (cc)
+
+not_none : (x : ℕ) → x ∷ [] ≡ [] → ⊥
+not_none x is = cc
+
+divides : (known : Known) (e : Tree) → Passes (divisor_occurrences known e) → Divides known e
+divides known e is =
+    let there = value_given known (place_of e) e (divisor_part known e is) in
+    record { passes = is; number = there.0; is = there.1; nonzero = divisor_nonzero known e there.0 is there.1 }
+
+mutual
+  pub built : (e : Tree) (known : Known) (ds : List (List ℕ)) → Passes (expression_occurrences known e) → places ds e ≡ [] → IsBuildable known e
+  built (Node at shape) known ds is none = shape_built shape at known ds is (none_both (if is_unsupported ds shape then at ∷ [] else []) (part_places ds shape) none)
+
+  shape_built : (shape : Shape) (at : ℕ) (known : Known) (ds : List (List ℕ)) → Passes (parts_occurrences known shape)
+      → ((if is_unsupported ds shape then at ∷ [] else []) ≡ []) × (part_places ds shape ≡ []) → ShapeIsBuildable known shape
+  shape_built (t.Lit z) at known ds is none = tt
+  shape_built (t.Name name) at known ds is none = tt
+  shape_built (t.Index name es) at known ds is none = all_built es known ds is none.1
+  shape_built (t.Neg e) at known ds is none = built e known ds is none.1
+  shape_built (t.Add parts) at known ds is none = terms_built parts known ds is none.1
+  shape_built (t.Mul first others) at known ds is none =
+      let both = parts_pass (expression_occurrences known first) (factors_occurrences known others) is in
+      let nones = none_both (places ds first) (factor_places ds others) none.1 in
+      (built first known ds both.0 nones.0, factors_built others known ds both.1 nones.1)
+  shape_built (t.Cmp op a b) at known ds is none =
+      let both = parts_pass (expression_occurrences known a) (expression_occurrences known b) is in
+      let nones = none_both (places ds a) (places ds b) none.1 in
+      (built a known ds both.0 nones.0, built b known ds both.1 nones.1)
+  shape_built (t.Not e) at known ds is none = built e known ds is none.1
+  shape_built (t.And es) at known ds is none = all_built es known ds is none.1
+  shape_built (t.Or es) at known ds is none = all_built es known ds is none.1
+  shape_built (t.Implies a b) at known ds is none =
+      let both = parts_pass (expression_occurrences known a) (expression_occurrences known b) is in
+      let nones = none_both (places ds a) (places ds b) none.1 in
+      (built a known ds both.0 nones.0, built b known ds both.1 nones.1)
+  shape_built (t.Sum bs e) at known ds is none = (
+    ranges_pass bs known None (λ here. expression_occurrences here e) is,
+    each_of (λ (here : Known). (here.constants ≡ known.constants) × Passes (expression_occurrences here e)) (λ (here : Known). (here.constants ≡ known.constants) × IsBuildable here e)
+        (λ here both. (both.0, built e here ds both.1 none.1)) (all_bindings known bs)
+        (all_given (λ (here : Known). here.constants ≡ known.constants) (λ name n here same. same) bs known (λ here. expression_occurrences here e) refl is),
+  )
+  shape_built (t.Least es) at known ds is none = all_built es known ds is none.1
+  shape_built (t.Greatest es) at known ds is none = all_built es known ds is none.1
+  shape_built (t.Abs e) at known ds is none = built e known ds is none.1
+  shape_built (t.AllDifferent bs e) at known ds is none = not_none at none.0
+  shape_built (t.Cumulative bs start duration demand capacity) at known ds is none = not_none at none.0
+
+  all_built : (es : Trees) (known : Known) (ds : List (List ℕ)) → Passes (expressions_occurrences known es) → all_places ds es ≡ [] → AreBuildable known es
+  all_built no_tree known ds is none = tt
+  all_built (tree e es) known ds is none =
+      let both = parts_pass (expression_occurrences known e) (expressions_occurrences known es) is in
+      let nones = none_both (places ds e) (all_places ds es) none in
+      (built e known ds both.0 nones.0, all_built es known ds both.1 nones.1)
+
+  terms_built : (parts : Terms) (known : Known) (ds : List (List ℕ)) → Passes (terms_occurrences known parts) → term_places ds parts ≡ [] → TermsAreBuildable known parts
+  terms_built no_term known ds is none = tt
+  terms_built (term minus e more) known ds is none =
+      let both = parts_pass (expression_occurrences known e) (terms_occurrences known more) is in
+      let nones = none_both (places ds e) (term_places ds more) none in
+      (built e known ds both.0 nones.0, terms_built more known ds both.1 nones.1)
+
+  factors_built : (parts : Factors) (known : Known) (ds : List (List ℕ)) → Passes (factors_occurrences known parts) → factor_places ds parts ≡ [] → FactorsAreBuildable known parts
+  factors_built no_factor known ds is none = tt
+  factors_built (factor Times e more) known ds is none =
+      let both = parts_pass (expression_occurrences known e) (factors_occurrences known more) is in
+      let nones = none_both (places ds e) (factor_places ds more) none in
+      (built e known ds both.0 nones.0, factors_built more known ds both.1 nones.1)
+  factors_built (factor Div e more) known ds is none =
+      let both = parts_pass (divisor_occurrences known e) (factors_occurrences known more) is in
+      (divides known e both.0, factors_built more known ds both.1 none)
+  factors_built (factor Mod e more) known ds is none =
+      let both = parts_pass (divisor_occurrences known e) (factors_occurrences known more) is in
+      (divides known e both.0, factors_built more known ds both.1 none)
+
+-- whichever names are those of decisions
+pub supported_built : (known : Known) (e : Tree) → Passes (expression_occurrences known e) → IsSupported e → IsBuildable known e
+supported_built known e is supported = built e known supported.decisions is supported.none

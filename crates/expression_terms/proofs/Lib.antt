@@ -1,0 +1,7 @@
+mod Building
+mod Extremes
+mod Loops
+mod Parts
+mod Products
+mod Sizes
+mod Steps

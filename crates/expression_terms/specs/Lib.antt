@@ -1,0 +1,5 @@
+pub mod Over
+pub mod Supported
+-- For proofs alone: nothing is to be believed here
+pub mod Buildable
+pub mod Made

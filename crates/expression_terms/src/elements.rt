@@ -1,0 +1,88 @@
+//! Names and elements of arrays as terms.
+
+ghost use Rattle.std.specs.Prelude.{◌≡◌, [], length, option_map, IfOk, IfSome};
+ghost use Rattle.box_rules.specs.Terms as c;
+ghost use Rattle.expression_terms.specs.Made.{AreReady, IsPlaced, MakesTerm, MakesTerms};
+ghost use Rattle.instantiation.specs.Instances.{elements, item_term, named_term, table_of, undefined};
+ghost use Rattle.scenario_tree.specs.Layout.{cells_for};
+ghost use Rattle.scene_terms.specs.Scenes.{HasCell, place_of};
+ghost use Rattle.scene_terms.specs.Works.{IsReady, things_of};
+ghost use Rattle.scene_terms.specs.declared.work.Work.{Work};
+ghost use Rattle.term_tables.specs.Kept as kept;
+ghost use Rattle.unfold_constants.specs.Here.{known_in};
+
+use scene_terms::{Scene, Work};
+use sopl_ast::Name;
+use sopl_base::Fault;
+use sopl_term::TermId;
+use std::alloc::{AllocError, Global};
+use term_tables::{Element, Table};
+use unfold_constants::Known;
+
+/// An array of no element.
+fn empty_array(alloc: Global) -> Result<Table, AllocError>
+    ensures empty { IfOk result (λ table. kept.table_of table ≡ table_of []) }
+{
+    let mut sets = Vec::new(alloc);
+    sets.push(Vec::new(alloc))?;
+    Ok(Table {
+        sets,
+        elements: Vec::new(alloc),
+    })
+}
+
+/// Adds what is never defined: an element of an array that has none.
+pub(crate) fn undefined(scene: &Scene<'_, '_>, work: &mut Work) -> Result<TermId, Fault>
+    requires ready { IsReady scene.now.setting.now work.old }
+    ensures made { MakesTerm scene.now.setting.now work.old work.new undefined result }
+{
+    let table = empty_array(work.alloc)?;
+    let id = work.array(table)?;
+    work.element(id, &[])
+}
+
+/// Adds a number or a cell, or what is never defined where there is none.
+fn item_term(scene: &Scene<'_, '_>, work: &mut Work, item: Option<Element>) -> Result<TermId, Fault>
+    requires ready { IsReady scene.now.setting.now work.old }
+    requires cell { IfSome item (HasCell (length (cells_for scene.now.setting.now.decisions.now scene.now.setting.now.stochs.now))) }
+    ensures made { MakesTerm scene.now.setting.now work.old work.new (item_term (option_map kept.item_of item)) result }
+{
+    match item {
+        Some(Element::Fixed(value)) => work.constant(value),
+        Some(Element::Free(cell)) => work.cell(cell),
+        None => undefined(scene, work),
+    }
+}
+
+/// Adds what a name without an index stands for.
+pub(crate) fn named(
+    scene: &Scene<'_, '_>,
+    known: &Known<'_>,
+    work: &mut Work,
+    name: &Name,
+) -> Result<TermId, Fault>
+    requires ready { IsReady scene.now.setting.now work.old }
+    requires placed { IsPlaced scene.now known.now }
+    ensures made { MakesTerm scene.now.setting.now work.old work.new (named_term (place_of scene.now (known_in known.now)) name.now) result }
+{
+    let item = scene.item(known, name);
+    item_term(scene, work, item)
+}
+
+/// Adds the element of the array of a name at indices.
+pub(crate) fn element(
+    scene: &Scene<'_, '_>,
+    known: &Known<'_>,
+    work: &mut Work,
+    name: &Name,
+    at: Result<Vec<TermId>, Fault>,
+) -> Result<TermId, Fault>
+    requires placed { IsPlaced scene.now known.now }
+    requires there { IfOk at (λ ids. AreReady scene.now.setting.now work.old ids.items) }
+    ensures made { (before : Work) (ts : c.Terms) → MakesTerms scene.now.setting.now before work.old ts at
+        → MakesTerm scene.now.setting.now before work.new (c.Element (table_of (elements (place_of scene.now (known_in known.now)) name.now)) ts) result }
+{
+    let ids = at?;
+    let table = scene.table(work, name)?;
+    work.element(table, ids.as_slice())
+}
