@@ -1,0 +1,124 @@
+-- What the limits on scenarios and instances say of a problem's scenarios and cells.
+use Rattle.std.proofs.Common.{arith, ◌≡◌, ◌∙◌, refl, sym, ap, ℕ, suc, ◌+◌, ◌*◌, ◌<◌, ◌≤◌, ◌^◌, ◌-◌, ℤ, pos, ◌≤ℤ◌, int_le, Bool, true, false, not, List, [], ◌∷◌, length, length-append, map, filter, Option, Some, None, if◌then◌else◌}
+use Rattle.std.proofs.lemmas.Int.{ints}
+use Rattle.std.proofs.lemmas.List.{length-map}
+use Rattle.std.proofs.lemmas.List.Filters.{length-filter_both}
+use Rattle.std.proofs.lemmas.Simd.{map-map}
+use Rattle.std.specs.Int.{int_min}
+use Rattle.std.specs.List.{enumerate_from, flat_map}
+use Rattle.box_problem.specs.Box.{Box, box_of}
+use Rattle.place_names.specs.declared.setting.Setting.{Setting}
+use Rattle.scene_terms.specs.Scenes.{root_in}
+use Rattle.scenario_tree.specs.Layout.{cells_for}
+use Rattle.sopl_ast.specs.Cells.{Cell, cells, cells_of}
+use Rattle.sopl_ast.specs.Histories.{distinct, histories, history, same_values}
+use Rattle.sopl_ast.specs.Instances.{Decision, Problem, Stochastic}
+use Rattle.sopl_ast.specs.Limits.{first_above, fronts, size_excess, usual_limits, weight_excess, scenario_excess, copy_excess, bit_excess, instance_count}
+use Rattle.sopl_ast.specs.Numbers.{or_else}
+use Rattle.sopl_ast.specs.Occurrences.{excess}
+use Rattle.sopl_ast.specs.Scenarios.{Scenario, scenarios, total_weight}
+use Rattle.sopl_base.specs.declared.places.Excess.{Excess}
+use Rattle.sopl_base.specs.declared.places.Interval.{Interval}
+use Rattle.sopl_compile.specs.Posed.{IsSettingOf}
+
+first_none : {A : Type 0} (a b : Option A) → or_else a b ≡ None → a ≡ None
+first_none None b none = refl
+first_none (Some x) b none = absurd (cc)
+
+then_none : {A : Type 0} (a b : Option A) → or_else a b ≡ None → b ≡ None
+then_none None b none = none
+then_none (Some x) b none = absurd (cc)
+
+passed : (c : Bool) (e : Excess) (later : Option Excess) → (if c then later else Some e) ≡ None → c ≡ true
+passed true e later none = refl
+passed false e later none = absurd (cc)
+
+later_none : (c : Bool) (e : Excess) (later : Option Excess) → (if c then later else Some e) ≡ None → later ≡ None
+later_none true e later none = none
+later_none false e later none = absurd (cc)
+
+at_most : (n limit : ℤ) → int_le n limit ≡ true → n ≤ℤ limit
+at_most n limit test = omega (arith, ints, test)
+
+abbrev told : ℕ → ℕ → ℤ → Excess
+told code limit n = excess code (int_min n (pos (2 ^ 127 - 1))) (pos limit)
+
+whole_within : {A : Type 0} (code limit : ℕ) (f : List A → ℤ) (x : A) (xs : List A) → first_above code limit (map f (fronts (x ∷ xs))) ≡ None → f (x ∷ xs) ≤ℤ pos limit
+whole_within code limit f x [] none = at_most (f (x ∷ [])) (pos limit) (passed (int_le (f (x ∷ [])) (pos limit)) (told code limit (f (x ∷ []))) None none)
+whole_within {A} code limit f x (y ∷ ys) none =
+    let behind : List A → ℤ = λ (front : List A). f (x ∷ front) in
+    let later : first_above code limit (map f (map (λ (front : List A). x ∷ front) (fronts (y ∷ ys)))) ≡ None =
+    later_none (int_le (f (x ∷ [])) (pos limit)) (told code limit (f (x ∷ []))) (first_above code limit (map f (map (λ (front : List A). x ∷ front) (fronts (y ∷ ys))))) none in
+    whole_within code limit behind y ys (sym (ap (first_above code limit) (map-map f (λ (front : List A). x ∷ front) (fronts (y ∷ ys)))) ∙ later)
+
+-- Cells.
+
+filter_few : {A : Type 0} (p : A → Bool) (xs : List A) → length (filter p xs) ≤ length xs
+filter_few p xs = omega (arith, length-filter_both p (λ x. not (p x)) (λ x. refl) xs)
+
+distinct_few : (xs : List (List ℤ)) → length (distinct xs) ≤ length xs
+distinct_few [] = omega arith
+distinct_few (x ∷ xs) = omega (arith, filter_few (λ other. not (same_values x other)) (distinct xs), distinct_few xs)
+
+histories_few : (stage : ℕ) (ss : List Stochastic) → length (histories stage ss) ≤ length (scenarios ss)
+histories_few stage ss =
+    let seen : Scenario → List ℤ = λ (s : Scenario). history stage ss s.values in
+    omega (arith, distinct_few (map seen (scenarios ss)), length-map (scenarios ss) seen)
+
+-- a decision has at most one cell for each scenario
+cells_few : (ss : List Stochastic) (n : ℕ) (ds : List Decision) (others : ℕ) → length (flat_map (cells_of ss) (enumerate_from n ds)) ≤ (length ds + others) * length (scenarios ss)
+cells_few ss n [] others = omega arith
+cells_few ss n (d ∷ ds) others =
+    let cell : List ℤ → Cell = λ seen. record { key = (n, seen); lo = d.lo; hi = d.hi } in
+    let split : suc (length ds + others) * length (scenarios ss) ≡ length (scenarios ss) + (length ds + others) * length (scenarios ss) = omega arith in
+    omega (
+      arith,
+      split,
+      length-append (cells_of ss (n, d)) (flat_map (cells_of ss) (enumerate_from (n + 1) ds)),
+      length-map (histories d.stage ss) cell,
+      histories_few d.stage ss,
+      cells_few ss (n + 1) ds others,
+    )
+
+module _ (problem : Problem) (within : size_excess usual_limits problem ≡ None) where
+  abbrev behind_scenarios : Option Excess
+  behind_scenarios = or_else (copy_excess usual_limits problem) (bit_excess usual_limits problem)
+
+  abbrev behind_weight : Option Excess
+  behind_weight = or_else (scenario_excess usual_limits problem) behind_scenarios
+
+  pub light : total_weight problem.stochastics ≤ℤ pos (2 ^ 100)
+  light = by problem.stochastics (first_none (weight_excess usual_limits problem) behind_weight within)
+    where
+      by : (ss : List Stochastic) → first_above 201 (2 ^ 100) (map total_weight (fronts ss)) ≡ None → total_weight ss ≤ℤ pos (2 ^ 100)
+      by [] none = omega (arith, ints)
+      by (s ∷ ss) none = whole_within 201 (2 ^ 100) total_weight s ss none
+
+  pub few_scenarios : length (scenarios problem.stochastics) ≤ 16384
+  few_scenarios = by problem.stochastics (first_none (scenario_excess usual_limits problem) behind_scenarios (then_none (weight_excess usual_limits problem) behind_weight within))
+    where
+      by : (ss : List Stochastic) → first_above 202 16384 (map (λ (front : List Stochastic). pos (length (scenarios front))) (fronts ss)) ≡ None → length (scenarios ss) ≤ 16384
+      by [] none = omega arith
+      by (s ∷ ss) none =
+          let most : pos (length (scenarios (s ∷ ss))) ≤ℤ pos 16384 = whole_within 202 16384 (λ (front : List Stochastic). pos (length (scenarios front))) s ss none in
+          omega (arith, ints, most)
+
+  few_cells : length (cells problem) ≤ 1048576
+  few_cells =
+      let copies : ℕ = instance_count problem * length (scenarios problem.stochastics) in
+      let behind_copies : Option Excess = bit_excess usual_limits problem in
+      let none : copy_excess usual_limits problem ≡ None =
+      first_none (copy_excess usual_limits problem) behind_copies
+      (then_none (scenario_excess usual_limits problem) behind_scenarios (then_none (weight_excess usual_limits problem) behind_weight within)) in
+      let most : pos copies ≤ℤ pos 1048576 = at_most (pos copies) (pos 1048576) (passed (int_le (pos copies) (pos 1048576)) (told 209 1048576 (pos copies)) None none) in
+      let all = cells_few problem.stochastics 0 problem.decisions (length problem.stochastics + (length problem.hards + length problem.chances)) in
+      omega (arith, ints, most, all)
+
+  pub few_domains : (setting : Setting) (domains : List Interval) → IsSettingOf problem setting → box_of domains ≡ root_in setting → length domains < 2 ^ 32
+  few_domains setting domains of is =
+      let low : Interval → ℤ = λ (i : Interval). i.lo in
+      let cell_low : Cell → ℤ = λ (c : Cell). c.lo in
+      let own : List Cell = cells_for setting.decisions.now setting.stochs.now in
+      let as_many : length (map low domains) ≡ length (map cell_low own) = ap (λ (b : Box). length b.lows) is in
+      let same : length own ≡ length (cells problem) = λ i. length (cells_for (of.decisions i) (of.stochastics i)) in
+      omega (arith, as_many, length-map domains low, length-map own cell_low, same, few_cells)

@@ -1,0 +1,14 @@
+mod Sizes
+mod Listing
+mod Numbering
+mod Places
+mod Additions
+mod Supported
+mod Passed
+mod Objectives
+mod Weights
+mod Allowed
+mod Made
+mod Ending
+mod Faults
+mod Assembly

@@ -1,0 +1,13 @@
+use Rattle.std.proofs.Common.{drop, map}
+use Rattle.instantiation.specs.Whole.{hard_terms}
+use Rattle.program_sizes.specs.Measured.{constraint_subterms}
+use Rattle.sopl_compile.specs.Adding.{with_hards}
+use Rattle.sopl_compile.specs.Posed.{posed}
+use Rattle.unfold_tables.specs.Tables.{now_of}
+use Rattle.sopl_compile.proofs.Additions.{AreToAdd}
+use Rattle.sopl_compile.proofs.constraints.add_hards.Given as goal
+
+abbrev pub invariant-hards : goal.invariant-hards
+invariant-hards l =
+    AreToAdd with_hards constraint_subterms l.setting l.fn.work l.work (map (hard_terms (posed l.setting (map now_of l.conditions))) (drop l.hard-index l.hards))
+    (map (hard_terms (posed l.setting (map now_of l.conditions))) l.hards)

@@ -1,0 +1,81 @@
+//! What an expression is in each scenario.
+
+ghost use Rattle.std.specs.Prelude.{◌≡◌, ◌∷◌, ◌++◌, [], IfOk, OnOk};
+ghost use Rattle.program_sizes.specs.Measured.{Measures, constraint_subterms};
+ghost use Rattle.program_sizes.specs.Subterms.{subterms};
+ghost use Rattle.expression_terms.specs.Over.{IsOver};
+ghost use Rattle.expression_terms.specs.Supported.{IsSupported};
+ghost use Rattle.std.specs.List.{flat_map};
+ghost use Rattle.scene_terms.specs.Scenes.{root_in};
+ghost use Rattle.scene_terms.specs.Works.{Extends, IsReady, things_of};
+ghost use Rattle.sopl_ast.specs.Occurrences.{expression_occurrences};
+ghost use Rattle.sopl_compile.specs.Listed.{AreListed, conditions_in, terms_in};
+ghost use Rattle.sopl_term.specs.Built.{cond_ids, term_ids};
+ghost use Rattle.term_nodes.specs.Things.{cond_in, term_in};
+ghost use Rattle.unfold_constants.specs.Here.{known_in};
+ghost use Rattle.unfold_laws.specs.Passing.{Passes};
+
+use expression_terms::{condition_of, term_of};
+use place_names::Setting;
+use scene_terms::{Scene, Work};
+use sopl_ast::Expr;
+use sopl_base::Fault;
+use sopl_term::{CondId, TermId};
+use std::alloc::{AllocError, Global};
+use unfold_constants::Known;
+
+/// Puts one more behind a list.
+fn put<T: Drop>(list: &mut Vec<T>, item: T) -> Result<(), AllocError>
+    ensures ok { OnOk result (list.new.items ≡ list.old.items ++ item ∷ []) }
+{
+    list.push(item)?;
+    Ok(())
+}
+
+/// A condition in each scenario.
+pub(crate) fn conditions_of<'a>(
+    alloc: Global,
+    setting: &Setting<'_>,
+    known: &Known<'a>,
+    work: &mut Work,
+    e: &'a Expr,
+) -> Result<Vec<CondId>, Fault>
+    requires ready { IsReady setting.now work.old }
+    requires table { IsOver setting.now known.now }
+    requires passes { Passes (expression_occurrences (known_in known.now) e.now) }
+    requires supported { IsSupported e.now }
+    ensures extends { OnOk result (Extends setting.now work.old work.new) }
+    ensures listed { IfOk result (λ ids. AreListed cond_in (things_of work.new) (cond_ids ids.items) (conditions_in setting.now (known_in known.now) e.now)) }
+    ensures measured { Measures (root_in setting.now) (constraint_subterms (conditions_in setting.now (known_in known.now) e.now)) result }
+{
+    let mut found = Vec::new(alloc);
+    'scenarios: for scenario in 0..setting.tree.count() {
+        let id = condition_of(&Scene { setting, scenario }, known, work, e)?;
+        put(&mut found, id)?;
+    }
+    Ok(found)
+}
+
+/// A number expression in each scenario.
+pub(crate) fn terms_of<'a>(
+    alloc: Global,
+    setting: &Setting<'_>,
+    known: &Known<'a>,
+    work: &mut Work,
+    e: &'a Expr,
+) -> Result<Vec<TermId>, Fault>
+    requires ready { IsReady setting.now work.old }
+    requires table { IsOver setting.now known.now }
+    requires passes { Passes (expression_occurrences (known_in known.now) e.now) }
+    requires supported { IsSupported e.now }
+    ensures extends { OnOk result (Extends setting.now work.old work.new) }
+    ensures listed { IfOk result (λ ids. AreListed term_in (things_of work.new) (term_ids ids.items) (terms_in setting.now (known_in known.now) e.now)) }
+    ensures measured { Measures (root_in setting.now) (flat_map subterms (terms_in setting.now (known_in known.now) e.now)) result }
+{
+    let mut found = Vec::new(alloc);
+    'terms: for scenario in 0..setting.tree.count() {
+        let id = term_of(&Scene { setting, scenario }, known, work, e)?;
+        put(&mut found, id)?;
+    }
+    Ok(found)
+}
