@@ -2,13 +2,11 @@
 
 ghost use Rattle.std.specs.Prelude.{◌≡◌, Some, false};
 ghost use Rattle.serde_json.specs.Written.{has_float};
-ghost use Rattle.sopl_ast.specs.SmallTexts.{SmallModel};
 ghost use Rattle.sopl_ast.specs.Instances.{Problem};
 ghost use Rattle.sopl_ast.specs.Policies.{Policy, IsPolicy};
-ghost use Rattle.sopl_ast.specs.Whole.{ModelTree};
 ghost use Rattle.policy_json.specs.Held.{held_data};
 ghost use Rattle.policy_json.specs.Nodes.{policy_data};
-ghost use Rattle.policy_json.specs.Staged.{IsStaged};
+ghost use Rattle.policy_json.specs.Staged.{IsStaged, TextsAreStaged};
 
 /// The JSON of a policy has no float.
 pub fn no_float()
@@ -17,11 +15,10 @@ pub fn no_float()
 {}
 
 /// Where a problem comes by stage, its policies hold a value for each decision of each node, and their
-/// JSON has these values: no 0 stands for one that is not there. So comes the problem of each text that is
-/// solved today. A printing that shows other values is refused by the clause `held` of `policy_value`.
+/// JSON has these values: no 0 stands for one that is not there. So comes the problem of each accepted
+/// text. A printing that shows other values is refused by the clause `held` of `policy_value`.
 pub fn held_throughout()
     ensures held { (problem : Problem) (policy : Policy) → IsStaged problem → IsPolicy problem policy
         → held_data problem policy ≡ Some (policy_data problem policy) }
-    ensures staged { (model : ModelTree) (problem : Problem) → SmallModel model problem
-        → IsStaged problem }
+    ensures staged { TextsAreStaged }
 {}
