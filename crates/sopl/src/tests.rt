@@ -84,63 +84,9 @@ const CASES: &[Case] = &[
     (&["solve", "m"], ORDER, Status::Done, ORDER_ANSWER),
     (
         &["solve", "m"],
-        "dvar int x in 0..5 stage 1; stoch int d in {1:1, 3:1} stage 1; maximize expected(x); subject to { x == d; }",
-        Status::Done,
-        "{\"answer\":\"infeasible\"}\n",
-    ),
-    (
-        &["solve", "m"],
-        "dvar int x in 0..5 stage 2; stoch int d in {1:1, 3:1} stage 1; maximize expected(x); subject to { x == d; }",
-        Status::Done,
-        "{\"answer\":\"optimal\",\"policy\":{\"decide\":[],\"next\":[{\"seen\":[[\"d\",[],1]],\"then\":{\"decide\":[[\"x\",[],1]],\"next\":[]}},{\"seen\":[[\"d\",[],3]],\"then\":{\"decide\":[[\"x\",[],3]],\"next\":[]}}]},\"value\":\"4/2\"}\n",
-    ),
-    (
-        &["solve", "m"],
-        "dvar int x in 0..9; maximize expected(x); subject to { 3*x <= 20; }",
-        Status::Done,
-        "{\"answer\":\"optimal\",\"policy\":{\"decide\":[[\"x\",[],6]],\"next\":[]},\"value\":\"6/1\"}\n",
-    ),
-    (
-        &["solve", "m"],
         "",
         Status::Refused,
         "{\"answer\":\"refused\",\"at\":0,\"code\":104}\n",
-    ),
-    (
-        &["solve", "m"],
-        "subject to { z <= 1; }",
-        Status::Refused,
-        "{\"answer\":\"refused\",\"at\":13,\"code\":105}\n",
-    ),
-    (
-        &["solve", "m"],
-        "subject to { }",
-        Status::Refused,
-        "{\"answer\":\"refused\",\"at\":0,\"code\":117}\n",
-    ),
-    (
-        &["solve", "m"],
-        "dvar int x in 0..5 stage 1; stoch int d in {1:1, 3:1} stage 1; subject to { x == d; }",
-        Status::Refused,
-        "{\"answer\":\"refused\",\"at\":0,\"code\":117}\n",
-    ),
-    (
-        &["solve", "m"],
-        "dvar int x in 0..1; minimize worst(x); subject to { }",
-        Status::Refused,
-        "{\"answer\":\"refused\",\"at\":0,\"code\":117}\n",
-    ),
-    (
-        &["solve", "m"],
-        "dvar int x in 0..1; maximize expected(-x); subject to { }",
-        Status::Refused,
-        "{\"answer\":\"refused\",\"at\":0,\"code\":117}\n",
-    ),
-    (
-        &["solve", "m"],
-        "dvar int x in 0..1; maximize expected(0 - (1*x)); subject to { (x >= (1)); }",
-        Status::Done,
-        "{\"answer\":\"optimal\",\"policy\":{\"decide\":[[\"x\",[],1]],\"next\":[]},\"value\":\"-1/1\"}\n",
     ),
     (&["solve"], "", Status::Usage, "{\"answer\":\"usage\"}\n"),
     (&["tree"], "", Status::Usage, "{\"answer\":\"usage\"}\n"),
@@ -175,6 +121,59 @@ const CASES: &[Case] = &[
         "{\"answer\":\"tree\",\"den\":\"1\",\"histories\":[1],\"scenarios\":[{\"seen\":[],\"weight\":\"1\"}]}\n",
     ),
 ];
+
+/// Texts that are solved, each with the line on which `solve` ends.
+const SOLVED: &str = r##"
+dvar int x in 0..5 stage 1; stoch int d in {1:1, 3:1} stage 1; maximize expected(x); subject to { x == d; } -> {"answer":"infeasible"}
+dvar int x in 0..5 stage 2; stoch int d in {1:1, 3:1} stage 1; maximize expected(x); subject to { x == d; } -> {"answer":"optimal","policy":{"decide":[],"next":[{"seen":[["d",[],1]],"then":{"decide":[["x",[],1]],"next":[]}},{"seen":[["d",[],3]],"then":{"decide":[["x",[],3]],"next":[]}}]},"value":"4/2"}
+dvar int x in 0..9; maximize expected(x); subject to { 3*x <= 20; } -> {"answer":"optimal","policy":{"decide":[["x",[],6]],"next":[]},"value":"6/1"}
+subject to { } -> {"answer":"optimal","policy":{"decide":[],"next":[]},"value":"0/1"}
+subject to { prob(1 == 2) >= 0/1; } -> {"answer":"optimal","policy":{"decide":[],"next":[]},"value":"0/1"}
+subject to { prob(1 == 2) >= 1/1; } -> {"answer":"infeasible"}
+dvar int x in 0..1; minimize worst(x); subject to { } -> {"answer":"optimal","policy":{"decide":[["x",[],0]],"next":[]},"value":"0/1"}
+dvar int x in 0..1; maximize expected(-x); subject to { } -> {"answer":"optimal","policy":{"decide":[["x",[],0]],"next":[]},"value":"0/1"}
+dvar int x in 0..1; maximize expected(0 - (1*x)); subject to { (x >= (1)); } -> {"answer":"optimal","policy":{"decide":[["x",[],1]],"next":[]},"value":"-1/1"}
+dvar int x in 0..5; stoch int d in {1:1, 3:1}; minimize expected(x); subject to { prob(x >= d) >= 501/1000; } -> {"answer":"optimal","policy":{"decide":[["x",[],3]],"next":[]},"value":"6/2"}
+range R = 1..2; int a[R] = [5, 7]; int b[R] = [1, 2]; stoch int d in {1:1, 3:1}; dvar int x in 0..1; maximize expected(x); subject to { !(a[b[d]] == 7); } -> {"answer":"optimal","policy":{"decide":[["x",[],1]],"next":[]},"value":"2/2"}
+range R = 1..2; int a[R] = [5, 7]; stoch int d in {1:1, 3:1}; dvar int x in 0..1; maximize expected(x + a[d]); subject to { } -> {"answer":"infeasible"}
+range R = 2..1; dvar int x[R] in 0..1; dvar int y in 1..2; minimize expected(y + sum(i in R) x[i]); subject to { forall(i in R) x[i] == 1; } -> {"answer":"optimal","policy":{"decide":[["y",[],1]],"next":[]},"value":"1/1"}
+stoch int d in {1:1, 3:1}; dvar int x in 0..9; maximize expected(x*d - x*x); subject to { } -> {"answer":"optimal","policy":{"decide":[["x",[],1]],"next":[]},"value":"2/2"}
+dvar int x in 0..40; maximize expected(x); subject to { x mod 7 == 5; x div 12 == 2; } -> {"answer":"optimal","policy":{"decide":[["x",[],33]],"next":[]},"value":"33/1"}
+stoch int d in {1:1, 2:3, 6:1}; dvar int x in 0..9; maximize expected(-abs(x - d)); subject to { } -> {"answer":"optimal","policy":{"decide":[["x",[],2]],"next":[]},"value":"-5/5"}
+stoch int d in {1:1, 3:1}; dvar int x in 0..5; maximize expected(4*min(x, d) - max(x, 2)); subject to { } -> {"answer":"optimal","policy":{"decide":[["x",[],3]],"next":[]},"value":"10/2"}
+range R = 1..3; int price[R] = [4, 6, 5]; dvar int x[R] in 0..2; maximize expected(sum(i in R) price[i]*x[i]); subject to { sum(i in R) x[i] <= 4; } -> {"answer":"optimal","policy":{"decide":[["x",[1],0],["x",[2],2],["x",[3],2]],"next":[]},"value":"22/1"}
+{int} S = {2, 5, 3}; int square[i in S] = i*i; dvar int x[S] in 0..1; maximize expected(sum(i in S) square[i]*x[i]); subject to { sum(i in S) i*x[i] <= 7; } -> {"answer":"optimal","policy":{"decide":[["x",[2],1],["x",[3],0],["x",[5],1]],"next":[]},"value":"29/1"}
+range R = 1..2; stoch int d in {1:1, 2:1} stage 1; dvar int x[i in R] in 0..i stage i; maximize expected(x[1]*d + x[2]); subject to { x[1] + x[2] <= d; } -> {"answer":"optimal","policy":{"decide":[["x",[1],1]],"next":[{"seen":[["d",[],1]],"then":{"decide":[["x",[2],0]],"next":[]}},{"seen":[["d",[],2]],"then":{"decide":[["x",[2],1]],"next":[]}}]},"value":"4/2"}
+range T = 1..2; stoch int d[t in T] in {0:2, t:1} stage t; dvar int x in 0..3 stage 2; minimize expected(abs(x - d[1] - d[2])); subject to { } -> {"answer":"optimal","policy":{"decide":[],"next":[{"seen":[["d",[1],0]],"then":{"decide":[["x",[],0]],"next":[]}},{"seen":[["d",[1],1]],"then":{"decide":[["x",[],1]],"next":[]}}]},"value":"6/9"}
+range R = 1..2; int a[R] = [5, 7]; stoch int d in {1:1, 2:3}; dvar int x in 0..9; minimize worst(abs(x - a[d])); subject to { } -> {"answer":"optimal","policy":{"decide":[["x",[],6]],"next":[]},"value":"1/1"}
+range R = 1..2; int a[R] = [5, 7]; stoch int d in {1:1, 3:1}; dvar int x in 0..1; maximize expected(x); subject to { !(a[d] == 7); } -> {"answer":"optimal","policy":{"decide":[["x",[],1]],"next":[]},"value":"2/2"}
+stoch int d in {1:1, 3:1}; dvar int x in 0..5; maximize expected(3*(x >= d) - x); subject to { } -> {"answer":"optimal","policy":{"decide":[["x",[],1]],"next":[]},"value":"1/2"}
+dvar int x in 0..9; dvar int y in 0..9; maximize expected(x + y); subject to { x < 3 && y < 5 || x + y < 6; } -> {"answer":"optimal","policy":{"decide":[["x",[],2],["y",[],4]],"next":[]},"value":"6/1"}
+dvar int x in 0..9; dvar int y in 0..9; maximize expected(3*x + y); subject to { x > 4 => y < 2; !x == 9; } -> {"answer":"optimal","policy":{"decide":[["x",[],8],["y",[],1]],"next":[]},"value":"25/1"}
+range R = 1..3; dvar int x[R] in 0..2; maximize expected(sum(i in R) i*x[i]); subject to { forall(i in R, j in R) (i < j => x[i] != x[j]); } -> {"answer":"optimal","policy":{"decide":[["x",[1],0],["x",[2],1],["x",[3],2]],"next":[]},"value":"8/1"}
+range R = 1..2; dvar int x[R] in 0..9; maximize expected(x[1] + x[2]); subject to { { x[1] <= 4; forall(i in R) { x[i] <= 3*i; x[i] mod 2 == 0; } } } -> {"answer":"optimal","policy":{"decide":[["x",[1],2],["x",[2],6]],"next":[]},"value":"8/1"}
+dvar int x in 0..5; stoch int d in {1:1, 2:1, 3:1}; minimize expected(x); subject to { prob(x >= d) >= 2/3; } -> {"answer":"optimal","policy":{"decide":[["x",[],2]],"next":[]},"value":"6/3"}
+range R = 1..2; stoch int d in {1:2, 4:1}; dvar int x in 0..9; minimize expected(x); subject to { forall(i in R) prob(x >= i*d) >= 1/i; } -> {"answer":"optimal","policy":{"decide":[["x",[],4]],"next":[]},"value":"12/3"}
+dvar int x in 0..5; stoch int d in {1:1, 3:1}; minimize worst(abs(x - d)); subject to { } -> {"answer":"optimal","policy":{"decide":[["x",[],2]],"next":[]},"value":"1/1"}
+dvar int x in 0..5 stage 1; stoch int d in {1:1, 3:1} stage 1; dvar int y in 0..3 stage 2; minimize worst(abs(3*d - 2*y - x)); subject to { } -> {"answer":"optimal","policy":{"decide":[["x",[],3]],"next":[{"seen":[["d",[],1]],"then":{"decide":[["y",[],0]],"next":[]}},{"seen":[["d",[],3]],"then":{"decide":[["y",[],3]],"next":[]}}]},"value":"0/1"}
+dvar int x in 0..5 stage 2; stoch int d in {1:1, 3:1} stage 1; subject to { x == d; } -> {"answer":"optimal","policy":{"decide":[],"next":[{"seen":[["d",[],1]],"then":{"decide":[["x",[],1]],"next":[]}},{"seen":[["d",[],3]],"then":{"decide":[["x",[],3]],"next":[]}}]},"value":"0/1"}
+dvar int x in 0..5 stage 1; stoch int d in {1:1, 3:1} stage 1; subject to { x == d; } -> {"answer":"infeasible"}
+"##;
+
+/// Texts with a form that is not solved yet, each with the line on which `solve` ends: its place is the first one's.
+const NOT_YET: &str = r##"
+range R = 1..3; dvar int x[R] in 1..2; subject to { allDifferent(all(i in R) x[i]); } -> {"answer":"refused","at":52,"code":117}
+range R = 1..2; int a[R] = [5, 7]; dvar int x in 1..2; maximize expected(a[x]); subject to { 1 == 2; } -> {"answer":"refused","at":73,"code":117}
+range R = 1..2; int a[R] = [5, 7]; dvar int x in 1..2; subject to { cumulative(all(i in R) (a[x], 1, 1), 1); } -> {"answer":"refused","at":68,"code":117}
+range T = 1..14; range R = 1..300; stoch int d[T] in {0:1, 1:1}; dvar int x in 0..1; int a[0..1] = [1, 1]; subject to { sum(i in R) a[x] >= 0; } -> {"answer":"refused","at":132,"code":117}
+"##;
+
+/// Texts whose terms pass a limit, each with the line on which `solve` ends.
+const LARGE: &str = r##"
+range T = 1..14; range R = 1..300; stoch int d[T] in {0:1, 1:1}; subject to { sum(i in R) i >= 0; } -> {"answer":"limit","code":206,"counted":"4964352","limit":"4194304"}
+dvar int x in 0..65535; subject to { x*1099511627776 >= 0; } -> {"answer":"limit","code":207,"counted":"72056494526300160","limit":"1099511627776"}
+dvar int x in 0..65535; maximize expected(x*1099511627776*2); subject to { x*1099511627775 >= 0; } -> {"answer":"limit","code":207,"counted":"72056494526234625","limit":"1099511627776"}
+"##;
 
 /// Texts that break a rule, each with the line on which both commands end.
 const REFUSED: &str = r##"
@@ -229,6 +228,25 @@ fn both_end(rt: &impl Abort, alloc: Global, table: &str, status: Status) -> Resu
             None => assert!(rt; line.is_empty(), "{line}"),
         }
     }
+    Ok(())
+}
+
+/// Runs `solve` on each text of a table.
+fn solves(rt: &impl Abort, alloc: Global, table: &str, status: Status) -> Result<(), AllocError> {
+    for line in table.lines() {
+        match line.split_once(" -> ") {
+            Some(row) => command_ends(rt, alloc, "solve", row, status)?,
+            None => assert!(rt; line.is_empty(), "{line}"),
+        }
+    }
+    Ok(())
+}
+
+#[test]
+fn whole_texts(rt: HostRuntime) -> Result<(), Fail> {
+    solves(&rt, rt.alloc(), SOLVED, Status::Done)?;
+    solves(&rt, rt.alloc(), NOT_YET, Status::Refused)?;
+    solves(&rt, rt.alloc(), LARGE, Status::Limit)?;
     Ok(())
 }
 

@@ -12,23 +12,28 @@ use Rattle.sopl_base.specs.declared.places.Refusal.{Refusal}
 use Rattle.sopl_ast.specs.Accepted.{IsRefusedFor, no_tokens, misspelled, mistaken, stopped}
 use Rattle.sopl_ast.specs.Tokens.{too_long, no_piece, too_large}
 use Rattle.text_problem.specs.Faults.{IsLimitedToday, unfolding_passes, sizes_pass}
-use Rattle.text_replies.specs.Answers.{word_data, line_of}
-use Rattle.text_replies.specs.Replies.{IsTextReply, optimal, infeasible, scenes, refused, not_yet, limited}
+use Rattle.answer_lines.specs.Answers.{word_data, line_of}
+use Rattle.text_replies.specs.Replies.{IsRefusedOn, by_rule, not_yet, IsLimitedOn, by_size, by_terms, IsTextReply, optimal, infeasible, scenes, refused, limited}
 use Rattle.text_replies.specs.declared.command.Command.{Command}
+use Rattle.text_replies.specs.declared.command.Command.TheVariants.{Solve}
 use Rattle.text_replies.specs.declared.reply.Reply.{Reply}
 use Rattle.text_replies.specs.declared.status.Status.{Status}
 use Rattle.text_replies.specs.declared.status.Status.TheVariants.{Done, Usage, ReadFault}
 use Rattle.sopl_run.specs.Words.{Request, request_of}
-use Rattle.sopl_run.specs.Replies.{IsModelText, IsReply, replied, usage, read_fault}
+use Rattle.sopl_run.specs.Replies.{IsReply, replied, usage, read_fault}
 
 -- a front of a text that is short enough is the whole text
 front_is_whole : (most : ℕ) → 1048576 < most → (text : List ℕ) → length (take most text) ≤ 1048576 → take most text ≡ text
 front_is_whole most more text short = take_all most text (omega (arith, more, short, length-take {A = ℕ} most text))
 
 -- a text that passes a limit is no longer than a text may be
-limited_short : (text : List ℕ) (excess : Excess) → IsLimitedToday text excess → length text ≤ 1048576
-limited_short text excess (unfolding_passes model is typed stops) = is.read.0
-limited_short text excess (sizes_pass model is typed passes over) = is.read.0
+size_short : (text : List ℕ) (excess : Excess) → IsLimitedToday text excess → length text ≤ 1048576
+size_short text excess (unfolding_passes model is typed stops) = is.read.0
+size_short text excess (sizes_pass model is typed passes over) = is.read.0
+
+limited_short : (text : List ℕ) (excess : Excess) (command : Command) → IsLimitedOn text excess command → length text ≤ 1048576
+limited_short text excess _ (by_size command over) = size_short text excess over
+limited_short text excess _ (by_terms over) = over.spelled.read.0
 
 -- a text is refused where what is read of it is
 refused_short : (most : ℕ) → 1048576 < most → (text : List ℕ) (refusal : Refusal) → length (take most text) ≤ 1048576 → IsRefusedFor (take most text) refusal → IsRefusedFor text refusal
@@ -45,6 +50,11 @@ refused_whole most more text refusal (misspelled tokens read wrong) = refused_sh
 refused_whole most more text refusal (mistaken model is first) = refused_short most more text refusal is.read.0 (mistaken model is first)
 refused_whole most more text refusal (stopped model is typed stops) = refused_short most more text refusal is.read.0 (stopped model is typed stops)
 
+refused_on : (most : ℕ) → 1048576 < most → (text : List ℕ) (refusal : Refusal) (command : Command) → IsRefusedOn (take most text) refusal command → IsRefusedOn text refusal command
+refused_on most more text refusal _ (by_rule command reason) = by_rule command (refused_whole most more text refusal reason)
+refused_on most more text refusal _ (not_yet is) =
+    subst (λ t. IsRefusedOn t refusal Solve) (front_is_whole most more text is.spelled.read.0) (not_yet is)
+
 -- a reply to what was read of a text, where that is no longer than a text may be
 reply_moved : (most : ℕ) → 1048576 < most → (text : List ℕ) (command : Command) (status : Status) (line : List ℕ) → length (take most text) ≤ 1048576
     → IsTextReply (take most text) command status line → IsTextReply text command status line
@@ -53,14 +63,13 @@ reply_moved most more text command status line short r = subst (λ t. IsTextRepl
 -- a reply to what was read of a text is a reply to the text
 reply_whole : (most : ℕ) → 1048576 < most → (text : List ℕ) (command : Command) (status : Status) (line : List ℕ)
     → IsTextReply (take most text) command status line → IsTextReply text command status line
-reply_whole most more text _ _ _ (optimal problem policy value simple best) =
-    reply_moved most more text _ _ _ simple.spelled.read.0 (optimal problem policy value simple best)
-reply_whole most more text _ _ _ (infeasible problem simple none) = reply_moved most more text _ _ _ simple.spelled.read.0 (infeasible problem simple none)
+reply_whole most more text _ _ _ (optimal problem policy value is best) =
+    reply_moved most more text _ _ _ is.spelled.read.0 (optimal problem policy value is best)
+reply_whole most more text _ _ _ (infeasible problem is none) = reply_moved most more text _ _ _ is.spelled.read.0 (infeasible problem is none)
 reply_whole most more text _ _ _ (scenes problem accepted) = reply_moved most more text _ _ _ accepted.spelled.read.0 (scenes problem accepted)
-reply_whole most more text _ _ _ (refused command refusal reason) = refused command refusal (refused_whole most more text refusal reason)
-reply_whole most more text _ _ _ (not_yet problem larger) = reply_moved most more text _ _ _ larger.spelled.read.0 (not_yet problem larger)
+reply_whole most more text _ _ _ (refused command refusal why) = refused command refusal (refused_on most more text refusal command why)
 reply_whole most more text _ _ _ (limited command excess over) =
-    reply_moved most more text _ _ _ (limited_short (take most text) excess over) (limited command excess over)
+    reply_moved most more text _ _ _ (limited_short (take most text) excess command over) (limited command excess over)
 
 -- so what is answered of the bytes that were read is a reply to the words
 read_reply : (words : List (List ℕ)) (stock : Option Stock) (before now : ℕ) (bytes : List ℕ) (request : Request) (most : ℕ) (status : Status) (line : List ℕ)
@@ -84,11 +93,10 @@ reply_made words stock before now bytes slice request size most (Err error) aske
 
 -- a text that is answered is no longer than a text may be
 done_short : (text : List ℕ) (command : Command) (status : Status) (line : List ℕ) → IsTextReply text command status line → status ≡ Done → length text ≤ 1048576
-done_short text _ _ _ (optimal problem policy value simple best) done = simple.spelled.read.0
-done_short text _ _ _ (infeasible problem simple none) done = simple.spelled.read.0
+done_short text _ _ _ (optimal problem policy value is best) done = is.spelled.read.0
+done_short text _ _ _ (infeasible problem is none) done = is.spelled.read.0
 done_short text _ _ _ (scenes problem accepted) done = accepted.spelled.read.0
-done_short text _ _ _ (refused command refusal reason) done = cc
-done_short text _ _ _ (not_yet problem larger) done = cc
+done_short text _ _ _ (refused command refusal why) done = cc
 done_short text _ _ _ (limited command excess over) done = cc
 
 not_full : (most size : ℕ) → Some most ≡ Some size → size < most → ⊥

@@ -4,7 +4,7 @@ use Rattle.std.specs.Io.KnownBytes.{Keeps, Appends}
 use Rattle.sopl_io.specs.Causes.{Rose}
 use Rattle.sopl_io.specs.Stock.{Stock, text_of, with_name}
 use Rattle.sopl_io.specs.Transfer.{AppendsPrefix}
-use Rattle.text_replies.specs.Answers.{word_data, line_of}
+use Rattle.answer_lines.specs.Answers.{word_data, line_of}
 use Rattle.text_replies.specs.Replies.{Ends, IsTextReply}
 use Rattle.text_replies.specs.declared.command.Command.{Command}
 use Rattle.text_replies.specs.declared.status.Status.{Status}

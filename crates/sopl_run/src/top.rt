@@ -7,9 +7,10 @@ ghost use Rattle.sopl_run.specs.Words.{model_of, request_of};
 ghost use Rattle.sopl_run.specs.Replies.{asked_in, IsReply, Answers, EndsSo, EndsWhen, begun_names, IsUntouched};
 
 use crate::words::{Words, asked};
+use answer_lines::word_line;
 use sopl_io::{ReadStop, Sink, Source, read_all, write_all};
 use std::alloc::{AllocError, Global};
-use text_replies::{Reply, Status, reply_to, word_line};
+use text_replies::{Reply, Status, reply_to};
 
 /// The bytes of a model text that are read at most: one more than a text may have.
 const MOST_READ: usize = 1_048_577;
@@ -32,8 +33,8 @@ pub fn run<S: Source, K: Sink>(
     ensures usage_when { request_of words.now ≡ None
         → (result ≡ Status.Usage) ⊎ (result ≡ Status.WriteFault) ⊎ (result ≡ Status.NoMemory) }
 
-    // A run ends as its command ends on its text: a text that is accepted is answered, where it is shown or of a form that is
-    // solved today; a text that breaks a rule is refused, and so is one that is not solved yet; and so for limits.
+    // A run ends as its command ends on its text: a text that breaks a rule is refused, and so is, by `solve`, one that has a form
+    // that is not solved yet; a text that passes a limit ends so; each other one is answered.
     ensures ends { EndsSo (asked_in (S.stock source.old) words.now) result }
     ensures ends_when { EndsWhen (asked_in (S.stock source.old) words.now) result }
 

@@ -1,4 +1,3 @@
 pub mod Texts
 pub mod NamesFormed
-pub mod Simple
 pub mod Rejected

@@ -16,13 +16,11 @@ use Rattle.sopl_ast.specs.Misspelled.{IsMisspelled, misplaced, too_deep, NoneGoe
 use Rattle.sopl_ast.specs.Mistakes.{of_model, IsWellTyped}
 use Rattle.sopl_ast.specs.Instances.{Problem}
 use Rattle.sopl_ast.specs.Occurrences.{met}
-use Rattle.sopl_ast.specs.SmallTexts.{SmallModel}
 use Rattle.sopl_ast.specs.Unfolding.{problem_of, text_occurrences}
 use Rattle.sopl_lex.proofs.Meet.{lexes_one}
 use Rattle.sopl_grammar.proofs.Stops.{spells_one}
 use Rattle.text_problem.specs.Laws.{TextsEndOnce}
 use Rattle.text_problem.specs.Faults.{IsLimitedToday, unfolding_passes, sizes_pass}
-use Rattle.text_problem.specs.Simple.{SimpleText, IsNotYet}
 
 abbrev lexed : List Token → Result (List Token) Refusal
 lexed tokens = Ok tokens
@@ -145,5 +143,4 @@ texts_end_once =
       not_refused = accepted_not_refused;
       not_limited = accepted_not_limited;
       refused_alone = refused_not_limited;
-      not_both = λ text p q a b. b.larger p (subst (λ m. SmallModel m p) (one_model text a.model b.model a.spelled b.spelled) a.simple);
     }

@@ -1,5 +1,5 @@
 -- What is read of a text.
-use Rattle.std.proofs.Common.{◌≡◌, ◌∙◌, ◌⊎◌, inl, inr, ℕ, List, length, Some, None, Result, Ok, Err, IfOk, IfErr, IsOk, refl, sym, ap, subst, Vec}
+use Rattle.std.proofs.Common.{◌≡◌, ◌∙◌, ◌⊎◌, inl, inr, ℕ, List, length, Some, None, Result, Ok, Err, IfOk, IfErr, refl, sym, ap, subst, Vec}
 use Rattle.std.specs.declared.alloc.Global.{Global}
 use Rattle.sopl_base.specs.declared.places.Excess.{Excess}
 use Rattle.sopl_base.specs.declared.places.Fault.{Fault}

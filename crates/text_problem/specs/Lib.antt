@@ -1,5 +1,4 @@
 pub mod Faults
-pub mod Simple
 pub mod Stated
 pub mod Shown
 pub mod Laws

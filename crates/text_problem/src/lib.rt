@@ -7,6 +7,6 @@ mod stated;
 #[cfg(test)]
 mod tree_tests;
 
-pub use laws::{accepted_is_simple, texts_end_once};
+pub use laws::texts_end_once;
 pub use read::{stated_in, typed_in};
 pub use stated::Stated;

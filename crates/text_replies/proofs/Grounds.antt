@@ -1,25 +1,19 @@
--- What an accepted text states is what its printing and its solving ask for.
-use denote.Struct.Props.{props}
+-- What an accepted text states is what its printing asks for.
 use mathlib.Core.Bool.{Bool-set}
-use Rattle.std.proofs.Common.{◌≡◌, ◌<◌, ◌^◌, ◌≤◌, ◌∙◌, true, List, length, map, arith, refl, sym, ap, subst}
+use Rattle.std.proofs.Common.{◌≡◌, ◌<◌, ◌^◌, ◌∙◌, true, List, length, map, arith, sym, ap, subst}
 use Rattle.std.proofs.Math.Logic.{∥∥₁_elim}
 use Rattle.std.proofs.lemmas.Bool.{and_parts}
 use Rattle.std.proofs.lemmas.List.Folds.{list_all-append}
 use Rattle.std.specs.List.{AllByRecursion, list_all}
-use Rattle.sopl_ast.specs.Instances.{Decision, Problem, Stochastic}
+use Rattle.sopl_ast.specs.Instances.{Decision, Stochastic}
 use Rattle.sopl_ast.specs.Pieces.{is_word}
 use Rattle.sopl_ast.specs.Small.{names_in}
-use Rattle.sopl_ast.specs.SmallTexts.{SmallModel}
 use Rattle.unfold_laws.specs.Bounds.{IsBoundedDecision}
 use Rattle.unfold_laws.proofs.Counts.{instances_are_counted}
 use Rattle.unfold_laws.proofs.Whole.{decisions_are_bounded}
 use Rattle.name_laws.proofs.Names.{names_are_words}
-use Rattle.scenario_tree.specs.Layout.{AreStated, IsTreeOf}
-use Rattle.sopl_scen.proofs.Stated.{constraints_in, ground_stated}
-use Rattle.policy_eval.proofs.Stated.{stated_judged}
-use Rattle.text_problem.specs.Stated.{IsLaid, model_in, problem_in}
+use Rattle.text_problem.specs.Stated.{model_in, problem_in}
 use Rattle.text_problem.specs.declared.stated.Stated.{Stated}
-use Rattle.text_replies.specs.Solved.{IsReady}
 
 -- the domains of the decisions
 pub stated_bounded : (stated : Stated) (ds : List Decision) → ds ≡ (problem_in stated).decisions → AllByRecursion IsBoundedDecision ds
@@ -41,15 +35,3 @@ stated_words stated ss same =
 pub stated_few : (stated : Stated) (ss : List Stochastic) → ss ≡ (problem_in stated).stochastics → length ss < 2 ^ 32
 stated_few stated ss same =
     subst (λ l. length l < 2 ^ 32) (sym same) (omega (arith, instances_are_counted (model_in stated) stated.ground.unfolded.passes))
-
--- a problem of the form that is solved today can be solved
-pub stated_ready : (stated : Stated) (problem : Problem) → IsLaid stated → problem ≡ problem_in stated → SmallModel (model_in stated) problem → IsReady problem stated.tree
-stated_ready stated problem laid same small =
-    record {
-      judged = stated_judged (model_in stated) problem small.stated small.small;
-      laid = subst (λ p. IsTreeOf p.decisions p.stochastics stated.tree) (sym same) laid;
-      constraints = constraints_in (problem_in stated);
-      stated = subst (λ (p : Problem). AreStated p.decisions p.stochastics (constraints_in (problem_in stated))) (sym same)
-          (ground_stated (model_in stated) stated.ground.typed.origin stated.ground.unfolded.passes (problem_in stated).decisions (problem_in stated).stochastics
-          (constraints_in (problem_in stated)) refl refl refl);
-    }

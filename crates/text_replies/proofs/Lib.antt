@@ -1,4 +1,3 @@
-pub mod Best
 pub mod Answered
 pub mod Grounds
 pub mod Ends

@@ -1,4 +1,2 @@
 pub mod Codes
-pub mod Answers
 pub mod Replies
-pub mod Solved

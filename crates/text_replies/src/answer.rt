@@ -1,21 +1,20 @@
 //! From a command and the text of a model to the reply.
 
 ghost use Rattle.std.specs.Prelude.{◌≡◌, ℕ, List, string_bytes, pos, IfOk};
-ghost use Rattle.text_problem.specs.Faults.{IsTextFault};
 ghost use Rattle.text_problem.specs.Stated.{IsLaid, States, problem_in};
 ghost use Rattle.tree_json.specs.Answer.{tree_data};
-ghost use Rattle.text_replies.specs.Answers.{limit_data, line_of, refused_data};
-ghost use Rattle.text_replies.specs.Replies.{IsTextReply};
-ghost use Rattle.text_replies.specs.declared.command.Command.TheVariants.{Tree as ShowTree};
+ghost use Rattle.answer_lines.specs.Answers.{limit_data, line_of, refused_data};
+ghost use Rattle.text_replies.specs.Replies.{IsFaultOn, IsTextReply};
+ghost use Rattle.text_replies.specs.declared.command.Command.TheVariants.{Solve, Tree as ShowTree};
 
 use crate::command::Command;
-use crate::lines::{limit_line, refused_line};
 use crate::reply::Reply;
-use crate::solve::solved_reply;
 use crate::status::Status;
+use answer_lines::{limit_line, refused_line};
 use sopl_base::{Excess, Fault, Refusal};
 use std::alloc::{AllocError, Global};
 use text_problem::{Stated, stated_in};
+use text_solver::solved_line;
 use tree_json::tree_text;
 
 /// The reply to a text that is refused so.
@@ -42,10 +41,10 @@ fn limit_reply(alloc: Global, excess: &Excess) -> Result<Reply, AllocError>
     })
 }
 
-/// The reply to a text that is not taken for this fault.
+/// The reply to a command that is not done on a text for this fault.
 #[tactic(auto, using(crate::proofs::Answered::refused_so, crate::proofs::Answered::limited_so))]
 fn fault_reply(alloc: Global, fault: Fault) -> Result<Reply, AllocError>
-    ensures reply { (command : Command) (text : List ℕ) → IsTextFault text fault
+    ensures reply { (command : Command) (text : List ℕ) → IsFaultOn text command fault
         → IfOk result (λ reply. IsTextReply text command reply.status (string_bytes reply.line)) }
 {
     match fault {
@@ -81,8 +80,25 @@ fn tree_reply(alloc: Global, stated: &Stated) -> Result<Reply, AllocError>
     })
 }
 
+/// The reply to `solve` on a text that states this.
+fn solved_reply(alloc: Global, stated: &Stated) -> Result<Reply, AllocError>
+    requires stated { (text : List ℕ) × States text stated.now }
+    requires laid { IsLaid stated.now }
+    ensures reply { (text : List ℕ) → States text stated.now
+        → IfOk result (λ reply. IsTextReply text Solve reply.status (string_bytes reply.line)) }
+{
+    match solved_line(alloc, stated) {
+        Ok(line) => Ok(Reply {
+            status: Status::Done,
+            line,
+        }),
+        Err(fault) => fault_reply(alloc, fault),
+    }
+}
+
 /// The reply to a command on a text that is accepted and states this.
 fn stated_reply(alloc: Global, command: Command, stated: &Stated) -> Result<Reply, AllocError>
+    requires stated { (text : List ℕ) × States text stated.now }
     requires laid { IsLaid stated.now }
     ensures reply { (text : List ℕ) → States text stated.now
         → IfOk result (λ reply. IsTextReply text command reply.status (string_bytes reply.line)) }
@@ -94,8 +110,8 @@ fn stated_reply(alloc: Global, command: Command, stated: &Stated) -> Result<Repl
 }
 
 /// The reply to a command on the bytes of a text: `solve` prints the best policy with its value, or `infeasible`, and
-/// `tree` the scenarios; both tell the first rule that the text breaks, or the limit that it passes. It is refused for want
-/// of memory alone.
+/// `tree` the scenarios; both tell the first rule that the text breaks, or the limit that it passes, and `solve` besides the
+/// first form that is not solved yet, or the limit that the text's terms pass. It is refused for want of memory alone.
 pub fn reply_to(alloc: Global, command: Command, text: &[u8]) -> Result<Reply, AllocError>
     ensures reply { IfOk result (λ reply. IsTextReply text.now command reply.status (string_bytes reply.line)) }
 {

@@ -6,13 +6,10 @@
 
 mod answer;
 mod command;
-mod lines;
 mod reply;
-mod solve;
 mod status;
 
 pub use answer::reply_to;
 pub use command::Command;
-pub use lines::word_line;
 pub use reply::Reply;
 pub use status::Status;

@@ -1,5 +1,5 @@
 use Rattle.std.proofs.Common.{subst}
-use Rattle.text_problem.specs.Faults.{IsTextFault}
+use Rattle.text_replies.specs.Replies.{IsFaultOn}
 use Rattle.text_replies.proofs.Answered.{refused_so, limited_so}
 use Rattle.text_replies.proofs.answer.fault_reply.Goals as goal
 
@@ -8,7 +8,7 @@ returns-in-Text c =
     record {
       reply =
           λ command text reason.
-          refused_so command text c.in-Text.refusal c.refused_reply.result (subst (IsTextFault text) c.in-Text.is reason) c.refused_reply.ensures.status c.refused_reply.ensures.line;
+          refused_so command text c.in-Text.refusal c.refused_reply.result (subst (IsFaultOn text command) c.in-Text.is reason) c.refused_reply.ensures.status c.refused_reply.ensures.line;
     }
 
 pub returns-in-Limit : goal.returns-in-Limit
@@ -16,5 +16,5 @@ returns-in-Limit c =
     record {
       reply =
           λ command text over.
-          limited_so command text c.in-Limit.excess c.limit_reply.result (subst (IsTextFault text) c.in-Limit.is over) c.limit_reply.ensures.status c.limit_reply.ensures.line;
+          limited_so command text c.in-Limit.excess c.limit_reply.result (subst (IsFaultOn text command) c.in-Limit.is over) c.limit_reply.ensures.status c.limit_reply.ensures.line;
     }

@@ -1,0 +1,6 @@
+//! The lines of answers: one JSON object in compact form, and a line feed.
+#![tactic(auto)]
+
+mod lines;
+
+pub use lines::{limit_line, optimal_line, refused_line, word_line};

@@ -1,0 +1,100 @@
+//! The answer lines but that of `tree`.
+
+ghost use Rattle.std.specs.Prelude.{◌≡◌, false, codes, string_bytes, IfOk, pos};
+ghost use Rattle.serde_json.specs.View.{view};
+ghost use Rattle.serde_json.specs.Written.{has_float};
+ghost use Rattle.std.specs.Fmt.{signed_decimal};
+ghost use Rattle.answer_lines.specs.Answers.{word_data, refused_data, limit_data, limit_object, optimal_object, fraction, line_of};
+
+use serde_json::{Value, json};
+use sopl_base::{Excess, Refusal};
+use std::alloc::{AllocError, Global};
+
+/// The line of an answer: its text in compact form, and a line feed.
+fn line(alloc: Global, answer: &Value) -> Result<String, AllocError>
+    requires whole { has_float (view answer.now) ≡ false }
+    ensures text { IfOk result (λ text. string_bytes text ≡ line_of (view answer.now)) }
+{
+    let mut text = answer.to_string(alloc)?;
+    text.push('\n')?;
+    Ok(text)
+}
+
+fn word_answer(alloc: Global, word: &str) -> Result<Value, AllocError>
+    ensures answer { IfOk result (λ value. view value ≡ word_data word.now) }
+{
+    json!(in alloc; {"answer": word})
+}
+
+/// The line of an answer that is one word: `{"answer":WORD}` and a line feed. It is refused for want of memory alone.
+pub fn word_line(alloc: Global, word: &str) -> Result<String, AllocError>
+    ensures text { IfOk result (λ text. string_bytes text ≡ line_of (word_data word.now)) }
+{
+    let answer = word_answer(alloc, word)?;
+    line(alloc, &answer)
+}
+
+fn refused_answer(alloc: Global, at: usize, code: u16) -> Result<Value, AllocError>
+    ensures answer { IfOk result (λ value. view value ≡ refused_data (pos at) (pos code)) }
+{
+    json!(in alloc; {"answer": "refused", "at": at, "code": code})
+}
+
+/// The line of a refusal: the code of the rule, and the offset of the byte that breaks it.
+pub fn refused_line(alloc: Global, refusal: Refusal) -> Result<String, AllocError>
+    ensures text { IfOk result (λ text. string_bytes text ≡ line_of (refused_data (pos refusal.at) (pos refusal.code))) }
+{
+    let answer = refused_answer(alloc, refusal.at, refusal.code)?;
+    line(alloc, &answer)
+}
+
+/// A number in digits.
+fn digits(alloc: Global, number: i128) -> Result<String, AllocError>
+    ensures text { IfOk result (λ text. string_bytes text ≡ signed_decimal number) }
+{
+    format!(in alloc; "{number}")
+}
+
+fn limit_answer(alloc: Global, code: u16, counted: &str, limit: &str) -> Result<Value, AllocError>
+    ensures answer { IfOk result (λ value. view value ≡ limit_object (pos code) counted.now limit.now) }
+{
+    json!(in alloc; {"answer": "limit", "code": code, "counted": counted, "limit": limit})
+}
+
+/// The line of a limit that is passed: its code, the number that was counted, and the one that is allowed.
+pub fn limit_line(alloc: Global, excess: &Excess) -> Result<String, AllocError>
+    ensures text { IfOk result (λ text. string_bytes text ≡ line_of (limit_data excess.now)) }
+{
+    let counted = digits(alloc, excess.counted)?;
+    let limit = digits(alloc, excess.limit)?;
+    let answer = limit_answer(alloc, excess.code, counted.as_str(), limit.as_str())?;
+    line(alloc, &answer)
+}
+
+/// A numerator over a denominator, never reduced.
+fn fraction_text(alloc: Global, numerator: i128, denominator: i128) -> Result<String, AllocError>
+    ensures text { IfOk result (λ text. string_bytes text ≡ fraction numerator denominator) }
+{
+    format!(in alloc; "{numerator}/{denominator}")
+}
+
+fn optimal_answer(alloc: Global, policy: Value, value: &str) -> Result<Value, AllocError>
+    ensures answer { IfOk result (λ answer. view answer ≡ optimal_object (view policy) value.now) }
+{
+    json!(in alloc; {"answer": "optimal", "policy": policy, "value": value})
+}
+
+/// The line of an optimal policy with its value.
+pub fn optimal_line(
+    alloc: Global,
+    policy: Value,
+    numerator: i128,
+    denominator: i128,
+) -> Result<String, AllocError>
+    requires whole { has_float (view policy) ≡ false }
+    ensures text { IfOk result (λ text. string_bytes text ≡ line_of (optimal_object (view policy) (fraction numerator denominator))) }
+{
+    let value = fraction_text(alloc, numerator, denominator)?;
+    let answer = optimal_answer(alloc, policy, value.as_str())?;
+    line(alloc, &answer)
+}

@@ -1,9 +1,0 @@
-pub mod Tests
-pub mod Agreement
-pub mod Accepted
-pub mod Conditions
-pub mod Differ
-pub mod SmallTests
-pub mod NameTests
-pub mod PartTests
-pub mod SmallGround

@@ -1,0 +1,37 @@
+//! From what an accepted text states to its program.
+
+ghost use Rattle.std.specs.Prelude.{◌≡◌, ℕ, List, IfOk, IfErr};
+ghost use Rattle.text_problem.specs.Stated.{IsLaid, States, model_in, problem_in};
+ghost use Rattle.unsupported_forms.specs.Forms as forms;
+ghost use Rattle.text_solver.specs.Solving.{IsProgramOf, IsSolvable, IsSolveFault};
+
+use sopl_base::{Fault, Refusal};
+use sopl_compile::compile;
+use sopl_term::Program;
+use std::alloc::Global;
+use text_problem::Stated;
+use unsupported_forms::unsupported_place;
+
+/// The code of a form that is not solved yet.
+const NOT_YET: u16 = 117;
+
+/// The place of the first form of what a text states that is not solved yet.
+fn first_unsupported(stated: &Stated) -> Option<usize>
+    ensures place { result ≡ forms.unsupported_place (model_in stated.now) }
+{
+    unsupported_place(stated.ground.typed().model())
+}
+
+/// The program of what a text states. Or its first form that is not solved yet, or the first limit that its terms pass.
+pub(crate) fn program_of(alloc: Global, stated: &Stated) -> Result<Program, Fault>
+    requires stated { (text : List ℕ) × States text stated.now }
+    requires laid { IsLaid stated.now }
+    ensures program { IfOk result (IsProgramOf (problem_in stated.now)) }
+    ensures solvable { IfOk result (λ program. IsSolvable (model_in stated.now)) }
+    ensures refused { IfErr result (IsSolveFault (model_in stated.now)) }
+{
+    match first_unsupported(stated) {
+        Some(at) => Err(Fault::Text(Refusal { code: NOT_YET, at })),
+        None => compile(alloc, &stated.ground, &stated.tree),
+    }
+}
