@@ -1,0 +1,4 @@
+pub mod Members
+pub mod Rests
+pub mod Stepping
+pub mod Rising

@@ -1,0 +1,5 @@
+pub mod Findings
+pub mod Rests
+pub mod Members
+pub mod Sweeps
+pub mod Rising
