@@ -1,5 +1,6 @@
 -- Which points a box has.
-use Rattle.std.specs.Prelude.{ℤ, ◌≤ℤ◌, List, [], ◌∷◌}
+use Rattle.std.specs.Prelude.{ℤ, ◌≤ℤ◌, List, [], ◌∷◌, if◌then◌else◌}
+use Rattle.std.specs.Ordering.{int_eq}
 use Rattle.sopl_base.specs.declared.places.Interval.{Interval}
 
 -- the point has one value for each interval of the box, and each value lies within its interval
@@ -16,3 +17,9 @@ BeginsIn intervals [] = Unit {0}
 BeginsIn [] (cell ∷ cells) = ⊥
 BeginsIn (interval ∷ intervals) (cell ∷ cells) =
     (interval.lo ≤ℤ cell) × (cell ≤ℤ interval.hi) × BeginsIn intervals cells
+
+-- the only values of the first intervals, up to the first interval that has more than one
+abbrev pub only_values : List Interval → List ℤ
+only_values [] = []
+only_values (interval ∷ intervals) =
+    if int_eq interval.lo interval.hi then interval.lo ∷ only_values intervals else []

@@ -1,12 +1,12 @@
 //! The search: each point of the box is judged once, in the lexicographic order of the cells.
 
-ghost use Rattle.std.specs.Prelude.{◌≡◌, ◌<◌, ◌≤◌, ◌++◌, ◌↔◌, ℤ, List, length, IsTrue, IsSome, IfSome, IfNone, IfOk, OnOk};
-ghost use Rattle.sopl_search.specs.Box.{InBox, BeginsIn};
+ghost use Rattle.std.specs.Prelude.{◌≡◌, ◌<◌, ◌≤◌, ◌++◌, ◌↔◌, ℤ, List, length, drop, IsTrue, IsSome, IfSome, IfNone, IfOk, OnOk};
+ghost use Rattle.sopl_search.specs.Box.{InBox, BeginsIn, only_values};
 ghost use Rattle.sopl_search.specs.Outcome.{IsFound, Covers, IsImprovement};
 
 use crate::judge::Judge;
 use crate::values::Values;
-use sopl_base::{Direction, better};
+use sopl_base::{Direction, Interval, better};
 use std::alloc::{AllocError, Global};
 
 /// A point that satisfies, and its value.
@@ -29,11 +29,30 @@ pub fn best_point<J: Judge>(alloc: Global, judge: &J) -> Result<Option<Found>, A
 {
     let mut cells = Values::new(alloc);
     let mut best = None;
+    let roots = judge.roots();
+    fill(roots, &mut cells)?;
     search_from(alloc, judge, &mut cells, &mut best)?;
     Ok(best)
 }
 
-/// Judges each point of the box that begins with `cells`, and keeps the best one in `best`.
+/// Adds the only value of each further cell, up to the first cell that has more than one.
+#[tactic(auto, using(crate::proofs::Fixed::one_more, crate::proofs::Fixed::none_more, crate::proofs::Fixed::none_left))]
+fn fill(roots: &[Interval], cells: &mut Values) -> Result<(), AllocError>
+    ensures filled { OnOk result
+        (cells.new ≡ cells.old ++ only_values (drop (length cells.old) roots.now)) }
+{
+    'places: for at in cells.as_slice().len()..roots.len() {
+        let interval = roots[at];
+        if interval.lo != interval.hi {
+            return Ok(());
+        }
+        cells.push(interval.lo)?;
+    }
+    Ok(())
+}
+
+/// Judges each point of the box that begins with `cells`, and keeps the best one in `best`. Where one
+/// value alone can follow, it was added already: calls nest once for each cell with more values.
 fn search_from<J: Judge>(
     alloc: Global,
     judge: &J,
@@ -66,6 +85,7 @@ fn search_from<J: Judge>(
             return Ok(());
         }
         cells.push(value)?;
+        fill(roots, cells)?;
         search_from(alloc, judge, cells, best)?;
         cells.truncate(at);
     }

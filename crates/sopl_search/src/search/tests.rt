@@ -75,6 +75,23 @@ fn finds_the_best_point_of_each_box(rt: HostRuntime) -> Result<(), AllocError> {
     let small: [(i64, i64); 3] = [(0, 2), (-1, 1), (0, 1)];
     let closed: [(i64, i64); 3] = [(5, 6), (0, 0), (0, 1)];
     let wide: [(i64, i64); 64] = [(0, 1_099_511_627_776); 64];
+    let fixed: [(i64, i64); 300] = [(0, 0); 300];
+    let closed_and_fixed: [(i64, i64); 300] = [(1, 1); 300];
+    let mut between: [(i64, i64); 300] = [(4, 4); 300];
+    between[0] = (0, 2);
+    between[1] = (1, 1);
+    between[2] = (0, 3);
+    between[150] = (0, 1);
+    between[299] = (2, 3);
+    let mut most: [i64; 300] = [4; 300];
+    most[0] = 2;
+    most[1] = 1;
+    most[2] = 3;
+    most[150] = 0;
+    most[299] = 2;
+    let mut least: [i64; 300] = most;
+    least[0] = 0;
+    least[2] = 1;
     for (bounds, direction, expected) in [
         (
             small.as_slice(),
@@ -98,6 +115,27 @@ fn finds_the_best_point_of_each_box(rt: HostRuntime) -> Result<(), AllocError> {
             wide.as_slice(),
             Direction::Nothing,
             Some((0, [0; 64].as_slice())),
+        ),
+        (
+            fixed.as_slice(),
+            Direction::Maximize,
+            Some((0, [0; 300].as_slice())),
+        ),
+        (closed_and_fixed.as_slice(), Direction::Nothing, None),
+        (
+            between.as_slice(),
+            Direction::Maximize,
+            Some((3, most.as_slice())),
+        ),
+        (
+            between.as_slice(),
+            Direction::Minimize,
+            Some((1, least.as_slice())),
+        ),
+        (
+            between.as_slice(),
+            Direction::Nothing,
+            Some((1, least.as_slice())),
         ),
     ] {
         let problem = sums_over(rt.alloc(), bounds, direction)?;

@@ -1,12 +1,12 @@
-use Rattle.std.proofs.Common.{rules, arith, refl, ◌≡◌, ◌<◌, ◌≤◌, ◌++◌, ◌∷◌, [], ℤ, List, length, length-append, ◌+◌, get_or, w64, SFits, to_z, of_z, ◌≤ℤ◌}
+use Rattle.std.proofs.Common.{rules, arith, refl, ◌≡◌, ◌<◌, ◌≤◌, ◌++◌, ◌∷◌, [], ℤ, List, length, length-append, ◌+◌, get_or, drop, subst, sym, w64, SFits, to_z, of_z, ◌≤ℤ◌}
 use Rattle.std.proofs.lemmas.Int.{ints, to_z-of_z}
 use Rattle.std.proofs.lemmas.Result.{on_ok_weaker}
-use Rattle.std.proofs.Math.Seq.{take-append_seam}
 use Rattle.sopl_base.specs.declared.places.Interval.{Interval}
-use Rattle.sopl_search.specs.Box.{BeginsIn}
+use Rattle.sopl_search.specs.Box.{BeginsIn, only_values}
 use Rattle.sopl_search.specs.Outcome.{Covers}
 use Rattle.sopl_search.proofs.search.+search_from.Goals as goal
 use Rattle.sopl_search.proofs.Boxes.{InBox-from_begun, covered_alone, BeginsIn-push, covered_all, covered_upto, within_next}
+use Rattle.sopl_search.proofs.Fixed.{BeginsIn-filled, covered_filled, put_back}
 
 pub consider-requires-clause-point : goal.consider-requires-clause-point
 consider-requires-clause-point g t c =
@@ -58,8 +58,12 @@ search_from-requires g t c κs within =
     let low : root.lo ≤ℤ value = rw exact_low at c.values.invariant.low in
     let high : value ≤ℤ root.hi = omega (arith, ints, rw exact_high at c.values-test.true) in
     let begun : BeginsIn roots (cells ++ value ∷ []) = BeginsIn-push roots cells root value is more c.requires.begun low high in
-    let grown : length c.push.new.self ≡ length cells + 1 = simp (c.in_ok-push.ensures.ok, c.values.invariant.cells, length-append) in
-    (omega arith, (within, (c.requires.valid, (rw (c.in_ok-push.ensures.ok, c.values.invariant.cells) begun, c.values.invariant.found))))
+    let pushed : c.push.new.self ≡ cells ++ value ∷ [] = rw c.values.invariant.cells at c.in_ok-push.ensures.ok in
+    let fixed : List ℤ = only_values (drop (length (cells ++ value ∷ [])) roots) in
+    let filled : c.fill.new.cells ≡ (cells ++ value ∷ []) ++ fixed = rw (pushed, c.roots-roots.ensures) at c.in_ok-fill.ensures.filled in
+    let grown : length c.fill.new.cells ≡ length cells + 1 + length fixed = simp (filled, length-append) in
+    let further : BeginsIn roots ((cells ++ value ∷ []) ++ fixed) = BeginsIn-filled roots (cells ++ value ∷ []) begun in
+    (omega arith, (within, (c.requires.valid, (subst (BeginsIn roots) (sym filled) further, c.values.invariant.found))))
 
 pub values-preserved : goal.values-preserved
 values-preserved g t c =
@@ -67,16 +71,18 @@ values-preserved g t c =
     let cells : List ℤ = c.args.cells.now in
     let value : ℤ = to_z w64 c.values.value-bits in
     let pushed : c.push.new.self ≡ cells ++ value ∷ [] = rw c.values.invariant.cells at c.in_ok-push.ensures.ok in
+    let fixed : List ℤ = only_values (drop (length (cells ++ value ∷ [])) roots) in
+    let filled : c.fill.new.cells ≡ (cells ++ value ∷ []) ++ fixed = rw (pushed, c.roots-roots.ensures) at c.in_ok-fill.ensures.filled in
     let covered : List ℤ → Type 0 = Covers (g.J.Judge.satisfies c.args.judge.now) (g.J.Judge.value c.args.judge.now) (g.J.Judge.direction c.args.judge.now) c.search_from.new.best in
     record {
       low = omega (arith, ints);
-      cells = rw (c.truncate.ensures, c.in_ok-search_from.ensures.cells, pushed, c.as_slice-at.ensures.items) (take-append_seam cells (value ∷ []));
+      cells = rw (c.truncate.ensures, c.in_ok-search_from.ensures.cells, filled, c.as_slice-at.ensures.items) (put_back cells value fixed);
       found = c.in_ok-search_from.ensures.found;
       keeps = λ point covers. c.in_ok-search_from.ensures.keeps point (c.values.invariant.keeps point covers);
       covers = λ x later below inside.
           covered_upto covered roots cells value
           (λ y rest under in_box. c.in_ok-search_from.ensures.keeps (cells ++ y ∷ rest) (c.values.invariant.covers y rest under in_box))
-          (rw pushed at c.in_ok-search_from.ensures.covers)
+          (covered_filled covered roots (cells ++ value ∷ []) (rw filled at c.in_ok-search_from.ensures.covers))
           x later (omega (arith, ints)) inside;
     }
 
@@ -105,10 +111,12 @@ returns-in_ok-search_from-clause-covers g t c =
     let fits : SFits w64 root.hi = search rules in
     let exact : to_z w64 (of_z w64 root.hi) ≡ root.hi = to_z-of_z w64 root.hi fits in
     let pushed : c.push.new.self ≡ cells ++ value ∷ [] = rw c.values.invariant.cells at c.in_ok-push.ensures.ok in
+    let fixed : List ℤ = only_values (drop (length (cells ++ value ∷ [])) roots) in
+    let filled : c.fill.new.cells ≡ (cells ++ value ∷ []) ++ fixed = rw (pushed, c.roots-roots.ensures) at c.in_ok-fill.ensures.filled in
     let covered : List ℤ → Type 0 = Covers (g.J.Judge.satisfies c.args.judge.now) (g.J.Judge.value c.args.judge.now) (g.J.Judge.direction c.args.judge.now) c.search_from.new.best in
     covered_all covered roots cells root is more
     (λ x later low high inside.
     covered_upto covered roots cells value
     (λ y rest under in_box. c.in_ok-search_from.ensures.keeps (cells ++ y ∷ rest) (c.values.invariant.covers y rest under in_box))
-    (rw pushed at c.in_ok-search_from.ensures.covers)
+    (covered_filled covered roots (cells ++ value ∷ []) (rw filled at c.in_ok-search_from.ensures.covers))
     x later (omega (arith, ints, exact, high)) inside)
