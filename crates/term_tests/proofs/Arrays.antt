@@ -10,6 +10,9 @@ use Rattle.box_rules.specs.Laws.{IsTable}
 use Rattle.box_rules.proofs.FormValues.{by_bool, and_first, and_second}
 use Rattle.term_tables.specs.Kept.{item_of, sets_of, table_of}
 use Rattle.term_tables.specs.declared.tables.Table.{Table}
+use Rattle.term_nodes.specs.Things.{Thing, thing_at}
+use Rattle.term_program.specs.declared.ids.TermId.{TermId}
+use Rattle.sopl_term.specs.Built as builder
 
 -- no index is one of those behind it
 abbrev none_twice : List (List ℤ) → Bool
@@ -58,3 +61,10 @@ empty_is table set sets numbers none = table_is table ([] ∷ []) (ap sets_of se
 pub grid_is : (table : Table) (rows columns : Vec ℤ Global) → table.sets.items ≡ rows ∷ columns ∷ [] → rows.items ≡ pos 1 ∷ pos 2 ∷ [] → columns.items ≡ pos 2 ∷ pos 3 ∷ [] → length table.elements.items ≡ 4 → IsTable (table_of table)
 grid_is table rows columns sets first second four =
     table_is table ((pos 1 ∷ pos 2 ∷ []) ∷ (pos 2 ∷ pos 3 ∷ []) ∷ []) (ap sets_of sets ∙ ap (λ (s : List ℤ). s ∷ columns.items ∷ []) first ∙ ap (λ (s : List ℤ). (pos 1 ∷ pos 2 ∷ []) ∷ s ∷ []) second) four refl
+
+-- an array that a builder is given by its terms
+pub built_is : (things : List Thing) (sets : List (List ℤ)) (items : List TermId) → sets ≡ (pos 1 ∷ pos 3 ∷ []) ∷ [] → length items ≡ 2 → IsTable (builder.table_of things sets items)
+built_is things sets items is two = record {
+  complete = length-map items (λ (id : TermId). builder.item_of (thing_at things id.0)) ∙ two ∙ sym (ap (λ (ss : List (List ℤ)). length (indices ss)) is);
+  distinct = subst (λ (ss : List (List ℤ)). AllPairs (λ (p q : List ℤ). ¬ p ≡ q) (indices ss)) (sym is) (all_apart (indices ((pos 1 ∷ pos 3 ∷ []) ∷ [])) refl);
+}

@@ -345,6 +345,7 @@ fn elements_refused_for_their_size(rt: HostRuntime) {
     assert_eq!(rt; large(&mut store, array), Ok(true));
 }
 
+mod arrays;
 mod builders;
 mod indices;
 mod mentions;

@@ -2,7 +2,7 @@
 //!
 //! The place of each mistake was marked by hand in its text.
 
-use crate::grammar_tests::{outcome_of, sides};
+use crate::unfold_tests::{refused, sides};
 use sopl_base::Fault;
 use std::alloc::Global;
 use std::process::Abort;
@@ -11,8 +11,10 @@ use text_problem::typed_in;
 
 /// What a text gives: `well typed`, or its refusal as its code and its place.
 fn answer(alloc: Global, text: &str) -> Result<String, Fault> {
-    let typed = typed_in(alloc, text.as_bytes());
-    outcome_of(alloc, "well typed", &typed)
+    match typed_in(alloc, text.as_bytes()) {
+        Ok(_) => Ok(String::from_str(alloc, "well typed")?),
+        Err(fault) => refused(alloc, &fault),
+    }
 }
 
 /// Texts, and what they give.

@@ -5,7 +5,6 @@
 //! (`h0 i=1`), and a chance constraint with its threshold besides (`c1 1/2 i=1`). The place of each refusal was marked by hand
 //! in its text.
 
-use crate::grammar_tests::sides;
 use sopl_ast::Name;
 use sopl_base::Fault;
 use sopl_unfold::{ChanceItem, DecisionItem, Env, Ground, HardItem, StochItem, unfold};
@@ -29,7 +28,7 @@ fn answer(alloc: Global, text: &str) -> Result<String, Fault> {
 }
 
 /// A refusal with its place, or a limit with what was counted.
-fn refused(alloc: Global, fault: &Fault) -> Result<String, Fault> {
+pub fn refused(alloc: Global, fault: &Fault) -> Result<String, Fault> {
     match fault {
         Fault::Text(refusal) => Ok(format!(in alloc; "{} at {}", refusal.code, refusal.at)?),
         Fault::Limit(excess) => {
@@ -179,6 +178,11 @@ range R = 1..600; subject to { forall(i in R, j in R) 1 == 1; } -> 205, 262145 o
 dvar int x[1..600][1..600] in 0..1; subject to { } -> 205, 262145 of 262144
 int n = sum(i in 1..600, j in 1..600) 1; subject to { } -> 205, 262145 of 262144
 ";
+
+/// The two sides of a row.
+pub fn sides(row: &str) -> (&str, &str) {
+    row.split_once(" -> ").unwrap_or((row, ""))
+}
 
 /// A text gives what stands beside it.
 fn gives(alloc: Global, rt: &impl Abort, text: &str, want: &str) -> Result<(), Fail> {

@@ -17,7 +17,7 @@ use std::alloc::{AllocError, Global};
 
 /// The intervals of x and y.
 #[tactic(auto, using(crate::proofs::Roots::none_near))]
-fn two_roots(alloc: Global) -> Result<Vec<Interval>, AllocError>
+pub(crate) fn two_roots(alloc: Global) -> Result<Vec<Interval>, AllocError>
     ensures two { IfOk result (λ roots. length roots.items ≡ 2) }
     ensures near { IfOk result (λ roots. AllByRecursion IsNear roots.items) }
 {

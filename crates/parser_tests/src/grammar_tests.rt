@@ -23,7 +23,7 @@ fn model_of(alloc: Global, text: &[u8]) -> Result<Model, Fault> {
 }
 
 /// What was read, by a word, or its refusal as its code and its place; any other fault is passed on.
-pub fn outcome_of<T>(alloc: Global, word: &str, read: &Result<T, Fault>) -> Result<String, Fault> {
+fn outcome_of<T>(alloc: Global, word: &str, read: &Result<T, Fault>) -> Result<String, Fault> {
     match read {
         Ok(_) => Ok(String::from_str(alloc, word)?),
         Err(Fault::Text(refusal)) => {
@@ -118,7 +118,7 @@ fn nests(alloc: Global, rt: &impl Abort, row: &str, want: &str) -> Result<(), Fa
 }
 
 /// The two sides of a row.
-pub fn sides(row: &str) -> (&str, &str) {
+fn sides(row: &str) -> (&str, &str) {
     row.split_once(" -> ").unwrap_or((row, ""))
 }
 

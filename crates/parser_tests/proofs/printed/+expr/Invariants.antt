@@ -3,7 +3,7 @@ use Rattle.std.proofs.Common.{◌+◌, ◌*◌}
 use Rattle.sopl_ast.specs.Lists.{factors}
 use Rattle.sopl_ast.specs.Ranges.{range_of}
 use Rattle.sopl_ast.specs.Weight.{weight, weight_of_trees, weight_of_terms, weight_factors, weight_of_binder, weight_of_binders, weight_range}
-use Rattle.text_tests.proofs.printed.+expr.Given as goal
+use Rattle.parser_tests.proofs.printed.+expr.Given as goal
 
 abbrev pub decreases-put_expr : goal.decreases-put_expr
 decreases-put_expr l = 2 * weight l.e.now + 1

@@ -2,7 +2,7 @@
 use Rattle.std.proofs.Common.{map}
 use Rattle.sopl_ast.specs.Inits.{init_tree}
 use Rattle.sopl_ast.specs.WholeWeight.{weight_init, weight_of_inits}
-use Rattle.text_tests.proofs.printed.+init.Given as goal
+use Rattle.parser_tests.proofs.printed.+init.Given as goal
 
 abbrev pub decreases-put_init : goal.decreases-put_init
 decreases-put_init l = weight_init (init_tree l.init.now)

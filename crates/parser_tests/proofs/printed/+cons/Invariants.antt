@@ -2,8 +2,8 @@
 use Rattle.std.proofs.Common.{map}
 use Rattle.sopl_ast.specs.Whole.{conses}
 use Rattle.sopl_ast.specs.Constraints.{cons_tree}
-use Rattle.text_tests.proofs.Walked.{weight_cons, weight_conses}
-use Rattle.text_tests.proofs.printed.+cons.Given as goal
+use Rattle.parser_tests.proofs.Walked.{weight_cons, weight_conses}
+use Rattle.parser_tests.proofs.printed.+cons.Given as goal
 
 abbrev pub decreases-put_cons : goal.decreases-put_cons
 decreases-put_cons l = weight_cons (cons_tree l.cons.now)

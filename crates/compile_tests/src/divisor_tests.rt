@@ -1,0 +1,74 @@
+//! The numbers that stand as divisors, at each instance of a constraint.
+//!
+//! Each number was worked out by hand.
+
+use crate::instances::left_of;
+use binder_places::{divisor, known_at};
+use sopl_ast::{Expr, Kind};
+use sopl_base::Fault;
+use sopl_unfold::Ground;
+use std::alloc::Global;
+use std::process::Abort;
+use std::test::Fail;
+use text_problem::stated_in;
+use unfold_constants::Known;
+use unfold_tables::Count;
+
+/// What stands behind the first part of the product on the left of a condition.
+fn divisor_in<'a>(conditions: &[&'a Expr], text: u32) -> Option<&'a Expr> {
+    match &left_of(conditions, text)?.kind {
+        Kind::Mul(parts) => Some(&parts.as_slice().first()?.1),
+        _ => None,
+    }
+}
+
+/// The number of an expression that divides; 0 where it can't.
+#[tactic(auto, using(crate::proofs::Divisors::divisor_passes))]
+fn number_of<'a>(known: &Known<'a>, e: &'a Expr) -> Result<i64, Fault> {
+    let mut count = Count::new();
+    if known.constant(&mut count, e)? == 0 {
+        return Ok(0);
+    }
+    Ok(divisor(known, e)?)
+}
+
+/// Writes the divisors of all instances of hard constraints.
+fn put_divisors(out: &mut String, alloc: Global, ground: &Ground) -> Result<(), Fault> {
+    let conditions = ground.conditions(alloc)?;
+    for hard in ground.hards() {
+        let known = known_at(alloc, ground.table(), &hard.env)?;
+        if let Some(e) = divisor_in(conditions.as_slice(), hard.text) {
+            write!(out, "{} ", number_of(&known, e)?)?;
+        }
+    }
+    Ok(())
+}
+
+/// Texts, and the divisors of their instances.
+const TEXTS: &str = "\
+dvar int x in 0..9; subject to { x div 2 == 1; x mod 3 == 1; x div (0 - 4) == 1; } -> 2 3 -4
+dvar int x in 0..9; subject to { forall(i in 1..3) x div (2 * i) == 1; x mod 5 == 1; } -> 2 4 6 5
+range R = 1..2; int a[R] = [5, 0 - 7]; dvar int x in 0..9; subject to { forall(i in R) x mod a[i] == 1; } -> 5 -7
+{int} S = {9, 2}; dvar int x in 0..9; subject to { forall(i in S, j in i..i + 1) x div (i - 2 * j) == 1; } -> -2 -4 -9 -11
+dvar int x in 0..9; subject to { forall(i in 1..3) x div (1 + sum(j in 1..i, k in j..2) k) == 1; } -> 4 6 6
+dvar int x in 0..9; subject to { x div (17 mod 7 * 2) == 1; x mod (1 - 3 div 2 - 1) == 1; x div (7 == 7) == 1; } -> 6 -1 1
+dvar int x in 0..9; subject to { x div (min(4, 3) + max(1, 2) * abs(0 - 5)) == 1; forall(i in 1..0) x div i == 1; } -> 13
+";
+
+/// A text has these divisors.
+fn gives(alloc: Global, rt: &impl Abort, text: &str, want: &str) -> Result<(), Fail> {
+    let stated = stated_in(alloc, text.as_bytes())?;
+    let mut out = String::new(alloc);
+    put_divisors(&mut out, alloc, &stated.ground)?;
+    assert_eq!(rt; out.as_str().trim_end(), want, "{text}");
+    Ok(())
+}
+
+#[test]
+fn divisors(rt: HostRuntime) -> Result<(), Fail> {
+    for row in TEXTS.lines() {
+        let (text, want) = row.split_once(" -> ").unwrap_or((row, ""));
+        gives(rt.alloc(), &rt, text, want)?;
+    }
+    Ok(())
+}

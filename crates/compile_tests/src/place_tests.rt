@@ -1,0 +1,88 @@
+//! The places that binders give, at each instance of a constraint.
+//!
+//! Each was written down by hand.
+
+use crate::instances::left_of;
+use binder_places::{all_places, known_at};
+use sopl_ast::{Expr, Kind};
+use sopl_base::Fault;
+use sopl_unfold::Ground;
+use std::alloc::{AllocError, Global};
+use std::process::Abort;
+use std::test::Fail;
+use text_problem::stated_in;
+use unfold_constants::Known;
+use unfold_tables::Count;
+
+/// Writes the bound names of a place with their numbers, and `;` behind them.
+fn put_place(out: &mut String, known: &Known<'_>) -> Result<(), AllocError> {
+    for (name, number) in known.bindings() {
+        for byte in name.as_slice() {
+            out.push(char::from(*byte))?;
+        }
+        write!(out, "{}", *number)?;
+    }
+    out.push_str("; ")
+}
+
+/// Writes the places that the binders of a sum give, or the place itself.
+fn put_places<'a>(
+    out: &mut String,
+    alloc: Global,
+    known: &Known<'a>,
+    e: &'a Expr,
+) -> Result<(), Fault> {
+    let mut count = Count::new();
+    known.expression(&mut count, e)?;
+    match &e.kind {
+        Kind::Sum(over, _) => {
+            let places = all_places(alloc, known, None, over.as_slice())?;
+            for place in places.as_slice() {
+                put_place(out, place)?;
+            }
+            Ok(())
+        }
+        _ => Ok(put_place(out, known)?),
+    }
+}
+
+/// Writes the places on the left side of each instance of a hard constraint, and `|` behind them.
+fn put_instances(out: &mut String, alloc: Global, ground: &Ground) -> Result<(), Fault> {
+    let conditions = ground.conditions(alloc)?;
+    for hard in ground.hards() {
+        let known = known_at(alloc, ground.table(), &hard.env)?;
+        if let Some(left) = left_of(conditions.as_slice(), hard.text) {
+            put_places(out, alloc, &known, left)?;
+        }
+        out.push_str("| ")?;
+    }
+    Ok(())
+}
+
+/// Texts, and for each instance the places on its left side.
+const TEXTS: &str = "\
+subject to { sum(i in 1..2, j in i..3) i == 0; sum(i in 5..4) i == 0; 1 == 1; } -> i1j1; i1j2; i1j3; i2j2; i2j3; | | ; |
+subject to { forall(i in 1..2, j in i..2) i <= j; } -> i1j1; | i1j2; | i2j2; |
+{int} S = {9, 2, 5}; subject to { forall(i in S) sum(j in 1..2) (i * j) >= 0; } -> i2j1; i2j2; | i5j1; i5j2; | i9j1; i9j2; |
+{int} S = {9, 2, 5}; range R = 3..4; int n = 8; subject to { sum(r in R, s in S, t in n..n + r - 3) t >= 0; } -> r3s2t8; r3s5t8; r3s9t8; r4s2t8; r4s2t9; r4s5t8; r4s5t9; r4s9t8; r4s9t9; |
+int a[i in 1..3] = 2 - i; subject to { forall(i in 1..3) sum(j in a[i]..1) j == i; } -> i1j1; | i2j0; i2j1; | i3j-1; i3j0; i3j1; |
+subject to { forall(i in 1..2) { sum(j in 1..i) j >= 0; forall(k in i..2) { sum(j in k..k) j >= i; } } } -> i1j1; | i1k1j1; | i1k2j2; | i2j1; i2j2; | i2k2j2; |
+";
+
+/// A text has these places.
+fn gives(alloc: Global, rt: &impl Abort, text: &str, want: &str) -> Result<(), Fail> {
+    let stated = stated_in(alloc, text.as_bytes())?;
+    let mut out = String::new(alloc);
+    put_instances(&mut out, alloc, &stated.ground)?;
+    assert_eq!(rt; out.as_str().trim_end(), want, "{text}");
+    Ok(())
+}
+
+#[test]
+fn places(rt: HostRuntime) -> Result<(), Fail> {
+    for row in TEXTS.lines() {
+        let (text, want) = row.split_once(" -> ").unwrap_or((row, ""));
+        gives(rt.alloc(), &rt, text, want)?;
+    }
+    Ok(())
+}
