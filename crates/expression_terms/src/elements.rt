@@ -41,7 +41,8 @@ pub(crate) fn undefined(scene: &Scene<'_, '_>, work: &mut Work) -> Result<TermId
     work.element(id, &[])
 }
 
-/// Adds a number or a cell, or what is never defined where there is none.
+/// Adds a number or what is never defined, or finds the term of a cell.
+#[tactic(auto, using(scene_terms::proofs::Growing::extends_not))]
 fn item_term(scene: &Scene<'_, '_>, work: &mut Work, item: Option<Element>) -> Result<TermId, Fault>
     requires ready { IsReady scene.now.setting.now work.old }
     requires cell { IfSome item (HasCell (length (cells_for scene.now.setting.now.decisions.now scene.now.setting.now.stochs.now))) }
@@ -49,7 +50,7 @@ fn item_term(scene: &Scene<'_, '_>, work: &mut Work, item: Option<Element>) -> R
 {
     match item {
         Some(Element::Fixed(value)) => work.constant(value),
-        Some(Element::Free(cell)) => work.cell(cell),
+        Some(Element::Free(cell)) => Ok(work.cell(cell)),
         None => undefined(scene, work),
     }
 }

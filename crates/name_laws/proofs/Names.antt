@@ -9,10 +9,9 @@ use Rattle.sopl_ast.specs.Known.{Known}
 use Rattle.sopl_ast.specs.Pieces.{is_word}
 use Rattle.sopl_ast.specs.Origin.{HasForm, IsFromTokens}
 use Rattle.sopl_ast.specs.Grammar.{IsName, name_token, name_missing, IsVariable, variable, IsDeclaration, integer, range, set, decision, stochastic, AreDeclarations, no_declaration, declaration, IsModel, model}
-use Rattle.sopl_ast.specs.Instances.{Decision, Stochastic, Problem}
+use Rattle.sopl_ast.specs.Instances.{Decision, Stochastic, Problem, names_in}
 use Rattle.sopl_ast.specs.Arrays.{dimensions_of, indices, with_index}
 use Rattle.sopl_ast.specs.Declarations.{Declared, nothing_declared, domain_of, outcome_of, stage_of, decisions_of, stochastics_of, behind, behind_all}
-use Rattle.sopl_ast.specs.Small.{names_in}
 use Rattle.sopl_ast.specs.Unfolding.{problem_of}
 use Rattle.unfold_laws.proofs.Declared.{all_append}
 use Rattle.unfold_laws.proofs.Stages.{all_by_stage}

@@ -4,8 +4,7 @@ use Rattle.std.specs.List.{list_all}
 use Rattle.sopl_ast.specs.Pieces.{is_word}
 use Rattle.sopl_ast.specs.Origin.{IsFromTokens}
 use Rattle.sopl_ast.specs.Whole.{ModelTree}
-use Rattle.sopl_ast.specs.Instances.{Stochastic}
-use Rattle.sopl_ast.specs.Small.{names_in}
+use Rattle.sopl_ast.specs.Instances.{Stochastic, names_in}
 use Rattle.sopl_ast.specs.Unfolding.{problem_of}
 
 -- the bytes have the form of a name

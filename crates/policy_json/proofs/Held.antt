@@ -9,7 +9,7 @@ use Rattle.sopl_ast.specs.Instances.{Decision, Stochastic, Problem}
 use Rattle.sopl_ast.specs.Scenarios.{Scenario, scenarios}
 use Rattle.sopl_ast.specs.Histories.{history}
 use Rattle.sopl_ast.specs.Policies.{Policy, IsKey, IsPolicy}
-use Rattle.sopl_ast.specs.Problems.{all_of, both_of}
+use Rattle.sopl_ast.specs.Numbers.{all_of, both_of}
 use Rattle.policy_tree.proofs.Members.{In, Contains-In, from_enumerate, from_filter}
 use Rattle.entry_json.specs.Entries.{entry_of}
 use Rattle.policy_json.specs.Nodes.{branch_at, decide_of, decision_entry, last_stage, node_at, node_of, numbered_in_stage, outcomes_after, outermost_node, policy_data}

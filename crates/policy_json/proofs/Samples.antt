@@ -2,9 +2,8 @@
 use Rattle.std.proofs.Common.{◌≡◌, ℕ, List, true, arith, refl, sym, subst}
 use Rattle.std.proofs.lemmas.Int.{ints}
 use Rattle.std.specs.List.{list_all}
-use Rattle.sopl_ast.specs.Instances.{Decision, Stochastic}
+use Rattle.sopl_ast.specs.Instances.{Decision, Stochastic, names_in}
 use Rattle.sopl_ast.specs.Pieces.{is_word}
-use Rattle.sopl_ast.specs.Small.{names_in}
 use Rattle.unfold_laws.specs.Bounds.{IsBoundedDecision, IsBoundedStochastic, IsStage}
 use Rattle.scenario_tree.specs.Layout.{AreStated}
 use Rattle.policy_json.specs.Samples.{decided, drawn, sample_decisions, sample_stochastics}

@@ -3,9 +3,8 @@ use Rattle.std.proofs.Common.{◌≡◌, ◌<◌, ℕ, zero, suc, List, [], ◌�
 use Rattle.std.specs.List.{list_all}
 use Rattle.std.proofs.lemmas.Bool.{and_parts}
 use Rattle.std.proofs.lemmas.List.Folds.{list_all-append}
-use Rattle.sopl_ast.specs.Instances.{Decision, Stochastic}
+use Rattle.sopl_ast.specs.Instances.{Decision, Stochastic, names_in}
 use Rattle.sopl_ast.specs.Pieces.{is_word}
-use Rattle.sopl_ast.specs.Small.{names_in}
 
 -- the name of an element has the form of a name, where those of all do
 named_word : {X : Type 0} (name : X → List ℕ) (xs : List X) (i : ℕ) (x : X) → i < length xs → x ≡ get_or xs i x → list_all is_word (map name xs) ≡ true

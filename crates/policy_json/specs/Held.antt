@@ -5,7 +5,7 @@ use Rattle.std.specs.FinMap.{get}
 use Rattle.serde_json.specs.Data.{Data}
 use Rattle.sopl_ast.specs.Instances.{Decision, Stochastic, Problem}
 use Rattle.sopl_ast.specs.Policies.{Policy}
-use Rattle.sopl_ast.specs.Problems.{all_of, both_of}
+use Rattle.sopl_ast.specs.Numbers.{all_of, both_of}
 use Rattle.entry_json.specs.Entries.{entry_of}
 use Rattle.policy_json.specs.Nodes.{branch_at, last_stage, node_of, numbered_in_stage, outcomes_after}
 

@@ -2,10 +2,9 @@
 use Rattle.std.specs.Prelude.{◌≡◌, ℕ, zero, suc, ◌+◌, ◌-◌, ◌*◌, ◌/◌, ℤ, pos, List, [], length, map, get_or, IsTrue}
 use Rattle.std.specs.List.{list_all, range_with_len}
 use Rattle.serde_json.specs.Data.{Data}
-use Rattle.sopl_ast.specs.Instances.{Decision, Stochastic}
+use Rattle.sopl_ast.specs.Instances.{Decision, Stochastic, names_in}
 use Rattle.sopl_ast.specs.Cells.{policy_at}
 use Rattle.sopl_ast.specs.Pieces.{is_word}
-use Rattle.sopl_ast.specs.Small.{names_in}
 use Rattle.scenario_laws.specs.Laws.{seen_before}
 use Rattle.scenario_tree.specs.Layout.{Layout, AreStated, IsTreeOf, cell_in, cells_for, count_in, histories_in, value_in}
 use Rattle.entry_json.specs.Entries.{entry_of}

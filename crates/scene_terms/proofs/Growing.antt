@@ -123,6 +123,9 @@ pub one_measured : (setting : Setting) (work : Work) (t : Term) (result : Result
     → Measures (root_in setting) (t ∷ []) result
 one_measured setting work t result measured ready = subst (λ (root : Box). Measures root (t ∷ []) result) ready.root (measured_once (root_built work.builder) t result measured)
 
+pub one_small : (setting : Setting) (work : Work) (t : Term) → size (root_built work.builder) t ≤ most_size → IsReady setting work → first_large (root_in setting) (t ∷ []) ≡ None
+one_small setting work t small ready = subst (λ (root : Box). first_large root (t ∷ []) ≡ None) ready.root (none_large (root_built work.builder) (t ∷ []) (small, tt))
+
 -- Whatever comes.
 
 pub extends_either : {A B : Type 0} (result : Result A B) (setting : Setting) (before after : Work) → Extends setting before after → OnOk result (Extends setting before after)

@@ -1,9 +1,9 @@
 //! Terms are added to a work.
 
-ghost use Rattle.std.specs.Prelude.{◌≡◌, ◌<◌, ◌≤◌, ◌∷◌, [], length, IfOk};
+ghost use Rattle.std.specs.Prelude.{◌≡◌, ◌<◌, ◌≤◌, ◌∷◌, [], length, IfOk, None};
 ghost use Rattle.box_rules.specs.Terms as term;
 ghost use Rattle.place_names.specs.declared.setting.Setting.{Setting};
-ghost use Rattle.program_sizes.specs.Measured.{Measures};
+ghost use Rattle.program_sizes.specs.Measured.{Measures, first_large};
 ghost use Rattle.sopl_term.specs.Built.{IsBuilding, greatest_at, least_at, root_built, signed_of, term_ids};
 ghost use Rattle.term_nodes.specs.Built.{AllBelow, PartsBelow};
 ghost use Rattle.term_nodes.specs.Things.{a_term, cond_at, parts_at, table_at, term_at, terms_at};
@@ -27,15 +27,15 @@ impl Work {
         self.builder.constant(value)
     }
 
-    /// A cell.
-    pub fn cell(&mut self, cell: u32) -> Result<TermId, Fault>
-        requires building { IsBuilding self.old.builder }
-        requires exists { cell < length (root_built self.old.builder).lows }
-        ensures extends { (setting : Setting) → IsReady setting self.old → Extends setting self.old self.new }
-        ensures stands { IfOk result (λ id. Stands (things_of self.new) id.0 (a_term (term.Cell cell))) }
-        ensures measured { (setting : Setting) → IsReady setting self.old → Measures (root_in setting) ((term.Cell cell) ∷ []) result }
+    /// A cell. Its term stands from the start, so nothing is added.
+    #[tactic(auto, using(crate::proofs::Growing::one_small))]
+    pub fn cell(&self, cell: u32) -> TermId
+        requires building { IsBuilding self.now.builder }
+        requires exists { cell < length (root_built self.now.builder).lows }
+        ensures stands { Stands (things_of self.now) result.0 (a_term (term.Cell cell)) }
+        ensures small { (setting : Setting) → IsReady setting self.now → first_large (root_in setting) ((term.Cell cell) ∷ []) ≡ None }
     {
-        self.builder.cell(cell)
+        self.builder.cell_term(cell)
     }
 
     /// A sum, of which the parts that come with `true` are subtracted.

@@ -31,22 +31,22 @@ same_excess text a b is other = ap (λ m. program_excess (problem_of m)) (one_mo
 
 one_place : (text : List ℕ) (r s : Refusal) → IsNotYet text r → IsNotYet text s → r ≡ s
 one_place text r s a b =
-    a.told
-    ∙ (ap refusal_at (one_of (unsupported_place a.model) a.place b.place a.first (same_place text b.model a.model b.spelled a.spelled ∙ b.first))
-    ∙ sym b.told)
+    a.unsupported.told
+    ∙ (ap refusal_at (one_of (unsupported_place a.model) a.unsupported.place b.unsupported.place a.unsupported.first
+    (same_place text b.model a.model b.spelled a.spelled ∙ b.unsupported.first))
+    ∙ sym b.unsupported.told)
 
 not_solved : (text : List ℕ) (p : Problem) (refusal : Refusal) → SolvedText text p → IsNotYet text refusal → ⊥
 not_solved text p refusal a b =
-    not_there (unsupported_place a.model) b.place a.supported (same_place text b.model a.model b.spelled a.spelled ∙ b.first)
+    not_there (unsupported_place a.model) b.unsupported.place a.solvable.supported (same_place text b.model a.model b.spelled a.spelled ∙ b.unsupported.first)
 
 not_limited : (text : List ℕ) (p : Problem) (excess : Excess) → SolvedText text p → IsLimitedInTerms text excess → ⊥
 not_limited text p excess a b =
-    not_there (program_excess (problem_of a.model)) excess (ap program_excess a.accepted.stated ∙ a.allowed)
-    (same_excess text b.model a.model b.spelled a.spelled ∙ b.passes)
+    not_there (program_excess (problem_of a.model)) excess a.solvable.allowed (same_excess text b.model a.model b.spelled a.spelled ∙ b.large.passes)
 
 refused_alone : (text : List ℕ) (refusal : Refusal) (excess : Excess) → IsNotYet text refusal → IsLimitedInTerms text excess → ⊥
 refused_alone text refusal excess a b =
-    not_there (unsupported_place a.model) a.place (same_place text b.model a.model b.spelled a.spelled ∙ b.supported) a.first
+    not_there (unsupported_place a.model) a.unsupported.place (same_place text b.model a.model b.spelled a.spelled ∙ b.large.supported) a.unsupported.first
 
 -- an accepted model states the problem that is of it
 own_problem : (model : ModelTree) (p : Problem) → AcceptedModel usual_limits model p → AcceptedModel usual_limits model (problem_of model)
@@ -60,7 +60,12 @@ each_ends text p a = by_place (unsupported_place a.model) refl
     by_excess : unsupported_place a.model ≡ None → (o : Option Excess) → program_excess p ≡ o
         → SolvedText text p ⊎ (((refusal : Refusal) × IsNotYet text refusal) ⊎ ((excess : Excess) × IsLimitedInTerms text excess))
     by_excess none None within =
-        inl (record { model = a.model; spelled = a.spelled; accepted = a.accepted; supported = none; allowed = within })
+        inl (record {
+          model = a.model;
+          spelled = a.spelled;
+          accepted = a.accepted;
+          solvable = record { supported = none; allowed = ap program_excess a.accepted.stated ∙ within };
+        })
     by_excess none (Some e) passes =
         inr (inr (
           e,
@@ -68,8 +73,7 @@ each_ends text p a = by_place (unsupported_place a.model) refl
             model = a.model;
             spelled = a.spelled;
             accepted = own_problem a.model p a.accepted;
-            supported = none;
-            passes = ap program_excess a.accepted.stated ∙ passes;
+            large = record { supported = none; passes = ap program_excess a.accepted.stated ∙ passes };
           },
         ))
 
@@ -83,9 +87,7 @@ each_ends text p a = by_place (unsupported_place a.model) refl
             model = a.model;
             spelled = a.spelled;
             accepted = own_problem a.model p a.accepted;
-            place = place;
-            first = first;
-            told = refl;
+            unsupported = record { place = place; first = first; told = refl };
           },
         ))
 
@@ -94,7 +96,7 @@ accepted_end_once =
     record {
       one_problem = λ text p q a b. sym a.accepted.stated ∙ (ap problem_of (one_model text a.model b.model a.spelled b.spelled) ∙ b.accepted.stated);
       one_place = one_place;
-      one_limit = λ text e f a b. one_of (program_excess (problem_of a.model)) e f a.passes (same_excess text b.model a.model b.spelled a.spelled ∙ b.passes);
+      one_limit = λ text e f a b. one_of (program_excess (problem_of a.model)) e f a.large.passes (same_excess text b.model a.model b.spelled a.spelled ∙ b.large.passes);
       not_both = not_solved;
       not_limited = not_limited;
       refused_alone = refused_alone;

@@ -1,2 +1,3 @@
+pub mod Models
 pub mod Solved
 pub mod Laws

@@ -1,5 +1,5 @@
--- The texts that are accepted, with the problem that each states, and why another text is not. The limit on the sizes of terms (207) comes with the
--- terms, behind these; and which forms of expressions the program has yet is said apart, since it is no matter of what a text means.
+-- The texts that are accepted, with the problem that each states, and why another text is not. The limits on term nodes (206) and on the sizes of terms
+-- (207) are told behind these, by `solve` alone; and which forms of expressions the program has yet is said apart, since it is no matter of what a text means.
 use Rattle.std.specs.Prelude.{◌≡◌, ℕ, List, length, Some, None, Ok, Err, IsOk}
 use Rattle.sopl_base.specs.declared.places.Refusal.{Refusal}
 use Rattle.sopl_base.specs.declared.places.Excess.{Excess}
@@ -13,7 +13,7 @@ use Rattle.sopl_ast.specs.Mistakes.{IsWellTyped, IsFirstMistake}
 use Rattle.sopl_ast.specs.Occurrences.{met}
 use Rattle.sopl_ast.specs.Instances.{Problem}
 use Rattle.sopl_ast.specs.Unfolding.{problem_of, text_occurrences}
-use Rattle.sopl_ast.specs.Limits.{Limits, size_excess, node_excess}
+use Rattle.sopl_ast.specs.Limits.{Limits, size_excess}
 
 -- the model has no mistake, nothing stops its unfolding, it states this problem, and neither its scenarios nor its decisions pass a limit
 pub record AcceptedModel (limits : Limits) (model : ModelTree) (problem : Problem) : Type 0 where
@@ -21,11 +21,6 @@ pub record AcceptedModel (limits : Limits) (model : ModelTree) (problem : Proble
   pub unfolded : IsOk (met 0 (text_occurrences model))
   pub stated : problem_of model ≡ problem
   pub allowed : size_excess limits problem ≡ None
-
--- the model is accepted, and its term nodes do not pass their limit either: from the compiler on, such models are taken
-pub record SolvableModel (limits : Limits) (model : ModelTree) (problem : Problem) : Type 0 where
-  pub accepted : AcceptedModel limits model problem
-  pub counted : node_excess limits problem ≡ None
 
 -- the tokens of the text spell this model
 pub record IsTextOf (text : List ℕ) (model : ModelTree) : Type 0 where
@@ -38,12 +33,6 @@ pub record AcceptedText (limits : Limits) (text : List ℕ) (problem : Problem) 
   pub model : ModelTree
   pub spelled : IsTextOf text model
   pub accepted : AcceptedModel limits model problem
-
--- the text spells a model, which is accepted and has no more term nodes than are allowed
-pub record SolvableText (limits : Limits) (text : List ℕ) (problem : Problem) : Type 0 where
-  pub model : ModelTree
-  pub spelled : IsTextOf text model
-  pub solvable : SolvableModel limits model problem
 
 -- the text is refused by this code at this place
 pub data IsRefusedFor (text : List ℕ) (refusal : Refusal) : Type 0 where
@@ -64,6 +53,3 @@ pub data IsLimitedFor (limits : Limits) (text : List ℕ) (excess : Excess) : Ty
   -- nothing stops its unfolding, and its scenarios or its decisions pass it
   sizes_pass : (model : ModelTree) → IsTextOf text model → IsWellTyped model → IsOk (met 0 (text_occurrences model))
       → size_excess limits (problem_of model) ≡ Some excess → IsLimitedFor limits text excess
-  -- from the compiler on: these do not, and its term nodes pass it
-  nodes_pass : (model : ModelTree) → IsTextOf text model → IsWellTyped model → IsOk (met 0 (text_occurrences model))
-      → size_excess limits (problem_of model) ≡ None → node_excess limits (problem_of model) ≡ Some excess → IsLimitedFor limits text excess

@@ -1,5 +1,5 @@
 -- The instances of an unfolded text: its decisions, its stochastic variables, its constraints and its objective.
-use Rattle.std.specs.Prelude.{ℕ, ℤ, Bool, List, Option}
+use Rattle.std.specs.Prelude.{ℕ, ℤ, Bool, List, map, ◌++◌, Option}
 use Rattle.sopl_base.specs.declared.places.Direction.{Direction}
 use Rattle.sopl_ast.specs.Tree.{Tree}
 use Rattle.sopl_ast.specs.Known.{Known}
@@ -24,6 +24,10 @@ pub record Stochastic : Type 0 where
   pub index : List ℤ
   pub outcomes : List Outcome
   pub stage : ℕ
+
+-- the names of decisions and of stochastic variables
+abbrev pub names_in : List Decision → List Stochastic → List (List ℕ)
+names_in decisions stochastics = map (λ (d : Decision). d.name) decisions ++ map (λ (s : Stochastic). s.name) stochastics
 
 -- a constraint that holds in every scenario: the number of its condition, and what its binders give
 pub record Hard : Type 0 where

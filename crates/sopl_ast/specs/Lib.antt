@@ -30,12 +30,6 @@ pub mod TermNodes
 pub mod Limits
 -- Which texts are accepted
 pub mod Accepted
--- The texts of today
-pub mod Problems
-pub mod Simple
-pub mod Small
-pub mod SmallTexts
-pub mod Refusals
 -- How the program's values stand for trees
 pub mod Sight
 pub mod Lists

@@ -5,5 +5,3 @@ mod Times
 mod Holding
 mod Satisfied
 pub mod Distinct
-mod ScalarDeclarations
-mod ScalarTexts

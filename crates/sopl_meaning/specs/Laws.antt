@@ -1,14 +1,10 @@
 -- What holds of the definitions.
-use Rattle.std.specs.Prelude.{◌≡◌, ◌↔◌, ℕ, zero, suc, ◌+◌, ◌<◌, ℤ, ◌*ℤ◌, ◌≤ℤ◌, ◌<ℤ◌, true, List, [], ◌∷◌, ◌++◌, length, map, All, Contains, IsSome, IsTrue}
+use Rattle.std.specs.Prelude.{◌≡◌, ◌↔◌, ℕ, ◌<◌, ℤ, ◌*ℤ◌, ◌≤ℤ◌, ◌<ℤ◌, true, List, [], ◌∷◌, ◌++◌, length, map, All, Contains, IsSome, IsTrue}
 use Rattle.std.specs.List.{IsDistinct, flat_map, list_all}
 use Rattle.sopl_ast.specs.Tree.{Trees}
 use Rattle.sopl_ast.specs.Lists.{trees_list}
 use Rattle.sopl_ast.specs.Numbers.{up_to, total, all_distinct, Task, demanded, is_sound, are_within}
 use Rattle.sopl_ast.specs.Known.{Known, same_values}
-use Rattle.sopl_ast.specs.Occurrences.{Occurrence, Counted}
-use Rattle.sopl_ast.specs.Unfolding.{problem_of, text_occurrences}
-use Rattle.sopl_ast.specs.SmallTexts.{SmallModel}
-use Rattle.sopl_ast.specs.Whole.{ModelTree}
 use Rattle.sopl_ast.specs.Constants.{value_or_zero}
 use Rattle.sopl_ast.specs.Declarations.{set_of}
 use Rattle.sopl_ast.specs.Instances.{Outcome, Stochastic, Problem}
@@ -90,15 +86,3 @@ WeightsSum = (stochastics : List Stochastic) → total (map (λ (s : Scenario). 
 abbrev pub SatisfiedIsWorth : Type 0
 SatisfiedIsWorth =
     (problem : Problem) (policy : Policy) → All HasOutcomes problem.stochastics → Satisfies problem policy → IsSome (numerator problem policy)
-
--- so many things are counted, and nothing else is met
-abbrev pub counted : ℕ → List Occurrence
-counted zero = []
-counted (suc n) = Counted ∷ counted n
-
--- a problem that is solved today is the one that the whole language states; in its text each declaration and each constraint is counted, and nothing
--- else is met
-abbrev pub SmallAgrees : Type 0
-SmallAgrees =
-    (model : ModelTree) (problem : Problem) → SmallModel model problem
-    → (problem_of model ≡ problem) × (text_occurrences model ≡ counted (length model.decls + length model.body))

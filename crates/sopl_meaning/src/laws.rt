@@ -1,4 +1,4 @@
-ghost use Rattle.sopl_meaning.specs.Laws.{FitAtEachTime, RangesAscend, RangesHold, SatisfiedIsWorth, ScenariosAgree, ScenariosAlive, ScenariosDistinct, ScenariosSplit, SetsAscend, SetsHold, SmallAgrees, WeightsSum};
+ghost use Rattle.sopl_meaning.specs.Laws.{FitAtEachTime, RangesAscend, RangesHold, SatisfiedIsWorth, ScenariosAgree, ScenariosAlive, ScenariosDistinct, ScenariosSplit, SetsAscend, SetsHold, WeightsSum};
 
 /// The numbers of a range ascend.
 pub fn ranges_ascend()
@@ -53,9 +53,4 @@ pub fn weights_sum()
 /// A policy that satisfies is worth something.
 pub fn satisfied_is_worth()
     ensures law { SatisfiedIsWorth }
-{}
-
-/// A problem that is solved today is the one that the whole language states, and in its text nothing is met but what is counted.
-pub fn small_agrees()
-    ensures law { SmallAgrees }
 {}

@@ -10,8 +10,7 @@ mod worked;
 
 pub use laws::{
     fit_at_each_time, ranges_ascend, ranges_hold, satisfied_is_worth, scenarios_agree,
-    scenarios_alive, scenarios_distinct, scenarios_split, sets_ascend, sets_hold, small_agrees,
-    weights_sum,
+    scenarios_alive, scenarios_distinct, scenarios_split, sets_ascend, sets_hold, weights_sum,
 };
 pub use problems::{counted_sizes, stated_constants, stated_instances, stated_parts};
 pub use refusals::{first_met, refused_constants, refused_constraints, refused_declarations};

@@ -9,9 +9,9 @@ use Rattle.sopl_io.specs.Stock.{Stock, text_of}
 use Rattle.sopl_io.specs.Transfer.{cut_at}
 use Rattle.sopl_base.specs.declared.places.Excess.{Excess}
 use Rattle.sopl_base.specs.declared.places.Refusal.{Refusal}
-use Rattle.sopl_ast.specs.Accepted.{IsRefusedFor, no_tokens, misspelled, mistaken, stopped}
+use Rattle.sopl_ast.specs.Accepted.{IsRefusedFor, no_tokens, misspelled, mistaken, stopped, IsLimitedFor, unfolding_passes, sizes_pass}
 use Rattle.sopl_ast.specs.Tokens.{too_long, no_piece, too_large}
-use Rattle.text_problem.specs.Faults.{IsLimitedToday, unfolding_passes, sizes_pass}
+use Rattle.sopl_ast.specs.Limits.{usual_limits}
 use Rattle.answer_lines.specs.Answers.{word_data, line_of}
 use Rattle.text_replies.specs.Replies.{IsRefusedOn, by_rule, not_yet, IsLimitedOn, by_size, by_terms, IsTextReply, optimal, infeasible, scenes, refused, limited}
 use Rattle.text_replies.specs.declared.command.Command.{Command}
@@ -27,7 +27,7 @@ front_is_whole : (most : ℕ) → 1048576 < most → (text : List ℕ) → lengt
 front_is_whole most more text short = take_all most text (omega (arith, more, short, length-take {A = ℕ} most text))
 
 -- a text that passes a limit is no longer than a text may be
-size_short : (text : List ℕ) (excess : Excess) → IsLimitedToday text excess → length text ≤ 1048576
+size_short : (text : List ℕ) (excess : Excess) → IsLimitedFor usual_limits text excess → length text ≤ 1048576
 size_short text excess (unfolding_passes model is typed stops) = is.read.0
 size_short text excess (sizes_pass model is typed passes over) = is.read.0
 

@@ -72,7 +72,7 @@ more_chances n m [] most there = tt
 more_chances n m (c ∷ chances) most there = (all_below n m c.conditions.ids.items most there.0, more_chances n m chances most there.1)
 
 -- what is a cell exists, and stays one
-node_exists : (all : List Thing) (node cell : ℕ) → term_at all node ≡ Cell cell → node < length all
+pub node_exists : (all : List Thing) (node cell : ℕ) → term_at all node ≡ Cell cell → node < length all
 node_exists all node cell is =
     elim (cases_lt node (length all)) [
       | inl there ↦ there

@@ -1,4 +1,5 @@
 pub mod CellTerms
+pub mod CellNodes
 pub mod Keeping
 pub mod Hards
 pub mod Chances

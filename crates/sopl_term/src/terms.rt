@@ -1,11 +1,11 @@
 //! Terms are added.
 
-ghost use Rattle.std.specs.Prelude.{◌≡◌, ◌<◌, ◌≤◌, length, IfOk, OnErr};
+ghost use Rattle.std.specs.Prelude.{◌≡◌, ◌<◌, ◌≤◌, ◌^◌, length, IfOk, OnErr};
 ghost use Rattle.box_rules.specs.Terms as term;
 ghost use Rattle.box_rules.specs.Sizes as sizes;
 ghost use Rattle.term_operations.specs.Made.{IsDivisor};
 ghost use Rattle.term_nodes.specs.Built.{AllBelow, PartsBelow};
-ghost use Rattle.term_nodes.specs.Things.{a_term, cond_at, parts_at, term_at};
+ghost use Rattle.term_nodes.specs.Things.{a_term, cond_at, parts_at, term_at, thing_at};
 ghost use Rattle.term_store.specs.Stores.{IsAdded, IsMeasured};
 ghost use Rattle.sopl_term.specs.Built.{IsBuilding, IsKept, built, greatest_at, least_at, root_built, signed_of, term_ids};
 
@@ -50,7 +50,7 @@ impl Builder {
         Ok(TermId(id))
     }
 
-    /// A cell.
+    /// A cell, as one term more; the term that each cell has from the start is `cell_term`.
     pub fn cell(&mut self, cell: u32) -> Result<TermId, Fault>
         requires building { IsBuilding self.old }
         requires exists { cell < length (root_built self.old).lows }
@@ -61,6 +61,18 @@ impl Builder {
     {
         let id = self.draft.store.cell(cell)?;
         Ok(TermId(id))
+    }
+
+    /// The term that a cell has from the start, so that nothing need be added for a mention of the cell.
+    #[tactic(auto, using(crate::proofs::CellNodes::cell_there, crate::proofs::CellNodes::cell_exists, crate::proofs::CellNodes::cell_stands, crate::proofs::CellNodes::cell_small))]
+    pub fn cell_term(&self, cell: u32) -> TermId
+        requires building { IsBuilding self.now }
+        requires exists { cell < length (root_built self.now).lows }
+        ensures exists { result.0 < length (built self.now) }
+        ensures is { thing_at (built self.now) result.0 ≡ a_term (term.Cell cell) }
+        ensures small { sizes.size (root_built self.now) (term.Cell cell) ≤ 2 ^ 40 }
+    {
+        TermId(self.draft.nodes[cell as usize])
     }
 
     /// A sum, of which the parts that come with `true` are subtracted.

@@ -1,3 +1,5 @@
 pub mod Inserting
+pub mod Orders
 pub mod Putting
+pub mod Chains
 pub mod Walking

@@ -1,5 +1,5 @@
 -- Steps of the walk over nodes.
-use Rattle.std.proofs.Common.{◌≡◌, ℕ, ◌+◌, ◌<◌, ◌≤◌, List, ◌++◌, length, get_or, drop, ap, sym, ◌∙◌}
+use Rattle.std.proofs.Common.{◌≡◌, ℕ, ◌+◌, ◌<◌, ◌≤◌, List, ◌++◌, length, get_or, drop, refl, ap, sym, ◌∙◌}
 use Rattle.std.proofs.lemmas.List.{at_drop_more, at_drop_all}
 use Rattle.std.proofs.lemmas.List.Sums.{fold-append}
 use Rattle.std.specs.BTreeSet.{insert_key}
@@ -19,12 +19,12 @@ use Rattle.term_nodes.specs.declared.items.Item.{Item}
 use Rattle.term_nodes.specs.Things.{Thing, nothing, term_in, cond_in, thing_at, term_at, cond_at, thing_of, parts_at, terms_at, conds_at}
 use Rattle.term_nodes.specs.Built.{Facts, IsAt}
 use Rattle.cell_mentions.specs.Mentions.{mentions, terms_mention, parts_mention, cond_mentions, conds_mention}
-use Rattle.term_cells.specs.Cells.{with_cells}
+use Rattle.term_cells.specs.Cells.{other_mentions, with_cells}
 
 -- what a node mentions, where it is known which node stands at a number
-pub term_of_node : (root : Box) (all : List Thing) (id : ℕ) (item : Item) (node : Node) (before after : List ℕ) → IsAt root all id item → item.node ≡ node → after ≡ with_cells before (mentions root (term_in (thing_of all node))) → after ≡ with_cells before (mentions root (term_at all id))
-term_of_node root all id item node before after at is put =
-    put ∙ ap (λ (n : Node). with_cells before (mentions root (term_in (thing_of all n)))) (sym is) ∙ ap (λ (t : Thing). with_cells before (mentions root (term_in t))) (sym at.thing)
+pub others_of_node : (root : Box) (all : List Thing) (id : ℕ) (item : Item) (node : Node) (before after : List ℕ) → IsAt root all id item → item.node ≡ node → after ≡ with_cells before (other_mentions root (term_in (thing_of all node))) → after ≡ with_cells before (other_mentions root (term_at all id))
+others_of_node root all id item node before after at is put =
+    put ∙ ap (λ (n : Node). with_cells before (other_mentions root (term_in (thing_of all n)))) (sym is) ∙ ap (λ (t : Thing). with_cells before (other_mentions root (term_in t))) (sym at.thing)
 
 pub cond_of_node : (root : Box) (all : List Thing) (id : ℕ) (item : Item) (node : Node) (before after : List ℕ) → IsAt root all id item → item.node ≡ node → after ≡ with_cells before (cond_mentions root (cond_in (thing_of all node))) → after ≡ with_cells before (cond_mentions root (cond_at all id))
 cond_of_node root all id item node before after at is put =
@@ -36,19 +36,20 @@ form_of_node root all id item node at is =
     ap (λ (f : Facts). f.form) at.kept ∙ ap (λ (n : Node). form root (term_in (thing_of all n))) is
 
 -- nothing is mentioned where nothing stands
-pub no_term_here : (root : Box) (all : List Thing) (id : ℕ) (set : List ℕ) → thing_at all id ≡ nothing → set ≡ with_cells set (mentions root (term_at all id))
-no_term_here root all id set none = ap (λ (t : Thing). with_cells set (mentions root (term_in t))) (sym none)
+pub no_term_here : (root : Box) (all : List Thing) (id : ℕ) (set : List ℕ) → thing_at all id ≡ nothing → set ≡ with_cells set (other_mentions root (term_at all id))
+no_term_here root all id set none = ap (λ (t : Thing). with_cells set (other_mentions root (term_in t))) (sym none)
 
 pub no_cond_here : (root : Box) (all : List Thing) (id : ℕ) (set : List ℕ) → thing_at all id ≡ nothing → set ≡ with_cells set (cond_mentions root (cond_at all id))
 no_cond_here root all id set none = ap (λ (t : Thing). with_cells set (cond_mentions root (cond_in t))) (sym none)
 
--- an operation mentions what its operands do
-pub of_operation : (root : Box) (operation : Operation) (t : Term) (before after : List ℕ) → after ≡ with_cells before (mentions root t) → after ≡ with_cells before (mentions root (operation_term operation t))
-of_operation root (Quotient divisor) t before after put = put
-of_operation root (Remainder divisor) t before after put = put
-of_operation root Size t before after put = put
+-- what is made of one number mentions nothing else
+pub of_operation : (root : Box) (operation : Operation) (t : Term) (set : List ℕ) → set ≡ with_cells set (other_mentions root (operation_term operation t))
+of_operation root (Quotient divisor) t set = refl
+of_operation root (Remainder divisor) t set = refl
+of_operation root Size t set = refl
 
-pub of_extreme : (root : Box) (extreme : Extreme) (t : Term) (later : Terms) (before after : List ℕ) → after ≡ with_cells before (mentions root t ++ terms_mention root later) → after ≡ with_cells before (mentions root (extreme_term extreme t later))
+-- the least and the greatest of several mention what these do
+pub of_extreme : (root : Box) (extreme : Extreme) (t : Term) (later : Terms) (before after : List ℕ) → after ≡ with_cells before (mentions root t ++ terms_mention root later) → after ≡ with_cells before (other_mentions root (extreme_term extreme t later))
 of_extreme root Least t later before after put = put
 of_extreme root Greatest t later before after put = put
 

@@ -1,9 +1,12 @@
--- Sets of cells, as ascending lists, and the cells of linear forms.
-use Rattle.std.specs.Prelude.{ℕ, List, map}
+-- Sets of cells, as ascending lists, the cells of linear forms, and those of the operands of a term.
+use Rattle.std.specs.Prelude.{ℕ, List, [], map}
 use Rattle.std.specs.BTreeSet.{insert_key}
 use Rattle.std.specs.List.{fold}
 use Rattle.std.specs.Ordering.{nat_cmp}
+use Rattle.box_problem.specs.Box.{Box}
 use Rattle.box_rules.specs.Forms.{Coefficient}
+use Rattle.box_rules.specs.Terms.{Term, Product, Quotient, Remainder, Size}
+use Rattle.cell_mentions.specs.Mentions.{mentions}
 
 -- a set with the cells of a list put in
 abbrev pub with_cells : List ℕ → List ℕ → List ℕ
@@ -12,3 +15,18 @@ with_cells set cells = fold (insert_key nat_cmp) set cells
 -- the cells of coefficients
 abbrev pub form_cells : List Coefficient → List ℕ
 form_cells coefficients = map (λ (c : Coefficient). c.cell) coefficients
+
+-- what a term's left operand mentions, and what else the term mentions
+abbrev pub left_mentions : Box → Term → List ℕ
+left_mentions root (Product a b) = mentions root a
+left_mentions root (Quotient a divisor) = mentions root a
+left_mentions root (Remainder a divisor) = mentions root a
+left_mentions root (Size a) = mentions root a
+left_mentions root t = []
+
+abbrev pub other_mentions : Box → Term → List ℕ
+other_mentions root (Product a b) = mentions root b
+other_mentions root (Quotient a divisor) = []
+other_mentions root (Remainder a divisor) = []
+other_mentions root (Size a) = []
+other_mentions root t = mentions root t

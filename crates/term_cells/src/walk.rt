@@ -1,13 +1,13 @@
 //! Each node that a term or a condition is made of is visited, once for each time that it stands there.
 
-ghost use Rattle.std.specs.Prelude.{◌≡◌, ◌<◌, ◌++◌, OnOk, if◌then◌else◌};
+ghost use Rattle.std.specs.Prelude.{◌≡◌, ◌<◌, ◌++◌, [], IfNone, IfSome, OnOk, if◌then◌else◌};
 ghost use Rattle.box_rules.specs.Terms as term;
 ghost use Rattle.box_rules.specs.Rules as rule;
 ghost use Rattle.term_rules.specs.Shown.{box_in, form_of};
 ghost use Rattle.term_nodes.specs.Built.{AllBelow, IsBuilt, PartsBelow};
 ghost use Rattle.term_nodes.specs.Things.{cond_at, conds_at, parts_at, table_at, term_at, terms_at, things};
 ghost use Rattle.cell_mentions.specs.Mentions.{cond_mentions, conds_mention, mentions, parts_mention, table_mentions, terms_mention};
-ghost use Rattle.term_cells.specs.Cells.{form_cells, with_cells};
+ghost use Rattle.term_cells.specs.Cells.{form_cells, left_mentions, other_mentions, with_cells};
 
 use crate::elements::{put_elements, put_form};
 use crate::kept::put;
@@ -24,12 +24,41 @@ pub struct Nodes<'a> {
 }
 
 impl<'a> Nodes<'a> {
-    /// Puts the cells that a term mentions into a set.
+    /// Puts the cells that a term mentions into a set: down its left operands by a loop, since a chain of them is as deep as its text is
+    /// long.
     #[cycle(term)]
-    #[tactic(auto, using(crate::proofs::Walking::term_of_node, crate::proofs::Walking::no_term_here, crate::proofs::Walking::of_operation, crate::proofs::Walking::of_extreme, crate::proofs::Walking::form_of_node, term_nodes::proofs::Steps::below_at))]
+    #[tactic(auto, using(crate::proofs::Chains::first_others, crate::proofs::Chains::next_others, crate::proofs::Chains::no_left))]
     pub(crate) fn term(&self, id: u32, cells: &mut BTreeSet<u32>) -> Result<(), AllocError>
         requires built { IsBuilt (box_in self.now.root) self.now.items.now }
         ensures { OnOk result (cells.new.keys ≡ with_cells cells.old.keys (mentions (box_in self.now.root) (term_at (things self.now.items.now) id))) }
+    {
+        self.others(id, cells)?;
+        let mut at = id;
+        'chain: while let Some(left) = self.left(at) {
+            self.others(left, cells)?;
+            at = left;
+        }
+        Ok(())
+    }
+
+    /// The left operand of the node of this number.
+    #[tactic(auto, using(term_nodes::proofs::Links::if_below, crate::proofs::Chains::if_left, crate::proofs::Chains::if_none, crate::proofs::Chains::left_nothing))]
+    fn left(&self, id: u32) -> Option<u32>
+        requires built { IsBuilt (box_in self.now.root) self.now.items.now }
+        ensures below { IfSome result (λ left. left < id) }
+        ensures left { IfSome result (λ left. left_mentions (box_in self.now.root) (term_at (things self.now.items.now) id) ≡ mentions (box_in self.now.root) (term_at (things self.now.items.now) left)) }
+        ensures none { IfNone result (left_mentions (box_in self.now.root) (term_at (things self.now.items.now) id) ≡ []) }
+    {
+        let item = item_at(self.items, id)?;
+        item.node.left()
+    }
+
+    /// Puts the cells that a term mentions into a set, but for those of its left operand.
+    #[cycle(term)]
+    #[tactic(auto, using(crate::proofs::Walking::others_of_node, crate::proofs::Walking::no_term_here, crate::proofs::Walking::of_operation, crate::proofs::Walking::of_extreme, crate::proofs::Walking::form_of_node, term_nodes::proofs::Steps::below_at))]
+    fn others(&self, id: u32, cells: &mut BTreeSet<u32>) -> Result<(), AllocError>
+        requires built { IsBuilt (box_in self.now.root) self.now.items.now }
+        ensures { OnOk result (cells.new.keys ≡ with_cells cells.old.keys (other_mentions (box_in self.now.root) (term_at (things self.now.items.now) id))) }
     {
         let Some(item) = item_at(self.items, id) else {
             return Ok(());
@@ -38,8 +67,8 @@ impl<'a> Nodes<'a> {
             Node::Constant(_) => Ok(()),
             Node::Cell(cell) => put(cells, *cell),
             Node::Sum(parts) => self.parts(id, parts.as_slice(), cells),
-            Node::Product(a, b) => self.both_terms(id, *a, *b, cells),
-            Node::Operation(_, a) => self.term(*a, cells),
+            Node::Product(_, b) => self.term(*b, cells),
+            Node::Operation(_, _) => Ok(()),
             Node::Extreme(_, first, later) => self.first_and_later(
                 id,
                 *first,

@@ -61,7 +61,7 @@ none_added root b all xs k id none =
     subst (λ (t : Thing). listed_ends root b all xs ≡ ends.plus (listed_ends root b all xs) (ends.scaled k (atoms Near root b (term_in t)))) (sym none)
     (clear_added (listed_ends root b all xs) (ends.exactly (pos 0)) k (record { low = refl; high = refl }))
 
-plain_form : (root : Box) (all : List Thing) (id : ℕ) (item : Item) → IsAt root all id item → item.facts.form.plain ≡ (form root (term_at all id)).plain
+pub plain_form : (root : Box) (all : List Thing) (id : ℕ) (item : Item) → IsAt root all id item → item.facts.form.plain ≡ (form root (term_at all id)).plain
 plain_form root all id item at =
     ap (λ (f : built.Facts). f.form.plain) at.kept ∙ ap (λ (t : Thing). (form root (term_in t)).plain) (sym at.thing)
 

@@ -4,3 +4,4 @@ pub mod Summing
 pub mod Leaves
 pub mod Growing
 pub mod Cells
+pub mod Operands

@@ -10,7 +10,8 @@ use Rattle.box_rules.specs.Ends.{Ends, exactly, plus, scaled}
 use Rattle.box_rules.specs.Globals.{total}
 use Rattle.box_rules.specs.Rules.{Near, form, atoms, interval}
 use Rattle.box_rules.specs.Sizes.{atoms_weight}
-use Rattle.box_rules.specs.Terms.{Term, Cell}
+use Rattle.box_rules.specs.Forms.{atom_form}
+use Rattle.box_rules.specs.Terms.{Term, Cell, Product}
 use Rattle.program_rules.specs.Objective.{expected_form, greatest_size}
 use Rattle.program_rules.specs.Problems.{GoalTerms}
 use Rattle.term_rules.specs.Sums.{wide_form, weight_in}
@@ -55,6 +56,17 @@ AtomsExist count atoms = AllByRecursion (λ (a : Atom). a.term < count) atoms
 pub record Listed (root : Box) (all : List Thing) (count : ℕ) (before list : List Atom) (left whole : Box → Ends) : Type 0 where
   pub sum : (b : Box) → Inside b root → plus (listed_ends root b all list) (left b) ≡ plus (listed_ends root b all before) (whole b)
   pub exist : AtomsExist count before → AtomsExist count list
+
+-- a term that is a product with no number, or of cells alone, or no product
+abbrev pub IsBare : Box → Term → Type 0
+IsBare root (Product s t) = (form root (Product s t)).plain ≡ false → form root (Product s t) ≡ atom_form
+IsBare root t = Unit {0}
+
+-- so many times an operand of a term is so many times the term, but for cells; it has room as well
+pub record IsOperand (root : Box) (all : List Thing) (before next : Atom) : Type 0 where
+  pub below : next.term < before.term
+  pub room : unsigned_abs next.k * atoms_weight root (term_at all next.term) < 2 ^ 127
+  pub sum : (b : Box) → scaled next.k (atoms Near root b (term_at all next.term)) ≡ scaled before.k (atoms Near root b (term_at all before.term))
 
 -- numbers of terms: for each cell of the root the term that it is
 pub record AreCells (root : Box) (all : List Thing) (nodes : List ℕ) : Type 0 where

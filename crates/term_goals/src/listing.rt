@@ -12,7 +12,7 @@ ghost use Rattle.term_rules.specs.Sums.{wide_cells};
 ghost use Rattle.term_nodes.specs.Built.{PartsBelow};
 ghost use Rattle.term_nodes.specs.Seen.{IsReady};
 ghost use Rattle.term_nodes.specs.Things.{parts_at, term_at, things};
-ghost use Rattle.term_goals.specs.Goals.{AreCells, AtomsExist, HasRoom, all_weight, atoms_ends, listed_ends};
+ghost use Rattle.term_goals.specs.Goals.{AreCells, AtomsExist, HasRoom, IsBare, IsOperand, all_weight, atoms_ends, listed_ends};
 
 use crate::sums::{Atom, Summed};
 use std::alloc::{AllocError, Global};
@@ -30,51 +30,118 @@ fn product(a: &WideFactor, b: &Factor) -> WideFactor
 }
 
 /// Adds so many times a term that has no constant and no cell of its own.
-fn add_leaf(
-    list: &mut Vec<Atom>,
-    here: &Here,
-    times: &WideFactor,
-    id: u32,
-) -> Result<(), AllocError>
-    requires exists { id < length here.now.items.now }
-    requires leaf { rule.form (box_in here.now.root) (term_at (things here.now.items.now) id) ≡ forms.atom_form }
-    ensures sum { (b : Box) → OnOk result (listed_ends (box_in here.now.root) b (things here.now.items.now) list.new.items ≡ ends.plus (listed_ends (box_in here.now.root) b (things here.now.items.now) list.old.items) (ends.scaled times.now.k (rule.atoms rule.Near (box_in here.now.root) b (term_at (things here.now.items.now) id)))) }
+fn add_leaf(list: &mut Vec<Atom>, here: &Here, atom: &Atom) -> Result<(), AllocError>
+    requires exists { atom.now.term < length here.now.items.now }
+    requires leaf { rule.form (box_in here.now.root) (term_at (things here.now.items.now) atom.now.term) ≡ forms.atom_form }
+    ensures sum { (b : Box) → OnOk result (listed_ends (box_in here.now.root) b (things here.now.items.now) list.new.items ≡ ends.plus (listed_ends (box_in here.now.root) b (things here.now.items.now) list.old.items) (ends.scaled atom.now.k (rule.atoms rule.Near (box_in here.now.root) b (term_at (things here.now.items.now) atom.now.term)))) }
     ensures exist { OnOk result (AtomsExist (length here.now.items.now) list.old.items → AtomsExist (length here.now.items.now) list.new.items) }
 {
-    list.push(Atom::times(times, id))?;
+    list.push(*atom)?;
     Ok(())
 }
 
-/// Adds so many times each of the terms that a term is made of, but for its constant and its cells.
+/// The other operand of a product with a number, as often as it stands in the product; none, where neither operand is a number.
+#[tactic(auto, using(crate::proofs::Growing::product_leaf))]
+fn multiplied(here: &Here, atom: &Atom, a: u32, b: u32) -> Option<Atom>
+    requires ready { IsReady here.now }
+    requires exists { atom.now.term < length here.now.items.now }
+    requires left { a < atom.now.term }
+    requires right { b < atom.now.term }
+    requires is { term_at (things here.now.items.now) atom.now.term ≡ term.Product (term_at (things here.now.items.now) a) (term_at (things here.now.items.now) b) }
+    requires other { (rule.form (box_in here.now.root) (term_at (things here.now.items.now) atom.now.term)).plain ≡ false }
+    requires room { unsigned_abs atom.now.k * atoms_weight (box_in here.now.root) (term_at (things here.now.items.now) atom.now.term) < 2 ^ 127 }
+    ensures same { IfSome result (IsOperand (box_in here.now.root) (things here.now.items.now) atom.now) }
+    ensures leaf { IfNone result (rule.form (box_in here.now.root) (term_at (things here.now.items.now) atom.now.term) ≡ forms.atom_form) }
+{
+    let before = atom.factor();
+    let f = form_at(here.items, a);
+    if f.is_constant() {
+        return Some(Atom::times(&product(&before, &f.factor()), b));
+    }
+    let g = form_at(here.items, b);
+    if g.is_constant() {
+        return Some(Atom::times(&product(&before, &g.factor()), a));
+    }
+    None
+}
+
+/// The other operand, where a term is a product with a number and has more in it than cells.
+#[tactic(auto, using(crate::proofs::Operands::bare_at, crate::proofs::Operands::bare_product, crate::proofs::Operands::bare_plain, crate::proofs::Operands::bare_nothing, crate::proofs::Growing::term_is, crate::proofs::Growing::other_at, term_nodes::proofs::Steps::below_at))]
+fn operand(here: &Here, atom: &Atom) -> Option<Atom>
+    requires ready { IsReady here.now }
+    requires room { unsigned_abs atom.now.k * atoms_weight (box_in here.now.root) (term_at (things here.now.items.now) atom.now.term) < 2 ^ 127 }
+    ensures same { IfSome result (IsOperand (box_in here.now.root) (things here.now.items.now) atom.now) }
+    ensures bare { IfNone result (IsBare (box_in here.now.root) (term_at (things here.now.items.now) atom.now.term)) }
+{
+    let item = item_at(here.items, atom.term)?;
+    if item.facts.form.plain {
+        return None;
+    }
+    match &item.node {
+        Node::Product(a, b) => multiplied(here, atom, *a, *b),
+        Node::Constant(_) => None,
+        Node::Cell(_) => None,
+        Node::Sum(_) => None,
+        Node::Operation(_, _) => None,
+        Node::Extreme(_, _, _) => None,
+        Node::Element(_, _) => None,
+        Node::Number(_) => None,
+        Node::Compare(_) => None,
+        Node::Not(_) => None,
+        Node::All(_) => None,
+        Node::Any(_) => None,
+        Node::Implies(_, _) => None,
+        Node::Table(_) => None,
+    }
+}
+
+/// Adds so many times each of the terms that a term is made of, but for its constant and its cells. Products with numbers are left
+/// behind by a loop, since a chain of them is as deep as its text is long.
 #[cycle(list)]
-#[tactic(auto, using(crate::proofs::Growing::leaf_form, term_nodes::proofs::Steps::below_at))]
 fn add(list: &mut Vec<Atom>, here: &Here, times: &WideFactor, id: u32) -> Result<(), AllocError>
     requires ready { IsReady here.now }
     requires room { unsigned_abs times.now.k * atoms_weight (box_in here.now.root) (term_at (things here.now.items.now) id) < 2 ^ 127 }
     ensures sum { (b : Box) → Inside b (box_in here.now.root) → OnOk result (listed_ends (box_in here.now.root) b (things here.now.items.now) list.new.items ≡ ends.plus (listed_ends (box_in here.now.root) b (things here.now.items.now) list.old.items) (ends.scaled times.now.k (rule.atoms rule.Near (box_in here.now.root) b (term_at (things here.now.items.now) id)))) }
     ensures exist { OnOk result (AtomsExist (length here.now.items.now) list.old.items → AtomsExist (length here.now.items.now) list.new.items) }
 {
-    let Some(item) = item_at(here.items, id) else {
+    let mut atom = Atom::times(times, id);
+    'products: while let Some(next) = operand(here, &atom) {
+        atom = next;
+    }
+    add_bare(list, here, &atom)
+}
+
+/// The same, of a term that is no product with a number.
+#[cycle(list)]
+#[tactic(auto, using(crate::proofs::Growing::leaf_form, crate::proofs::Operands::bare_leaf, term_nodes::proofs::Steps::below_at))]
+fn add_bare(list: &mut Vec<Atom>, here: &Here, atom: &Atom) -> Result<(), AllocError>
+    requires ready { IsReady here.now }
+    requires room { unsigned_abs atom.now.k * atoms_weight (box_in here.now.root) (term_at (things here.now.items.now) atom.now.term) < 2 ^ 127 }
+    requires bare { IsBare (box_in here.now.root) (term_at (things here.now.items.now) atom.now.term) }
+    ensures sum { (b : Box) → Inside b (box_in here.now.root) → OnOk result (listed_ends (box_in here.now.root) b (things here.now.items.now) list.new.items ≡ ends.plus (listed_ends (box_in here.now.root) b (things here.now.items.now) list.old.items) (ends.scaled atom.now.k (rule.atoms rule.Near (box_in here.now.root) b (term_at (things here.now.items.now) atom.now.term)))) }
+    ensures exist { OnOk result (AtomsExist (length here.now.items.now) list.old.items → AtomsExist (length here.now.items.now) list.new.items) }
+{
+    let Some(item) = item_at(here.items, atom.term) else {
         return Ok(());
     };
     if item.facts.form.plain {
         return Ok(());
     }
     match &item.node {
-        Node::Sum(parts) => add_parts(list, here, times, id, parts.as_slice()),
-        Node::Product(a, b) => add_product(list, here, times, id, *a, *b),
-        Node::Constant(_) => add_leaf(list, here, times, id),
-        Node::Cell(_) => add_leaf(list, here, times, id),
-        Node::Operation(_, _) => add_leaf(list, here, times, id),
-        Node::Extreme(_, _, _) => add_leaf(list, here, times, id),
-        Node::Element(_, _) => add_leaf(list, here, times, id),
-        Node::Number(_) => add_leaf(list, here, times, id),
-        Node::Compare(_) => add_leaf(list, here, times, id),
-        Node::Not(_) => add_leaf(list, here, times, id),
-        Node::All(_) => add_leaf(list, here, times, id),
-        Node::Any(_) => add_leaf(list, here, times, id),
-        Node::Implies(_, _) => add_leaf(list, here, times, id),
-        Node::Table(_) => add_leaf(list, here, times, id),
+        Node::Sum(parts) => add_parts(list, here, &atom.factor(), atom.term, parts.as_slice()),
+        Node::Product(_, _) => add_leaf(list, here, atom),
+        Node::Constant(_) => add_leaf(list, here, atom),
+        Node::Cell(_) => add_leaf(list, here, atom),
+        Node::Operation(_, _) => add_leaf(list, here, atom),
+        Node::Extreme(_, _, _) => add_leaf(list, here, atom),
+        Node::Element(_, _) => add_leaf(list, here, atom),
+        Node::Number(_) => add_leaf(list, here, atom),
+        Node::Compare(_) => add_leaf(list, here, atom),
+        Node::Not(_) => add_leaf(list, here, atom),
+        Node::All(_) => add_leaf(list, here, atom),
+        Node::Any(_) => add_leaf(list, here, atom),
+        Node::Implies(_, _) => add_leaf(list, here, atom),
+        Node::Table(_) => add_leaf(list, here, atom),
     }
 }
 
@@ -99,37 +166,6 @@ fn add_parts(
         add(list, here, &signed, part.term)?;
     }
     Ok(())
-}
-
-/// Adds so many times a product: that many times one operand, where the other is a number.
-#[cycle(list)]
-fn add_product(
-    list: &mut Vec<Atom>,
-    here: &Here,
-    times: &WideFactor,
-    id: u32,
-    a: u32,
-    b: u32,
-) -> Result<(), AllocError>
-    requires ready { IsReady here.now }
-    requires exists { id < length here.now.items.now }
-    requires left { a < id }
-    requires right { b < id }
-    requires is { term_at (things here.now.items.now) id ≡ term.Product (term_at (things here.now.items.now) a) (term_at (things here.now.items.now) b) }
-    requires other { (rule.form (box_in here.now.root) (term_at (things here.now.items.now) id)).plain ≡ false }
-    requires room { unsigned_abs times.now.k * atoms_weight (box_in here.now.root) (term_at (things here.now.items.now) id) < 2 ^ 127 }
-    ensures sum { (part : Box) → Inside part (box_in here.now.root) → OnOk result (listed_ends (box_in here.now.root) part (things here.now.items.now) list.new.items ≡ ends.plus (listed_ends (box_in here.now.root) part (things here.now.items.now) list.old.items) (ends.scaled times.now.k (rule.atoms rule.Near (box_in here.now.root) part (term_at (things here.now.items.now) id)))) }
-    ensures exist { OnOk result (AtomsExist (length here.now.items.now) list.old.items → AtomsExist (length here.now.items.now) list.new.items) }
-{
-    let f = form_at(here.items, a);
-    if f.is_constant() {
-        return add(list, here, &product(times, &f.factor()), b);
-    }
-    let g = form_at(here.items, b);
-    if g.is_constant() {
-        return add(list, here, &product(times, &g.factor()), a);
-    }
-    add_leaf(list, here, times, id)
 }
 
 /// Adds so many times each of the terms that several terms are made of, but for their constants and their cells.

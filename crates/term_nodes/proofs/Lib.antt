@@ -5,3 +5,4 @@ pub mod Plain
 pub mod Ranges
 pub mod Growing
 pub mod Elements
+pub mod Links

@@ -1,3 +1,4 @@
 pub mod Things
 pub mod Built
 pub mod Seen
+pub mod Operands

@@ -13,6 +13,7 @@ ghost use Rattle.term_tables.specs.Within.{ranges_of};
 ghost use Rattle.term_operations.specs.Made.{IsPossible, extreme_term, operation_term, picked};
 ghost use Rattle.term_nodes.specs.Things.{cond_at, conds_at, parts_at, table_at, term_at, terms_at, things};
 ghost use Rattle.term_nodes.specs.Built.{AllBelow, IsSoundTerm, PartsBelow};
+ghost use Rattle.term_nodes.specs.Operands.{left_operand, steps_down};
 ghost use Rattle.term_nodes.specs.Seen.{IsReady, element_sight, extreme_range, sight, sight_of, sum_sight};
 
 use crate::items::{Item, form_at, item_at, table_at};
@@ -101,6 +102,17 @@ impl<'a> Here<'a> {
         ensures mark { result.mark ≡ rule.mark rule.Near (box_in self.now.root) (box_in self.now.view) (term_at (things self.now.items.now) id) }
     {
         let seen = self.seen(id);
+        self.whole(id, &seen)
+    }
+
+    /// The whole interval of a term over the box, and its mark, where it is given what the term is there.
+    fn whole(&self, id: u32, seen: &Sight) -> Sight
+        requires ready { IsReady self.now }
+        requires exists { id < length self.now.items.now }
+        requires seen { sight_of seen.now ≡ sight (box_in self.now.root) (box_in self.now.view) (term_at (things self.now.items.now) id) }
+        ensures interval { ends_of result.ends ≡ rule.interval rule.Near (box_in self.now.root) (box_in self.now.view) (term_at (things self.now.items.now) id) }
+        ensures mark { result.mark ≡ rule.mark rule.Near (box_in self.now.root) (box_in self.now.view) (term_at (things self.now.items.now) id) }
+    {
         let form = form_at(self.items, id);
         Sight {
             ends: self.view.whole(form, &seen.ends),
@@ -110,7 +122,7 @@ impl<'a> Here<'a> {
 
     /// What a term is over the box.
     #[cycle(seen)]
-    #[tactic(auto, using(crate::proofs::Plain::plain_seen, crate::proofs::Steps::seen_at, crate::proofs::Steps::below_at, crate::proofs::Steps::sound_at, crate::proofs::Steps::right_at, crate::proofs::Steps::plain_at))]
+    #[tactic(auto, using(crate::proofs::Plain::plain_seen, crate::proofs::Links::product_operand, crate::proofs::Links::operation_operand, crate::proofs::Steps::seen_at, crate::proofs::Steps::below_at, crate::proofs::Steps::sound_at, crate::proofs::Steps::right_at, crate::proofs::Steps::plain_at))]
     pub fn seen(&self, id: u32) -> Sight
         requires ready { IsReady self.now }
         ensures { sight_of result ≡ sight (box_in self.now.root) (box_in self.now.view) (term_at (things self.now.items.now) id) }
@@ -125,10 +137,8 @@ impl<'a> Here<'a> {
             Node::Constant(_) => Sight::clear(),
             Node::Cell(_) => Sight::clear(),
             Node::Sum(parts) => self.sum(id, parts.as_slice()),
-            Node::Product(a, b) => self.product(id, *a, *b),
-            Node::Operation(operation, a) => {
-                self.operation(item.facts.form.plain, id, operation, *a)
-            }
+            Node::Product(a, _) => self.chain(id, *a),
+            Node::Operation(_, a) => self.chain(id, *a),
             Node::Extreme(extreme, first, later) => {
                 self.extreme(
                     item.facts.form.plain,
@@ -151,6 +161,72 @@ impl<'a> Here<'a> {
         }
     }
 
+    /// What a node with a left operand is over the box: from the end of the chain of left operands up to it.
+    #[cycle(seen)]
+    #[tactic(auto, using(crate::proofs::Links::from_left, crate::proofs::Links::reached_sight))]
+    fn chain(&self, id: u32, left: u32) -> Sight
+        requires ready { IsReady self.now }
+        requires below { left < id }
+        requires left { term_at (things self.now.items.now) left ≡ left_operand (term_at (things self.now.items.now) id) }
+        ensures { sight_of result ≡ sight (box_in self.now.root) (box_in self.now.view) (term_at (things self.now.items.now) id) }
+    {
+        let bottom = self.bottom(left);
+        let below = self.seen(bottom.id);
+        self.segment(id, bottom.steps + 1, &below)
+    }
+
+    /// What the first node of a chain is over the box, where it is given what stands so many steps below it. The lower half goes before the
+    /// upper one, so calls nest as deep as the steps can be halved, and no number of each node has to be kept.
+    #[cycle(seen)]
+    #[tactic(auto, using(crate::proofs::Links::no_steps, crate::proofs::Links::last_step, crate::proofs::Links::further_sight, crate::proofs::Links::reached_sight))]
+    fn segment(&self, top: u32, steps: u32, below: &Sight) -> Sight
+        requires ready { IsReady self.now }
+        requires below { sight_of below.now ≡ sight (box_in self.now.root) (box_in self.now.view) (steps_down steps (term_at (things self.now.items.now) top)) }
+        ensures { sight_of result ≡ sight (box_in self.now.root) (box_in self.now.view) (term_at (things self.now.items.now) top) }
+    {
+        if steps == 0 {
+            return *below;
+        }
+        if steps == 1 {
+            return self.raised(top, below);
+        }
+        let half = steps / 2;
+        let middle = self.lower(top, half);
+        let seen = self.segment(middle, steps - half, below);
+        self.segment(top, half, &seen)
+    }
+
+    /// What a node is over the box, where it is given what its left operand is; one that has none is what it is given.
+    #[cycle(seen)]
+    #[tactic(auto, using(crate::proofs::Links::product_below, crate::proofs::Links::operation_below, crate::proofs::Links::no_operand, crate::proofs::Links::nothing_there, crate::proofs::Steps::seen_at, crate::proofs::Steps::below_at, crate::proofs::Steps::sound_at, crate::proofs::Steps::right_at, crate::proofs::Steps::plain_at))]
+    fn raised(&self, id: u32, below: &Sight) -> Sight
+        requires ready { IsReady self.now }
+        requires below { sight_of below.now ≡ sight (box_in self.now.root) (box_in self.now.view) (left_operand (term_at (things self.now.items.now) id)) }
+        ensures { sight_of result ≡ sight (box_in self.now.root) (box_in self.now.view) (term_at (things self.now.items.now) id) }
+    {
+        let Some(item) = item_at(self.items, id) else {
+            return *below;
+        };
+        match &item.node {
+            Node::Product(a, b) => self.product(id, *a, *b, below),
+            Node::Operation(operation, a) => {
+                self.operation(item.facts.form.plain, operation, *a, below)
+            }
+            Node::Constant(_) => *below,
+            Node::Cell(_) => *below,
+            Node::Sum(_) => *below,
+            Node::Extreme(_, _, _) => *below,
+            Node::Element(_, _) => *below,
+            Node::Number(_) => *below,
+            Node::Compare(_) => *below,
+            Node::Not(_) => *below,
+            Node::All(_) => *below,
+            Node::Any(_) => *below,
+            Node::Implies(_, _) => *below,
+            Node::Table(_) => *below,
+        }
+    }
+
     /// What a sum is over the box.
     #[cycle(seen)]
     #[tactic(auto, using(crate::proofs::Steps::next_part, crate::proofs::Steps::no_parts, crate::proofs::Steps::part_below, crate::proofs::Ready::times_fit, crate::proofs::Ready::sum_fit))]
@@ -169,18 +245,18 @@ impl<'a> Here<'a> {
         sum
     }
 
-    /// What a product is over the box.
+    /// What a product is over the box, where it is given what its first factor is.
     #[cycle(seen)]
     #[tactic(auto, using(crate::proofs::Ready::product_fit))]
-    fn product(&self, limit: u32, a: u32, b: u32) -> Sight
+    fn product(&self, limit: u32, a: u32, b: u32, left: &Sight) -> Sight
         requires ready { IsReady self.now }
         requires exists { limit < length self.now.items.now }
         requires left { a < limit }
         requires right { b < limit }
         requires sound { IsSoundTerm (box_in self.now.root) (term.Product (term_at (things self.now.items.now) a) (term_at (things self.now.items.now) b)) }
+        requires seen { sight_of left.now ≡ sight (box_in self.now.root) (box_in self.now.view) (term_at (things self.now.items.now) a) }
         ensures { sight_of result ≡ sight (box_in self.now.root) (box_in self.now.view) (term.Product (term_at (things self.now.items.now) a) (term_at (things self.now.items.now) b)) }
     {
-        let left = self.seen(a);
         let right = self.seen(b);
         let f = form_at(self.items, a);
         let g = form_at(self.items, b);
@@ -190,18 +266,17 @@ impl<'a> Here<'a> {
         }
     }
 
-    /// What is made of one number over the box; where it folds to a number, it is plain.
-    #[cycle(seen)]
+    /// What is made of one number over the box, where it is given what that is; where it folds to a number, it is plain.
     #[tactic(auto, using(crate::proofs::Ranges::operation_small, crate::proofs::Ranges::operation_folded, crate::proofs::Ranges::operation_alone))]
-    fn operation(&self, plain: bool, limit: u32, operation: &Operation, a: u32) -> Sight
+    fn operation(&self, plain: bool, operation: &Operation, a: u32, below: &Sight) -> Sight
         requires ready { IsReady self.now }
-        requires exists { limit < length self.now.items.now }
-        requires below { a < limit }
+        requires exists { a < length self.now.items.now }
         requires possible { IsPossible operation.now }
         requires plain { plain ≡ (rule.form (box_in self.now.root) (operation_term operation.now (term_at (things self.now.items.now) a))).plain }
+        requires seen { sight_of below.now ≡ sight (box_in self.now.root) (box_in self.now.view) (term_at (things self.now.items.now) a) }
         ensures { sight_of result ≡ sight (box_in self.now.root) (box_in self.now.view) (operation_term operation.now (term_at (things self.now.items.now) a)) }
     {
-        let range = self.range(a);
+        let range = self.whole(a, below);
         if plain {
             return Sight {
                 ends: Ends::zero(),

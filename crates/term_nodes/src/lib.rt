@@ -1,6 +1,7 @@
 //! Terms and conditions over cells as nodes of one vector, with what is known of each of them, and what they are over a box.
 #![tactic(auto)]
 
+mod chains;
 mod evaluation;
 mod items;
 mod nodes;

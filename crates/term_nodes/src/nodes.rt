@@ -1,5 +1,8 @@
 //! Nodes: a term or a condition, whose operands are nodes before it.
 
+ghost use Rattle.std.specs.Prelude.{◌≡◌};
+ghost use Rattle.term_nodes.specs.Operands.{left_in};
+
 use sopl_base::CmpOp;
 use term_operations::{Extreme, Operation};
 use term_rules::Form;
@@ -38,4 +41,28 @@ pub enum Node {
     Any(Vec<u32>),
     Implies(u32, u32),
     Table(Table),
+}
+
+impl Node {
+    /// The left operand of a product, and the operand of what is made of one number.
+    pub fn left(&self) -> Option<u32>
+        ensures { result ≡ left_in self.now }
+    {
+        match self {
+            Node::Product(a, _) => Some(*a),
+            Node::Operation(_, a) => Some(*a),
+            Node::Constant(_) => None,
+            Node::Cell(_) => None,
+            Node::Sum(_) => None,
+            Node::Extreme(_, _, _) => None,
+            Node::Element(_, _) => None,
+            Node::Number(_) => None,
+            Node::Compare(_) => None,
+            Node::Not(_) => None,
+            Node::All(_) => None,
+            Node::Any(_) => None,
+            Node::Implies(_, _) => None,
+            Node::Table(_) => None,
+        }
+    }
 }

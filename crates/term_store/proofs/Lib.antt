@@ -5,3 +5,4 @@ pub mod Summing
 pub mod Multiplying
 pub mod Folding
 pub mod Indexing
+pub mod KnownItems

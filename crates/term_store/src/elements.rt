@@ -102,7 +102,7 @@ impl TermStore {
         ensures { option_map item_of result ≡ item_at (table_at (all self.now) table) index.now }
     {
         match table_at(self.items.as_slice(), table) {
-            Some(found) => found.at(index),
+            Some(found) => found.known(index),
             None => None,
         }
     }
@@ -173,7 +173,37 @@ impl TermStore {
         }
     }
 
-    /// What is known of an element, where its size is at most 2^40.
+    /// The mark of all indices over the root box.
+    #[tactic(auto, using(crate::proofs::Folding::next_marks, crate::proofs::Folding::no_marks, term_nodes::proofs::Steps::cond_below))]
+    fn near_marks(&self, at: &[u32]) -> Defined
+        requires sound { IsSoundStore self.now }
+        requires exist { AllBelow (length self.now.items.items) at.now }
+        ensures { result ≡ marks.all_marks (rule.marks rule.Near (root_of self.now) (root_of self.now) (terms_at (all self.now) at.now)) }
+    {
+        let mut mark = Defined::Always;
+        for id in at {
+            let here = self.mark_known(*id);
+            mark = both(mark, here);
+        }
+        mark
+    }
+
+    /// The mark of all indices over the root box, by the wide reading.
+    #[tactic(auto, using(crate::proofs::KnownItems::next_wide, crate::proofs::KnownItems::none_wide, term_nodes::proofs::Steps::cond_below))]
+    fn wide_marks(&self, at: &[u32]) -> Defined
+        requires sound { IsSoundStore self.now }
+        requires exist { AllBelow (length self.now.items.items) at.now }
+        ensures { result ≡ marks.all_marks (rule.marks rule.Wide (root_of self.now) (root_of self.now) (terms_at (all self.now) at.now)) }
+    {
+        let mut mark = Defined::Always;
+        for id in at {
+            let here = self.wide_known(*id).mark;
+            mark = both(mark, here);
+        }
+        mark
+    }
+
+    /// What is known of an element, where its size is at most 2^40: of one that is an item whatever the box, its indices alone are read.
     fn element_facts(&self, table: u32, at: &[u32]) -> Result<Facts, Fault>
         requires sound { IsSoundStore self.now }
         requires exist { AllBelow (length self.now.items.items) at.now }
@@ -181,11 +211,17 @@ impl TermStore {
         ensures measured { IsMeasured (sizes.size (root_of self.now) (term.Element (table_at (all self.now) table) (terms_at (all self.now) at.now))) result }
     {
         let found = self.element_known(table, at)?;
-        let mark = self.element_mark(table, at);
-        let wide = self.element_wide(table, at);
         match found {
-            Some(element) => { item_facts(self.alloc, &element, &self.root(), mark, wide.mark) }
-            None => folded_facts(self.alloc, false, mark, &wide),
+            Some(element) => {
+                let mark = self.near_marks(at);
+                let wide_mark = self.wide_marks(at);
+                item_facts(self.alloc, &element, &self.root(), mark, wide_mark)
+            }
+            None => {
+                let mark = self.element_mark(table, at);
+                let wide = self.element_wide(table, at);
+                folded_facts(self.alloc, false, mark, &wide)
+            }
         }
     }
 

@@ -3,7 +3,7 @@
 ghost use Rattle.std.specs.Prelude.{◌≡◌, ◌<◌, [], length, IfOk, OnErr};
 ghost use Rattle.box_problem.specs.Box.{box_of};
 ghost use Rattle.box_rules.specs.Terms as term;
-ghost use Rattle.term_nodes.specs.Things.{a_cond, a_term, cond_at, conds_at, thing_of};
+ghost use Rattle.term_nodes.specs.Things.{a_cond, cond_at, conds_at, thing_of};
 ghost use Rattle.term_nodes.specs.Built.{AllBelow, IsNew};
 ghost use Rattle.term_store.specs.Stores.{IsAdded, IsSoundStore, all, root_of};
 

@@ -2,3 +2,5 @@ pub mod Blocks
 pub mod Covering
 pub mod Reaching
 pub mod Hulls
+pub mod Distinct
+pub mod Apart

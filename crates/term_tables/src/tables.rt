@@ -1,8 +1,9 @@
 //! Arrays.
 
-ghost use Rattle.std.specs.Prelude.{◌≡◌, length, map, option_map};
+ghost use Rattle.std.specs.Prelude.{◌≡◌, map, option_map};
 ghost use Rattle.box_rules.specs.Arrays as arrays;
 ghost use Rattle.box_rules.specs.Ends as ends;
+ghost use Rattle.box_rules.specs.Laws.{IsTable};
 ghost use Rattle.box_rules.specs.Rules as rule;
 ghost use Rattle.term_rules.specs.Shown.{box_in, ends_of};
 ghost use Rattle.term_tables.specs.Kept.{item_of, items_of, table_of};
@@ -35,10 +36,10 @@ impl Table {
         hull
     }
 
-    /// The element at an index, if the index is one of the array's.
+    /// The element at an index, if the index is one of the array's, which has no index twice.
     #[tactic(auto, using(crate::proofs::Blocks::too_short, crate::proofs::Blocks::no_dimension, crate::proofs::Blocks::one_left))]
-    pub fn at(&self, index: &[i64]) -> Option<Element>
-        requires complete { length (table_of self.now).items ≡ length (arrays.indices (table_of self.now).sets) }
+    pub fn known(&self, index: &[i64]) -> Option<Element>
+        requires table { IsTable (table_of self.now) }
         ensures { option_map item_of result ≡ arrays.item_at (table_of self.now) index.now }
     {
         let mut elements = self.elements.as_slice();

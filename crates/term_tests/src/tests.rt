@@ -254,7 +254,7 @@ fn pair(alloc: Global, first: Element, second: Element) -> Result<Table, AllocEr
 }
 
 /// An array with an index set that is empty.
-#[tactic(auto, using(crate::proofs::Arrays::empty_is))]
+#[tactic(auto, using(term_tables::proofs::Apart::empty_is))]
 fn empty(alloc: Global) -> Result<Table, AllocError>
     ensures proper { IfOk result (λ table. IsTable (table_of table)) }
 {

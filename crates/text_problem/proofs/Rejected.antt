@@ -7,7 +7,7 @@ use Rattle.sopl_base.specs.declared.places.Fault.{Fault}
 use Rattle.sopl_base.specs.declared.places.Fault.TheVariants.{Text, Limit}
 use Rattle.sopl_base.specs.declared.places.Refusal.{Refusal}
 use Rattle.sopl_ast.specs.declared.token.Token.{Token}
-use Rattle.sopl_ast.specs.Accepted.{AcceptedText, IsTextOf, IsRefusedFor, no_tokens, misspelled, mistaken, stopped}
+use Rattle.sopl_ast.specs.Accepted.{AcceptedText, IsTextOf, IsRefusedFor, no_tokens, misspelled, mistaken, stopped, IsLimitedFor, unfolding_passes, sizes_pass}
 use Rattle.sopl_ast.specs.Tokens.{Lexes}
 use Rattle.sopl_ast.specs.Whole.{ModelTree}
 use Rattle.sopl_ast.specs.Grammar.{Spells, SpellsWithin}
@@ -20,7 +20,6 @@ use Rattle.sopl_ast.specs.Unfolding.{problem_of, text_occurrences}
 use Rattle.sopl_lex.proofs.Meet.{lexes_one}
 use Rattle.sopl_grammar.proofs.Stops.{spells_one}
 use Rattle.text_problem.specs.Laws.{TextsEndOnce}
-use Rattle.text_problem.specs.Faults.{IsLimitedToday, unfolding_passes, sizes_pass}
 
 abbrev lexed : List Token → Result (List Token) Refusal
 lexed tokens = Ok tokens
@@ -104,7 +103,7 @@ accepted_not_refused text p refusal a (stopped model is typed stops) = stopped_n
 no_excess : (o : Option Excess) (e : Excess) → o ≡ None → o ≡ Some e → ⊥
 no_excess o e none some = cc
 
-accepted_not_limited : (text : List ℕ) (p : Problem) (excess : Excess) → AcceptedText usual_limits text p → IsLimitedToday text excess → ⊥
+accepted_not_limited : (text : List ℕ) (p : Problem) (excess : Excess) → AcceptedText usual_limits text p → IsLimitedFor usual_limits text excess → ⊥
 accepted_not_limited text p excess a (unfolding_passes model is typed stops) = stopped_not text (Limit excess) model a.model is stops a.spelled a.accepted.unfolded
 accepted_not_limited text p excess a (sizes_pass model is typed passes over) =
     no_excess (size_excess usual_limits (problem_of model)) excess
@@ -120,13 +119,13 @@ record IsLimitedModel (text : List ℕ) (excess : Excess) : Type 0 where
 two_faults : (m : Result ℕ Fault) (r : Refusal) (e : Excess) → m ≡ Err (Text r) → m ≡ Err (Limit e) → ⊥
 two_faults m r e one two = cc
 
-limited_model : (text : List ℕ) (excess : Excess) → IsLimitedToday text excess → IsLimitedModel text excess
+limited_model : (text : List ℕ) (excess : Excess) → IsLimitedFor usual_limits text excess → IsLimitedModel text excess
 limited_model text excess (unfolding_passes model is typed stops) =
     record { model = model; spelled = is; typed = typed; not_stopped = λ r refuses. two_faults (met 0 (text_occurrences model)) r excess refuses stops }
 limited_model text excess (sizes_pass model is typed passes over) =
     record { model = model; spelled = is; typed = typed; not_stopped = λ r refuses. not_ok (met 0 (text_occurrences model)) (Text r) refuses passes }
 
-refused_not_limited : (text : List ℕ) (refusal : Refusal) (excess : Excess) → IsRefusedFor text refusal → IsLimitedToday text excess → ⊥
+refused_not_limited : (text : List ℕ) (refusal : Refusal) (excess : Excess) → IsRefusedFor text refusal → IsLimitedFor usual_limits text excess → ⊥
 refused_not_limited text refusal excess reason limited = by_reason reason (limited_model text excess limited)
   where
     by_reason : IsRefusedFor text refusal → IsLimitedModel text excess → ⊥

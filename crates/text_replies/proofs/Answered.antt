@@ -10,8 +10,9 @@ use Rattle.text_problem.specs.Faults.{IsTextFault}
 use Rattle.text_problem.specs.Stated.{States, model_in, problem_in}
 use Rattle.text_problem.specs.declared.stated.Stated.{Stated}
 use Rattle.answer_lines.specs.Answers.{limit_data, line_of, refused_data}
+use Rattle.solved_texts.specs.Models.{IsSolvable}
 use Rattle.solved_texts.specs.Solved.{SolvedText}
-use Rattle.text_solver.specs.Solving.{IsAnswerTo, IsSolvable, IsSolveFault, optimal as optimal_line, infeasible as infeasible_line}
+use Rattle.text_solver.specs.Solving.{IsAnswerTo, IsSolveFault, optimal as optimal_line, infeasible as infeasible_line}
 use Rattle.text_replies.specs.Replies.{IsFaultOn, IsLimitedOn, IsRefusedOn, by_rule, not_yet, by_size, by_terms, IsTextReply, optimal, infeasible, scenes, refused, limited}
 use Rattle.text_replies.specs.declared.command.Command.{Command}
 use Rattle.text_replies.specs.declared.command.Command.TheVariants.{Solve, Tree}
@@ -52,7 +53,7 @@ tree_so text stated line states is =
 -- a text that is solved
 solved_text : (text : List ℕ) (stated : Stated) → States text stated → IsSolvable (model_in stated) → SolvedText text (problem_in stated)
 solved_text text stated states is =
-    record { model = model_in stated; spelled = states.spelled; accepted = states.accepted; supported = is.supported; allowed = is.allowed }
+    record { model = model_in stated; spelled = states.spelled; accepted = states.accepted; solvable = is }
 
 pub solved_so : (text : List ℕ) (stated : Stated) (line : List ℕ) → States text stated → IsSolvable (model_in stated) → IsAnswerTo (problem_in stated) line
     → IsTextReply text Solve Done line
@@ -63,7 +64,7 @@ solved_so text stated _ states is (infeasible_line none) = infeasible (problem_i
 -- and one that is not
 pub unsolved_so : (text : List ℕ) (stated : Stated) (f : Fault) → States text stated → IsSolveFault (model_in stated) f → IsFaultOn text Solve f
 unsolved_so text stated (fault.Text refusal) states is =
-    not_yet (record { model = model_in stated; spelled = states.spelled; accepted = states.accepted; place = is.place; first = is.first; told = is.told })
+    not_yet (record { model = model_in stated; spelled = states.spelled; accepted = states.accepted; unsupported = is })
 unsolved_so text stated (fault.Limit excess) states is =
-    by_terms (record { model = model_in stated; spelled = states.spelled; accepted = states.accepted; supported = is.supported; passes = is.passes })
+    by_terms (record { model = model_in stated; spelled = states.spelled; accepted = states.accepted; large = is })
 unsolved_so text stated fault.NoMemory states is = tt

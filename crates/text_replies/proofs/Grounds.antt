@@ -5,9 +5,8 @@ use Rattle.std.proofs.Math.Logic.{∥∥₁_elim}
 use Rattle.std.proofs.lemmas.Bool.{and_parts}
 use Rattle.std.proofs.lemmas.List.Folds.{list_all-append}
 use Rattle.std.specs.List.{AllByRecursion, list_all}
-use Rattle.sopl_ast.specs.Instances.{Decision, Stochastic}
+use Rattle.sopl_ast.specs.Instances.{Decision, Stochastic, names_in}
 use Rattle.sopl_ast.specs.Pieces.{is_word}
-use Rattle.sopl_ast.specs.Small.{names_in}
 use Rattle.unfold_laws.specs.Bounds.{IsBoundedDecision}
 use Rattle.unfold_laws.proofs.Counts.{instances_are_counted}
 use Rattle.unfold_laws.proofs.Whole.{decisions_are_bounded}

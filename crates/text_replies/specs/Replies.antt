@@ -4,13 +4,12 @@ use Rattle.sopl_base.specs.declared.places.Excess.{Excess}
 use Rattle.sopl_base.specs.declared.places.Fault.{Fault}
 use Rattle.sopl_base.specs.declared.places.Fault.TheVariants as fault
 use Rattle.sopl_base.specs.declared.places.Refusal.{Refusal}
-use Rattle.sopl_ast.specs.Accepted.{AcceptedText, IsRefusedFor}
+use Rattle.sopl_ast.specs.Accepted.{AcceptedText, IsLimitedFor, IsRefusedFor}
 use Rattle.sopl_ast.specs.Instances.{Problem}
 use Rattle.sopl_ast.specs.Limits.{usual_limits}
 use Rattle.sopl_ast.specs.Policies.{Policy}
 use Rattle.sopl_ast.specs.Optimal.{IsOptimal, IsInfeasible}
 use Rattle.tree_json.specs.Answer.{tree_data}
-use Rattle.text_problem.specs.Faults.{IsLimitedToday}
 use Rattle.solved_texts.specs.Solved.{SolvedText, IsNotYet, IsLimitedInTerms}
 use Rattle.answer_lines.specs.Answers.{word_data, refused_data, limit_data, optimal_data, line_of}
 use Rattle.text_replies.specs.declared.command.Command.{Command}
@@ -28,7 +27,7 @@ pub data IsRefusedOn (text : List ℕ) (refusal : Refusal) : Command → Type 0 
 -- a command does not take the text since it passes this limit
 pub data IsLimitedOn (text : List ℕ) (excess : Excess) : Command → Type 0 where
   -- its unfolding, its scenarios or its decisions pass it
-  by_size : (command : Command) → IsLimitedToday text excess → IsLimitedOn text excess command
+  by_size : (command : Command) → IsLimitedFor usual_limits text excess → IsLimitedOn text excess command
   -- the text is accepted, and its terms pass it
   by_terms : IsLimitedInTerms text excess → IsLimitedOn text excess Solve
 

@@ -7,10 +7,9 @@ use Rattle.std.specs.declared.alloc.AllocError.{AllocError}
 use Rattle.std.specs.declared.alloc.Global.{Global}
 use Rattle.serde_json.specs.Data.{Data}
 use Rattle.sopl_ast.specs.Cells.{Cell, cells, IsPoint, policy_at}
-use Rattle.sopl_ast.specs.Instances.{Decision, Problem, Stochastic}
+use Rattle.sopl_ast.specs.Instances.{Decision, Problem, Stochastic, names_in}
 use Rattle.sopl_ast.specs.Optimal.{denominator, IsOptimal, IsInfeasible}
 use Rattle.sopl_ast.specs.Pieces.{is_word}
-use Rattle.sopl_ast.specs.Small.{names_in}
 use Rattle.box_problem.specs.Box.{Box, InBox}
 use Rattle.box_problem.specs.BoxProblem.{BoxProblem}
 use Rattle.program_rules.specs.Problems.{ProblemTerms, denominator_in}

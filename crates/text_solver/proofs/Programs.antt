@@ -13,7 +13,8 @@ use Rattle.term_program.specs.Programs.{IsMade, problem_in, root_in}
 use Rattle.term_program.specs.declared.program.Program.{Program}
 use Rattle.program_sizes.specs.Texts.{program_excess}
 use Rattle.unsupported_forms.specs.Forms.{unsupported_place}
-use Rattle.text_solver.specs.Solving.{IsProgramOf, IsSolvable, IsSolveFault}
+use Rattle.solved_texts.specs.Models.{IsSolvable}
+use Rattle.text_solver.specs.Solving.{IsProgramOf, IsSolveFault}
 
 -- what is compiled is the program of the problem
 pub program_made : (problem : Problem) (result : Result Program Fault) → IfOk result IsMade → IfOk result (λ program. root_in program ≡ root_box (cells problem))

@@ -3,7 +3,8 @@
 ghost use Rattle.std.specs.Prelude.{◌≡◌, ℕ, List, IfOk, IfErr};
 ghost use Rattle.text_problem.specs.Stated.{IsLaid, States, model_in, problem_in};
 ghost use Rattle.unsupported_forms.specs.Forms as forms;
-ghost use Rattle.text_solver.specs.Solving.{IsProgramOf, IsSolvable, IsSolveFault};
+ghost use Rattle.solved_texts.specs.Models.{IsSolvable};
+ghost use Rattle.text_solver.specs.Solving.{IsProgramOf, IsSolveFault};
 
 use sopl_base::{Fault, Refusal};
 use sopl_compile::compile;

@@ -4,7 +4,8 @@ ghost use Rattle.std.specs.Prelude.{◌≡◌, ℕ, List, string_bytes, IfOk, If
 ghost use Rattle.sopl_ast.specs.Cells.{cells, IsPoint, policy_at};
 ghost use Rattle.answer_lines.specs.Answers.{line_of, optimal_data};
 ghost use Rattle.text_problem.specs.Stated.{IsLaid, States, model_in, problem_in};
-ghost use Rattle.text_solver.specs.Solving.{IsProgramOf, IsSolvable, IsSolveFault, IsAnswerTo};
+ghost use Rattle.solved_texts.specs.Models.{IsSolvable};
+ghost use Rattle.text_solver.specs.Solving.{IsProgramOf, IsSolveFault, IsAnswerTo};
 
 use crate::program::program_of;
 use answer_lines::{optimal_line, word_line};

@@ -1,5 +1,5 @@
-ghost use Rattle.std.specs.Prelude.{◌≡◌, length, IfOk};
-ghost use Rattle.box_rules.specs.Arrays.{indices};
+ghost use Rattle.std.specs.Prelude.{IfOk};
+ghost use Rattle.box_rules.specs.Laws.{IsTable};
 ghost use Rattle.term_tables.specs.Kept.{table_of};
 
 use super::*;
@@ -9,12 +9,15 @@ use std::alloc::{AllocError, Global};
 use term_rules::Part;
 
 /// An array over 1 and 3, and over 2, 5 and 7.
+#[tactic(auto, using(crate::proofs::Apart::grid_is))]
 fn grid(alloc: Global) -> Result<Table, AllocError>
-    ensures complete { IfOk result (λ table. length (table_of table).items ≡ length (indices (table_of table).sets)) }
+    ensures proper { IfOk result (λ table. IsTable (table_of table)) }
 {
+    let rows = Vec::from_slice(alloc, &[1, 3])?;
+    let columns = Vec::from_slice(alloc, &[2, 5, 7])?;
     let mut sets = Vec::new(alloc);
-    sets.push(Vec::from_slice(alloc, &[1, 3])?)?;
-    sets.push(Vec::from_slice(alloc, &[2, 5, 7])?)?;
+    sets.push(rows)?;
+    sets.push(columns)?;
     let elements = Vec::from_slice(
         alloc,
         &[
@@ -30,8 +33,9 @@ fn grid(alloc: Global) -> Result<Table, AllocError>
 }
 
 /// An array with an index set that is empty.
+#[tactic(auto, using(crate::proofs::Apart::empty_is))]
 fn empty(alloc: Global) -> Result<Table, AllocError>
-    ensures complete { IfOk result (λ table. length (table_of table).items ≡ length (indices (table_of table).sets)) }
+    ensures proper { IfOk result (λ table. IsTable (table_of table)) }
 {
     let mut sets = Vec::new(alloc);
     sets.push(Vec::new(alloc))?;
@@ -57,7 +61,7 @@ fn elements_at_indices(rt: HostRuntime) {
         (&[], None),
     ];
     for (index, want) in cases {
-        assert_eq!(rt; table.at(index), want);
+        assert_eq!(rt; table.known(index), want);
     }
 }
 
@@ -89,7 +93,7 @@ fn nothing_in_an_empty_array(rt: HostRuntime) {
         part: None,
     };
     assert_eq!(rt; table.hull(&view), Ends { low: 0, high: 0 });
-    assert_eq!(rt; table.at(&[0]), None);
+    assert_eq!(rt; table.known(&[0]), None);
 }
 
 #[test]

@@ -1,8 +1,6 @@
 use Rattle.std.proofs.Common.{rules, arith, ◌≡◌, ℕ, ◌*◌, ◌<◌, ◌^◌, ℤ, ◌*ℤ◌, false, unsigned_abs, List, OnOk, get_or, ap, subst, sym, ◌∙◌}
 use Rattle.std.proofs.lemmas.List.{get_or_default}
 use Rattle.box_rules.specs.Ends as ends
-use Rattle.box_rules.specs.Forms.{Form, is_constant}
-use Rattle.box_rules.specs.Rules.{Near, atoms}
 use Rattle.box_rules.specs.Sizes.{atoms_weight, sum_weight}
 use Rattle.term_rules.specs.Shown.{box_in}
 use Rattle.term_nodes.specs.declared.nodes.Node.TheVariants as node
@@ -11,29 +9,38 @@ use Rattle.term_nodes.specs.Built.{PartsBelow}
 use Rattle.term_nodes.specs.Things.{parts_at, term_at, things}
 use Rattle.term_nodes.proofs.Steps.{below_at, part_below}
 use Rattle.term_goals.specs.Goals.{listed_ends}
-use Rattle.term_goals.proofs.Growing.{plain_added, small_at, term_is, part_room, part_step, parts_done, left_room, right_room, left_is, right_is}
+use Rattle.term_goals.proofs.Growing.{plain_added, small_at, term_is, part_room, part_step, parts_done}
 use Rattle.term_goals.proofs.listing.+list.Goals as goal
 
-pub add-returns-then-item-clause-sum : goal.add-returns-then-item-clause-sum
-add-returns-then-item-clause-sum t c = λ b inside.
-    plain_added c.args.here.now b c.args.list.now.items c.args.times.now.k c.args.id c.in-Some.item.now c.requires.ready (c.in-Some.ensures.some (box_in c.args.here.now.root) c.requires.ready.built) c.if-item.true inside
+pub add-add_bare-requires : goal.add-add_bare-requires
+add-add_bare-requires t c = (omega (arith, c.products.invariant.below), (c.requires.ready, (c.products.invariant.room, c.in_default.ensures.bare)))
 
-pub add-add_parts-requires : goal.add-add_parts-requires
-add-add_parts-requires t c =
+pub add-returns-clause-sum : goal.add-returns-clause-sum
+add-returns-clause-sum t c = λ b inside.
+    let root = box_in c.args.here.now.root in
+    let all = things c.args.here.now.items.now in
+    subst (λ (e : ends.Ends). OnOk c.add_bare.result (listed_ends root b all c.add_bare.new.list.items ≡ ends.plus (listed_ends root b all c.args.list.now.items) e)) (c.products.invariant.sum b) (c.add_bare.ensures.sum b inside)
+
+pub add_bare-returns-then-item-clause-sum : goal.add_bare-returns-then-item-clause-sum
+add_bare-returns-then-item-clause-sum t c = λ b inside.
+    plain_added c.args.here.now b c.args.list.now.items c.args.atom.now.k c.args.atom.now.term c.in-Some.item.now c.requires.ready (c.in-Some.ensures.some (box_in c.args.here.now.root) c.requires.ready.built) c.if-item.true inside
+
+pub add_bare-add_parts-requires : goal.add_bare-add_parts-requires
+add_bare-add_parts-requires t c =
     let root = box_in c.args.here.now.root in
     let all = things c.args.here.now.items.now in
     let at = c.in-Some.ensures.some root c.requires.ready.built in
     let same : c.as_slice.result.now ≡ c.in-Sum.parts.items = search rules in
-    let weight : atoms_weight root (term_at all c.args.id) ≡ sum_weight root (parts_at all c.as_slice.result.now) =
-    ap (atoms_weight root) (term_is root all c.args.id c.in-Some.item.now (node.Sum c.in-Sum.parts) at c.in-Sum.is) ∙ ap (λ (xs : List Signed). sum_weight root (parts_at all xs)) (sym same) in (
+    let weight : atoms_weight root (term_at all c.args.atom.now.term) ≡ sum_weight root (parts_at all c.as_slice.result.now) =
+    ap (atoms_weight root) (term_is root all c.args.atom.now.term c.in-Some.item.now (node.Sum c.in-Sum.parts) at c.in-Sum.is) ∙ ap (λ (xs : List Signed). sum_weight root (parts_at all xs)) (sym same) in (
       omega arith,
       (
         c.requires.ready,
         (
-          subst (PartsBelow c.args.id) (sym same) (below_at root all c.args.id c.in-Some.item.now (node.Sum c.in-Sum.parts) at c.in-Sum.is),
+          subst (PartsBelow c.args.atom.now.term) (sym same) (below_at root all c.args.atom.now.term c.in-Some.item.now (node.Sum c.in-Sum.parts) at c.in-Sum.is),
           (
-            small_at root all c.args.id c.in-Some.item.now c.args.times.now.k at c.if-item.false c.requires.room,
-            subst (λ (n : ℕ). unsigned_abs c.args.times.now.k * n < 2 ^ 127) weight c.requires.room,
+            subst (λ (z : ℤ). unsigned_abs z < 2 ^ 127) (sym c.factor.ensures) (small_at root all c.args.atom.now.term c.in-Some.item.now c.args.atom.now.k at c.if-item.false c.requires.room),
+            subst (λ (z : ℤ). unsigned_abs z * sum_weight root (parts_at all c.as_slice.result.now) < 2 ^ 127) (sym c.factor.ensures) (subst (λ (n : ℕ). unsigned_abs c.args.atom.now.k * n < 2 ^ 127) weight c.requires.room),
           ),
         ),
       ),
@@ -66,76 +73,6 @@ add_parts-returns-clause-sum t c = λ b inside.
     let root = box_in c.args.here.now.root in
     let all = things c.args.here.now.items.now in
     parts_done root b all c.args.parts.now c.loop-part.part-index c.args.times.now.k (listed_ends root b all c.loop-part.list.items) _ c.loop-part-test.false (c.loop-part.invariant.sum b inside)
-
-pub add_product-product-requires : goal.add_product-product-requires
-add_product-product-requires t c =
-    let root = box_in c.args.here.now.root in
-    let all = things c.args.here.now.items.now in
-    let f_is = c.form_at-f.ensures root c.requires.ready.built in
-    let left = ap is_constant (sym f_is) ∙ sym c.is_constant.ensures ∙ c.if-is_constant.true in
-    let constant = c.factor.ensures ∙ ap (λ (f : Form). f.constant) f_is in
-    let room = left_room root (term_at all c.args.a) (term_at all c.args.b) (term_at all c.args.id) c.args.times.now.k c.requires.is left c.requires.other c.requires.room in
-    record { room = subst (λ (z : ℤ). unsigned_abs (c.args.times.now.k *ℤ z) < 2 ^ 127) (sym constant) room.1 }
-
-pub add_product-add-requires : goal.add_product-add-requires
-add_product-add-requires t c =
-    let root = box_in c.args.here.now.root in
-    let all = things c.args.here.now.items.now in
-    let f_is = c.form_at-f.ensures root c.requires.ready.built in
-    let left = ap is_constant (sym f_is) ∙ sym c.is_constant.ensures ∙ c.if-is_constant.true in
-    let constant = c.factor.ensures ∙ ap (λ (f : Form). f.constant) f_is in
-    let product = c.product.ensures ∙ ap (λ (z : ℤ). c.args.times.now.k *ℤ z) constant in
-    let room = left_room root (term_at all c.args.a) (term_at all c.args.b) (term_at all c.args.id) c.args.times.now.k c.requires.is left c.requires.other c.requires.room in
-    (omega (arith, c.requires.right), (c.requires.ready, subst (λ (z : ℤ). unsigned_abs z * atoms_weight root (term_at all c.args.b) < 2 ^ 127) (sym product) room.0))
-
-pub add_product-returns-then-is_constant-clause-sum : goal.add_product-returns-then-is_constant-clause-sum
-add_product-returns-then-is_constant-clause-sum t c = λ b inside.
-    let root = box_in c.args.here.now.root in
-    let all = things c.args.here.now.items.now in
-    let f_is = c.form_at-f.ensures root c.requires.ready.built in
-    let left = ap is_constant (sym f_is) ∙ sym c.is_constant.ensures ∙ c.if-is_constant.true in
-    let constant = c.factor.ensures ∙ ap (λ (f : Form). f.constant) f_is in
-    let product = c.product.ensures ∙ ap (λ (z : ℤ). c.args.times.now.k *ℤ z) constant in
-    let same = ap (λ (z : ℤ). ends.scaled z (atoms Near root b (term_at all c.args.b))) product ∙ left_is root b (term_at all c.args.a) (term_at all c.args.b) (term_at all c.args.id) c.args.times.now.k c.requires.is left in
-    subst (λ (e : ends.Ends). OnOk c.add.result (listed_ends root b all c.add.new.list.items ≡ ends.plus (listed_ends root b all c.args.list.now.items) e)) same (c.add.ensures.sum b inside)
-
-pub add_product-product-requires-then-is_constant-2 : goal.add_product-product-requires-then-is_constant-2
-add_product-product-requires-then-is_constant-2 t c =
-    let root = box_in c.args.here.now.root in
-    let all = things c.args.here.now.items.now in
-    let f_is = c.form_at-f.ensures root c.requires.ready.built in
-    let g_is = c.form_at-g.ensures root c.requires.ready.built in
-    let left = ap is_constant (sym f_is) ∙ sym c.is_constant.ensures ∙ c.if-is_constant.false in
-    let right = ap is_constant (sym g_is) ∙ sym c.is_constant-2.ensures ∙ c.if-is_constant-2.true in
-    let constant = c.factor-then-is_constant-2.ensures ∙ ap (λ (f : Form). f.constant) g_is in
-    let room = right_room root (term_at all c.args.a) (term_at all c.args.b) (term_at all c.args.id) c.args.times.now.k c.requires.is left right c.requires.other c.requires.room in
-    record { room = subst (λ (z : ℤ). unsigned_abs (c.args.times.now.k *ℤ z) < 2 ^ 127) (sym constant) room.1 }
-
-pub add_product-add-requires-then-is_constant-2 : goal.add_product-add-requires-then-is_constant-2
-add_product-add-requires-then-is_constant-2 t c =
-    let root = box_in c.args.here.now.root in
-    let all = things c.args.here.now.items.now in
-    let f_is = c.form_at-f.ensures root c.requires.ready.built in
-    let g_is = c.form_at-g.ensures root c.requires.ready.built in
-    let left = ap is_constant (sym f_is) ∙ sym c.is_constant.ensures ∙ c.if-is_constant.false in
-    let right = ap is_constant (sym g_is) ∙ sym c.is_constant-2.ensures ∙ c.if-is_constant-2.true in
-    let constant = c.factor-then-is_constant-2.ensures ∙ ap (λ (f : Form). f.constant) g_is in
-    let product = c.product-then-is_constant-2.ensures ∙ ap (λ (z : ℤ). c.args.times.now.k *ℤ z) constant in
-    let room = right_room root (term_at all c.args.a) (term_at all c.args.b) (term_at all c.args.id) c.args.times.now.k c.requires.is left right c.requires.other c.requires.room in
-    (omega (arith, c.requires.left), (c.requires.ready, subst (λ (z : ℤ). unsigned_abs z * atoms_weight root (term_at all c.args.a) < 2 ^ 127) (sym product) room.0))
-
-pub add_product-returns-then-is_constant-2-clause-sum : goal.add_product-returns-then-is_constant-2-clause-sum
-add_product-returns-then-is_constant-2-clause-sum t c = λ b inside.
-    let root = box_in c.args.here.now.root in
-    let all = things c.args.here.now.items.now in
-    let f_is = c.form_at-f.ensures root c.requires.ready.built in
-    let g_is = c.form_at-g.ensures root c.requires.ready.built in
-    let left = ap is_constant (sym f_is) ∙ sym c.is_constant.ensures ∙ c.if-is_constant.false in
-    let right = ap is_constant (sym g_is) ∙ sym c.is_constant-2.ensures ∙ c.if-is_constant-2.true in
-    let constant = c.factor-then-is_constant-2.ensures ∙ ap (λ (f : Form). f.constant) g_is in
-    let product = c.product-then-is_constant-2.ensures ∙ ap (λ (z : ℤ). c.args.times.now.k *ℤ z) constant in
-    let same = ap (λ (z : ℤ). ends.scaled z (atoms Near root b (term_at all c.args.a))) product ∙ right_is root b (term_at all c.args.a) (term_at all c.args.b) (term_at all c.args.id) c.args.times.now.k c.requires.is left right in
-    subst (λ (e : ends.Ends). OnOk c.add-then-is_constant-2.result (listed_ends root b all c.add-then-is_constant-2.new.list.items ≡ ends.plus (listed_ends root b all c.args.list.now.items) e)) same (c.add-then-is_constant-2.ensures.sum b inside)
 
 pub add_parts-returns-clause-exist : goal.add_parts-returns-clause-exist
 add_parts-returns-clause-exist t c = c.loop-part.invariant.exist

@@ -7,5 +7,5 @@ pub returns : goal.returns
 returns c =
     λ width complete.
     let some : 0 < length c.args.set.now = first_of (search rules, grind arith) in
-    c.block.ensures
+    c.halved.ensures
     ∙ ap (λ (n : ℕ). block c.args.number.now c.args.set.now n c.args.elements.now) (is_divided (length c.args.elements.now) (length c.args.set.now) width some complete)

@@ -1,6 +1,5 @@
-use Rattle.std.proofs.Common.{arith, rules, ℕ, ◌<◌, ◌-◌, Fits, w64, false, length, get_or, ap, subst, sym, ◌∙◌}
+use Rattle.std.proofs.Common.{arith, rules, ℕ, ◌<◌, ◌-◌, Fits, w64, false, length, get_or, subst, sym, ◌∙◌}
 use Rattle.std.proofs.lemmas.List.{get_or_default}
-use Rattle.term_operations.specs.Made.{made}
 use Rattle.term_rules.specs.Shown.{box_in, ends_of}
 use Rattle.term_nodes.specs.declared.nodes.Signed.{Signed}
 use Rattle.term_nodes.specs.Built.{AllBelow}
@@ -8,8 +7,8 @@ use Rattle.term_nodes.specs.Seen.{sight_of}
 use Rattle.term_nodes.specs.Things.{table_at, term_at, terms_at, things}
 use Rattle.term_nodes.proofs.Steps.{cond_back, cond_below, part_back, all_parts}
 use Rattle.term_nodes.proofs.Plain.{plain_seen}
-use Rattle.term_nodes.proofs.Ready.{difference_seen, times_seen, sum_seen, range_fit}
-use Rattle.term_nodes.proofs.Ranges.{operation_small, operation_folded, operation_alone, extreme_folded, extreme_alone}
+use Rattle.term_nodes.proofs.Ready.{difference_seen, times_seen, sum_seen}
+use Rattle.term_nodes.proofs.Ranges.{extreme_folded, extreme_alone}
 use Rattle.term_nodes.proofs.Elements.{below_last, element_plain, element_alone}
 use Rattle.term_nodes.proofs.evaluation.Here.+seen.Goals as goal
 
@@ -50,24 +49,6 @@ pub seen-returns-then-is_plain : goal.seen-returns-then-is_plain
 seen-returns-then-is_plain t c =
     c.clear-then-is_plain.ensures
     ∙ sym (plain_seen c.args.self.now c.args.id c.in-Some.item.now c.requires.ready (c.in-Some.ensures.some (box_in c.args.self.now.root) c.requires.ready.built) (sym c.is_plain.ensures ∙ c.if-is_plain.true))
-
-pub range-whole-requires : goal.range-whole-requires
-range-whole-requires t c = record {
-  fits = range_fit c.args.self.now c.args.id c.form_at-form.result.now c.seen-seen.result c.requires.ready (c.form_at-form.ensures (box_in c.args.self.now.root) c.requires.ready.built) c.seen-seen.ensures;
-}
-
-pub operation-made-requires-clause-small : goal.operation-made-requires-clause-small
-operation-made-requires-clause-small t c = operation_small c.args.self.now c.args.a (ends_of c.range-range.result.ends) c.requires.ready c.range-range.ensures.interval
-
-pub operation-returns-then-plain : goal.operation-returns-then-plain
-operation-returns-then-plain t c =
-    operation_folded (box_in c.args.self.now.root) (box_in c.args.self.now.view) c.args.operation.now (term_at (things c.args.self.now.items.now) c.args.a) c.args.plain (ends_of c.zero.result) c.range-range.result.mark
-    c.requires.plain c.if-plain.true c.zero.ensures c.range-range.ensures.mark
-
-pub operation-returns : goal.operation-returns
-operation-returns t c =
-    operation_alone (box_in c.args.self.now.root) (box_in c.args.self.now.view) c.args.operation.now (term_at (things c.args.self.now.items.now) c.args.a) c.args.plain (ends_of c.made.result) c.range-range.result.mark
-    c.requires.plain c.if-plain.false (c.made.ensures ∙ ap (made c.args.operation.now) c.range-range.ensures.interval) c.range-range.ensures.mark
 
 pub extreme-returns-then-plain : goal.extreme-returns-then-plain
 extreme-returns-then-plain t c =

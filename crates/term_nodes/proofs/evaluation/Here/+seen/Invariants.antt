@@ -19,6 +19,9 @@ decreases-all l = wide * l.limit
 abbrev pub decreases-any : goal.decreases-any
 decreases-any l = wide * l.limit
 
+abbrev pub decreases-chain : goal.decreases-chain
+decreases-chain l = wide * l.id + most
+
 abbrev pub decreases-compare : goal.decreases-compare
 decreases-compare l = wide * l.limit
 
@@ -40,17 +43,20 @@ decreases-implies l = wide * l.limit
 abbrev pub decreases-number : goal.decreases-number
 decreases-number l = wide * l.limit
 
-abbrev pub decreases-operation : goal.decreases-operation
-decreases-operation l = wide * l.limit
-
 abbrev pub decreases-product : goal.decreases-product
 decreases-product l = wide * l.limit
+
+abbrev pub decreases-raised : goal.decreases-raised
+decreases-raised l = wide * l.id + 1
 
 abbrev pub decreases-range : goal.decreases-range
 decreases-range l = wide * l.id + 2 * most + 1
 
 abbrev pub decreases-seen : goal.decreases-seen
 decreases-seen l = wide * l.id + 2 * most
+
+abbrev pub decreases-segment : goal.decreases-segment
+decreases-segment l = wide * l.top + 1 + l.steps
 
 abbrev pub decreases-sum : goal.decreases-sum
 decreases-sum l = wide * l.limit

@@ -1,5 +1,6 @@
-use Rattle.std.proofs.Common.{◌≡◌, length, ap, subst, sym, ◌∙◌}
-use Rattle.box_rules.specs.Arrays.{indices, item_at}
+use Rattle.std.proofs.Common.{ap, subst, sym, ◌∙◌}
+use Rattle.box_rules.specs.Arrays.{item_at}
+use Rattle.box_rules.specs.Laws.{IsTable}
 use Rattle.box_rules.specs.Terms.{Table}
 use Rattle.term_tables.specs.Kept.{table_of}
 use Rattle.term_nodes.specs.Things.{no_table}
@@ -8,18 +9,16 @@ use Rattle.term_store.specs.Stores.{root_of}
 use Rattle.term_store.proofs.Indexing.{seen_table}
 use Rattle.term_store.proofs.store.TermStore.element_at.Goals as goal
 
-pub at-requires : goal.at-requires
-at-requires c =
+pub known-requires : goal.known-requires
+known-requires c =
     let store = c.args.self.now in
     let is = seen_table (root_of store) store.items.items c.as_slice.result.now c.args.table (table_of c.in-Some.found.now) c.as_slice.ensures.value c.requires.sound.built c.in-Some.ensures.some in
-    record {
-      complete = subst (λ (t : Table). length t.items ≡ length (indices t.sets)) (sym is) (table_proper (root_of store) store.items.items c.args.table c.requires.sound.built).complete;
-    }
+    record { table = subst IsTable (sym is) (table_proper (root_of store) store.items.items c.args.table c.requires.sound.built) }
 
 pub returns-in-Some : goal.returns-in-Some
 returns-in-Some c =
     let store = c.args.self.now in
-    c.at.ensures
+    c.known.ensures
     ∙ ap (λ (t : Table). item_at t c.args.index.now) (seen_table (root_of store) store.items.items c.as_slice.result.now c.args.table (table_of c.in-Some.found.now) c.as_slice.ensures.value c.requires.sound.built c.in-Some.ensures.some)
 
 pub returns-in-None : goal.returns-in-None

@@ -1,0 +1,162 @@
+-- Which term a node's left operand is, and what is reached by several steps to the left operand.
+use Rattle.std.proofs.Common.{◌≡◌, ℕ, ◌+◌, ◌-◌, ◌<◌, ◌≤◌, zero, suc, List, Option, Some, None, IfSome, arith, refl, ap, subst, sym, ◌∙◌}
+use Rattle.box_problem.specs.Box.{Box}
+use Rattle.box_rules.specs.Terms as rule
+use Rattle.term_operations.specs.declared.operations.Operation.{Operation}
+use Rattle.term_operations.specs.declared.operations.Operation.TheVariants.{Quotient, Remainder, Size}
+use Rattle.term_operations.specs.declared.extremes.Extreme.{Extreme}
+use Rattle.term_operations.specs.declared.extremes.Extreme.TheVariants.{Least, Greatest}
+use Rattle.term_operations.specs.Made.{operation_term, extreme_term}
+use Rattle.term_nodes.specs.declared.nodes.Node.{Node}
+use Rattle.term_nodes.specs.declared.nodes.Node.TheVariants as node
+use Rattle.term_nodes.specs.declared.items.Item.{Item}
+use Rattle.term_nodes.specs.Things.{Thing, nothing, term_in, term_at, thing_at, thing_of}
+use Rattle.term_nodes.specs.Built.{IsAt, IsBelow}
+use Rattle.term_nodes.specs.Operands.{left_in, left_operand, steps_down}
+use Rattle.term_nodes.specs.Seen.{Sight, sight}
+
+some_is : (x a : ℕ) → (◌≡◌ {A = Option ℕ}) (Some x) (Some a) → x ≡ a
+some_is x a is = cc
+
+no_some : (a : ℕ) → (◌≡◌ {A = Option ℕ}) None (Some a) → ⊥
+no_some a is = absurd (cc)
+
+some_no : (x : ℕ) → (◌≡◌ {A = Option ℕ}) (Some x) None → ⊥
+some_no x is = absurd (cc)
+
+operand_made : (op : Operation) (t : rule.Term) → left_operand (operation_term op t) ≡ t
+operand_made (Quotient divisor) t = refl
+operand_made (Remainder divisor) t = refl
+operand_made Size t = refl
+
+operand_taken : (e : Extreme) (t : rule.Term) (later : rule.Terms) → left_operand (extreme_term e t later) ≡ extreme_term e t later
+operand_taken Least t later = refl
+operand_taken Greatest t later = refl
+
+-- where a node has a left operand
+below_node : (id : ℕ) (n : Node) (a : ℕ) → left_in n ≡ Some a → IsBelow id n → a < id
+below_node id (node.Constant z) a is below = absurd (no_some a is)
+below_node id (node.Cell cell) a is below = absurd (no_some a is)
+below_node id (node.Sum parts) a is below = absurd (no_some a is)
+below_node id (node.Product x y) a is below = subst (λ (b : ℕ). b < id) (some_is x a is) below.0
+below_node id (node.Operation op x) a is below = subst (λ (b : ℕ). b < id) (some_is x a is) below
+below_node id (node.Extreme e first later) a is below = absurd (no_some a is)
+below_node id (node.Element table at) a is below = absurd (no_some a is)
+below_node id (node.Number c) a is below = absurd (no_some a is)
+below_node id (node.Compare c) a is below = absurd (no_some a is)
+below_node id (node.Not c) a is below = absurd (no_some a is)
+below_node id (node.All conds) a is below = absurd (no_some a is)
+below_node id (node.Any conds) a is below = absurd (no_some a is)
+below_node id (node.Implies b c) a is below = absurd (no_some a is)
+below_node id (node.Table t) a is below = absurd (no_some a is)
+
+operand_of_node : (all : List Thing) (n : Node) (a : ℕ) → left_in n ≡ Some a → term_at all a ≡ left_operand (term_in (thing_of all n))
+operand_of_node all (node.Constant z) a is = absurd (no_some a is)
+operand_of_node all (node.Cell cell) a is = absurd (no_some a is)
+operand_of_node all (node.Sum parts) a is = absurd (no_some a is)
+operand_of_node all (node.Product x y) a is = ap (term_at all) (sym (some_is x a is))
+operand_of_node all (node.Operation op x) a is = ap (term_at all) (sym (some_is x a is)) ∙ sym (operand_made op (term_at all x))
+operand_of_node all (node.Extreme e first later) a is = absurd (no_some a is)
+operand_of_node all (node.Element table at) a is = absurd (no_some a is)
+operand_of_node all (node.Number c) a is = absurd (no_some a is)
+operand_of_node all (node.Compare c) a is = absurd (no_some a is)
+operand_of_node all (node.Not c) a is = absurd (no_some a is)
+operand_of_node all (node.All conds) a is = absurd (no_some a is)
+operand_of_node all (node.Any conds) a is = absurd (no_some a is)
+operand_of_node all (node.Implies b c) a is = absurd (no_some a is)
+operand_of_node all (node.Table t) a is = absurd (no_some a is)
+
+-- where it has none
+alone_in_node : (all : List Thing) (n : Node) → left_in n ≡ None → left_operand (term_in (thing_of all n)) ≡ term_in (thing_of all n)
+alone_in_node all (node.Constant z) is = refl
+alone_in_node all (node.Cell cell) is = refl
+alone_in_node all (node.Sum parts) is = refl
+alone_in_node all (node.Product x y) is = absurd (some_no x is)
+alone_in_node all (node.Operation op x) is = absurd (some_no x is)
+alone_in_node all (node.Extreme e first later) is = operand_taken e (term_at all first) _
+alone_in_node all (node.Element table at) is = refl
+alone_in_node all (node.Number c) is = refl
+alone_in_node all (node.Compare c) is = refl
+alone_in_node all (node.Not c) is = refl
+alone_in_node all (node.All conds) is = refl
+alone_in_node all (node.Any conds) is = refl
+alone_in_node all (node.Implies b c) is = refl
+alone_in_node all (node.Table t) is = refl
+
+-- the node of a number
+pub left_below : (root : Box) (all : List Thing) (id : ℕ) (item : Item) (a : ℕ) → IsAt root all id item → left_in item.node ≡ Some a → a < id
+left_below root all id item a at is = below_node id item.node a is at.below
+
+pub left_is : (root : Box) (all : List Thing) (id : ℕ) (item : Item) (a : ℕ) → IsAt root all id item → left_in item.node ≡ Some a → term_at all a ≡ left_operand (term_at all id)
+left_is root all id item a at is = operand_of_node all item.node a is ∙ ap (λ (t : Thing). left_operand (term_in t)) (sym at.thing)
+
+pub left_none : (root : Box) (all : List Thing) (id : ℕ) (item : Item) → IsAt root all id item → left_in item.node ≡ None → term_at all id ≡ left_operand (term_at all id)
+left_none root all id item at is =
+    ap term_in at.thing ∙ sym (alone_in_node all item.node is) ∙ ap (λ (t : Thing). left_operand (term_in t)) (sym at.thing)
+
+pub left_nothing : (all : List Thing) (id : ℕ) → thing_at all id ≡ nothing → term_at all id ≡ left_operand (term_at all id)
+left_nothing all id none = ap term_in none ∙ ap (λ (t : Thing). left_operand (term_in t)) (sym none)
+
+pub if_below : (root : Box) (all : List Thing) (id : ℕ) (item : Item) (o : Option ℕ) → IsAt root all id item → o ≡ left_in item.node → IfSome o (λ a. a < id)
+if_below root all id item None at is = tt
+if_below root all id item (Some a) at is = left_below root all id item a at (sym is)
+
+pub if_left : (root : Box) (all : List Thing) (id : ℕ) (item : Item) (o : Option ℕ) → IsAt root all id item → o ≡ left_in item.node → IfSome o (λ a. term_at all a ≡ left_operand (term_at all id))
+if_left root all id item None at is = tt
+if_left root all id item (Some a) at is = left_is root all id item a at (sym is)
+
+-- one step more
+pub one_step : (all : List Thing) (top id left n : ℕ) → term_at all id ≡ steps_down n (term_at all top) → term_at all left ≡ left_operand (term_at all id) → term_at all left ≡ steps_down (n + 1) (term_at all top)
+one_step all top id left n reached is =
+    let more : suc n ≡ n + 1 = omega arith in
+    is ∙ ap left_operand reached ∙ ap (λ (k : ℕ). steps_down k (term_at all top)) more
+
+-- some steps, and then others
+behind : (m n : ℕ) (t : rule.Term) → steps_down (m + n) t ≡ steps_down m (steps_down n t)
+behind zero n t =
+    let none : zero + n ≡ n = omega arith in
+    ap (λ (k : ℕ). steps_down k t) none
+behind (suc m) n t =
+    let more : suc m + n ≡ suc (m + n) = omega arith in
+    ap (λ (k : ℕ). steps_down k t) more ∙ ap left_operand (behind m n t)
+
+pub further : (all : List Thing) (top middle n half : ℕ) → half ≤ n → term_at all middle ≡ steps_down half (term_at all top) → steps_down (n - half) (term_at all middle) ≡ steps_down n (term_at all top)
+further all top middle n half within is =
+    let whole : n - half + half ≡ n = omega (arith, within) in
+    ap (steps_down (n - half)) is ∙ sym (behind (n - half) half (term_at all top)) ∙ ap (λ (k : ℕ). steps_down k (term_at all top)) whole
+
+pub from_left : (all : List Thing) (top left bottom n : ℕ) → term_at all left ≡ left_operand (term_at all top) → term_at all bottom ≡ steps_down n (term_at all left) → term_at all bottom ≡ steps_down (n + 1) (term_at all top)
+from_left all top left bottom n is reached =
+    reached ∙ ap (steps_down n) is ∙ sym (behind n 1 (term_at all top))
+
+-- a node that is given what its left operand is
+pub product_operand : (root : Box) (all : List Thing) (id : ℕ) (item : Item) (a b : ℕ) → IsAt root all id item → item.node ≡ node.Product a b → term_at all a ≡ left_operand (term_at all id)
+product_operand root all id item a b at is = left_is root all id item a at (ap left_in is)
+
+pub operation_operand : (root : Box) (all : List Thing) (id : ℕ) (item : Item) (op : Operation) (a : ℕ) → IsAt root all id item → item.node ≡ node.Operation op a → term_at all a ≡ left_operand (term_at all id)
+operation_operand root all id item op a at is = left_is root all id item a at (ap left_in is)
+
+pub product_below : (root b : Box) (all : List Thing) (id : ℕ) (item : Item) (x y : ℕ) (s : Sight) → IsAt root all id item → item.node ≡ node.Product x y → s ≡ sight root b (left_operand (term_at all id)) → s ≡ sight root b (term_at all x)
+product_below root b all id item x y s at is seen = seen ∙ ap (sight root b) (sym (product_operand root all id item x y at is))
+
+pub operation_below : (root b : Box) (all : List Thing) (id : ℕ) (item : Item) (op : Operation) (x : ℕ) (s : Sight) → IsAt root all id item → item.node ≡ node.Operation op x → s ≡ sight root b (left_operand (term_at all id)) → s ≡ sight root b (term_at all x)
+operation_below root b all id item op x s at is seen = seen ∙ ap (sight root b) (sym (operation_operand root all id item op x at is))
+
+pub no_operand : (root b : Box) (all : List Thing) (id : ℕ) (item : Item) (n : Node) (s : Sight) → IsAt root all id item → item.node ≡ n → left_in n ≡ None → s ≡ sight root b (left_operand (term_at all id)) → s ≡ sight root b (term_at all id)
+no_operand root b all id item n s at is none seen = seen ∙ ap (sight root b) (sym (left_none root all id item at (ap left_in is ∙ none)))
+
+pub nothing_there : (root b : Box) (all : List Thing) (id : ℕ) (s : Sight) → thing_at all id ≡ nothing → s ≡ sight root b (left_operand (term_at all id)) → s ≡ sight root b (term_at all id)
+nothing_there root b all id s none seen = seen ∙ ap (sight root b) (sym (left_nothing all id none))
+
+-- the sight of what is reached
+pub reached_sight : (root b : Box) (all : List Thing) (top id n : ℕ) (s : Sight) → s ≡ sight root b (term_at all id) → term_at all id ≡ steps_down n (term_at all top) → s ≡ sight root b (steps_down n (term_at all top))
+reached_sight root b all top id n s seen reached = seen ∙ ap (sight root b) reached
+
+pub further_sight : (root b : Box) (all : List Thing) (top middle n half : ℕ) (s : Sight) → half ≤ n → term_at all middle ≡ steps_down half (term_at all top) → s ≡ sight root b (steps_down n (term_at all top)) → s ≡ sight root b (steps_down (n - half) (term_at all middle))
+further_sight root b all top middle n half s within is seen = seen ∙ ap (sight root b) (sym (further all top middle n half within is))
+
+pub no_steps : (root b : Box) (t : rule.Term) (n : ℕ) (s : Sight) → n ≡ 0 → s ≡ sight root b (steps_down n t) → s ≡ sight root b t
+no_steps root b t n s none seen = seen ∙ ap (λ (k : ℕ). sight root b (steps_down k t)) none
+
+pub last_step : (root b : Box) (t : rule.Term) (n : ℕ) (s : Sight) → n ≡ 1 → s ≡ sight root b (steps_down n t) → s ≡ sight root b (left_operand t)
+last_step root b t n s one seen = seen ∙ ap (λ (k : ℕ). sight root b (steps_down k t)) one
