@@ -1,8 +1,9 @@
 -- A program's judge goes by what closes a point.
-use Rattle.std.proofs.Common.{◌≡◌, sym, subst, true, false, ℤ, List}
+use Rattle.std.proofs.Common.{◌≡◌, sym, true, false, ℤ, List}
 use Rattle.std.specs.List.{list_any}
 use Rattle.sopl_base.specs.declared.places.Interval.{Interval}
-use Rattle.box_problem.specs.Box.{Box, Inside, InBox}
+use Rattle.box_problem.specs.Box.{Inside, InBox, box_of}
+use Rattle.box_problem.proofs.Boxes.{points_of_parts}
 use Rattle.box_problem.specs.BoxProblem.{Lawful}
 use Rattle.program_rules.proofs.Lawful.{problems_are_lawful}
 use Rattle.sopl_search.specs.Box as judged
@@ -15,7 +16,7 @@ use Rattle.program_points.proofs.Verdicts.{closed_fails, open_passes, end_is_val
 
 module _ (program : Program) (roots : List Interval) (point : List ℤ) (valid : IsValid program roots) (inside : judged.InBox roots point) where
   among : InBox (root_in program) point
-  among = subst (λ (b : Box). InBox b point) valid.root ((same_points roots point).0 inside)
+  among = points_of_parts (box_of roots) (root_in program) point valid.inside ((same_points roots point).0 inside)
 
   lawful : Lawful (searched_in program)
   lawful = problems_are_lawful (root_in program) (problem_in program) valid.made.draft.store.root_is_box valid.made.problem

@@ -5,3 +5,4 @@ pub mod Verdicts
 pub mod Roots
 pub mod Growing
 pub mod Judging
+pub mod Resting

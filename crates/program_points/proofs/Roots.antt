@@ -1,6 +1,6 @@
 -- The intervals of the cells of a box, cell after cell.
-use Rattle.std.proofs.Common.{◌≡◌, ◌∙◌, refl, sym, ap, arith, ℕ, ◌+◌, ◌<◌, ◌≤◌, ℤ, List, [], ◌∷◌, ◌++◌, length, map, take, pos, slice_index_or}
-use Rattle.std.proofs.lemmas.List.{map-append, take_all, take_more}
+use Rattle.std.proofs.Common.{◌≡◌, ◌∙◌, refl, sym, ap, arith, ℕ, ◌+◌, ◌<◌, ◌≤◌, ◌^◌, ℤ, List, [], ◌∷◌, ◌++◌, length, map, take, pos, slice_index_or}
+use Rattle.std.proofs.lemmas.List.{length-map, map-append, take_all, take_more}
 use Rattle.sopl_base.specs.declared.places.Interval.{Interval}
 use Rattle.box_problem.specs.Box.{Box, box_of, low, high, IsBox}
 
@@ -38,3 +38,9 @@ first_all b i roots is_box all first =
       lows = (first.lows ∙ take_all i b.lows all) j;
       highs = (first.highs ∙ take_all i b.highs (omega (arith, all, paired))) j;
     }
+
+-- and so there are no more than cells
+pub few_roots : (b : Box) (i n : ℕ) (roots : List Interval) → IsBox b → length b.lows ≤ i → AreFirst b i roots → n ≡ length b.lows → n < 2 ^ 32 → length roots < 2 ^ 32
+few_roots b i n roots is_box all first count few =
+    let same : length (map lo_of roots) ≡ length b.lows = ap (λ (box : Box). length box.lows) (first_all b i roots is_box all first) in
+    omega (arith, same, length-map roots lo_of, count, few)

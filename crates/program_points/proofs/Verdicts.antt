@@ -4,13 +4,14 @@ use Rattle.std.proofs.lemmas.List.Folds.{Any-from_list_any}
 use Rattle.std.specs.List.{list_any}
 use Rattle.sopl_base.specs.declared.places.Interval.{Interval}
 use Rattle.sopl_base.specs.Better.{IsBetter}
-use Rattle.box_problem.specs.Box.{Box, box_of, Inside, InBox}
+use Rattle.box_problem.specs.Box.{box_of, Inside, InBox}
+use Rattle.box_problem.proofs.Boxes.{points_of_parts}
 use Rattle.box_problem.specs.BoxProblem.{BoxProblem, Lawful}
 use Rattle.sopl_search.specs.Box as judged
 use Rattle.sopl_search.specs.Outcome.{IsFound, Covers}
 use Rattle.sopl_search.specs.declared.search.Found.{Found}
 use Rattle.term_program.specs.OnePoint.{point_box}
-use Rattle.program_points.specs.Searched.{closes_at, IsBest, IsUnreached}
+use Rattle.program_points.specs.Searched.{closes_at, HasAll, IsBest, IsUnreached}
 use Rattle.program_points.proofs.PointBoxes.{same_points, point_inside, point_in, point_alone}
 use Rattle.program_points.proofs.Reasons.{quiet_at}
 
@@ -35,24 +36,25 @@ module _ (problem : BoxProblem) (lawful : Lawful problem) (point : List ℤ) (am
   end_is_value passed = lawful.end_exact (point_box point) inside (point_alone point) passed
 
 -- what was found among all points
-module _ (problem : BoxProblem) (roots : List Interval) (root : box_of roots ≡ problem.root) where
-  moved : (point : List ℤ) → InBox problem.root point → judged.InBox roots point
-  moved point among = (same_points roots point).1 (subst (λ (b : Box). InBox b point) (sym root) among)
+module _ (problem : BoxProblem) (roots : List Interval) (all : HasAll problem (box_of roots)) where
+  moved : (point : List ℤ) → InBox problem.root point → problem.satisfies point ≡ true → judged.InBox roots point
+  moved point among passed =
+      (same_points roots point).1 (all.keeps point among (record { satisfies = passed; better = tt }))
 
   pub is_best : (found : Option Found) → IfSome found (IsFound roots (λ point. problem.satisfies point ≡ true) problem.value)
       → ((point : List ℤ) → judged.InBox roots point → Covers (λ other. problem.satisfies other ≡ true) problem.value problem.direction found point)
       → IfSome found (IsBest problem)
   is_best None is covers = tt
   is_best (Some found) is covers = record {
-    inside = subst (λ (b : Box). InBox b found.cells) root ((same_points roots found.cells).0 is.inside);
+    inside = points_of_parts (box_of roots) problem.root found.cells all.inside ((same_points roots found.cells).0 is.inside);
     satisfies = is.satisfying;
     valued = is.valued;
     unbeaten = λ other among beats.
-        covers other (moved other among) beats.satisfies (subst (λ v. IsBetter problem.direction (problem.value other) v) (sym is.valued) beats.better);
+        covers other (moved other among beats.satisfies) beats.satisfies (subst (λ v. IsBetter problem.direction (problem.value other) v) (sym is.valued) beats.better);
   }
 
   pub is_unreached : (found : Option Found) → IfNone found ((point : List ℤ) → judged.InBox roots point → ¬ problem.satisfies point ≡ true) → IfNone found (IsUnreached problem)
-  is_unreached None fails = λ point among beats. fails point (moved point among) beats.satisfies
+  is_unreached None fails = λ point among beats. fails point (moved point among beats.satisfies) beats.satisfies
   is_unreached (Some found) fails = tt
 
   -- so it is of an outcome that is there

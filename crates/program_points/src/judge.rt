@@ -1,16 +1,13 @@
 //! A program as a judge of points.
 
-ghost use Rattle.std.specs.Prelude.{◌≡◌, IfOk};
-ghost use Rattle.box_problem.specs.Box.{box_of};
-ghost use Rattle.term_program.specs.Programs.{IsMade, root_in};
+ghost use Rattle.std.specs.Prelude.{◌≡◌};
 
 use crate::closing::closed;
 use sopl_base::{Direction, Interval};
 use sopl_search::Judge;
 use sopl_term::{Program, end_at};
-use std::alloc::{AllocError, Global};
 
-/// A program, and the intervals of its root box: each point of them is judged in every scenario.
+/// A program, and the intervals of a box inside its root: each point of them is judged in every scenario.
 #[derive(Drop)]
 pub struct ProgramJudge<'a> {
     program: &'a Program,
@@ -18,28 +15,13 @@ pub struct ProgramJudge<'a> {
 }
 
 impl<'a> ProgramJudge<'a> {
-    /// The judge of a program.
-    pub fn new(alloc: Global, program: &'a Program) -> Result<ProgramJudge<'a>, AllocError>
-        requires made { IsMade program.now }
-        ensures program { IfOk result (λ judge. judge.program.now ≡ program.now) }
-        ensures root { IfOk result (λ judge. box_of judge.roots.items ≡ root_in program.now) }
+    /// The judge of a program over the box of these intervals.
+    pub fn new(program: &'a Program, roots: Vec<Interval>) -> ProgramJudge<'a>
+        ensures program { result.program.now ≡ program.now }
+        ensures roots { result.roots.items ≡ roots.items }
     {
-        let roots = roots_of(alloc, program)?;
-        Ok(ProgramJudge { program, roots })
+        ProgramJudge { program, roots }
     }
-}
-
-/// The interval of each cell in the box of all points.
-#[tactic(auto, using(crate::proofs::Roots::first_none, crate::proofs::Roots::first_more, crate::proofs::Roots::first_all))]
-fn roots_of(alloc: Global, program: &Program) -> Result<Vec<Interval>, AllocError>
-    requires made { IsMade program.now }
-    ensures { IfOk result (λ roots. box_of roots.items ≡ root_in program.now) }
-{
-    let mut roots = Vec::new(alloc);
-    'cells: for cell in 0..program.cells() {
-        roots.push(program.root(cell))?;
-    }
-    Ok(roots)
 }
 
 impl<'a> Judge for ProgramJudge<'a> {

@@ -6,7 +6,7 @@ use Rattle.sopl_base.specs.declared.places.Fault.{Fault}
 use Rattle.sopl_base.specs.declared.places.Fault.TheVariants as fault
 use Rattle.sopl_ast.specs.declared.token.Token.{Token}
 use Rattle.sopl_ast.specs.declared.whole.Model.{Model}
-use Rattle.sopl_ast.specs.Accepted.{IsTextOf, no_tokens, misspelled, mistaken, stopped}
+use Rattle.sopl_ast.specs.Accepted.{IsTextOf, no_tokens, misspelled, mistaken, stopped, unfolding_passes, sizes_pass}
 use Rattle.sopl_ast.specs.Limits.{size_excess, usual_limits}
 use Rattle.sopl_ast.specs.Occurrences.{met}
 use Rattle.sopl_ast.specs.Tokens.{Lexes}
@@ -21,7 +21,7 @@ use Rattle.sopl_types.specs.Outcome.{IsFirstFault}
 use Rattle.sopl_types.specs.declared.check.Typed.{Typed}
 use Rattle.sopl_unfold.specs.declared.ground.Ground.{Ground}
 use Rattle.scenario_tree.specs.Layout.{IsTreeOf, Layout as Tree}
-use Rattle.text_problem.specs.Faults.{IsTextFault, unfolding_passes, sizes_pass}
+use Rattle.text_problem.specs.Faults.{IsTextFault}
 use Rattle.text_problem.specs.Shown.{tokens_shown}
 use Rattle.text_problem.specs.Stated.{IsLaid, States}
 use Rattle.text_problem.specs.declared.stated.Stated.{Stated}

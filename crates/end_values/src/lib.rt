@@ -1,0 +1,6 @@
+//! The outermost values at an end of a cell's interval, and the step that removes them.
+#![tactic(auto)]
+
+mod ends;
+
+pub use ends::{End, Removal};

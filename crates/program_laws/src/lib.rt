@@ -1,0 +1,7 @@
+//! The problem over the points of a box that a program states, and that a search may go by it. The function is empty and states
+//! what was proved, so that no body here could be wrong; hence the crate has no must-fail edits.
+#![tactic(auto)]
+
+mod laws;
+
+pub use laws::lawful_of;

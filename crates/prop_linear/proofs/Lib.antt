@@ -1,0 +1,5 @@
+pub mod Room
+pub mod Cells
+pub mod Tells
+pub mod Summing
+pub mod Finding

@@ -1,0 +1,60 @@
+-- A linear comparison over a box.
+use Rattle.std.specs.Prelude.{◌≡◌, ℕ, ◌+◌, ◌<◌, ◌≤◌, ◌^◌, ℤ, ◌+ℤ◌, unsigned_abs, Bool, List, [], ◌∷◌, length}
+use Rattle.box_problem.specs.Box.{Box, IsBox, high, low}
+use Rattle.box_rules.specs.Ends as rule
+use Rattle.box_rules.specs.Forms.{cells_ends}
+use Rattle.box_rules.specs.Marks.{none_compares}
+use Rattle.box_rules.specs.Sizes.{cells_weight}
+use Rattle.term_program.specs.Programs.{with_interval}
+use Rattle.term_rules.specs.declared.ends.Ends.{Ends}
+use Rattle.term_rules.specs.declared.forms.Coefficient.{Coefficient}
+use Rattle.term_rules.specs.Shown.{box_in, cells_of, ends_of}
+use Rattle.prop_linear.specs.declared.balances.Balance.{Balance}
+use Rattle.prop_linear.specs.declared.balances.Difference.{Difference}
+use Rattle.prop_linear.specs.declared.turns.Turn.{Turn}
+use Rattle.prop_linear.specs.Turns.{HasRoom}
+
+-- the box itself
+abbrev pub box_of : Difference → Box
+box_of d = box_in d.view
+
+-- the interval over a box of what is compared with 0
+abbrev pub sum_over : Difference → Box → rule.Ends
+sum_over d b = rule.plus (rule.exactly d.constant) (cells_ends b (cells_of d.parts.now))
+
+-- whether the comparison is false all over a box
+abbrev pub closes : Difference → Box → Bool
+closes d b = none_compares d.op (sum_over d b)
+
+-- the cells ascend, so each stands there once
+abbrev pub AreAbove : ℕ → List Coefficient → Type 0
+AreAbove cell [] = Unit {0}
+AreAbove cell (c ∷ later) = (cell < c.cell) × AreAbove cell later
+
+abbrev pub Ascend : List Coefficient → Type 0
+Ascend [] = Unit {0}
+Ascend (c ∷ later) = AreAbove c.cell later × Ascend later
+
+-- all that is reckoned over the box has room
+pub record IsLight (d : Difference) : Type 0 where
+  pub is_box : IsBox (box_of d)
+  pub light : unsigned_abs d.constant + cells_weight (box_of d) (cells_of d.parts.now) ≤ 2 ^ 42
+  pub ascend : Ascend d.parts.now
+
+-- and it is summed up
+pub record IsSummed (x : Balance) : Type 0 where
+  pub light : IsLight x.difference
+  pub whole : ends_of x.whole ≡ sum_over x.difference (box_of x.difference)
+
+-- the whole sum without a part
+pub record IsOthers (x : Balance) (part : Coefficient) (others : Ends) : Type 0 where
+  pub low : others.low +ℤ (rule.scaled part.k (rule.cell_ends (box_of x.difference) part.cell)).low ≡ x.whole.low
+  pub high : others.high +ℤ (rule.scaled part.k (rule.cell_ends (box_of x.difference) part.cell)).high ≡ x.whole.high
+
+-- an end of a cell of the box, and what the comparison is with other intervals for this cell
+pub record IsTurnIn (d : Difference) (t : Turn) : Type 0 where
+  pub exists : t.end.cell < length (box_of d).lows
+  pub low : t.end.lo ≡ low (box_of d) t.end.cell
+  pub high : t.end.hi ≡ high (box_of d) t.end.cell
+  pub room : HasRoom t
+  pub tells : (lo hi : ℤ) → none_compares t.op (rule.plus (ends_of t.others) (rule.scaled t.k (rule.ends lo hi))) ≡ closes d (with_interval (box_of d) t.end.cell lo hi)

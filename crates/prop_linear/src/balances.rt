@@ -1,0 +1,207 @@
+//! A linear comparison, summed up over a box.
+
+ghost use Rattle.std.specs.Prelude.{◌≡◌, ◌-ℤ◌, pos, false, All, Contains, IfNone, IfSome};
+ghost use Rattle.box_problem.specs.Box.{high, low};
+ghost use Rattle.box_rules.specs.Ends as rule;
+ghost use Rattle.end_values.specs.Removals.{IsOpenAt, Removes};
+ghost use Rattle.sopl_base.specs.declared.places.Side.TheVariants.{Ge};
+ghost use Rattle.term_rules.specs.Shown.{IsFit, ends_of};
+ghost use Rattle.prop_linear.specs.Balances.{IsLight, IsOthers, IsSummed, IsTurnIn, box_of, closes, sum_over};
+ghost use Rattle.prop_linear.specs.Turns.{turn_closes};
+
+use crate::turns::Turn;
+use end_values::End;
+use sopl_base::{CmpOp, Reason, Side, Step};
+use term_rules::{BoxView, Coefficient, Ends, none_compares};
+
+/// A linear comparison over a box: a constant and so many times each of several cells are compared with 0.
+#[derive(Clone, Copy)]
+pub(crate) struct Difference<'a> {
+    pub(crate) op: CmpOp,
+    pub(crate) constant: i64,
+    pub(crate) parts: &'a [Coefficient],
+    pub(crate) view: BoxView<'a>,
+}
+
+/// The same with the interval of the whole sum over the box.
+#[derive(Clone, Copy)]
+pub(crate) struct Balance<'a> {
+    pub(crate) difference: Difference<'a>,
+    pub(crate) whole: Ends,
+}
+
+/// The lower end without another one, and the upper end without another one.
+fn without(whole: &Ends, part: &Ends) -> Ends
+    requires fits { IsFit (rule.ends (whole.now.low -ℤ part.now.low) (whole.now.high -ℤ part.now.high)) }
+    ensures low { result.low ≡ whole.now.low -ℤ part.now.low }
+    ensures high { result.high ≡ whole.now.high -ℤ part.now.high }
+{
+    Ends {
+        low: whole.low - part.low,
+        high: whole.high - part.high,
+    }
+}
+
+impl<'a> Difference<'a> {
+    /// The constant alone.
+    fn constant_ends(&self) -> Ends
+        ensures { ends_of result ≡ rule.exactly self.now.constant }
+    {
+        Ends {
+            low: self.constant,
+            high: self.constant,
+        }
+    }
+
+    /// The interval of the sum over the box.
+    #[tactic(auto, using(crate::proofs::Summing::cells_have_room))]
+    fn whole(&self) -> Ends
+        requires light { IsLight self.now }
+        ensures { ends_of result ≡ sum_over self.now (box_of self.now) }
+    {
+        let cells = self.view.cells(self.parts);
+        self.constant_ends().plus(&cells)
+    }
+
+    /// The comparison with its sum.
+    pub(crate) fn balance(&self) -> Balance<'a>
+        requires light { IsLight self.now }
+        ensures summed { IsSummed result }
+        ensures same { result.difference ≡ self.now }
+    {
+        Balance {
+            difference: *self,
+            whole: self.whole(),
+        }
+    }
+
+    /// The lower end of the cell of a part.
+    fn end(&self, part: &Coefficient) -> End
+        ensures cell { result.cell ≡ part.now.cell }
+        ensures side { result.side ≡ Ge }
+        ensures low { result.lo ≡ low (box_of self.now) part.now.cell }
+        ensures high { result.hi ≡ high (box_of self.now) part.now.cell }
+    {
+        let interval = self.view.cell(part.cell);
+        End {
+            cell: part.cell,
+            side: Side::Ge,
+            lo: interval.low,
+            hi: interval.high,
+        }
+    }
+
+    /// The interval of a part of the sum.
+    fn part(&self, part: &Coefficient) -> Ends
+        requires light { IsLight self.now }
+        requires own { Contains self.now.parts.now part.now }
+        ensures { ends_of result ≡ rule.scaled part.now.k (rule.cell_ends (box_of self.now) part.now.cell) }
+    {
+        let interval = self.view.cell(part.cell);
+        interval.scaled(&part.factor())
+    }
+}
+
+impl Balance<'_> {
+    /// Whether the comparison is false all over the box.
+    pub(crate) fn is_closed(&self) -> bool
+        requires summed { IsSummed self.now }
+        ensures { result ≡ closes self.now.difference (box_of self.now.difference) }
+    {
+        none_compares(self.difference.op, &self.whole)
+    }
+
+    /// The interval of the whole sum without a part.
+    fn others(&self, part: &Coefficient) -> Ends
+        requires summed { IsSummed self.now }
+        requires own { Contains self.now.difference.parts.now part.now }
+        ensures { IsOthers self.now part.now result }
+    {
+        let own = self.difference.part(part);
+        without(&self.whole, &own)
+    }
+
+    /// The cell of a part at its lower end.
+    fn turn(&self, part: &Coefficient, end: &End) -> Turn
+        requires summed { IsSummed self.now }
+        requires own { Contains self.now.difference.parts.now part.now }
+        ensures op { result.op ≡ self.now.difference.op }
+        ensures k { result.k ≡ part.now.k }
+        ensures end { result.end ≡ end.now }
+        ensures others { IsOthers self.now part.now result.others }
+    {
+        Turn {
+            op: self.difference.op,
+            k: part.k,
+            others: self.others(part),
+            end: *end,
+        }
+    }
+
+    /// The cell of a part at its lower end, where it has more than one value.
+    #[tactic(auto, using(crate::proofs::Summing::turn_cell, crate::proofs::Summing::turn_side, crate::proofs::Summing::fixed))]
+    fn lower(&self, part: &Coefficient) -> Option<Turn>
+        requires summed { IsSummed self.now }
+        requires own { Contains self.now.difference.parts.now part.now }
+        ensures turn { IfSome result (IsTurnIn self.now.difference) }
+        ensures cell { IfSome result (λ turn. turn.end.cell ≡ part.now.cell) }
+        ensures side { IfSome result (λ turn. turn.end.side ≡ Ge) }
+        ensures none { IfNone result (low (box_of self.now.difference) part.now.cell ≡ high (box_of self.now.difference) part.now.cell) }
+    {
+        let end = self.difference.end(part);
+        if end.lo < end.hi {
+            Some(self.turn(part, &end))
+        } else {
+            None
+        }
+    }
+
+    /// A step at an end, or none where the outermost value may stay.
+    #[tactic(auto, using(crate::proofs::Summing::step_own))]
+    fn step_from(&self, reason: Reason, turn: &Turn) -> Option<Step>
+        requires turn { IsTurnIn self.now.difference turn.now }
+        ensures removes { IfSome result (Removes (closes self.now.difference) (box_of self.now.difference)) }
+        ensures own { IfSome result (λ step. step.reason ≡ reason) }
+        ensures none { IfNone result (turn_closes turn.now (pos 1) ≡ false) }
+    {
+        match turn.removal() {
+            Some(removal) => Some(turn.end.step(reason, &removal)),
+            None => None,
+        }
+    }
+
+    /// A step at one of the ends of the cell of a part, or none where both outermost values may stay.
+    #[tactic(auto, using(crate::proofs::Summing::upper_in, crate::proofs::Summing::both_open))]
+    fn step_at(&self, reason: Reason, part: &Coefficient) -> Option<Step>
+        requires summed { IsSummed self.now }
+        requires whole { closes self.now.difference (box_of self.now.difference) ≡ false }
+        requires own { Contains self.now.difference.parts.now part.now }
+        ensures removes { IfSome result (Removes (closes self.now.difference) (box_of self.now.difference)) }
+        ensures own { IfSome result (λ step. step.reason ≡ reason) }
+        ensures none { IfNone result (IsOpenAt (closes self.now.difference) (box_of self.now.difference) part.now.cell) }
+    {
+        let Some(lower) = self.lower(part) else {
+            return None;
+        };
+        if let Some(step) = self.step_from(reason, &lower) {
+            return Some(step);
+        }
+        self.step_from(reason, &lower.upper())
+    }
+
+    /// A step at one of the ends of a cell, or none where all outermost values may stay.
+    pub(crate) fn first_step(&self, reason: Reason) -> Option<Step>
+        requires summed { IsSummed self.now }
+        requires whole { closes self.now.difference (box_of self.now.difference) ≡ false }
+        ensures removes { IfSome result (Removes (closes self.now.difference) (box_of self.now.difference)) }
+        ensures own { IfSome result (λ step. step.reason ≡ reason) }
+        ensures none { IfNone result (All (λ part. IsOpenAt (closes self.now.difference) (box_of self.now.difference) part.cell) self.now.difference.parts.now) }
+    {
+        'parts: for part in self.difference.parts {
+            if let Some(step) = self.step_at(reason, part) {
+                return Some(step);
+            }
+        }
+        None
+    }
+}

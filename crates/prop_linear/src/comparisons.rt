@@ -1,0 +1,122 @@
+//! The propagator of a hard constraint that is a linear comparison.
+
+ghost use Rattle.std.specs.Prelude.{◌≡◌, ◌<◌, ◌∷◌, [], length, Some, None, IfOk, slice_get};
+ghost use Rattle.std.specs.Option.{option_and_then, option_map_or};
+ghost use Rattle.sopl_base.specs.declared.places.Reason.TheVariants.{Hard};
+ghost use Rattle.box_problem.specs.Box.{Inside};
+ghost use Rattle.program_laws.specs.Stated.{box_problem_of};
+ghost use Rattle.term_program.specs.Programs.{IsMade, problem_in, root_in};
+ghost use Rattle.term_rules.specs.Shown.{box_in};
+ghost use Rattle.prop_linear.specs.Balances.{IsLight, IsSummed, box_of};
+ghost use Rattle.prop_linear.specs.Kinds.{Fits, IsLinear, TellsOf, reasons_of};
+
+use crate::balances::{Balance, Difference};
+use box_store::BoxStore;
+use prop_core::{Finding, Propagator};
+use sopl_base::{CmpOp, Reason};
+use std::alloc::AllocError;
+use term_program::{CondId, Program};
+use term_rules::BoxView;
+
+/// Narrows a box for one hard constraint that is a linear comparison in one scenario: the comparison is summed up once, and by this sum both ends of each of
+/// its cells are tried. As many values are removed as a division proposes, where these were tried too.
+#[derive(Clone, Copy, Debug, PartialEq, Eq)]
+pub struct Linear {
+    instance: u32,
+    scenario: u32,
+    cond: CondId,
+    op: CmpOp,
+    constant: i64,
+}
+
+/// The box of a store.
+fn view_of(store: &BoxStore) -> BoxView<'_>
+    ensures { box_in result ≡ store.now.box }
+{
+    BoxView {
+        lows: store.lows(),
+        highs: store.highs(),
+        part: None,
+    }
+}
+
+impl Linear {
+    /// The propagator of a hard constraint in a scenario in which it is a linear comparison.
+    #[tactic(auto, using(crate::proofs::Finding::is_linear))]
+    pub fn new(program: &Program, instance: u32, scenario: u32) -> Result<Linear, AllocError>
+        requires made { IsMade program.now }
+        requires instance { instance < length (problem_in program.now).hards }
+        requires scenario { scenario < length (problem_in program.now).weights }
+        requires linear { IsLinear program.now instance scenario }
+        ensures reasons { IfOk result (λ made. reasons_of made ≡ Hard instance scenario ∷ []) }
+        ensures fits { IfOk result (λ made. Fits made program.now) }
+    {
+        let cond = program.hard(instance, scenario);
+        Ok(Linear {
+            instance,
+            scenario,
+            cond,
+            op: program.compared(cond),
+            constant: program.constant(cond),
+        })
+    }
+
+    /// The one reason for which it narrows boxes.
+    fn reason(&self) -> Reason
+        ensures { result ≡ Hard self.now.instance self.now.scenario }
+    {
+        Reason::Hard {
+            instance: self.instance,
+            scenario: self.scenario,
+        }
+    }
+
+    /// The comparison over the box of a store.
+    fn difference<'a>(&self, program: &'a Program, store: &'a BoxStore) -> Difference<'a>
+        requires fits { Fits self.now program.now }
+        requires inside { Inside store.now.box (root_in program.now) }
+        ensures light { IsLight result }
+        ensures seen { box_of result ≡ store.now.box }
+        ensures tells { TellsOf program.now (Hard self.now.instance self.now.scenario) result }
+    {
+        Difference {
+            op: self.op,
+            constant: self.constant,
+            parts: program.parts(self.cond),
+            view: view_of(store),
+        }
+    }
+
+    /// The comparison with its sum over the box of a store.
+    fn balance<'a>(&self, program: &'a Program, store: &'a BoxStore) -> Balance<'a>
+        requires fits { Fits self.now program.now }
+        requires inside { Inside store.now.box (root_in program.now) }
+        ensures summed { IsSummed result }
+        ensures seen { box_of result.difference ≡ store.now.box }
+        ensures tells { TellsOf program.now (Hard self.now.instance self.now.scenario) result.difference }
+    {
+        self.difference(program, store).balance()
+    }
+}
+
+impl Propagator for Linear {
+    type Program = Program;
+
+    ghost problem = { box_problem_of };
+
+    ghost reasons = { reasons_of };
+
+    ghost fits = { Fits };
+
+    fn revise(&mut self, program: &Program, store: &BoxStore, _best: Option<i128>) -> Finding {
+        let reason = self.reason();
+        let balance = self.balance(program, store);
+        if balance.is_closed() {
+            return Finding::Dead(reason);
+        }
+        match balance.first_step(reason) {
+            Some(step) => Finding::Cut(step),
+            None => Finding::Quiet,
+        }
+    }
+}

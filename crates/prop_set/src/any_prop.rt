@@ -1,0 +1,34 @@
+//! A propagator of any kind.
+
+ghost use Rattle.program_laws.specs.Stated.{box_problem_of};
+ghost use Rattle.prop_set.specs.Kinds.{Fits, reasons_of};
+
+use box_store::BoxStore;
+use prop_core::{Finding, Propagator};
+use prop_linear::Linear;
+use prop_term::AnyTerm;
+use term_program::Program;
+
+/// A propagator of any kind: of a linear comparison, or of another hard constraint.
+#[derive(Clone, Copy, Debug, PartialEq, Eq)]
+pub enum AnyProp {
+    Linear(Linear),
+    AnyTerm(AnyTerm),
+}
+
+impl Propagator for AnyProp {
+    type Program = Program;
+
+    ghost problem = { box_problem_of };
+
+    ghost reasons = { reasons_of };
+
+    ghost fits = { Fits };
+
+    fn revise(&mut self, program: &Program, store: &BoxStore, best: Option<i128>) -> Finding {
+        match self {
+            AnyProp::Linear(prop) => prop.revise(program, store, best),
+            AnyProp::AnyTerm(prop) => prop.revise(program, store, best),
+        }
+    }
+}

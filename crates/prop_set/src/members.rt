@@ -1,0 +1,57 @@
+//! The propagators of all hard constraints of a program.
+
+ghost use Rattle.std.specs.Prelude.{◌≡◌, ◌<◌, ◌∷◌, ◌++◌, [], length, map, IfOk, OnOk};
+ghost use Rattle.sopl_base.specs.declared.places.Reason.TheVariants.{Hard};
+ghost use Rattle.prop_core.specs.Members.{AllFit, together};
+ghost use Rattle.term_program.specs.Programs.{IsMade, problem_in};
+ghost use Rattle.prop_set.specs.Kinds.{Fits, hard_reasons, instance_reasons, reasons_of};
+
+use crate::any_prop::AnyProp;
+use prop_linear::Linear;
+use prop_term::AnyTerm;
+use std::alloc::{AllocError, Global};
+use term_program::{Form, Program};
+
+/// The propagator of a hard constraint in a scenario.
+#[tactic(auto, using(crate::proofs::Together::linear_there))]
+fn prop_of(program: &Program, instance: u32, scenario: u32) -> Result<AnyProp, AllocError>
+    requires made { IsMade program.now }
+    requires instance { instance < length (problem_in program.now).hards }
+    requires scenario { scenario < length (problem_in program.now).weights }
+    ensures reasons { IfOk result (λ made. reasons_of made ≡ Hard instance scenario ∷ []) }
+    ensures fits { IfOk result (λ made. Fits made program.now) }
+{
+    match program.form(program.hard(instance, scenario)) {
+        Form::Linear => Ok(AnyProp::Linear(Linear::new(program, instance, scenario)?)),
+        _ => Ok(AnyProp::AnyTerm(AnyTerm::new(program, instance, scenario)?)),
+    }
+}
+
+/// Adds the propagators of a hard constraint in all scenarios.
+#[tactic(auto, using(crate::proofs::Together::fit_more, crate::proofs::Together::reasons_more, crate::proofs::Together::none_yet))]
+fn add_instance(program: &Program, instance: u32, list: &mut Vec<AnyProp>) -> Result<(), AllocError>
+    requires made { IsMade program.now }
+    requires instance { instance < length (problem_in program.now).hards }
+    requires fit { AllFit Fits program.now list.old.items }
+    ensures fit { OnOk result (AllFit Fits program.now list.new.items) }
+    ensures reasons { OnOk result (together (map reasons_of list.new.items) ≡ together (map reasons_of list.old.items) ++ instance_reasons (problem_in program.now) instance) }
+{
+    'scenarios: for scenario in 0..program.scenarios() {
+        list.push(prop_of(program, instance, scenario)?)?;
+    }
+    Ok(())
+}
+
+/// A propagator for each hard constraint in each scenario.
+#[tactic(auto, using(crate::proofs::Together::instances_more, crate::proofs::Together::fit_none))]
+pub fn hard_props(alloc: Global, program: &Program) -> Result<Vec<AnyProp>, AllocError>
+    requires made { IsMade program.now }
+    ensures fit { IfOk result (λ list. AllFit Fits program.now list.items) }
+    ensures reasons { IfOk result (λ list. together (map reasons_of list.items) ≡ hard_reasons (problem_in program.now)) }
+{
+    let mut list = Vec::new(alloc);
+    'instances: for instance in 0..program.hards() {
+        add_instance(program, instance, &mut list)?;
+    }
+    Ok(list)
+}

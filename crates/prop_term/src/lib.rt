@@ -1,0 +1,8 @@
+//! The propagator of any hard constraint: it tests both ends of each cell that the condition mentions.
+#![tactic(auto)]
+
+mod any_term;
+mod questions;
+mod removals;
+
+pub use any_term::AnyTerm;
