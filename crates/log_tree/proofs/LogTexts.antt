@@ -1,5 +1,5 @@
 -- What is written is the text of a log.
-use Rattle.std.proofs.Common.{◌≡◌, ℕ, ◌<◌, List, [], ◌∷◌, ◌++◌, length, codes, inl, All, refl}
+use Rattle.std.proofs.Common.{ℕ, ◌<◌, List, [], ◌∷◌, length, codes, inl, All, refl}
 use Rattle.log_rows.specs.declared.rows.Row.{Row}
 use Rattle.log_rows.specs.declared.rows.Footer.{Footer}
 use Rattle.log_rows.specs.Rows.{AreOrdered}

@@ -1,11 +1,11 @@
 -- Texts that a sink takes one behind another.
-use Rattle.std.proofs.Common.{◌≡◌, ℕ, zero, suc, ◌+◌, ◌<◌, ◌≤◌, List, [], ◌∷◌, ◌++◌, length, take, drop, Option, Some, None, OnOk, OnErr, codes, arith, refl, sym, ap, subst, ◌∙◌, append_assoc}
+use Rattle.std.proofs.Common.{◌≡◌, ℕ, zero, suc, ◌+◌, ◌<◌, ◌≤◌, List, [], ◌++◌, length, take, Option, Some, None, OnOk, OnErr, codes, arith, sym, ap, subst, ◌∙◌, append_assoc}
 use Rattle.std.specs.Prelude.{Result, Ok, Err}
 use Rattle.std.proofs.lemmas.List.{append-nil, take_all, take-append-le}
 use Rattle.std.proofs.Math.Seq.{take-append-add, take-append_seam}
 use Rattle.std.specs.Io.KnownBytes.{Appends}
 use Rattle.sopl_io.specs.Transfer.{AppendsPrefix}
-use Rattle.sopl_io.specs.Causes.{one_more, Rose, HasCause}
+use Rattle.sopl_io.specs.Causes.{Rose, HasCause}
 use Rattle.log_tree.specs.Lines.{ended}
 
 pub none_written : (t : Option (List ℕ)) → Appends t t []

@@ -1,5 +1,5 @@
 -- Which numbers the lines of a log may have.
-use Rattle.std.specs.Prelude.{ℕ, ◌<◌, ◌^◌, ℤ, List, Option, None, Some, All, FitsSigned}
+use Rattle.std.specs.Prelude.{◌<◌, ◌^◌, ℤ, Option, None, Some, All, FitsSigned}
 use Rattle.std.specs.Int.{w64, w128}
 use Rattle.sopl_base.specs.declared.places.Reason.{Reason}
 use Rattle.sopl_base.specs.declared.places.Reason.TheVariants.{Hard, Chance, Undefined, Bound}
