@@ -1,0 +1,11 @@
+pub mod Tables
+pub mod Places
+pub mod Values
+pub mod Lists
+pub mod Insides
+pub mod Truth
+pub mod Growing
+pub mod Small
+pub mod Logging
+pub mod Closing
+pub mod Leaves

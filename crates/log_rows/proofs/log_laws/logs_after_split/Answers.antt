@@ -1,0 +1,5 @@
+use Rattle.log_rows.proofs.Logging as lemmas
+use Rattle.log_rows.proofs.log_laws.logs_after_split.Goals as goal
+
+pub returns : goal.returns
+returns c = record { law = lemmas.logs_after_split }

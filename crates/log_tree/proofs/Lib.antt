@@ -1,0 +1,4 @@
+pub mod Pieces
+pub mod Written
+pub mod Texts
+pub mod LogTexts
