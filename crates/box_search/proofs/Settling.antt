@@ -7,7 +7,7 @@ use Rattle.box_problem.specs.Box.{Box, points}
 use Rattle.box_problem.specs.BoxProblem.{BoxProblem}
 use Rattle.box_problem.specs.Covers.{nodes_for}
 use Rattle.open_boxes.specs.Opens.{IsBetterOf, IsBound, IsUnsettled, NoneBetter}
-use Rattle.open_boxes.proofs.Bounds.{best_within_bound, bound_grows, bound_holds, bound_is_hopeful, unsettled_within}
+use Rattle.open_boxes.proofs.Bounds.{best_within_bound, bound_at_last, bound_grows, bound_holds, bound_is_hopeful, unsettled_within}
 use Rattle.open_boxes.proofs.Nodes.{best_at_last, none_at_last}
 use Rattle.box_search.specs.declared.outcome.Found.{Found}
 use Rattle.box_search.specs.declared.outcome.Outcome.{Outcome}
@@ -90,3 +90,9 @@ settles_so problem direction best now finished boxes bound outcome posed sound i
 pub settles_within : (problem : BoxProblem) (budget : ℕ) (result : Result Outcome AllocError) → nodes_for (points problem.root) ≤ budget → IfOk result (HasCause problem budget) → IfOk result IsSettled
 settles_within problem budget (Ok outcome) enough cause = enough_settles problem budget outcome enough cause
 settles_within problem budget (Err error) enough cause = tt
+
+-- no open box is left
+pub bound_ended : (problem : BoxProblem) (v bound : ℤ) (boxes : List Box) → boxes ≡ [] → bound ≡ v → IsBound problem (Some v) boxes bound
+bound_ended problem v bound boxes none is =
+    subst (λ (bs : List Box). IsBound problem (Some v) bs bound) (sym none)
+    (subst (IsBound problem (Some v) []) (sym is) (bound_at_last problem v))

@@ -14,3 +14,6 @@ pub use outcome::{Found, Outcome};
 pub use posed::Posed;
 pub use searching::search;
 pub use values::Values;
+
+#[cfg(test)]
+mod tests;

@@ -9,5 +9,5 @@ finish-requires-clause-inside g c =
 
 pub close-requires-clause-stands : goal.close-requires-clause-stands
 close-requires-clause-stands g c =
-    stands_after_steps (g.P.Propagator.problem c.args.program.now) c.args.self.now.best _ c.args.self.now.finished c.args.self.now.store.box c.finish-end.new.store.box _ _ (reverse c.args.self.now.later.items) c.args.self.now.store.marks c.finish-end.new.store.marks
-    c.requires.posed c.value-best.ensures c.finish-end.ensures.steps c.finish-end.ensures.marks c.requires.stands
+    stands_after_steps (g.P.Propagator.problem c.args.program.now) c.args.self.now.best _ c.args.self.now.finished c.args.self.now.store.box c.finish.new.store.box _ _ (reverse c.args.self.now.later.items) c.args.self.now.store.marks c.finish.new.store.marks
+    c.requires.posed c.value-best.ensures c.finish.ensures.steps c.finish.ensures.marks c.requires.stands
