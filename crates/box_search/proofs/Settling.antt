@@ -96,3 +96,10 @@ pub bound_ended : (problem : BoxProblem) (v bound : ℤ) (boxes : List Box) → 
 bound_ended problem v bound boxes none is =
     subst (λ (bs : List Box). IsBound problem (Some v) bs bound) (sym none)
     (subst (IsBound problem (Some v) []) (sym is) (bound_at_last problem v))
+
+-- a best value as it is kept
+pub bound_kept : (problem : BoxProblem) (kept best : ℤ) (boxes : List Box) (bound : ℤ) → kept ≡ best → IsBound problem (Some kept) boxes bound → IsBound problem (Some best) boxes bound
+bound_kept problem kept best boxes bound same is = subst (λ (x : ℤ). IsBound problem (Some x) boxes bound) same is
+
+pub bound_moved : (problem : BoxProblem) (v : Option ℤ) (boxes : List Box) (bound kept : ℤ) → kept ≡ bound → IsBound problem v boxes bound → IsBound problem v boxes kept
+bound_moved problem v boxes bound kept same is = subst (IsBound problem v boxes) (sym same) is
