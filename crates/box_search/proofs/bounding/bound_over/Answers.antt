@@ -1,4 +1,4 @@
-use Rattle.std.proofs.Common.{rules, ◌≡◌, ℤ, Bool, true, false, List, [], ◌∷◌, Some, SFits, refl, sym, subst, ◌∙◌}
+use Rattle.std.proofs.Common.{rules, ◌≡◌, ℤ, Bool, true, false, List, [], ◌∷◌, Some, SFits, to_z, refl, sym, subst, ◌∙◌}
 use Rattle.std.specs.Int.{w128}
 use Rattle.std.proofs.lemmas.List.Elements.{All-head, All-tail}
 use Rattle.std.specs.List.{All}
@@ -39,14 +39,15 @@ end-requires-in-waiting-clause-inside g c =
 pub waiting-preserved : goal.waiting-preserved
 waiting-preserved g c =
     let problem = g.P.Propagator.problem c.args.program.now in
+    let now : ℤ = to_z w128 c.waiting.bound-bits in
     let took : IsNext c.waiting.crew c.next.new.self true = subst (λ (more : Bool). IsNext c.waiting.crew c.next.new.self more) c.if-branch.true c.in_ok-next.ensures.next in
     let best_fits : SFits w128 c.better_of-bound-in-waiting.result = search rules in
     let end_fits : SFits w128 c.end-in-waiting.result = search rules in
     record {
       grows = λ bound is.
           c.waiting.invariant.grows bound
-          (subst (λ (boxes : List Box). IsBound problem (Some c.waiting.bound) boxes bound) (sym took.boxes)
-          (bound_more problem _ (Some c.waiting.bound) _ _ _ c.next.new.self.store.box (waiting c.next.new.self) bound
+          (subst (λ (boxes : List Box). IsBound problem (Some now) boxes bound) (sym took.boxes)
+          (bound_more problem _ (Some now) _ _ _ c.next.new.self.store.box (waiting c.next.new.self) bound
           c.direction-direction.ensures refl (same_large c.end-in-waiting.result end_fits ∙ c.end-in-waiting.ensures) c.better_of-bound-in-waiting.ensures
           (bound_kept problem _ c.better_of-bound-in-waiting.result (waiting c.next.new.self) bound (same_large c.better_of-bound-in-waiting.result best_fits) is)));
       inside = All-tail (λ (b : Box). Inside b problem.root) c.next.new.self.store.box (waiting c.next.new.self)
@@ -58,5 +59,6 @@ waiting-preserved g c =
 pub returns-clause-bound : goal.returns-clause-bound
 returns-clause-bound g c =
     let problem = g.P.Propagator.problem c.args.program.now in
+    let now : ℤ = to_z w128 c.waiting.bound-bits in
     let ended : IsNext c.waiting.crew c.next.new.self false = subst (λ (more : Bool). IsNext c.waiting.crew c.next.new.self more) c.if-branch.false c.in_ok-next.ensures.next in
-    c.waiting.invariant.grows c.waiting.bound (bound_ended problem c.waiting.bound c.waiting.bound (waiting c.waiting.crew) ended.boxes refl)
+    c.waiting.invariant.grows now (bound_ended problem now now (waiting c.waiting.crew) ended.boxes refl)
