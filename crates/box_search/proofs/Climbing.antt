@@ -1,5 +1,5 @@
 -- What holds of two cells of which the first one climbs.
-use Rattle.std.proofs.Common.{◌≡◌, ℕ, zero, suc, ◌<◌, ℤ, pos, ◌+ℤ◌, ◌-ℤ◌, ◌<ℤ◌, ◌≤ℤ◌, int_lt, int_le, true, false, List, [], ◌∷◌, ◌++◌, Option, Some, None, All, length, get_or, set, arith, refl, sym, ap, subst, ◌∙◌}
+use Rattle.std.proofs.Common.{◌≡◌, ℕ, zero, suc, ◌<◌, ℤ, pos, ◌+ℤ◌, ◌-ℤ◌, ◌<ℤ◌, ◌≤ℤ◌, int_lt, int_le, Bool, true, false, List, [], ◌∷◌, ◌++◌, Option, Some, None, All, length, get_or, set, arith, refl, sym, ap, subst, ◌∙◌}
 use Rattle.std.specs.List.{Contains}
 use Rattle.std.proofs.lemmas.Int.{ints, by_lt_z}
 use Rattle.std.proofs.lemmas.List.{get_or-set_same}
@@ -62,6 +62,10 @@ not_reached_above x y (Some w) order test = is_beyond y w (omega (arith, ints, o
 reached_below : (x y : ℤ) (v : Option ℤ) → reached x v ≡ true → reached y v ≡ false → x <ℤ y
 reached_below x y None test other = absurd (cc)
 reached_below x y (Some w) test other = omega (arith, ints, within x w test, beyond y w other)
+
+-- what is told of a value as it is kept
+pub reached_at : (value end : ℤ) (v : Option ℤ) (result answer : Bool) → value ≡ end → result ≡ reached value v → result ≡ answer → reached end v ≡ answer
+reached_at value end v result answer same is test = ap (λ z. reached z v) (sym same) ∙ (sym is ∙ test)
 
 sound_reason : (reason : Reason) (b : Box) (v : Option ℤ) (point : List ℤ) (root : Box) → length b.lows ≡ 2 → is_closed reason b v ≡ true → InBox b point → ¬ Beats (climbing root) v point
 sound_reason (Hard zero zero) b v point root two test q beats =

@@ -2,7 +2,7 @@ ghost use Rattle.std.specs.Prelude.{◌≡◌, ◌≤◌};
 ghost use Rattle.box_search.specs.Climbing.{both_reasons, climbing, pair_of, reached};
 
 use super::*;
-use crate::tests::pairs::{Pair, pair};
+use crate::tests::pairs::{Pair, near_pair};
 use box_store::BoxStore;
 use prop_core::{Finding, Propagator};
 use sopl_base::{Direction, Interval, Reason, Side, Step};
@@ -39,7 +39,7 @@ impl Propagator for Climb {
 
     ghost fits = { λ _ _. Unit {0} };
 
-    #[tactic(auto, using(crate::proofs::Climbing::both_cells, crate::proofs::Climbing::climb_bounded, crate::proofs::Climbing::climb_crossed, crate::proofs::Climbing::climb_first, crate::proofs::Climbing::climb_quiet, crate::proofs::Climbing::climb_second, crate::proofs::Climbing::climb_up))]
+    #[tactic(auto, using(crate::proofs::Climbing::both_cells, crate::proofs::Climbing::climb_crossed))]
     fn revise(&mut self, _program: &Pair, store: &BoxStore, best: Option<i128>) -> Finding {
         if store.hi(1) < store.lo(0) {
             return Finding::Dead(CROSSED);
@@ -92,7 +92,7 @@ impl Posed for Climb {
 }
 
 /// What a search over a pair of cells answers.
-#[tactic(auto, using(crate::proofs::Climbing::climb_all, crate::proofs::Climbing::climbing_lawful))]
+#[tactic(auto, using(crate::proofs::Climbing::climb_all))]
 fn outcome_of(alloc: Global, pair: &Pair, budget: u32) -> Result<Outcome, AllocError>
     requires { 1 ≤ budget }
 {
@@ -103,7 +103,7 @@ fn outcome_of(alloc: Global, pair: &Pair, budget: u32) -> Result<Outcome, AllocE
 
 /// Whether a point and its value are these.
 fn is_point(value: i128, cells: &Values, want: (i128, [i64; 2])) -> bool {
-    value == want.0 && cells.as_slice() == want.1
+    value == want.0 && cells.as_slice() == want.1.as_slice()
 }
 
 /// Whether this was found, and this bound told, or none.
@@ -135,7 +135,7 @@ fn outcomes(rt: HostRuntime) {
         ((0, 7), (0, 5), 1, None, Some(5)),
         ((0, 7), (0, 5), 7, Some((0, [0, 0])), Some(5)),
     ] {
-        if let Some(pair) = pair(first, second) {
+        if let Some(pair) = near_pair(first, second) {
             let outcome = outcome_of(rt.alloc(), &pair, budget).expect(&rt, "memory");
             assert!(rt; is_told(&outcome, want, bound), "another outcome");
         }

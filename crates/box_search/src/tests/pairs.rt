@@ -27,7 +27,7 @@ fn near(lo: i64, hi: i64) -> Option<Interval>
 
 /// Two cells with these ends.
 #[tactic(auto, using(crate::proofs::Climbing::pair_near))]
-pub(super) fn pair(first: (i64, i64), second: (i64, i64)) -> Option<Pair> {
+pub(super) fn near_pair(first: (i64, i64), second: (i64, i64)) -> Option<Pair> {
     let first = near(first.0, first.1)?;
     let second = near(second.0, second.1)?;
     Some(Pair { first, second })
