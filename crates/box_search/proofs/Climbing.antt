@@ -1,5 +1,5 @@
 -- What holds of two cells of which the first one climbs.
-use Rattle.std.proofs.Common.{◌≡◌, ℕ, zero, suc, ◌<◌, ℤ, pos, ◌+ℤ◌, ◌-ℤ◌, ◌<ℤ◌, ◌≤ℤ◌, int_lt, int_le, Bool, true, false, List, [], ◌∷◌, ◌++◌, Option, Some, None, All, length, get_or, set, arith, refl, sym, ap, subst, ◌∙◌}
+use Rattle.std.proofs.Common.{◌≡◌, ℕ, zero, suc, ◌<◌, ℤ, pos, ◌+ℤ◌, ◌-ℤ◌, ◌<ℤ◌, ◌≤ℤ◌, int_lt, int_le, Bool, true, false, List, [], ◌∷◌, ◌++◌, Option, Some, None, length, get_or, arith, refl, sym, ap, subst, ◌∙◌}
 use Rattle.std.specs.List.{Contains}
 use Rattle.std.proofs.lemmas.Int.{ints, by_lt_z}
 use Rattle.std.proofs.lemmas.List.{get_or-set_same}
@@ -8,11 +8,10 @@ use Rattle.sopl_base.specs.declared.places.Interval.{Interval}
 use Rattle.sopl_base.specs.declared.places.Reason.{Reason}
 use Rattle.sopl_base.specs.declared.places.Reason.TheVariants.{Hard, Chance, Undefined, Bound}
 use Rattle.sopl_base.specs.declared.places.Side.TheVariants.{Le, Ge}
-use Rattle.sopl_base.specs.declared.places.Step.{Step}
 use Rattle.box_problem.specs.Box.{Box, Inside, InBox, IsPoint, low, high, with_low, with_high}
-use Rattle.box_problem.specs.BoxProblem.{BoxProblem, Beats, Follows, Lawful}
+use Rattle.box_problem.specs.BoxProblem.{Beats, Follows, Lawful}
 use Rattle.box_problem.specs.Rightness.{Quiets}
-use Rattle.box_problem.proofs.Boxes.{intervals_make_a_box, part_of_itself}
+use Rattle.box_problem.proofs.Boxes.{intervals_make_a_box}
 use Rattle.box_problem.proofs.Lists.{at_set}
 use Rattle.prop_core.specs.Findings.{Closes, Narrows}
 use Rattle.box_search.specs.Climbing.{both_reasons, climbing, is_closed, pair_of, reached}

@@ -1,5 +1,5 @@
 -- The halves of boxes that wait at marks.
-use Rattle.std.proofs.Common.{◌≡◌, ◌<◌, List, [], ◌∷◌, ◌++◌, length, reverse, arith, sym, refl, ap, subst, ◌∙◌}
+use Rattle.std.proofs.Common.{◌≡◌, ◌<◌, List, [], ◌∷◌, ◌++◌, length, reverse, arith, sym, ap, subst, ◌∙◌}
 use Rattle.std.proofs.lemmas.List.{reverse-append}
 use Rattle.sopl_base.specs.declared.places.Side.TheVariants.{Le}
 use Rattle.box_problem.specs.Box.{Box}

@@ -1,5 +1,5 @@
 -- A small problem for tests: the value of the first cell is to be at most that of the second one, and as great as possible.
-use Rattle.std.specs.Prelude.{ℕ, zero, suc, ℤ, pos, int_lt, int_le, Bool, true, false, List, [], ◌∷◌, Option, Some, None, slice_index_or}
+use Rattle.std.specs.Prelude.{zero, suc, ℤ, pos, int_lt, int_le, Bool, false, List, [], ◌∷◌, Option, Some, None, slice_index_or}
 use Rattle.sopl_base.specs.declared.places.Direction.TheVariants.{Maximize}
 use Rattle.sopl_base.specs.declared.places.Interval.{Interval}
 use Rattle.sopl_base.specs.declared.places.Reason.{Reason}

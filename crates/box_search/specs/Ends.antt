@@ -1,9 +1,7 @@
 -- How a node of a search ends.
 use Rattle.std.specs.Prelude.{◌≡◌, ◌^◌, ℕ, ◌<◌, ℤ, pos, neg_ℤ, ◌+ℤ◌, ◌-ℤ◌, ◌*ℤ◌, ◌≤ℤ◌, ◌<ℤ◌, true, List, length, Option, Contains}
 use Rattle.sopl_base.specs.declared.places.Reason.{Reason}
-use Rattle.sopl_base.specs.declared.places.Side.TheVariants.{Le}
 use Rattle.box_problem.specs.Box.{Box, low, high, IsPoint}
-use Rattle.box_problem.specs.Steps.{IsCut}
 use Rattle.box_problem.specs.BoxProblem.{BoxProblem, Beats, Lawful}
 use Rattle.box_problem.specs.Rightness.{IsConsistent}
 use Rattle.box_search.specs.declared.cut.Cut.{Cut}

@@ -1,4 +1,4 @@
-use Rattle.std.proofs.Common.{rules, ◌≡◌, ℤ, Bool, true, false, List, [], ◌∷◌, Some, SFits, to_z, refl, sym, subst, ◌∙◌}
+use Rattle.std.proofs.Common.{rules, ℤ, Bool, true, false, List, Some, SFits, to_z, refl, sym, subst, ◌∙◌}
 use Rattle.std.specs.Int.{w128}
 use Rattle.std.proofs.lemmas.List.Elements.{All-head, All-tail}
 use Rattle.std.specs.List.{All}

@@ -1,4 +1,4 @@
-use Rattle.std.proofs.Common.{rules, arith, w64, SFits, to_z, of_z, ◌∙◌}
+use Rattle.std.proofs.Common.{rules, arith, w64, SFits, ◌∙◌}
 use Rattle.box_search.proofs.Numbers.{same_small}
 use Rattle.box_search.proofs.Resting.{first_cut_at}
 use Rattle.box_search.proofs.ending.end_of.Goals as goal

@@ -1,6 +1,6 @@
-use Rattle.std.proofs.Common.{rules, ◌≡◌, ℤ, pos, ◌+ℤ◌, ◌≤ℤ◌, ◌<ℤ◌, true, false, w64, SFits, to_z, of_z, ap, ◌∙◌}
+use Rattle.std.proofs.Common.{rules, ℤ, pos, ◌+ℤ◌, ◌≤ℤ◌, ◌<ℤ◌, true, false, w64, SFits, to_z, of_z, ap, ◌∙◌}
 use Rattle.box_problem.specs.Box.{Box, high, low}
-use Rattle.box_search.specs.Climbing.{pair_of, reached}
+use Rattle.box_search.specs.Climbing.{pair_of}
 use Rattle.box_search.proofs.Climbing.{climb_bounded, climb_first, climb_quiet, climb_second, climb_up, reached_at}
 use Rattle.box_search.proofs.Numbers.{same_small}
 use Rattle.box_search.proofs.tests.ClimbPropagator.revise.Goals as goal
