@@ -1,0 +1,4 @@
+pub mod Ends
+pub mod Outcomes
+pub mod Crews
+pub mod Climbing

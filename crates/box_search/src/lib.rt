@@ -1,0 +1,19 @@
+//! The search for the best point of a problem by branch and bound, over any propagators.
+#![tactic(auto)]
+
+mod bounding;
+mod crew;
+mod cut;
+mod ending;
+mod outcome;
+mod posed;
+mod searching;
+mod values;
+
+pub use outcome::{Found, Outcome};
+pub use posed::Posed;
+pub use searching::search;
+pub use values::Values;
+
+#[cfg(test)]
+mod tests;
