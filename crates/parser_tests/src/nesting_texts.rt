@@ -24,6 +24,10 @@ subject to { ~abs(~1~)~; }~63 -> read
 subject to { ~abs(~1~)~; }~64 -> 103 at 268
 subject to { ~min(1, ~1~, 2)~; }~63 -> read
 subject to { ~max(1, ~1~)~; }~64 -> 103 at 457
+subject to { ~(~abs ;~~ }~63 -> 104 at 80
+subject to { ~(~abs (1)~)~; }~63 -> 103 at 80
+subject to { ~(~allDifferent ( all (~~~62 -> 103 at 94
+subject to { ~(~allDifferent ( all 1~~~62 -> 104 at 94
 subject to { ~allDifferent(all(i in R) ~1~)~; }~62 -> read
 subject to { ~allDifferent(all(i in R) ~1~)~; }~63 -> 103 at 1579
 subject to { ~cumulative(all(i in R) (1, 2, ~3~), 4)~; }~31 -> read

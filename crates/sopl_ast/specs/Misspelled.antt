@@ -24,7 +24,7 @@ pub record IsMisplaced (length : ℕ) (tokens : List Token) (at : ℕ) : Type 0 
   pub front : IsFront max_nesting before
   pub stuck : NoneGoesOn before behind
 
--- the tokens go along the productions up to a token that opens one bracket or prefix too many, and with it no model goes on within the greatest nesting
+-- the tokens go along the productions within the greatest nesting up to a token; with it they do so within one more, and not within the greatest
 pub record IsTooDeep (tokens : List Token) (at : ℕ) : Type 0 where
   pub before : List Token
   pub token : Token
@@ -33,6 +33,7 @@ pub record IsTooDeep (tokens : List Token) (at : ℕ) : Type 0 where
   pub place : at ≡ token.span.start
   pub front : IsFront max_nesting before
   pub deeper : IsFront (max_nesting + 1) (before ++ token ∷ [])
+  pub over : IsFront max_nesting (before ++ token ∷ []) → ⊥
   pub none : (others : List Token) (whole : ModelTree) → SpellsWithin (before ++ token ∷ others) whole → ⊥
 
 -- tokens that spell no model within the greatest nesting, refused by 104 where no model goes on, and by 103 where one nests too deep

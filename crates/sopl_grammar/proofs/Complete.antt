@@ -163,7 +163,8 @@ mutual
       → p.range (way false n) ts ≡ Ok (range, r)
   range_read _ _ _ _ (g.named n u r bytes i1) ends = lists.range_named (way false n) (u ∷ r) bytes (ap Some i1) ends
   range_read _ _ _ _ (g.ends n ts lo us vs hi r i1 i2 i3) ends =
-      lists.range_ends (way false n) ts lo us vs hi r (sum_read n ts lo us i1 (closed_sum k.DotDot us vs i2 refl)) (head_of k.DotDot us vs i2)
+      lists.range_ends (way false n) ts lo us vs hi r (sum_read n ts lo us i1 (closed_sum k.DotDot us vs i2 refl))
+      (ap (at_kind h.ends_range) (head_of k.DotDot us vs i2))
       (past_is (way false n) m.DotDot us vs i2) (sum_read n vs hi r i3 (omega (arith, range_end_binds (head r) true ends)))
 
   -- an operand of a product

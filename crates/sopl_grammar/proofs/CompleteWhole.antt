@@ -13,7 +13,7 @@ use Rattle.sopl_grammar.specs.Heads.{head, at_kind}
 use Rattle.sopl_grammar.specs.Phrases as p
 use Rattle.sopl_grammar.specs.Phrases.{way}
 use Rattle.sopl_grammar.proofs.Chains.{Chained, chain_end, chain_step}
-use Rattle.sopl_grammar.proofs.Ends.{level, head_of, level_is, closed, closed_sum, bracket_no_comma, brace_no_comma}
+use Rattle.sopl_grammar.proofs.Ends.{level, head_of, level_is, closed, closed_sum, bracket_no_comma, brace_no_comma, dots_no_inside}
 use Rattle.sopl_grammar.proofs.Starts.{starts_sum, starts_expression, starts_init, starts_constraint}
 use Rattle.sopl_grammar.proofs.Shorter.{shorter_mark, shorter_dim, shorter_init, shorter_sum, shorter_outcome, shorter_declaration, shorter_constraint}
 use Rattle.sopl_grammar.proofs.Tokens.{past_is, inside_way, opening_is, name_is, measure_is}
@@ -39,7 +39,7 @@ range_no_dim_name : (n : ℕ) (ts : List Token) (range : Range) (r : List Token)
     → p.dim_name ts ≡ None
 range_no_dim_name _ _ _ _ (g.named n u r bytes i1) ends = dim_by_name (u ∷ r) bytes (ap Some i1) ends
 range_no_dim_name _ _ _ _ (g.ends n ts lo us vs hi r i1 i2 i3) ends =
-    dim_by_ends (way false n) ts lo us (sum_read n ts lo us i1 (closed_sum k.DotDot us vs i2 refl)) (head_of k.DotDot us vs i2)
+    dim_by_ends (way false n) ts lo us (sum_read n ts lo us i1 (closed_sum k.DotDot us vs i2 refl)) (dots_no_inside (head us) (head_of k.DotDot us vs i2))
 
 -- a dimension
 dim_read : (n : ℕ) (ts : List Token) (d : DimTree) (r : List Token) → IsDim false n ts d r → head r ≡ Some k.BracketClose → p.dim (way false n) ts ≡ Ok (d, r)

@@ -181,6 +181,19 @@ range_end_no_inside None ends e = refl
 range_end_no_inside (Some k.Inside) ends e = absurd (cc)
 range_end_no_inside (Some kind) ends e = refl
 
+-- marks that are no comma
+pub paren_comma : is_mark m.Comma (Some k.ParenClose) ≡ false
+unfolding is_mark
+paren_comma = refl
+
+pub bracket_comma : is_mark m.Comma (Some k.BracketClose) ≡ false
+unfolding is_mark
+bracket_comma = refl
+
+pub brace_comma : is_mark m.Comma (Some k.BraceClose) ≡ false
+unfolding is_mark
+brace_comma = refl
+
 -- a closing parenthesis is no comma
 pub paren_no_comma : (kind : Option TokenKind) → kind ≡ Some k.ParenClose → is_mark m.Comma kind ≡ false
 unfolding is_mark
@@ -195,6 +208,11 @@ bracket_no_comma kind e = rw e refl
 pub brace_no_comma : (kind : Option TokenKind) → kind ≡ Some k.BraceClose → is_mark m.Comma kind ≡ false
 unfolding is_mark
 brace_no_comma kind e = rw e refl
+
+-- `..` is no `in`
+pub dots_no_inside : (kind : Option TokenKind) → kind ≡ Some k.DotDot → is_mark m.Inside kind ≡ false
+unfolding is_mark
+dots_no_inside kind e = rw e refl
 
 -- what does not begin an operand does not begin with `-`
 pub no_minus : (kind : Option TokenKind) → start kind ≤ 0 → is_mark m.Minus kind ≡ false

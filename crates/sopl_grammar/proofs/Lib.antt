@@ -10,6 +10,7 @@ mod LocalWhole
 mod LocalModel
 mod SoundBase
 mod NotLonger
+mod NotLongerWhole
 mod PartsBack
 mod Contents
 mod Missing
@@ -29,5 +30,11 @@ mod ReadDecls
 mod ReadWhole
 mod Complete
 pub mod CompleteWhole
+mod FrontTokens
+mod FrontStarts
+mod FrontReads
+mod CompleteFronts
+mod CompleteFrontsWhole
+pub mod Fronts
 pub mod Stops
 pub mod Refused

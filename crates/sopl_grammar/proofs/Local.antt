@@ -3,7 +3,13 @@ use Rattle.std.proofs.Common.{◌≡◌, ℕ, ◌<◌, ◌≤◌, Bool, true, fa
 use Rattle.std.proofs.lemmas.List.{append-nil}
 use Rattle.sopl_ast.specs.declared.token.Token.{Token}
 use Rattle.sopl_grammar.specs.Heads.{head}
-use Rattle.sopl_grammar.specs.Reading.{Stop, Syntax, Depth, Read, ◌>>=◌}
+use Rattle.sopl_grammar.specs.Reading.{Stop, Syntax, Depth, Read, ◌>>=◌, absent}
+
+-- some token is there, or the tokens may not end too early
+abbrev pub Seen : Bool → List Token → Type 0
+Seen false ts = Unit {0}
+Seen true [] = ⊥
+Seen true (u ∷ us) = Unit {0}
 
 -- a way to read a phrase, by whether tokens may end too early and how many more brackets may be opened
 abbrev pub Reader : Type 0 → Type 0
@@ -25,7 +31,7 @@ pub record Taken {A : Type 0} (f : Reader A) (n : ℕ) (ts : List Token) (a : A)
 pub record Failed {A : Type 0} (f : Reader A) (n : ℕ) (ts r : List Token) : Type 0 where
   pub used : List Token
   pub all : ts ≡ used ++ r
-  pub again : (m : ℕ) (s : List Token) → n ≤ m → head s ≡ head r → f false m (used ++ s) ≡ Err (Syntax s)
+  pub again : (cut : Bool) (m : ℕ) (s : List Token) → n ≤ m → head s ≡ head r → Seen cut s → f cut m (used ++ s) ≡ Err (Syntax s)
   pub over : (m : ℕ) → n ≤ m → Over f m used
 
 -- what was taken before reading stopped at a token that opens too much
@@ -35,7 +41,7 @@ pub record Sunk {A : Type 0} (f : Reader A) (n : ℕ) (ts r : List Token) : Type
   pub more : List Token
   pub left : r ≡ token ∷ more
   pub all : ts ≡ used ++ token ∷ more
-  pub again : (s : List Token) → head s ≡ Some token.kind → f false n (used ++ s) ≡ Err (Depth s)
+  pub again : (cut : Bool) (s : List Token) → head s ≡ Some token.kind → f cut n (used ++ s) ≡ Err (Depth s)
   pub over : (m : ℕ) → n ≤ m → Over f m used
   pub over_with : (m : ℕ) → n < m → Over f m (used ++ token ∷ [])
 
@@ -130,10 +136,10 @@ both_failed f g n ts a mid r t t2 lg =
     record {
       used = t.used ++ t2.used;
       all = t.all ∙ ap (λ l. t.used ++ l) t2.all ∙ sym (append_assoc t.used t2.used r);
-      again = λ m s le same.
+      again = λ cut m s le same seen.
           let front : head (t2.used ++ s) ≡ head mid = head_append t2.used s r same ∙ ap head (sym t2.all) in
-          ap (λ l. f false m l >>= g false m) (append_assoc t.used t2.used s)
-          ∙ ap (λ o. o >>= g false m) (t.again false m (t2.used ++ s) le front) ∙ t2.again m s le same;
+          ap (λ l. f cut m l >>= g cut m) (append_assoc t.used t2.used s)
+          ∙ ap (λ o. o >>= g cut m) (t.again cut m (t2.used ++ s) le front) ∙ t2.again cut m s le same seen;
       over = λ m le.
           subst (λ l. Over (Both f g) m l) (append-nil (t.used ++ t2.used))
           (both_join f g n m ts a mid t (λ c. (lg c).none m) le t2.used r t2.all [] (front_or_none t2.used r mid t2.all)
@@ -152,10 +158,10 @@ both_sunk f g n ts a mid r t t2 lg =
       more = t2.more;
       left = t2.left;
       all = t.all ∙ ap (λ l. t.used ++ l) t2.all ∙ sym (append_assoc t.used t2.used (t2.token ∷ t2.more));
-      again = λ s same.
+      again = λ cut s same.
           let front : head (t2.used ++ s) ≡ head mid = head_append t2.used s (t2.token ∷ t2.more) same ∙ ap head (sym t2.all) in
-          ap (λ l. f false n l >>= g false n) (append_assoc t.used t2.used s)
-          ∙ ap (λ o. o >>= g false n) (t.again false n (t2.used ++ s) (omega arith) front) ∙ t2.again s same;
+          ap (λ l. f cut n l >>= g cut n) (append_assoc t.used t2.used s)
+          ∙ ap (λ o. o >>= g cut n) (t.again cut n (t2.used ++ s) (omega arith) front) ∙ t2.again cut s same;
       over = λ m le.
           subst (λ l. Over (Both f g) m l) (append-nil (t.used ++ t2.used))
           (both_join f g n m ts a mid t (λ c. (lg c).none m) le t2.used (t2.token ∷ t2.more) t2.all [] (front_or_none t2.used (t2.token ∷ t2.more) mid t2.all)
@@ -171,7 +177,7 @@ first_failed f g n ts r t lg =
     record {
       used = t.used;
       all = t.all;
-      again = λ m s le same. ap (λ o. o >>= g false m) (t.again m s le same);
+      again = λ cut m s le same seen. ap (λ o. o >>= g cut m) (t.again cut m s le same seen);
       over = λ m le. both_over f g m t.used (t.over m le) (λ c. (lg c).none m);
     }
 
@@ -184,7 +190,7 @@ first_sunk f g n ts r t lg =
       more = t.more;
       left = t.left;
       all = t.all;
-      again = λ s same. ap (λ o. o >>= g false n) (t.again s same);
+      again = λ cut s same. ap (λ o. o >>= g cut n) (t.again cut s same);
       over = λ m le. both_over f g m t.used (t.over m le) (λ c. (lg c).none m);
       over_with = λ m lt. both_over f g m (t.used ++ t.token ∷ []) (t.over_with m lt) (λ c. (lg c).none m);
     }
@@ -239,18 +245,24 @@ local_pure {A} a n =
         }
 
 -- what refuses all tokens, and gives a value where there are none and they may end too early
-pub local_missing : {A : Type 0} (f : Reader A) (n : ℕ) → ((m : ℕ) → Over f m []) → ((m : ℕ) (ts : List Token) → f false m ts ≡ Err (Syntax ts)) → Local f n
+pub local_missing : {A : Type 0} (f : Reader A) (n : ℕ) → ((m : ℕ) → Over f m []) → ((cut : Bool) (m : ℕ) (ts : List Token) → Seen cut ts → f cut m ts ≡ Err (Syntax ts)) → Local f n
 local_missing {A} f n none refuses =
     record {
       none = none;
-      taken = λ ts a r e. not_both (f false n ts) (a, r) (Syntax ts) e (refuses n ts);
+      taken = λ ts a r e. not_both (f false n ts) (a, r) (Syntax ts) e (refuses false n ts tt);
       failed = λ ts r e.
-          let same : Syntax ts ≡ Syntax r = same_stop (f false n ts) (Syntax ts) (Syntax r) (refuses n ts) e in
+          let same : Syntax ts ≡ Syntax r = same_stop (f false n ts) (Syntax ts) (Syntax r) (refuses false n ts tt) e in
           let left : ts ≡ r = cc in
-          record { used = []; all = left; again = λ m s le same. refuses m s; over = λ m le. none m };
+          record { used = []; all = left; again = λ cut m s le same seen. refuses cut m s seen; over = λ m le. none m };
       sunk = λ ts r e.
-          let same : Syntax ts ≡ Depth r = same_stop (f false n ts) (Syntax ts) (Depth r) (refuses n ts) e in absurd (cc);
+          let same : Syntax ts ≡ Depth r = same_stop (f false n ts) (Syntax ts) (Depth r) (refuses false n ts tt) e in absurd (cc);
     }
+
+-- what is missing is refused where some token is there, or the tokens may not end too early
+pub absent_stops : {A : Type 0} (cut : Bool) (value : A) (ts : List Token) → Seen cut ts → absent cut value ts ≡ Err (Syntax ts)
+absent_stops false value ts seen = refl
+absent_stops true value [] seen = absurd seen
+absent_stops true value (u ∷ us) seen = refl
 
 -- a reader that always answers as another one
 pub local_same : {A : Type 0} (f g : Reader A) (n : ℕ) → ((cut : Bool) (m : ℕ) (ts : List Token) → g cut m ts ≡ f cut m ts) → Local f n → Local g n
@@ -268,7 +280,7 @@ local_same {A} f g n same l =
           record {
             used = t.used;
             all = t.all;
-            again = λ m s le eq. same false m (t.used ++ s) ∙ t.again m s le eq;
+            again = λ cut m s le eq seen. same cut m (t.used ++ s) ∙ t.again cut m s le eq seen;
             over = λ m le. over m t.used (t.over m le);
           };
       sunk = λ ts r e. let t = l.sunk ts r (sym (same false n ts) ∙ e) in
@@ -278,7 +290,7 @@ local_same {A} f g n same l =
             more = t.more;
             left = t.left;
             all = t.all;
-            again = λ s eq. same false n (t.used ++ s) ∙ t.again s eq;
+            again = λ cut s eq. same cut n (t.used ++ s) ∙ t.again cut s eq;
             over = λ m le. over m t.used (t.over m le);
             over_with = λ m lt. over m (t.used ++ t.token ∷ []) (t.over_with m lt);
           };

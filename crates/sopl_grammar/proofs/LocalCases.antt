@@ -4,7 +4,7 @@ use Rattle.sopl_ast.specs.declared.token.Token.{Token}
 use Rattle.sopl_ast.specs.declared.token.TokenKind.{TokenKind}
 use Rattle.sopl_grammar.specs.Heads.{head}
 use Rattle.sopl_grammar.specs.Reading.{Syntax, Depth, Read}
-use Rattle.sopl_grammar.proofs.Local.{Reader, Over, Taken, Failed, Sunk, Local, head_append, not_both, same_stop}
+use Rattle.sopl_grammar.proofs.Local.{Seen, Reader, Over, Taken, Failed, Sunk, Local, head_append, not_both, same_stop}
 
 -- what is done for a test of the first token: all the tokens are read in another way, or those behind it, or those inside the bracket that it opens
 pub data Branch {A T : Type 0} (whole : Bool → ℕ → List Token → T → Read A) (n : ℕ) (u : Token) (t : T) : Type 0 where
@@ -54,8 +54,8 @@ others_failed test whole rest n ts r others t =
     record {
       used = t.used;
       all = t.all;
-      again = λ m s le same.
-          others.same false m (t.used ++ s) (head_append t.used s r same ∙ ap head (sym t.all)) ∙ t.again m s le same;
+      again = λ cut m s le same seen.
+          others.same cut m (t.used ++ s) (head_append t.used s r same ∙ ap head (sym t.all)) ∙ t.again cut m s le same seen;
       over = λ m le. others_over test whole rest ts others m t.used r t.all (t.over m le);
     }
 
@@ -68,8 +68,8 @@ others_sunk test whole rest n ts r others t =
       more = t.more;
       left = t.left;
       all = t.all;
-      again = λ s same.
-          others.same false n (t.used ++ s) (head_append t.used s (t.token ∷ t.more) same ∙ ap head (sym t.all)) ∙ t.again s same;
+      again = λ cut s same.
+          others.same cut n (t.used ++ s) (head_append t.used s (t.token ∷ t.more) same ∙ ap head (sym t.all)) ∙ t.again cut s same;
       over = λ m le. others_over test whole rest ts others m t.used (t.token ∷ t.more) t.all (t.over m le);
       over_with = λ m lt.
           others_over test whole rest ts others m (t.used ++ t.token ∷ []) t.more (t.all ∙ sym (append_assoc t.used (t.token ∷ []) t.more)) (t.over_with m lt);
@@ -98,7 +98,7 @@ behind_failed f g n u us r b t =
     record {
       used = u ∷ t.used;
       all = ap (λ l. u ∷ l) t.all;
-      again = λ m s le same. b.same false m (t.used ++ s) le ∙ t.again m s le same;
+      again = λ cut m s le same seen. b.same cut m (t.used ++ s) le ∙ t.again cut m s le same seen;
       over = λ m le. behind_over f g n u m t.used b le (t.over m le);
     }
 
@@ -111,7 +111,7 @@ behind_sunk f g n u us r b t =
       more = t.more;
       left = t.left;
       all = ap (λ l. u ∷ l) t.all;
-      again = λ s same. b.same false n (t.used ++ s) (omega arith) ∙ t.again s same;
+      again = λ cut s same. b.same cut n (t.used ++ s) (omega arith) ∙ t.again cut s same;
       over = λ m le. behind_over f g n u m t.used b le (t.over m le);
       over_with = λ m lt. behind_over f g n u m (t.used ++ t.token ∷ []) b (omega arith) (t.over_with m lt);
     }
@@ -137,9 +137,9 @@ lower_failed : {A : Type 0} (f : Reader A) (k : ℕ) (ts r : List Token) → Fai
 lower_failed {A} f k ts r t =
     record { used = t.used; all = t.all; again = again; over = λ m le. lower_over f k m t.used le t.over }
   where
-    again : (m : ℕ) (s : List Token) → suc k ≤ m → head s ≡ head r → lower f false m (t.used ++ s) ≡ Err (Syntax s)
-    again zero s le same = absurd (omega arith)
-    again (suc l) s le same = t.again l s (omega arith) same
+    again : (cut : Bool) (m : ℕ) (s : List Token) → suc k ≤ m → head s ≡ head r → Seen cut s → lower f cut m (t.used ++ s) ≡ Err (Syntax s)
+    again cut zero s le same seen = absurd (omega arith)
+    again cut (suc l) s le same seen = t.again cut l s (omega arith) same seen
 
 lower_sunk : {A : Type 0} (f : Reader A) (k : ℕ) (ts r : List Token) → Sunk f k ts r → Sunk (lower f) (suc k) ts r
 lower_sunk {A} f k ts r t =
@@ -259,10 +259,10 @@ local_cases {A} {T} test whole rest n l empty branches =
                   over_with = over_with;
                 }
               where
-                again : (s : List Token) → head s ≡ Some u.kind → Cases test whole false n s ≡ Err (Depth s)
-                again [] h = absurd (cc)
-                again (v ∷ vs) h =
-                    ap (λ o. whole false n (v ∷ vs) (test o)) h ∙ ap (λ x. whole false x (v ∷ vs) (test (Some u.kind))) at ∙ refused false v vs
+                again : (cut : Bool) (s : List Token) → head s ≡ Some u.kind → Cases test whole cut n s ≡ Err (Depth s)
+                again cut [] h = absurd (cc)
+                again cut (v ∷ vs) h =
+                    ap (λ o. whole cut n (v ∷ vs) (test o)) h ∙ ap (λ x. whole cut x (v ∷ vs) (test (Some u.kind))) at ∙ refused cut v vs
 
                 over_with : (m : ℕ) → n < m → Over (Cases test whole) m (u ∷ [])
                 over_with zero lt = absurd (omega arith)

@@ -4,7 +4,7 @@ use Rattle.std.proofs.lemmas.List.{append-nil}
 use Rattle.sopl_ast.specs.declared.token.Token.{Token}
 use Rattle.sopl_grammar.specs.Heads.{head}
 use Rattle.sopl_grammar.specs.Reading.{Stop, Syntax, Depth, Read, ◌>>=◌, chain, chain_on}
-use Rattle.sopl_grammar.proofs.Local.{Reader, Over, Taken, Local, head_append, Answer, answered, stopped, answer, not_both, same_stop, same_value}
+use Rattle.sopl_grammar.proofs.Local.{Seen, Reader, Over, Taken, Local, head_append, Answer, answered, stopped, answer, not_both, same_stop, same_value}
 
 -- what is asked of the reading of an item
 pub record Steps {A : Type 0} (next : Reader (Option A)) (n : ℕ) : Type 0 where
@@ -60,7 +60,8 @@ record ChainTaken {A : Type 0} (next : Reader (Option A)) (n : ℕ) (found : Lis
 record ChainFailed {A : Type 0} (next : Reader (Option A)) (n : ℕ) (found : List A) (ts r : List Token) : Type 0 where
   used : List Token
   split : ts ≡ used ++ r
-  again : (m : ℕ) (s : List Token) (fuel : ℕ) → n ≤ m → head s ≡ head r → length (used ++ s) ≤ fuel → chain (next false m) fuel found (used ++ s) ≡ Err (Syntax s)
+  again : (cut : Bool) (m : ℕ) (s : List Token) (fuel : ℕ) → n ≤ m → head s ≡ head r → Seen cut s → length (used ++ s) ≤ fuel
+      → chain (next cut m) fuel found (used ++ s) ≡ Err (Syntax s)
   over : (m : ℕ) → n ≤ m → ChainOver next found m used
 
 record ChainSunk {A : Type 0} (next : Reader (Option A)) (n : ℕ) (found : List A) (ts r : List Token) : Type 0 where
@@ -69,7 +70,7 @@ record ChainSunk {A : Type 0} (next : Reader (Option A)) (n : ℕ) (found : List
   more : List Token
   left : r ≡ token ∷ more
   split : ts ≡ used ++ token ∷ more
-  again : (s : List Token) (fuel : ℕ) → head s ≡ Some token.kind → length (used ++ s) ≤ fuel → chain (next false n) fuel found (used ++ s) ≡ Err (Depth s)
+  again : (cut : Bool) (s : List Token) (fuel : ℕ) → head s ≡ Some token.kind → length (used ++ s) ≤ fuel → chain (next cut n) fuel found (used ++ s) ≡ Err (Depth s)
   over : (m : ℕ) → n ≤ m → ChainOver next found m used
   over_with : (m : ℕ) → n < m → ChainOver next found m (used ++ token ∷ [])
 
@@ -178,19 +179,19 @@ chain_failed_item {A} next n steps found ts a left r e later =
     record {
       used = t.used ++ later.used;
       split = t.all ∙ ap (λ l. t.used ++ l) later.split ∙ sym (append_assoc t.used later.used r);
-      again = λ m s fuel le same enough. by_fuel t some m s fuel le same enough;
+      again = λ cut m s fuel le same seen enough. by_fuel t some cut m s fuel le same seen enough;
       over = λ m le. later_over next n steps found ts a left t some m le later.used (front_of later.used r left later.split) (later.over m le);
     }
   where
-    by_fuel : (t : Taken next n ts (Some a) left) → 0 < length t.used → (m : ℕ) (s : List Token) (fuel : ℕ) → n ≤ m → head s ≡ head r
-        → length ((t.used ++ later.used) ++ s) ≤ fuel → chain (next false m) fuel found ((t.used ++ later.used) ++ s) ≡ Err (Syntax s)
-    by_fuel t some m s zero le same enough =
+    by_fuel : (t : Taken next n ts (Some a) left) → 0 < length t.used → (cut : Bool) (m : ℕ) (s : List Token) (fuel : ℕ) → n ≤ m → head s ≡ head r
+        → Seen cut s → length ((t.used ++ later.used) ++ s) ≤ fuel → chain (next cut m) fuel found ((t.used ++ later.used) ++ s) ≡ Err (Syntax s)
+    by_fuel t some cut m s zero le same seen enough =
         absurd (omega (arith, length-append (t.used ++ later.used) s, length-append t.used later.used, enough, some))
-    by_fuel t some m s (suc fuel) le same enough =
+    by_fuel t some cut m s (suc fuel) le same seen enough =
         let front : head (later.used ++ s) ≡ head left = head_append later.used s r same ∙ ap head (sym later.split) in
-        ap (λ l. chain (next false m) (suc fuel) found l) (append_assoc t.used later.used s)
-        ∙ chain_item (next false m) fuel found (t.used ++ (later.used ++ s)) a (later.used ++ s) (t.again false m (later.used ++ s) le front)
-        ∙ later.again m s fuel le same
+        ap (λ l. chain (next cut m) (suc fuel) found l) (append_assoc t.used later.used s)
+        ∙ chain_item (next cut m) fuel found (t.used ++ (later.used ++ s)) a (later.used ++ s) (t.again cut m (later.used ++ s) le front)
+        ∙ later.again cut m s fuel le same seen
         (omega (arith, length-append (t.used ++ later.used) s, length-append t.used later.used, length-append later.used s, enough, some))
 
 -- an item, and a chain that went too deep behind it
@@ -205,7 +206,7 @@ chain_sunk_item {A} next n steps found ts a left r e later =
       more = later.more;
       left = later.left;
       split = t.all ∙ ap (λ l. t.used ++ l) later.split ∙ sym (append_assoc t.used later.used (later.token ∷ later.more));
-      again = λ s fuel same enough. by_fuel t some s fuel same enough;
+      again = λ cut s fuel same enough. by_fuel t some cut s fuel same enough;
       over = λ m le.
           later_over next n steps found ts a left t some m le later.used (front_of later.used (later.token ∷ later.more) left later.split) (later.over m le);
       over_with = λ m lt.
@@ -214,21 +215,21 @@ chain_sunk_item {A} next n steps found ts a left r e later =
           (inl (head_append later.used (later.token ∷ []) (later.token ∷ later.more) refl ∙ ap head (sym later.split))) (later.over_with m lt));
     }
   where
-    by_fuel : (t : Taken next n ts (Some a) left) → 0 < length t.used → (s : List Token) (fuel : ℕ) → head s ≡ Some later.token.kind
-        → length ((t.used ++ later.used) ++ s) ≤ fuel → chain (next false n) fuel found ((t.used ++ later.used) ++ s) ≡ Err (Depth s)
-    by_fuel t some s zero same enough =
+    by_fuel : (t : Taken next n ts (Some a) left) → 0 < length t.used → (cut : Bool) (s : List Token) (fuel : ℕ) → head s ≡ Some later.token.kind
+        → length ((t.used ++ later.used) ++ s) ≤ fuel → chain (next cut n) fuel found ((t.used ++ later.used) ++ s) ≡ Err (Depth s)
+    by_fuel t some cut s zero same enough =
         absurd (omega (arith, length-append (t.used ++ later.used) s, length-append t.used later.used, enough, some))
-    by_fuel t some s (suc fuel) same enough =
+    by_fuel t some cut s (suc fuel) same enough =
         let front : head (later.used ++ s) ≡ head left = head_append later.used s (later.token ∷ later.more) same ∙ ap head (sym later.split) in
-        ap (λ l. chain (next false n) (suc fuel) found l) (append_assoc t.used later.used s)
-        ∙ chain_item (next false n) fuel found (t.used ++ (later.used ++ s)) a (later.used ++ s) (t.again false n (later.used ++ s) (omega arith) front)
-        ∙ later.again s fuel same
+        ap (λ l. chain (next cut n) (suc fuel) found l) (append_assoc t.used later.used s)
+        ∙ chain_item (next cut n) fuel found (t.used ++ (later.used ++ s)) a (later.used ++ s) (t.again cut n (later.used ++ s) (omega arith) front)
+        ∙ later.again cut s fuel same
         (omega (arith, length-append (t.used ++ later.used) s, length-append t.used later.used, length-append later.used s, enough, some))
 
 -- tokens for which an item stops are some tokens, or the item stops at none too
-some_fuel : {A P : Type 0} (next : Reader (Option A)) (n : ℕ) → Steps next n → (m : ℕ) (ts : List Token) (stop : Stop) → length ts ≤ 0 → next false m ts ≡ Err stop → P
-some_fuel next n steps m ts stop h e =
-    not_both (next false m ts) (None, []) stop (ap (λ l. next false m l) (none_left ts h) ∙ steps.ends false m) e
+some_fuel : {A P : Type 0} (next : Reader (Option A)) (n : ℕ) → Steps next n → (cut : Bool) (m : ℕ) (ts : List Token) (stop : Stop) → length ts ≤ 0 → next cut m ts ≡ Err stop → P
+some_fuel next n steps cut m ts stop h e =
+    not_both (next cut m ts) (None, []) stop (ap (λ l. next cut m l) (none_left ts h) ∙ steps.ends cut m) e
 
 -- the next item stops
 chain_failed_here : {A : Type 0} (next : Reader (Option A)) (n : ℕ) → Steps next n → (found : List A) (ts r : List Token)
@@ -238,13 +239,14 @@ chain_failed_here {A} next n steps found ts r e =
     record {
       used = t.used;
       split = t.all;
-      again = λ m s fuel le same enough. by_fuel m (t.used ++ s) s fuel enough (t.again m s le same);
+      again = λ cut m s fuel le same seen enough. by_fuel cut m (t.used ++ s) s fuel enough (t.again cut m s le same seen);
       over = λ m le. one_over next n steps found m t.used (t.over m le);
     }
   where
-    by_fuel : (m : ℕ) (all s : List Token) (fuel : ℕ) → length all ≤ fuel → next false m all ≡ Err (Syntax s) → chain (next false m) fuel found all ≡ Err (Syntax s)
-    by_fuel m all s zero enough h = some_fuel next n steps m all (Syntax s) enough h
-    by_fuel m all s (suc fuel) enough h = chain_stop (next false m) fuel found all (Syntax s) h
+    by_fuel : (cut : Bool) (m : ℕ) (all s : List Token) (fuel : ℕ) → length all ≤ fuel → next cut m all ≡ Err (Syntax s)
+        → chain (next cut m) fuel found all ≡ Err (Syntax s)
+    by_fuel cut m all s zero enough h = some_fuel next n steps cut m all (Syntax s) enough h
+    by_fuel cut m all s (suc fuel) enough h = chain_stop (next cut m) fuel found all (Syntax s) h
 
 -- the next item goes too deep
 chain_sunk_here : {A : Type 0} (next : Reader (Option A)) (n : ℕ) → Steps next n → (found : List A) (ts r : List Token)
@@ -257,14 +259,14 @@ chain_sunk_here {A} next n steps found ts r e =
       more = t.more;
       left = t.left;
       split = t.all;
-      again = λ s fuel same enough. by_fuel (t.used ++ s) s fuel enough (t.again s same);
+      again = λ cut s fuel same enough. by_fuel cut (t.used ++ s) s fuel enough (t.again cut s same);
       over = λ m le. one_over next n steps found m t.used (t.over m le);
       over_with = λ m lt. one_over next n steps found m (t.used ++ t.token ∷ []) (t.over_with m lt);
     }
   where
-    by_fuel : (all s : List Token) (fuel : ℕ) → length all ≤ fuel → next false n all ≡ Err (Depth s) → chain (next false n) fuel found all ≡ Err (Depth s)
-    by_fuel all s zero enough h = some_fuel next n steps n all (Depth s) enough h
-    by_fuel all s (suc fuel) enough h = chain_stop (next false n) fuel found all (Depth s) h
+    by_fuel : (cut : Bool) (all s : List Token) (fuel : ℕ) → length all ≤ fuel → next cut n all ≡ Err (Depth s) → chain (next cut n) fuel found all ≡ Err (Depth s)
+    by_fuel cut all s zero enough h = some_fuel next n steps cut n all (Depth s) enough h
+    by_fuel cut all s (suc fuel) enough h = chain_stop (next cut n) fuel found all (Depth s) h
 
 -- what a chain took
 chain_taken : {A : Type 0} (next : Reader (Option A)) (n : ℕ) → Steps next n → (fuel : ℕ) (found : List A) (ts : List Token) (all : List A) (r : List Token)
@@ -355,7 +357,7 @@ local_chain {A} next n steps found =
           record {
             used = t.used;
             all = t.split;
-            again = λ m s le same. t.again m s (length (t.used ++ s)) le same (omega arith);
+            again = λ cut m s le same seen. t.again cut m s (length (t.used ++ s)) le same seen (omega arith);
             over = λ m le. let o = (t.over m le).over (length t.used) (omega arith) in record { value = o.value; read = o.read };
           };
       sunk = λ ts r e.
@@ -366,7 +368,7 @@ local_chain {A} next n steps found =
             more = t.more;
             left = t.left;
             all = t.split;
-            again = λ s same. t.again s (length (t.used ++ s)) same (omega arith);
+            again = λ cut s same. t.again cut s (length (t.used ++ s)) same (omega arith);
             over = λ m le. let o = (t.over m le).over (length t.used) (omega arith) in record { value = o.value; read = o.read };
             over_with = λ m lt.
                 let o = (t.over_with m lt).over (length (t.used ++ t.token ∷ [])) (omega arith) in record { value = o.value; read = o.read };

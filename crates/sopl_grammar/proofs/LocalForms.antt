@@ -8,7 +8,7 @@ use Rattle.sopl_grammar.specs.Heads.{head, is_mark}
 use Rattle.sopl_grammar.specs.Reading.{Stop, Syntax, Depth, Read, ◌>>=◌, Inner, absent, past, passed, opening, opened, content_of, enter, name, name_at}
 use Rattle.sopl_grammar.specs.Phrases as p
 use Rattle.sopl_grammar.specs.Phrases.{way, inner_of}
-use Rattle.sopl_grammar.proofs.Local.{Reader, Over, Taken, Failed, Sunk, Local, Answer, answered, stopped, answer, not_both, same_value, local_bind, local_pure, local_missing}
+use Rattle.sopl_grammar.proofs.Local.{absent_stops, Reader, Over, Taken, Failed, Sunk, Local, Answer, answered, stopped, answer, not_both, same_value, local_bind, local_pure, local_missing}
 use Rattle.sopl_grammar.proofs.LocalCases.{Branch, as_other, behind_it, opens_it, local_cases}
 use Rattle.sopl_grammar.proofs.LocalChain.{Steps}
 use Rattle.sopl_grammar.proofs.MarkLaws.{no_mark}
@@ -21,7 +21,8 @@ local_past {B} mark g n l =
     (λ cut m. ap (λ b. passed (way cut m) [] b >>= g cut m) (no_mark mark)) (λ u t e. branch u t)
   where
     missing : Local (λ cut m ts. absent cut [] ts >>= g cut m) n
-    missing = local_missing (λ cut m ts. absent cut [] ts >>= g cut m) n (λ m. record { value = (l.none m).value; read = (l.none m).read }) (λ m ts. refl)
+    missing = local_missing (λ cut m ts. absent cut [] ts >>= g cut m) n (λ m. record { value = (l.none m).value; read = (l.none m).read })
+        (λ cut m ts seen. ap (λ o. o >>= g cut m) (absent_stops cut [] ts seen))
 
     branch : (u : Token) (b : Bool) → Branch (λ cut m ts b. passed (way cut m) ts b >>= g cut m) n u b
     branch u true = behind_it g (λ cut m us. refl) l
@@ -42,7 +43,8 @@ local_enter {A} mark value content n nones below =
     (λ cut m. ap (λ b. opened (way cut m) [] b >>= content_of value content) (no_mark mark)) (λ u t e. branch u t)
   where
     missing : Local (λ cut m ts. absent cut None ts >>= content_of value content) n
-    missing = local_missing (λ cut m ts. absent cut None ts >>= content_of value content) n (λ m. record { value = value; read = refl }) (λ m ts. refl)
+    missing = local_missing (λ cut m ts. absent cut None ts >>= content_of value content) n (λ m. record { value = value; read = refl })
+        (λ cut m ts seen. ap (λ o. o >>= content_of value content) (absent_stops cut None ts seen))
 
     branch : (u : Token) (b : Bool) → Branch (λ cut m ts b. opened (way cut m) ts b >>= content_of value content) n u b
     branch u true = opens_it (λ cut k us. content (inner_of (way cut k)) us) (λ cut k us. refl) (λ cut v us. refl) nones below
@@ -55,7 +57,8 @@ local_name n =
     local_cases (h.at_kind h.name_bytes) (λ cut m ts o. name_at (way cut m) ts o) (λ cut m ts. absent cut (([], 0), []) ts) n missing (λ cut m. refl) (λ u t e. branch u t)
   where
     missing : Local {A = List ℕ × ℕ} (λ cut m ts. absent cut (([], 0), []) ts) n
-    missing = local_missing {A = List ℕ × ℕ} (λ cut m ts. absent cut (([], 0), []) ts) n (λ m. record { value = ([], 0); read = refl }) (λ m ts. refl)
+    missing = local_missing {A = List ℕ × ℕ} (λ cut m ts. absent cut (([], 0), []) ts) n (λ m. record { value = ([], 0); read = refl })
+        (λ cut m ts seen. absent_stops cut (([], 0), []) ts seen)
 
     branch : (u : Token) (o : Option (List ℕ)) → Branch (λ cut m ts o. name_at (way cut m) ts o) n u o
     branch u (Some bytes) = behind_it (λ cut m us. Ok ((bytes, u.span.start), us)) (λ cut m us. refl) (local_pure (bytes, u.span.start) n)
@@ -308,12 +311,12 @@ local_after {A} f u n l value alone =
         by_front : (t : Failed f n (u ∷ us) r) → Front u us t.used r → Failed (λ cut m us. f cut m (u ∷ us)) n us r
         by_front t (takes_none none left) =
             not_both (f false n (u ∷ [])) (value, []) (Syntax (u ∷ [])) (alone false n)
-            (ap (λ l. f false n (l ++ u ∷ [])) (sym none) ∙ t.again n (u ∷ []) (omega arith) (sym (ap head left)))
+            (ap (λ l. f false n (l ++ u ∷ [])) (sym none) ∙ t.again false n (u ∷ []) (omega arith) (sym (ap head left)) tt)
         by_front t (takes_first vs at split) =
             record {
               used = vs;
               all = split;
-              again = λ m s le same. ap (λ l. f false m (l ++ s)) (sym at) ∙ t.again m s le same;
+              again = λ cut m s le same seen. ap (λ l. f cut m (l ++ s)) (sym at) ∙ t.again cut m s le same seen;
               over = λ m le. over_at m t.used vs at (t.over m le);
             }
 
@@ -323,7 +326,7 @@ local_after {A} f u n l value alone =
         by_front : (t : Sunk f n (u ∷ us) r) → Front u us t.used (t.token ∷ t.more) → Sunk (λ cut m us. f cut m (u ∷ us)) n us r
         by_front t (takes_none none left) =
             not_both (f false n (u ∷ [])) (value, []) (Depth (u ∷ [])) (alone false n)
-            (ap (λ l. f false n (l ++ u ∷ [])) (sym none) ∙ t.again (u ∷ []) (sym (ap head left)))
+            (ap (λ l. f false n (l ++ u ∷ [])) (sym none) ∙ t.again false (u ∷ []) (sym (ap head left)))
         by_front t (takes_first vs at split) =
             record {
               used = vs;
@@ -331,7 +334,7 @@ local_after {A} f u n l value alone =
               more = t.more;
               left = t.left;
               all = split;
-              again = λ s same. ap (λ l. f false n (l ++ s)) (sym at) ∙ t.again s same;
+              again = λ cut s same. ap (λ l. f cut n (l ++ s)) (sym at) ∙ t.again cut s same;
               over = λ m le. over_at m t.used vs at (t.over m le);
               over_with = λ m lt. over_at m (t.used ++ t.token ∷ []) (vs ++ t.token ∷ []) (ap (λ l. l ++ t.token ∷ []) at) (t.over_with m lt);
             }
@@ -401,7 +404,7 @@ local_up {A} f k l =
           record {
             used = t.used;
             all = t.all;
-            again = λ m s le same. t.again (suc m) s (omega arith) same;
+            again = λ cut m s le same seen. t.again cut (suc m) s (omega arith) same seen;
             over = λ m le. let o = t.over (suc m) (omega arith) in record { value = o.value; read = o.read };
           };
       sunk = λ ts r e. let t = l.sunk ts r e in

@@ -13,7 +13,7 @@ use Rattle.sopl_grammar.specs.Expressions as expressions
 use Rattle.sopl_grammar.specs.Phrases as p
 use Rattle.sopl_grammar.specs.Expressions.{no_tree}
 use Rattle.sopl_grammar.specs.Phrases.{way, inner_of}
-use Rattle.sopl_grammar.proofs.Local.{Reader, Over, Local, local_bind, local_pure, local_missing, local_same, same_value}
+use Rattle.sopl_grammar.proofs.Local.{absent_stops, Reader, Over, Local, local_bind, local_pure, local_missing, local_same, same_value}
 use Rattle.sopl_grammar.proofs.LocalChain.{Steps, local_chain}
 use Rattle.sopl_grammar.proofs.LocalForms.{local_past, local_last, local_enter, local_name, Mapped, local_mapped, none_mapped, Closed, local_closed, none_closed, no_item, Item, none_follows, steps_of, is_some_item, local_opens, local_if, local_test, item_if, item_opens, local_up}
 use Rattle.sopl_grammar.proofs.LocalPhrases.{LocalInner, Below, sum_local, expression_local, negation_local, operand_local}
@@ -168,7 +168,8 @@ measure_local : (n : ℕ) → Local (λ cut m ts. p.measure (way cut m) ts) n
 unfolding p.measure h.goal_measure
 measure_local n =
     local_test g.goal_measure (λ cut m ts o. p.measure_by (way cut m) ts o) (λ cut m ts. absent cut (false, []) ts) (λ worst u cut m us. Ok (worst, us)) n
-    (local_missing {A = Bool} (λ cut m ts. absent cut (false, []) ts) n (λ m. record { value = false; read = refl }) (λ m ts. refl))
+    (local_missing {A = Bool} (λ cut m ts. absent cut (false, []) ts) n (λ m. record { value = false; read = refl })
+    (λ cut m ts seen. absent_stops cut (false, []) ts seen))
     (λ worst u. local_pure worst n) (λ cut m ts. refl) (λ cut m u us worst. refl)
 
 goal_local : (n : ℕ) → Below n → (direction : Direction) → Local (λ cut m ts. p.goal (way cut m) direction ts) n

@@ -15,7 +15,7 @@ use Rattle.sopl_grammar.specs.Expressions as expressions
 use Rattle.sopl_grammar.specs.Phrases as p
 use Rattle.sopl_grammar.specs.Expressions.{no_tree, no_binders}
 use Rattle.sopl_grammar.specs.Phrases.{way, inner_of}
-use Rattle.sopl_grammar.proofs.Local.{Reader, Local, local_bind, local_pure, local_missing}
+use Rattle.sopl_grammar.proofs.Local.{absent_stops, Reader, Local, local_bind, local_pure, local_missing}
 use Rattle.sopl_grammar.proofs.LocalChain.{Steps, local_chain}
 use Rattle.sopl_grammar.proofs.LocalForms.{local_enter, Mapped, local_mapped, none_mapped, Closed, local_closed, none_closed, steps_by_mark, steps_by_test, steps_by_bracket, local_opens, local_if, local_test}
 use Rattle.sopl_grammar.proofs.Nothing.{none_expression, none_operand, none_negation, none_summed, none_arguments, none_compared, none_tasks}
@@ -86,7 +86,8 @@ cumulative_local n below u =
     (local_enter mark.ParenOpen (no_binders, ((no_tree, (no_tree, no_tree)), no_tree)) (λ inner. inner.tasks) n none_tasks (λ k at. (below k at).tasks))
 
 nothing_local : (n : ℕ) → Local {A = Tree} (λ cut m ts. absent cut (no_tree, []) ts) n
-nothing_local n = local_missing {A = Tree} (λ cut m ts. absent cut (no_tree, []) ts) n (λ m. record { value = no_tree; read = refl }) (λ m ts. refl)
+nothing_local n = local_missing {A = Tree} (λ cut m ts. absent cut (no_tree, []) ts) n (λ m. record { value = no_tree; read = refl })
+    (λ cut m ts seen. absent_stops cut (no_tree, []) ts seen)
 
 cumulative_or_local : (n : ℕ) → Below n → Local (λ cut m ts. expressions.cumulative_or (way cut m) ts (is_mark mark.Cumulative (head ts))) n
 cumulative_or_local n below =

@@ -41,7 +41,7 @@ name_starts : (kind : Option TokenKind) (bytes : List ℕ) → kind ≡ Some (k.
 name_starts kind bytes is = rw is (omega arith)
 
 -- a name alone, as a sum
-sum_of_name : (w : Way) (ts : List Token) (bytes : List ℕ) → head ts ≡ Some (k.Name bytes) → 4 ≤ level (head (rest ts))
+pub sum_of_name : (w : Way) (ts : List Token) (bytes : List ℕ) → head ts ≡ Some (k.Name bytes) → 4 ≤ level (head (rest ts))
     → expressions.sum w ts ≡ Ok (Node (place ts) (t.Name bytes), rest ts)
 sum_of_name w ts bytes is ends =
     let alone = chain_end (expressions.next_index w) (rest ts) (no_index_read w (rest ts) (omega arith)) in
@@ -54,13 +54,13 @@ abbrev left_of : {A : Type 0} → Read A → List Token
 left_of (Ok x) = x.1
 left_of (Err stop) = []
 
--- a sum before `..` is not a name alone before another token that ends a sum
-behind_name : (w : Way) (ts : List Token) (lo : Tree) (us : List Token) → expressions.sum w ts ≡ Ok (lo, us) → head us ≡ Some k.DotDot
-    → (bytes : List ℕ) → head ts ≡ Some (k.Name bytes) → 4 ≤ level (head (rest ts)) → head (rest ts) ≡ Some k.DotDot
-behind_name w ts lo us e dots bytes is ends = ap (λ (o : Read Tree). head (left_of o)) (sym (sum_of_name w ts bytes is ends) ∙ e) ∙ dots
+-- behind a sum that begins with a name before a token that ends a sum, that token is left
+behind_name : (w : Way) (ts : List Token) (lo : Tree) (us : List Token) → expressions.sum w ts ≡ Ok (lo, us)
+    → (bytes : List ℕ) → head ts ≡ Some (k.Name bytes) → 4 ≤ level (head (rest ts)) → rest ts ≡ us
+behind_name w ts lo us e bytes is ends = ap (λ (o : Read Tree). left_of o) (sym (sum_of_name w ts bytes is ends) ∙ e)
 
 -- two tokens that are no range by its name
-no_range_name : (first second : Option TokenKind) → ((bytes : List ℕ) → first ≡ Some (k.Name bytes) → 4 ≤ level second → second ≡ Some k.DotDot)
+no_range_name : (first second : Option TokenKind) → ((bytes : List ℕ) → first ≡ Some (k.Name bytes) → 4 ≤ level second → at_kind h.ends_range second ≡ None)
     → expressions.range_name_of (at_kind h.name_bytes first) (at_kind h.ends_range second) ≡ None
 no_range_name (Some (k.Name bytes)) (Some k.Comma) next = let e = next bytes refl (omega arith) in absurd (cc)
 no_range_name (Some (k.Name bytes)) (Some k.ParenClose) next = let e = next bytes refl (omega arith) in absurd (cc)
@@ -71,7 +71,7 @@ no_range_name (Some (k.Name bytes)) second next = refl
 no_range_name first second next = refl
 
 -- two tokens that are no name over a dimension
-no_dim_name : (first second : Option TokenKind) → ((bytes : List ℕ) → first ≡ Some (k.Name bytes) → 4 ≤ level second → second ≡ Some k.DotDot)
+no_dim_name : (first second : Option TokenKind) → ((bytes : List ℕ) → first ≡ Some (k.Name bytes) → 4 ≤ level second → is_mark m.Inside second ≡ false)
     → p.dim_name_of (at_kind h.name_bytes first) (is_mark m.Inside second) ≡ None
 unfolding is_mark
 no_dim_name (Some (k.Name bytes)) (Some k.Inside) next = let e = next bytes refl (omega arith) in absurd (cc)
@@ -79,14 +79,17 @@ no_dim_name (Some (k.Name bytes)) second next = refl
 no_dim_name first second next = refl
 
 -- a range by its two ends is no range by its name
-range_by_ends : (w : Way) (ts : List Token) (lo : Tree) (us : List Token) → expressions.sum w ts ≡ Ok (lo, us) → head us ≡ Some k.DotDot → expressions.range_name ts ≡ None
+range_by_ends : (w : Way) (ts : List Token) (lo : Tree) (us : List Token) → expressions.sum w ts ≡ Ok (lo, us) → at_kind h.ends_range (head us) ≡ None
+    → expressions.range_name ts ≡ None
 unfolding expressions.range_name h.named h.range_end
-range_by_ends w ts lo us e dots = no_range_name (head ts) (head (rest ts)) (behind_name w ts lo us e dots)
+range_by_ends w ts lo us e none =
+    no_range_name (head ts) (head (rest ts)) (λ bytes is ends. ap (λ l. at_kind h.ends_range (head l)) (behind_name w ts lo us e bytes is ends) ∙ none)
 
 -- a range by its two ends does not begin with a name over a dimension
-pub dim_by_ends : (w : Way) (ts : List Token) (lo : Tree) (us : List Token) → expressions.sum w ts ≡ Ok (lo, us) → head us ≡ Some k.DotDot → p.dim_name ts ≡ None
+pub dim_by_ends : (w : Way) (ts : List Token) (lo : Tree) (us : List Token) → expressions.sum w ts ≡ Ok (lo, us) → is_mark m.Inside (head us) ≡ false → p.dim_name ts ≡ None
 unfolding p.dim_name h.named
-dim_by_ends w ts lo us e dots = no_dim_name (head ts) (head (rest ts)) (behind_name w ts lo us e dots)
+dim_by_ends w ts lo us e none =
+    no_dim_name (head ts) (head (rest ts)) (λ bytes is ends. ap (λ l. is_mark m.Inside (head l)) (behind_name w ts lo us e bytes is ends) ∙ none)
 
 -- a range by its name does not begin with a name over a dimension
 pub dim_by_name : (ts : List Token) (bytes : List ℕ) → head ts ≡ Some (k.Name bytes) → at_kind h.ends_range (head (rest ts)) ≡ Some true → p.dim_name ts ≡ None
@@ -101,9 +104,10 @@ range_named w ts bytes is ends = rw (is, ends) refl
 
 -- a range by its two ends
 pub range_ends : (w : Way) (ts : List Token) (lo : Tree) (us vs : List Token) (hi : Tree) (r : List Token)
-    → expressions.sum w ts ≡ Ok (lo, us) → head us ≡ Some k.DotDot → past w m.DotDot us ≡ Ok vs → expressions.sum w vs ≡ Ok (hi, r) → expressions.range w ts ≡ Ok (Ends lo hi, r)
+    → expressions.sum w ts ≡ Ok (lo, us) → at_kind h.ends_range (head us) ≡ None → past w m.DotDot us ≡ Ok vs → expressions.sum w vs ≡ Ok (hi, r)
+    → expressions.range w ts ≡ Ok (Ends lo hi, r)
 unfolding expressions.range expressions.ends
-range_ends w ts lo us vs hi r e1 dots e2 e3 = rw (range_by_ends w ts lo us e1 dots, e1, e2, e3) refl
+range_ends w ts lo us vs hi r e1 none e2 e3 = rw (range_by_ends w ts lo us e1 none, e1, e2, e3) refl
 
 -- a binder
 pub binder_read : (w : Way) (ts : List Token) (bytes : List ℕ) (spot : ℕ) (us vs : List Token) (range : Range) (r : List Token)

@@ -31,5 +31,6 @@ too_deep_at length ts left e =
       place = ap (place_in length) stop.left;
       front = stop.front;
       deeper = stop.deeper;
+      over = stop.over;
       none = λ others tree spells. stop.none (stop.token ∷ others) refl tree spells;
     }

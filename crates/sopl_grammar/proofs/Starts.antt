@@ -11,7 +11,7 @@ use Rattle.sopl_grammar.specs.Heads.{head}
 use Rattle.sopl_grammar.proofs.Ends.{beginning, start}
 
 -- `min` and `max` begin a primary
-extreme_begins : (kind : TokenKind) (greatest : Bool) → g.extreme_function kind ≡ Some greatest → beginning kind ≡ 0
+pub extreme_begins : (kind : TokenKind) (greatest : Bool) → g.extreme_function kind ≡ Some greatest → beginning kind ≡ 0
 extreme_begins k.Min greatest e = refl
 extreme_begins k.Max greatest e = refl
 extreme_begins kind greatest e = absurd (cc)

@@ -11,6 +11,7 @@ use Rattle.sopl_grammar.proofs.Local.{Reader, Over, Taken, Failed, Sunk, Answer,
 use Rattle.sopl_grammar.proofs.LocalModel.{whole_local}
 use Rattle.sopl_grammar.proofs.CompleteWhole.{whole_read}
 use Rattle.sopl_grammar.proofs.SoundWhole.{whole_sound}
+use Rattle.sopl_grammar.proofs.Fronts.{sunk_front}
 
 -- a model, as it is read
 abbrev Whole : Reader ModelTree
@@ -50,6 +51,7 @@ pub record DepthStop (n : ℕ) (ts r : List Token) : Type 0 where
   pub all : ts ≡ used ++ token ∷ more
   pub front : IsFront n used
   pub deeper : IsFront (n + 1) (used ++ token ∷ [])
+  pub over : IsFront n (used ++ token ∷ []) → ⊥
   pub none : (s : List Token) → head s ≡ Some token.kind → (tree : ModelTree) → SpellsIn n (used ++ s) tree → ⊥
 
 from_failed : (n : ℕ) (ts r : List Token) → Failed Whole n ts r → SyntaxStop n ts r
@@ -61,7 +63,7 @@ from_failed n ts r t =
       stuck = λ s same tree spells.
           let m = n + spells.nesting in
           not_both (p.whole (way false m) (t.used ++ s)) (tree, []) (Syntax s)
-          (read_within spells.nesting m (omega arith) (t.used ++ s) tree spells.spelled) (t.again m s (omega arith) same);
+          (read_within spells.nesting m (omega arith) (t.used ++ s) tree spells.spelled) (t.again false m s (omega arith) same tt);
     }
 
 -- a model was read, and a token stands behind it
@@ -115,8 +117,9 @@ from_sunk n ts r t =
       all = t.all;
       front = front_of n t.used (t.over n (omega arith));
       deeper = front_of (n + 1) (t.used ++ t.token ∷ []) (t.over_with (n + 1) (omega arith));
+      over = sunk_front n ts r t;
       none = λ s same tree spells.
-          not_both (p.whole (way false n) (t.used ++ s)) (tree, []) (Depth s) (read_within n n (omega arith) (t.used ++ s) tree spells) (t.again s same);
+          not_both (p.whole (way false n) (t.used ++ s)) (tree, []) (Depth s) (read_within n n (omega arith) (t.used ++ s) tree spells) (t.again false s same);
     }
 
 pub depth_stop : (n : ℕ) (ts r : List Token) → p.model n ts ≡ Err (Depth r) → DepthStop n ts r

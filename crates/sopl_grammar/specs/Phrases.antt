@@ -10,7 +10,7 @@ use Rattle.sopl_grammar.specs.declared.marks.Mark.TheVariants as m
 use Rattle.sopl_grammar.specs.Heads as h
 use Rattle.sopl_grammar.specs.Heads.{head, rest, place, is_mark}
 use Rattle.sopl_grammar.specs.Reading.{Stop, Depth, Read, Next, Inner, Way, ◌>>=◌, absent, past, enter, name, chain}
-use Rattle.sopl_grammar.specs.Expressions.{arguments, binder, bindings, bound, compared, expression, negation, no_tree, operand, range, sum, summed, task, tasks}
+use Rattle.sopl_grammar.specs.Expressions.{arguments, bindings, bound, compared, expression, negation, no_tree, operand, range, sum, summed, task, tasks}
 
 -- the stage behind its keyword
 abbrev pub stage_behind : Way → List Token → Bool → Read (Option Tree)

@@ -1,5 +1,5 @@
 -- What the reader's answer says of the models that the tokens spell.
-use Rattle.std.proofs.Common.{◌≡◌, inl, inr, ℕ, List, Result, Ok, Err, refl, sym, subst, ◌∙◌}
+use Rattle.std.proofs.Common.{◌≡◌, ℕ, List, Result, Ok, Err, refl, sym, ◌∙◌}
 use Rattle.sopl_base.specs.declared.places.Fault.TheVariants as fault
 use Rattle.sopl_ast.specs.declared.token.Token.{Token}
 use Rattle.sopl_ast.specs.Grammar.{SpellsWithin}
@@ -11,7 +11,7 @@ use Rattle.sopl_grammar.proofs.CompleteWhole.{model_read}
 use Rattle.sopl_grammar.proofs.Refused.{misplaced_at, too_deep_at}
 use Rattle.sopl_grammar.proofs.SoundWhole.{model_sound}
 use Rattle.sopl_expr.specs.Answers.{Fails}
-use Rattle.sopl_parse.specs.Faults.{fault_of, stop_fault, IsSpellingFault, IsFaultOf}
+use Rattle.sopl_parse.specs.Faults.{fault_of, IsSpellingFault}
 use Rattle.sopl_expr.specs.declared.reader.Halt.{Halt}
 use Rattle.sopl_expr.specs.declared.reader.Halt.TheVariants as halt
 
@@ -49,18 +49,3 @@ pub halts_refused : (tokens : List Token) (length : ℕ) (h : Halt) → Fails h 
 halts_refused tokens length (halt.Syntax left) e = misplaced refl (misplaced_at length tokens left.now e)
 halts_refused tokens length (halt.Depth left) e = too_deep refl (too_deep_at length tokens left.now e)
 halts_refused tokens length halt.NoMemory e = tt
-
--- the fault is where reading stops
-stopped_there : (length : ℕ) (outcome : Result ModelTree Stop) (stop : Stop) → outcome ≡ stopped stop → IsFaultOf length outcome (stop_fault length stop)
-stopped_there length outcome stop e = subst (λ r. IsFaultOf length r (stop_fault length stop)) (sym e) (inl refl)
-
--- where memory runs out nothing is said
-out_of_memory : (length : ℕ) (outcome : Result ModelTree Stop) → IsFaultOf length outcome fault.NoMemory
-out_of_memory length (Ok tree) = refl
-out_of_memory length (Err stop) = inr refl
-
--- a reader's fault is where reading stops
-pub halts_there : (tokens : List Token) (length : ℕ) (h : Halt) → Fails h (phrase.model 64 tokens) → IsFaultOf length (phrase.model 64 tokens) (fault_of length h)
-halts_there tokens length (halt.Syntax left) e = stopped_there length (phrase.model 64 tokens) (Stop.Syntax left.now) e
-halts_there tokens length (halt.Depth left) e = stopped_there length (phrase.model 64 tokens) (Stop.Depth left.now) e
-halts_there tokens length halt.NoMemory e = out_of_memory length (phrase.model 64 tokens)

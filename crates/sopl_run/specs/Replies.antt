@@ -4,6 +4,8 @@ use Rattle.std.specs.Io.KnownBytes.{Keeps, Appends}
 use Rattle.sopl_io.specs.Causes.{Rose}
 use Rattle.sopl_io.specs.Stock.{Stock, text_of, with_name}
 use Rattle.sopl_io.specs.Transfer.{AppendsPrefix}
+use Rattle.sopl_base.specs.declared.places.Refusal.{Refusal}
+use Rattle.sopl_ast.specs.Accepted.{IsRefusedFor}
 use Rattle.answer_lines.specs.Answers.{word_data, line_of}
 use Rattle.text_replies.specs.Replies.{Ends, IsTextReply}
 use Rattle.text_replies.specs.declared.command.Command.{Command}
@@ -60,6 +62,11 @@ EndsSo asked status = IfSome asked (λ a. EndedEarly status ⊎ Ends a.text a.co
 -- and as its command ends on its text a run ends, unless it ends early
 abbrev pub EndsWhen : Option Asked → Status → Type 0
 EndsWhen asked status = IfSome asked (λ a. (end : Status) → Ends a.text a.command end → (status ≡ end) ⊎ EndedEarly status)
+
+-- what is asked for is refused for breaking a rule by one code at one place
+abbrev pub RefusedOnce : Option Asked → Type 0
+RefusedOnce asked =
+    IfSome asked (λ a. (one other : Refusal) → IsRefusedFor a.text one → IsRefusedFor a.text other → one ≡ other)
 
 -- the names with which a source was begun, after it was begun with the file of the model, where there is one
 abbrev pub begun_names : Option (List ℕ) → Option (List (List ℕ)) → Option (List (List ℕ))

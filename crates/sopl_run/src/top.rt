@@ -4,7 +4,7 @@ ghost use Rattle.std.specs.Prelude.{◌≡◌, ◌⊎◌, ◌≤◌, None, Some,
 ghost use Rattle.std.specs.Io.KnownBytes.{IsAtEnd};
 ghost use Rattle.sopl_io.specs.Causes.{Rose};
 ghost use Rattle.sopl_run.specs.Words.{model_of, request_of};
-ghost use Rattle.sopl_run.specs.Replies.{asked_in, IsReply, Answers, EndsSo, EndsWhen, begun_names, IsUntouched};
+ghost use Rattle.sopl_run.specs.Replies.{asked_in, IsReply, Answers, EndsSo, EndsWhen, RefusedOnce, begun_names, IsUntouched};
 
 use crate::words::{Words, asked};
 use answer_lines::word_line;
@@ -15,7 +15,7 @@ use text_replies::{Reply, Status, reply_to};
 /// The bytes of a model text that are read at most: one more than a text may have.
 const MOST_READ: usize = 1_048_577;
 
-#[tactic(auto, using(crate::proofs::Statuses::taken_whole, crate::proofs::Statuses::taken_front, crate::proofs::Statuses::taken_nothing, crate::proofs::Statuses::reply_usage, crate::proofs::Statuses::reply_usage_when, crate::proofs::Statuses::reply_ends, crate::proofs::Statuses::reply_ends_when, crate::proofs::Statuses::reply_read, crate::proofs::Statuses::reply_written, crate::proofs::Statuses::write_ends, crate::proofs::Statuses::write_ends_when, crate::proofs::Statuses::memory_ends, crate::proofs::Statuses::memory_ends_when))]
+#[tactic(auto, using(crate::proofs::Statuses::taken_whole, crate::proofs::Statuses::taken_front, crate::proofs::Statuses::taken_nothing, crate::proofs::Statuses::reply_usage, crate::proofs::Statuses::reply_usage_when, crate::proofs::Statuses::reply_ends, crate::proofs::Statuses::reply_ends_when, crate::proofs::Statuses::reply_read, crate::proofs::Statuses::reply_written, crate::proofs::Statuses::write_ends, crate::proofs::Statuses::write_ends_when, crate::proofs::Statuses::memory_ends, crate::proofs::Statuses::memory_ends_when, crate::proofs::Statuses::refused_once))]
 /// Runs the command that the words name: it reads from the source and writes one answer line to the
 /// answer sink. The log sink is not used yet.
 pub fn run<S: Source, K: Sink>(
@@ -37,6 +37,9 @@ pub fn run<S: Source, K: Sink>(
     // that is not solved yet; a text that passes a limit ends so; each other one is answered.
     ensures ends { EndsSo (asked_in (S.stock source.old) words.now) result }
     ensures ends_when { EndsWhen (asked_in (S.stock source.old) words.now) result }
+
+    // A text that breaks a rule does so by one code at one place.
+    ensures refused_once { RefusedOnce (asked_in (S.stock source.old) words.now) }
 
     // A text that is answered was read to its end.
     ensures ended { result ≡ Status.Done → IsAtEnd (S.left source.new) }

@@ -190,9 +190,8 @@ impl Goal {
         }
     }
 
-    /// What stands in an expected objective besides its constant: so many times each cell, in ascending order and by the number of the term that
-    /// is the cell, and behind them so many times each of several terms, none of which is a cell, a sum or a product with a number. Equal terms of
-    /// several scenarios are not combined there.
+    /// What stands in an expected objective besides its constant: so many times each of several terms, which exist. The intervals of these and the
+    /// constant sum up to that of the objective. Which terms they are, and in which order, is not promised.
     pub fn atoms(&self, alloc: Global, here: &Here, nodes: &[u32]) -> Result<Vec<Atom>, AllocError>
         requires ready { IsReady here.now }
         requires sound { IsSoundGoal (box_in here.now.root) (things here.now.items.now) self.now }

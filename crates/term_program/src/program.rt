@@ -170,7 +170,7 @@ impl Program {
     pub fn cells_of(&self, cond: CondId) -> &[u32]
         requires made { IsMade self.now }
         requires listed { IsListed self.now cond.0 }
-        ensures { IsListOf (cond_mentions (root_in self.now) (cond_at (things_in self.now) cond.0)) result.now }
+        ensures cells { IsListOf (cond_mentions (root_in self.now) (cond_at (things_in self.now) cond.0)) result.now }
     {
         self.mentioned.conditions.of(cond.0)
     }
@@ -179,7 +179,7 @@ impl Program {
     pub fn term_cells(&self, term: TermId) -> &[u32]
         requires made { IsMade self.now }
         requires listed { IsListedTerm self.now term.0 }
-        ensures { IsListOf (mentions (root_in self.now) (term_at (things_in self.now) term.0)) result.now }
+        ensures cells { IsListOf (mentions (root_in self.now) (term_at (things_in self.now) term.0)) result.now }
     {
         self.mentioned.terms.of(term.0)
     }
@@ -236,7 +236,7 @@ impl Program {
     pub fn goal_constant(&self) -> i128
         requires made { IsMade self.now }
         requires expected { option_map_or (λ goal. goal.worst) (problem_in self.now).goal false ≡ false }
-        ensures { result ≡ (summed_form (root_in self.now) (problem_in self.now)).constant }
+        ensures constant { result ≡ (summed_form (root_in self.now) (problem_in self.now)).constant }
     {
         match &self.goal {
             Some(goal) => goal.constant(),
@@ -244,8 +244,8 @@ impl Program {
         }
     }
 
-    /// What the sum of an expected objective has besides its constant: so many times each cell, in ascending order, and behind them so many times each of
-    /// several terms, none of which is a cell, a sum or a product with a number. Equal terms of several scenarios are not combined there.
+    /// What the sum of an expected objective has besides its constant: so many times each of several terms, which exist and whose cells `term_cells` gives. The
+    /// intervals of these and the constant sum up to that of the objective. Which terms they are, and in which order, is not promised.
     #[tactic(auto, using(crate::proofs::Goals::atoms_kept, crate::proofs::Goals::atoms_exist))]
     pub fn goal_atoms(&self) -> &[Atom]
         requires made { IsMade self.now }

@@ -13,12 +13,14 @@ use Rattle.sopl_ast.specs.Whole.{ModelTree}
 use Rattle.sopl_ast.specs.Grammar.{Spells, SpellsWithin}
 use Rattle.sopl_ast.specs.Limits.{size_excess, usual_limits}
 use Rattle.sopl_ast.specs.Misspelled.{IsMisspelled, misplaced, too_deep, NoneGoesOn}
-use Rattle.sopl_ast.specs.Mistakes.{of_model, IsWellTyped}
+use Rattle.sopl_ast.specs.Mistakes.{of_model, IsWellTyped, IsFirstMistake, IsNoLater, earlier, same_place}
 use Rattle.sopl_ast.specs.Instances.{Problem}
 use Rattle.sopl_ast.specs.Occurrences.{met}
 use Rattle.sopl_ast.specs.Unfolding.{problem_of, text_occurrences}
 use Rattle.sopl_lex.proofs.Meet.{lexes_one}
 use Rattle.sopl_grammar.proofs.Stops.{spells_one}
+use Rattle.refusal_laws.specs.Laws as unread
+use Rattle.refusal_laws.proofs.Once.{one_refusal}
 use Rattle.text_problem.specs.Laws.{TextsEndOnce}
 
 abbrev lexed : List Token → Result (List Token) Refusal
@@ -135,10 +137,50 @@ refused_not_limited text refusal excess reason limited = by_reason reason (limit
     by_reason (stopped model is typed stops) l =
         l.not_stopped refusal (ap (λ m. met 0 (text_occurrences m)) (one_model text l.model model l.spelled is) ∙ stops)
 
+-- two refusals by one code at one place are one
+same_refusal : (a b : Refusal) → a.code ≡ b.code → a.at ≡ b.at → a ≡ b
+same_refusal a b one two = λ i. record { code = one i; at = two i }
+
+-- of two refusals that are no later than each other both are one
+not_later : (a b : Refusal) → IsNoLater a b → IsNoLater b a → a ≡ b
+not_later a b (earlier one) (earlier two) = absurd (omega (arith, one, two))
+not_later a b (earlier one) (same_place two less) = absurd (omega (arith, one, two))
+not_later a b (same_place one less) (earlier two) = absurd (omega (arith, one, two))
+not_later a b (same_place one less) (same_place two more) = same_refusal a b (omega (arith, less, more)) one
+
+-- the first mistake is one
+one_first : (model : ModelTree) (a b : Refusal) → IsFirstMistake model a → IsFirstMistake model b → a ≡ b
+one_first model a b one two = not_later a b (one.first b two.among) (two.first a one.among)
+
+text_faults : (m : Result ℕ Fault) (a b : Refusal) → m ≡ Err (Text a) → m ≡ Err (Text b) → a ≡ b
+text_faults m a b one two = cc
+
+refused_once : (text : List ℕ) (a b : Refusal) → IsRefusedFor text a → IsRefusedFor text b → a ≡ b
+refused_once text a b (no_tokens one) (no_tokens two) = one_refusal text a b (unread.no_tokens one) (unread.no_tokens two)
+refused_once text a b (no_tokens one) (misspelled tokens two wrong) = one_refusal text a b (unread.no_tokens one) (unread.misspelled tokens two wrong)
+refused_once text a b (misspelled tokens one wrong) (no_tokens two) = one_refusal text a b (unread.misspelled tokens one wrong) (unread.no_tokens two)
+refused_once text a b (misspelled tokens one wrong) (misspelled others two error) =
+    one_refusal text a b (unread.misspelled tokens one wrong) (unread.misspelled others two error)
+refused_once text a b (no_tokens one) (mistaken model is first) = absurd (tokens_there text a model one is)
+refused_once text a b (no_tokens one) (stopped model is typed stops) = absurd (tokens_there text a model one is)
+refused_once text a b (mistaken model is first) (no_tokens two) = absurd (tokens_there text b model two is)
+refused_once text a b (stopped model is typed stops) (no_tokens two) = absurd (tokens_there text b model two is)
+refused_once text a b (misspelled tokens one wrong) (mistaken model is first) = absurd (spelling_there text tokens a model one wrong is)
+refused_once text a b (misspelled tokens one wrong) (stopped model is typed stops) = absurd (spelling_there text tokens a model one wrong is)
+refused_once text a b (mistaken model is first) (misspelled tokens two wrong) = absurd (spelling_there text tokens b model two wrong is)
+refused_once text a b (stopped model is typed stops) (misspelled tokens two wrong) = absurd (spelling_there text tokens b model two wrong is)
+refused_once text a b (mistaken model is first) (mistaken other there second) =
+    one_first model a b first (subst (λ m. IsFirstMistake m b) (sym (one_model text model other is there)) second)
+refused_once text a b (mistaken model is first) (stopped other there typed stops) = absurd (typing_there text a model other is first.among there typed)
+refused_once text a b (stopped model is typed stops) (mistaken other there second) = absurd (typing_there text b other model there second.among is typed)
+refused_once text a b (stopped model is typed stops) (stopped other there right ends) =
+    text_faults (met 0 (text_occurrences model)) a b stops (ap (λ m. met 0 (text_occurrences m)) (one_model text model other is there) ∙ ends)
+
 pub texts_end_once : TextsEndOnce
 texts_end_once =
     record {
       one_problem = λ text p q a b. sym a.accepted.stated ∙ (ap problem_of (one_model text a.model b.model a.spelled b.spelled) ∙ b.accepted.stated);
+      one_refusal = refused_once;
       not_refused = accepted_not_refused;
       not_limited = accepted_not_limited;
       refused_alone = refused_not_limited;

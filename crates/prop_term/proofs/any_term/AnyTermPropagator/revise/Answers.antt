@@ -17,5 +17,5 @@ first_step-requires-clause-asked c = record {
 pub returns-in-None-clause-finds : goal.returns-in-None-clause-finds
 returns-in-None-clause-finds c =
     let q : Question = record { program = c.args.program; store = c.args.store; reason = c.reason-reason.result; best = c.args.best } in
-    found_quiet q c.args.self.now.instance c.args.self.now.scenario (cond_at (things_in c.args.program.now) c.hard-cond.result.0) c.cells_of.result.now c.reason-reason.ensures c.hard-cond.ensures.condition c.cells_of.ensures
+    found_quiet q c.args.self.now.instance c.args.self.now.scenario (cond_at (things_in c.args.program.now) c.hard-cond.result.0) c.cells_of.result.now c.reason-reason.ensures c.hard-cond.ensures.condition c.cells_of.ensures.cells
     (sym c.refuted.ensures ∙ c.if-refuted.false) c.in-None.ensures.none

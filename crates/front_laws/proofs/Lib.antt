@@ -1,0 +1,3 @@
+mod Going
+pub mod Fronts
+pub mod Once

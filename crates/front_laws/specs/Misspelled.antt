@@ -1,0 +1,14 @@
+-- Tokens that are misspelled.
+use Rattle.std.specs.Prelude.{◌≡◌, ℕ, List, ◌++◌}
+use Rattle.sopl_base.specs.declared.places.Refusal.{Refusal}
+use Rattle.sopl_ast.specs.declared.token.Token.{Token}
+use Rattle.sopl_ast.specs.Grammar.{IsFront}
+use Rattle.sopl_ast.specs.Misspelled.{IsMisspelled}
+
+-- a front of a front is one
+abbrev pub FrontsAreClosed : Type 0
+FrontsAreClosed = (n : ℕ) (before behind : List Token) → IsFront n (before ++ behind) → IsFront n before
+
+-- tokens are refused by one code at one place at most
+abbrev pub MisspelledOnce : Type 0
+MisspelledOnce = (length : ℕ) (tokens : List Token) (a b : Refusal) → IsMisspelled length tokens a → IsMisspelled length tokens b → a ≡ b
