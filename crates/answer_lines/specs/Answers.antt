@@ -1,5 +1,5 @@
 -- The answers, as JSON data and as the bytes of one line.
-use Rattle.std.specs.Prelude.{ℕ, ℤ, codes, List, [], ◌∷◌, ◌++◌, pos}
+use Rattle.std.specs.Prelude.{ℕ, ℤ, codes, List, [], ◌∷◌, ◌++◌, pos, Option, Some, None}
 use Rattle.std.specs.Fmt.{signed_decimal}
 use Rattle.serde_json.specs.Data.{Data, string, object, no_members, member}
 use Rattle.serde_json.specs.Written.{compact_text}
@@ -41,6 +41,27 @@ optimal_object policy value =
 -- an optimal policy and its value
 abbrev pub optimal_data : Problem → Policy → ℤ → Data
 optimal_data problem policy value = optimal_object (policy_data problem policy) (fraction value (denominator problem))
+
+-- a policy, and its value
+pub record Valued : Type 0 where
+  pub policy : Policy
+  pub value : ℤ
+
+-- a bound, where nothing was found
+abbrev pub bound_object : List ℕ → Data
+bound_object bound = object (member (codes "answer") (string (codes "bounded")) (member (codes "bound") (string bound) no_members))
+
+-- a bound, and a policy that was found with its value, as their texts have them
+abbrev pub found_object : List ℕ → Data → List ℕ → Data
+found_object bound policy value =
+    object (member (codes "answer") (string (codes "bounded")) (member (codes "bound") (string bound)
+    (member (codes "policy") policy (member (codes "value") (string value) no_members))))
+
+-- a bound, and a policy with its value where one was found
+abbrev pub bounded_data : Problem → Option Valued → ℤ → Data
+bounded_data problem None bound = bound_object (fraction bound (denominator problem))
+bounded_data problem (Some found) bound =
+    found_object (fraction bound (denominator problem)) (policy_data problem found.policy) (fraction found.value (denominator problem))
 
 -- the line of an answer: its compact text and a line feed
 abbrev pub line_of : Data → List ℕ

@@ -3,4 +3,4 @@
 
 mod lines;
 
-pub use lines::{limit_line, optimal_line, refused_line, word_line};
+pub use lines::{bound_line, found_line, limit_line, optimal_line, refused_line, word_line};

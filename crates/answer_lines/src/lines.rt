@@ -4,7 +4,7 @@ ghost use Rattle.std.specs.Prelude.{◌≡◌, false, codes, string_bytes, IfOk,
 ghost use Rattle.serde_json.specs.View.{view};
 ghost use Rattle.serde_json.specs.Written.{has_float};
 ghost use Rattle.std.specs.Fmt.{signed_decimal};
-ghost use Rattle.answer_lines.specs.Answers.{word_data, refused_data, limit_data, limit_object, optimal_object, fraction, line_of};
+ghost use Rattle.answer_lines.specs.Answers.{word_data, refused_data, limit_data, limit_object, optimal_object, bound_object, found_object, fraction, line_of};
 
 use serde_json::{Value, json};
 use sopl_base::{Excess, Refusal};
@@ -96,5 +96,44 @@ pub fn optimal_line(
 {
     let value = fraction_text(alloc, numerator, denominator)?;
     let answer = optimal_answer(alloc, policy, value.as_str())?;
+    line(alloc, &answer)
+}
+
+fn bound_answer(alloc: Global, bound: &str) -> Result<Value, AllocError>
+    ensures answer { IfOk result (λ answer. view answer ≡ bound_object bound.now) }
+{
+    json!(in alloc; {"answer": "bounded", "bound": bound})
+}
+
+/// The line of a bound, where no policy was found.
+pub fn bound_line(alloc: Global, bound: i128, denominator: i128) -> Result<String, AllocError>
+    ensures text { IfOk result (λ text. string_bytes text ≡ line_of (bound_object (fraction bound denominator))) }
+{
+    let bound = fraction_text(alloc, bound, denominator)?;
+    let answer = bound_answer(alloc, bound.as_str())?;
+    line(alloc, &answer)
+}
+
+fn found_answer(alloc: Global, bound: &str, policy: Value, value: &str) -> Result<Value, AllocError>
+    ensures answer { IfOk result (λ answer. view answer ≡ found_object bound.now (view policy) value.now) }
+{
+    json!(in alloc; {"answer": "bounded", "bound": bound, "policy": policy, "value": value})
+}
+
+/// The line of a bound, and of a policy that was found with its value, over one denominator.
+pub fn found_line(
+    alloc: Global,
+    bound: i128,
+    policy: Value,
+    value: i128,
+    denominator: i128,
+) -> Result<String, AllocError>
+    requires whole { has_float (view policy) ≡ false }
+    ensures text { IfOk result (λ text. string_bytes text
+        ≡ line_of (found_object (fraction bound denominator) (view policy) (fraction value denominator))) }
+{
+    let most = fraction_text(alloc, bound, denominator)?;
+    let value = fraction_text(alloc, value, denominator)?;
+    let answer = found_answer(alloc, most.as_str(), policy, value.as_str())?;
     line(alloc, &answer)
 }

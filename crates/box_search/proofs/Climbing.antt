@@ -1,6 +1,10 @@
 -- What holds of two cells of which the first one climbs.
-use Rattle.std.proofs.Common.{◌≡◌, ℕ, zero, suc, ◌<◌, ℤ, pos, ◌+ℤ◌, ◌-ℤ◌, ◌<ℤ◌, ◌≤ℤ◌, int_lt, int_le, Bool, true, false, List, [], ◌∷◌, ◌++◌, Option, Some, None, length, get_or, arith, refl, sym, ap, subst, ◌∙◌}
-use Rattle.std.specs.List.{Contains}
+use Rattle.std.proofs.Common.{◌≡◌, ℕ, zero, suc, ◌^◌, ◌<◌, ◌≤◌, nat_le, ℤ, pos, ◌+ℤ◌, ◌-ℤ◌, ◌<ℤ◌, ◌≤ℤ◌, int_lt, int_le, Bool, true, false, List, [], ◌∷◌, ◌++◌, Option, Some, None, length, get_or, arith, refl, sym, ap, subst, ◌∙◌}
+use Rattle.std.specs.Int.{int_gap}
+use Rattle.std.specs.List.{Contains, range_with_len}
+use Rattle.std.proofs.lemmas.List.FromFn.{length-range_with_len}
+use Rattle.std.proofs.lemmas.List.Sums.{count_by-le-length, length-filter}
+use Rattle.box_bits.specs.Bits.{bits_in, digits}
 use Rattle.std.proofs.lemmas.Int.{ints, by_lt_z}
 use Rattle.std.proofs.lemmas.List.{get_or-set_same}
 use Rattle.sopl_base.specs.declared.places.Direction.TheVariants.{Maximize}
@@ -227,3 +231,14 @@ pair_near first second one_lo one_hi two_lo two_hi = record {
   highs_at zero exists = one_hi
   highs_at (suc zero) exists = two_hi
   highs_at (suc (suc cell)) exists = absurd (omega (arith, exists))
+
+-- two cells have few bits
+few_digits : (n : ℕ) → digits n ≤ 64
+unfolding digits
+few_digits n =
+    let test : ℕ → Bool = λ k. nat_le (2 ^ k) n in
+    let all : List ℕ = range_with_len 0 64 in
+    omega (arith, length-filter test all, count_by-le-length test all, length-range_with_len 0 64)
+
+pub pair_bits : (first second : Interval) → bits_in (pair_of first second) ≤ 1024
+pair_bits first second = omega (arith, few_digits (int_gap first.lo first.hi), few_digits (int_gap second.lo second.hi))

@@ -1,7 +1,16 @@
 mod Resting
 mod Numbers
 mod Parts
-mod Halves
+mod Known
 mod Standing
+mod Stacking
+mod Keeping
+mod Closing
+mod OpenRows
+mod InOrder
+mod OpenNodes
+mod Footers
+mod Trees
+mod Written
 mod Settling
 mod Climbing

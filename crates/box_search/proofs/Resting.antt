@@ -65,7 +65,7 @@ ends_where_calm problem reasons v b calm end posed all inside quiet rests ends =
     ends_at_rest problem reasons v b end posed all inside (subst (λ (c : Calm). Rests problem reasons v b c) quiet rests) ends
 
 -- the first cell that has more than one value
-pub first_cut_at : (b : Box) (cut : Cut) (cell : ℕ) (lo hi : ℤ) → cell < length b.lows → ((k : ℕ) → k < cell → low b k ≡ high b k) → lo ≡ low b cell → hi ≡ high b cell → cut.cell ≡ cell → IsMiddle lo cut.k hi → IsFirstCut b cut
+pub first_cut_at : (b : Box) (cut : Cut) (cell : ℕ) (lo hi : ℤ) → cell < length b.lows → ((k : ℕ) → k < cell → low b k ≡ high b k) → lo ≡ low b cell → hi ≡ high b cell → cut.cell ≡ cell → IsMiddle lo cut.k hi → IsFirstCut b cut.cell cut.k
 first_cut_at b cut cell lo hi exists fixed lo_is hi_is is middle = record {
   exists = omega (arith, exists, is);
   first = λ k before. fixed k (omega (arith, before, is));

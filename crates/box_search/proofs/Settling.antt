@@ -1,6 +1,5 @@
 -- What the outcome of a search says.
 use Rattle.std.proofs.Common.{◌≡◌, ℕ, ◌<◌, ◌≤◌, ℤ, List, [], ◌∷◌, length, Option, Some, None, Result, Ok, Err, IfOk, IfSome, Any, arith, sym, subst}
-use Rattle.std.specs.declared.alloc.AllocError.{AllocError}
 use Rattle.sopl_base.specs.declared.places.Direction.{Direction}
 use Rattle.sopl_base.specs.Better.{IsBetter}
 use Rattle.box_problem.specs.Box.{Box, points}
@@ -12,6 +11,7 @@ use Rattle.open_boxes.proofs.Nodes.{best_at_last, none_at_last}
 use Rattle.box_search.specs.declared.outcome.Found.{Found}
 use Rattle.box_search.specs.declared.outcome.Outcome.{Outcome}
 use Rattle.box_search.specs.declared.outcome.Outcome.TheVariants.{Optimal, Infeasible, Bounded}
+use Rattle.box_search.specs.declared.outcome.SearchStop.{SearchStop}
 use Rattle.box_search.specs.Crews.{IsSound}
 use Rattle.box_search.specs.Ends.{IsPosed}
 use Rattle.box_search.specs.Outcomes.{Closes, HasCause, IsGood, IsSettled, IsTrueOf, Settles, found_of, value_of}
@@ -80,14 +80,8 @@ bound_more problem direction v w end best b boxes bound way same is choice later
     (subst (λ (y : ℤ). IsBetterOf direction w y best) is choice)))
     later
 
--- the same over what the calls of a search give
-pub settles_so : (problem : BoxProblem) (direction : Direction) (best now : Option Found) (finished : ℕ) (boxes : List Box) (bound : ℤ) (outcome : Outcome) → IsPosed problem → IsSound problem best finished boxes → IsBound problem (value_of best) boxes bound → now ≡ best → direction ≡ problem.direction → Settles direction now bound outcome → IsTrueOf problem outcome
-settles_so problem direction best now finished boxes bound outcome posed sound is same way settles =
-    settles_true problem best finished boxes bound outcome posed sound is
-    (subst (λ (d : Direction). Settles d best bound outcome) way
-    (subst (λ (found : Option Found). Settles direction found bound outcome) same settles))
-
-pub settles_within : (problem : BoxProblem) (budget : ℕ) (result : Result Outcome AllocError) → nodes_for (points problem.root) ≤ budget → IfOk result (HasCause problem budget) → IfOk result IsSettled
+-- the same over what a search gives
+pub settles_within : (problem : BoxProblem) (budget : ℕ) (result : Result Outcome SearchStop) → nodes_for (points problem.root) ≤ budget → IfOk result (HasCause problem budget) → IfOk result IsSettled
 settles_within problem budget (Ok outcome) enough cause = enough_settles problem budget outcome enough cause
 settles_within problem budget (Err error) enough cause = tt
 

@@ -1,50 +1,115 @@
 -- What a search has found, and what it has left to do.
-use Rattle.std.specs.Prelude.{◌≡◌, ℕ, ◌<◌, Bool, true, false, List, [], ◌∷◌, length, reverse, Option, IfSome}
-use Rattle.sopl_base.specs.declared.places.Side.TheVariants.{Le}
+use Rattle.std.specs.Prelude.{◌≡◌, ◌⊎◌, ℕ, ◌+◌, ℤ, ◌<◌, Bool, true, false, List, [], ◌∷◌, ◌++◌, length, map, reverse, Option, None, Some, IfSome, All}
+use Rattle.std.specs.List.{AllByRecursion}
+use Rattle.sopl_base.specs.declared.places.Side.TheVariants.{Le, Ge}
+use Rattle.sopl_base.specs.declared.places.Step.{Step}
+use Rattle.box_bits.specs.Bits.{bits_in}
 use Rattle.box_problem.specs.Box.{Box}
-use Rattle.box_problem.specs.Steps.{IsCut, cut_away}
+use Rattle.box_problem.specs.Steps.{IsCut}
 use Rattle.box_problem.specs.BoxProblem.{BoxProblem}
 use Rattle.box_store.specs.Store.{Mark}
+use Rattle.log_rows.specs.declared.rows.EndLine.{EndLine}
+use Rattle.log_rows.specs.declared.rows.Parent.{Parent}
+use Rattle.log_rows.specs.declared.rows.Row.{Row}
+use Rattle.log_rows.specs.Made.{AreFinished, AreShallow, Logs, Pending}
+use Rattle.log_rows.specs.LogLaws.{half}
+use Rattle.log_tree.specs.Ranges.{RowFits}
 use Rattle.open_boxes.specs.Opens.{AreOpen}
 use Rattle.box_search.specs.declared.crew.Crew.{Crew}
-use Rattle.box_search.specs.declared.cut.Cut.{Cut}
+use Rattle.box_search.specs.declared.high.High.{High}
 use Rattle.box_search.specs.declared.outcome.Found.{Found}
+use Rattle.box_search.specs.Lines.{cut_of}
+use Rattle.box_search.specs.Logged.{AllSplitFirst}
 use Rattle.box_search.specs.Outcomes.{IsGood, value_of}
 
--- the high halves of boxes that were cut: at each mark stands a box, the newest first, and its cut
-abbrev pub high_halves : List Cut → List Mark → List Box
+-- the high half of a box that was cut, as a node that is open
+abbrev pub high_half : High → Mark → Pending
+high_half high mark = half high.node mark.box (cut_of high.cut) Ge
+
+-- those of several boxes: at each mark stands a box, the newest first, and its cut
+abbrev pub high_halves : List High → List Mark → List Pending
 high_halves [] marks = []
-high_halves (cut ∷ cuts) [] = []
-high_halves (cut ∷ cuts) (mark ∷ marks) = cut_away mark.box cut.cell Le cut.k ∷ high_halves cuts marks
+high_halves (high ∷ highs) [] = []
+high_halves (high ∷ highs) (mark ∷ marks) = high_half high mark ∷ high_halves highs marks
 
 -- these cuts cut the boxes at the marks
-abbrev pub AreCuts : List Cut → List Mark → Type 0
+abbrev pub AreCuts : List High → List Mark → Type 0
 AreCuts [] marks = Unit {0}
-AreCuts (cut ∷ cuts) [] = ⊥
-AreCuts (cut ∷ cuts) (mark ∷ marks) = IsCut mark.box cut.cell Le cut.k × AreCuts cuts marks
+AreCuts (high ∷ highs) [] = ⊥
+AreCuts (high ∷ highs) (mark ∷ marks) = IsCut mark.box high.cut.cell Le high.cut.k × AreCuts highs marks
 
 abbrev pub CutsMarks : Crew → Type 0
 CutsMarks crew = AreCuts (reverse crew.later.items) crew.store.marks
 
--- the boxes that wait, the newest first
-abbrev pub waiting : Crew → List Box
+-- the nodes that wait, the newest first
+abbrev pub waiting : Crew → List Pending
 waiting crew = high_halves (reverse crew.later.items) crew.store.marks
 
--- all boxes that are open: that of the store and those that wait, or none
-abbrev pub opens : Bool → Crew → List Box
-opens true crew = crew.store.box ∷ waiting crew
+-- the node at hand, where its box began as this one
+abbrev pub begun_at : Box → Crew → Pending
+begun_at start crew = record { parent = crew.parent; at = start }
+
+-- all nodes that are open: the one at hand and those that wait, or none
+abbrev pub opens : Bool → Crew → List Pending
+opens true crew = begun_at crew.store.box crew ∷ waiting crew
 opens false crew = []
 
+-- their boxes
+abbrev pub boxes : List Pending → List Box
+boxes nodes = map (λ (x : Pending). x.at) nodes
+
 -- what was found satisfies, and these boxes are open
-pub record IsSound (problem : BoxProblem) (best : Option Found) (finished : ℕ) (boxes : List Box) : Type 0 where
-  pub are_open : AreOpen problem (value_of best) finished boxes
+pub record IsSound (problem : BoxProblem) (best : Option Found) (finished : ℕ) (bs : List Box) : Type 0 where
+  pub are_open : AreOpen problem (value_of best) finished bs
   pub good : IfSome best (IsGood problem)
 
 abbrev pub Stands : BoxProblem → Bool → Crew → Type 0
-Stands problem more crew = IsSound problem crew.best crew.finished (opens more crew)
+Stands problem more crew = IsSound problem crew.best crew.finished (boxes (opens more crew))
 
--- the first of the boxes that wait is in the store, or none waits; and each turn takes one
+-- a node is the high side of a split before that of another one, or the high side where the other one is the low side
+abbrev pub IsOlder : Option Parent → Option Parent → Type 0
+IsOlder None None = ⊥
+IsOlder None (Some q) = ⊥
+IsOlder (Some p) None = ⊥
+IsOlder (Some p) (Some q) = (q.side ≡ Ge) × ((q.node < p.node) ⊎ ((q.node ≡ p.node) × (p.side ≡ Le)))
+
+-- each node is newer than all behind it
+abbrev pub AreStacked : List Pending → Type 0
+AreStacked [] = Unit {0}
+AreStacked (x ∷ nodes) = AllByRecursion (λ (y : Pending). IsOlder x.parent y.parent) nodes × AreStacked nodes
+
+-- the rows are those of a search that has finished so many nodes, leaves these open, and found this best value
+pub record AreKept (problem : BoxProblem) (rows : List Row) (finished : ℕ) (nodes : List Pending) (best : Option ℤ) : Type 0 where
+  pub logs : Logs problem rows (reverse nodes) best
+  pub counted : length rows ≡ finished
+  pub are_finished : AreFinished rows
+  pub splits : AllSplitFirst problem.root rows
+  pub fit : All RowFits rows
+  pub shallow : AreShallow bits_in 1024 rows (reverse nodes)
+  pub stacked : AreStacked nodes
+
+abbrev pub Keeps : BoxProblem → Bool → Crew → Type 0
+Keeps problem more crew = AreKept problem crew.rows.items crew.finished (opens more crew) (value_of crew.best)
+
+-- and the box of the node at hand began as this one
+abbrev pub KeepsFrom : BoxProblem → Box → Crew → Type 0
+KeepsFrom problem start crew =
+    AreKept problem crew.rows.items crew.finished (begun_at start crew ∷ waiting crew) (value_of crew.best)
+
+-- the row of a node of this parent
+abbrev pub new_row : Option Parent → List Step → EndLine → Row
+new_row parent steps end = record { parent = parent; steps = steps; end = end }
+
+-- a search has one row more, and one node more is finished
+pub record IsAdded (old new : Crew) (steps : List Step) (end : EndLine) : Type 0 where
+  pub row : new.rows.items ≡ old.rows.items ++ new_row old.parent steps end ∷ []
+  pub counted : new.finished ≡ old.finished + 1
+  pub same_store : new.store ≡ old.store
+  pub same_waiting : waiting new ≡ waiting old
+  pub same_best : new.best ≡ old.best
+
+-- the first of the nodes that wait is at hand, or none waits; and each turn takes one
 pub record IsNext (old new : Crew) (more : Bool) : Type 0 where
-  pub boxes : waiting old ≡ opens more new
+  pub nodes : waiting old ≡ opens more new
   pub cuts : CutsMarks new
   pub fewer : more ≡ true → length new.later.items < length old.later.items

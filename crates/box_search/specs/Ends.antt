@@ -1,7 +1,8 @@
 -- How a node of a search ends.
-use Rattle.std.specs.Prelude.{◌≡◌, ◌^◌, ℕ, ◌<◌, ℤ, pos, neg_ℤ, ◌+ℤ◌, ◌-ℤ◌, ◌*ℤ◌, ◌≤ℤ◌, ◌<ℤ◌, true, List, length, Option, Contains}
+use Rattle.std.specs.Prelude.{◌≡◌, ◌^◌, ℕ, ◌<◌, ◌≤◌, ℤ, pos, neg_ℤ, ◌+ℤ◌, ◌-ℤ◌, ◌*ℤ◌, ◌≤ℤ◌, ◌<ℤ◌, true, List, length, Option, Contains}
 use Rattle.sopl_base.specs.declared.places.Reason.{Reason}
 use Rattle.box_problem.specs.Box.{Box, low, high, IsPoint}
+use Rattle.box_bits.specs.Bits.{bits_in}
 use Rattle.box_problem.specs.BoxProblem.{BoxProblem, Beats, Lawful}
 use Rattle.box_problem.specs.Rightness.{IsConsistent}
 use Rattle.box_search.specs.declared.cut.Cut.{Cut}
@@ -21,6 +22,7 @@ pub record IsNearBox (b : Box) : Type 0 where
 pub record IsPosed (problem : BoxProblem) : Type 0 where
   pub lawful : Lawful problem
   pub near : IsNearBox problem.root
+  pub few_bits : bits_in problem.root ≤ 1024
 
 -- all reasons of a problem are among these
 pub record AreAll (problem : BoxProblem) (reasons : List Reason) : Type 0 where
@@ -34,21 +36,21 @@ pub record IsMiddle (lo k hi : ℤ) : Type 0 where
   pub rounded : (hi -ℤ lo) ≤ℤ (pos 2 *ℤ (k -ℤ lo) +ℤ pos 1)
 
 -- the first cell that has more than one value is cut in its middle
-pub record IsFirstCut (b : Box) (cut : Cut) : Type 0 where
-  pub exists : cut.cell < length b.lows
-  pub first : (cell : ℕ) → cell < cut.cell → low b cell ≡ high b cell
-  pub middle : IsMiddle (low b cut.cell) cut.k (high b cut.cell)
+pub record IsFirstCut (b : Box) (at : ℕ) (k : ℤ) : Type 0 where
+  pub exists : at < length b.lows
+  pub first : (cell : ℕ) → cell < at → low b cell ≡ high b cell
+  pub middle : IsMiddle (low b at) k (high b at)
 
 -- a box ends at its one point, or by the cut of its first cell that has more than one value
 abbrev pub EndsFirst : Box → NodeEnd → Type 0
 EndsFirst b (Refuted reason) = ⊥
-EndsFirst b (Split cut) = IsFirstCut b cut
+EndsFirst b (Split cut) = IsFirstCut b cut.cell cut.k
 EndsFirst b Point = IsPoint b
 
 -- a consistent box is cut
 pub record IsSplit (problem : BoxProblem) (v : Option ℤ) (b : Box) (cut : Cut) : Type 0 where
   pub consistent : IsConsistent problem v b
-  pub first : IsFirstCut b cut
+  pub first : IsFirstCut b cut.cell cut.k
 
 -- a box is one point, which beats v
 pub record IsNewPoint (problem : BoxProblem) (v : Option ℤ) (b : Box) : Type 0 where

@@ -1,4 +1,6 @@
 pub mod Ends
+pub mod Lines
 pub mod Outcomes
+pub mod Logged
 pub mod Crews
 pub mod Climbing

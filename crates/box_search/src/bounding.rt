@@ -1,10 +1,9 @@
 //! What is answered where nodes are left.
 
-ghost use Rattle.std.specs.Prelude.{◌≡◌, ℕ, true, IfOk};
+ghost use Rattle.std.specs.Prelude.{◌≡◌, true, IfOk};
 ghost use Rattle.open_boxes.specs.Opens.{IsBetterOf, IsBound};
-ghost use Rattle.box_search.specs.Crews.{CutsMarks, Stands, opens};
-ghost use Rattle.box_search.specs.Outcomes.{Closes, HasCause, IsTrueOf, Settles, value_of};
-ghost use Rattle.box_search.specs.Ends.{IsPosed};
+ghost use Rattle.box_search.specs.Crews.{CutsMarks, Stands, boxes, opens};
+ghost use Rattle.box_search.specs.Outcomes.{Closes, Settles, value_of};
 
 use crate::crew::Crew;
 use crate::outcome::{Found, Outcome};
@@ -30,8 +29,9 @@ pub(crate) fn bound_over<P: Posed>(
     requires valid { P.valid program.now }
     requires cuts { CutsMarks crew.old }
     requires stands { Stands (P.problem program.now) true crew.old }
-    ensures bound { IfOk result (IsBound (P.problem program.now) (value_of crew.old.best) (opens true crew.old)) }
+    ensures bound { IfOk result (IsBound (P.problem program.now) (value_of crew.old.best) (boxes (opens true crew.old))) }
     ensures best { crew.new.best ≡ crew.old.best }
+    ensures rows { crew.new.rows ≡ crew.old.rows }
 {
     let direction = P::direction(program);
     let mut bound = better_of(direction, crew.value(), P::end(program, &crew.store));

@@ -1,31 +1,42 @@
 //! What a search has found, and what it has left to do.
 
-ghost use Rattle.std.specs.Prelude.{◌≡◌, ◌∷◌, [], ◌+◌, ◌<◌, ◌^◌, true, length, map, reverse, None, Some, IfOk, OnOk};
-ghost use Rattle.sopl_base.specs.declared.places.Side.TheVariants.{Le};
-ghost use Rattle.box_problem.specs.Box.{Inside, box_of};
-ghost use Rattle.box_problem.specs.Steps.{IsCut, narrowed, cut_away};
+ghost use Rattle.std.specs.Prelude.{◌≡◌, ◌∷◌, ◌++◌, [], ◌+◌, ◌<◌, ◌≤◌, ◌^◌, true, length, map, reverse, None, Some, IfOk, OnOk, All};
+ghost use Rattle.sopl_base.specs.declared.places.Side.TheVariants.{Le, Ge};
+ghost use Rattle.box_problem.specs.Box.{Box, Inside, box_of};
+ghost use Rattle.box_problem.specs.Steps.{IsCut};
+ghost use Rattle.box_problem.specs.Rightness.{Appended};
 ghost use Rattle.prop_core.specs.Members.{AllFit, StillFit, together};
-ghost use Rattle.box_search.specs.Crews.{CutsMarks, IsNext, Stands, opens, waiting};
+ghost use Rattle.log_rows.specs.LogLaws.{half};
+ghost use Rattle.log_tree.specs.Ranges.{EndFits, StepFits};
+ghost use Rattle.box_search.specs.Crews.{CutsMarks, IsAdded, IsNext, Keeps, KeepsFrom, Stands, opens, waiting};
+ghost use Rattle.box_search.specs.Lines.{cut_of, last_first, line_of, open_line};
 ghost use Rattle.box_search.specs.Ends.{AreAll, Ends, IsPosed};
 ghost use Rattle.box_search.specs.Outcomes.{found_at, value_of};
 
 use crate::cut::Cut;
 use crate::ending::{NodeEnd, finish};
-use crate::outcome::Found;
+use crate::fitting::steps_fit;
+use crate::high::High;
+use crate::listing::add_opens;
+use crate::outcome::{Found, value_in};
 use crate::posed::Posed;
 use crate::values::Values;
 use box_store::BoxStore;
-use sopl_base::{Interval, Steps};
+use log_rows::{Parent, Row};
+use sopl_base::{Interval, Side, Steps};
 use std::alloc::{AllocError, Global};
 
-/// The box of the open node that is finished next, the high halves that wait for their turn, the best point that was found, and how many
-/// nodes are finished. A box that waits is kept as its cut, and a mark of the store at the box that was cut; the newest cut stands last.
+/// The open node that is finished next, with its box; the high halves that wait for their turn; the best point that was found; and the rows
+/// of all nodes that are finished, with their number. A half that waits is kept as the cut, and a mark of the store at the box that was cut; the newest
+/// stands last.
 #[derive(Drop)]
 pub(crate) struct Crew {
     pub(crate) store: BoxStore,
-    pub(crate) later: Vec<Cut>,
+    pub(crate) parent: Option<Parent>,
+    pub(crate) later: Vec<High>,
     pub(crate) best: Option<Found>,
     pub(crate) finished: u32,
+    pub(crate) rows: Vec<Row>,
 }
 
 impl Crew {
@@ -33,15 +44,19 @@ impl Crew {
     pub(crate) fn new(alloc: Global, roots: &[Interval]) -> Result<Crew, AllocError>
         requires few { length roots.now < 2 ^ 32 }
         ensures root { IfOk result (λ crew. crew.store.box ≡ box_of roots.now) }
+        ensures is_root { IfOk result (λ crew. crew.parent ≡ None) }
         ensures none_waits { IfOk result (λ crew. crew.later.items ≡ []) }
+        ensures no_rows { IfOk result (λ crew. crew.rows.items ≡ []) }
         ensures nothing_found { IfOk result (λ crew. crew.best ≡ None) }
         ensures none_finished { IfOk result (λ crew. crew.finished ≡ 0) }
     {
         Ok(Crew {
             store: BoxStore::new(alloc, roots)?,
+            parent: None,
             later: Vec::new(alloc),
             best: None,
             finished: 0,
+            rows: Vec::new(alloc),
         })
     }
 
@@ -49,41 +64,44 @@ impl Crew {
     pub(crate) fn value(&self) -> Option<i128>
         ensures { result ≡ value_of self.now.best }
     {
-        match &self.best {
-            Some(found) => Some(found.value),
-            None => None,
-        }
+        value_in(&self.best)
     }
 
-    /// Puts the low half of a cut into the store, and lets the high half wait.
-    fn split(&mut self, cut: &Cut) -> Result<(), AllocError>
+    /// Takes the low half of a cut as the next node, and lets the high half wait; `node` is the number of the node that is split.
+    fn split(&mut self, node: u64, cut: &Cut) -> Result<(), AllocError>
         requires cut { IsCut self.old.store.box cut.now.cell Le cut.now.k }
-        ensures low { OnOk result (self.new.store.box ≡ narrowed self.old.store.box cut.now.cell Le cut.now.k) }
-        ensures high { OnOk result (waiting self.new ≡ cut_away self.old.store.box cut.now.cell Le cut.now.k ∷ waiting self.old) }
+        ensures nodes { OnOk result (opens true self.new ≡ half node self.old.store.box (cut_of cut.now) Le ∷ half node self.old.store.box (cut_of cut.now) Ge ∷ waiting self.old) }
         ensures cuts { OnOk result (CutsMarks self.old → CutsMarks self.new) }
         ensures best { self.new.best ≡ self.old.best }
         ensures finished { self.new.finished ≡ self.old.finished }
+        ensures rows { self.new.rows ≡ self.old.rows }
     {
         self.store.reserve(2)?;
-        self.later.push(*cut)?;
+        self.later.push(High { node, cut: *cut })?;
         self.store.mark();
         cut.take_low(&mut self.store);
+        self.parent = Some(Parent {
+            node,
+            side: Side::Le,
+        });
         Ok(())
     }
 
-    /// Puts the newest of the boxes that wait into the store; whether there is one.
+    /// Takes the newest of the halves that wait as the next node; whether there is one.
     pub(crate) fn next(&mut self) -> Result<bool, AllocError>
         requires cuts { CutsMarks self.old }
         ensures next { IfOk result (IsNext self.old self.new) }
         ensures best { self.new.best ≡ self.old.best }
         ensures finished { self.new.finished ≡ self.old.finished }
+        ensures rows { self.new.rows ≡ self.old.rows }
     {
-        let Some(cut) = self.later.pop() else {
+        let Some(high) = self.later.pop() else {
             return Ok(false);
         };
         self.store.undo();
         self.store.reserve(1)?;
-        cut.take_high(&mut self.store);
+        high.cut.take_high(&mut self.store);
+        self.parent = high.parent();
         Ok(true)
     }
 
@@ -93,9 +111,10 @@ impl Crew {
         requires inside { Inside self.old.store.box (P.problem program.now).root }
         ensures best { OnOk result (self.new.best ≡ Some (found_at (P.problem program.now) self.old.store.box)) }
         ensures store { self.new.store ≡ self.old.store }
-        ensures later { self.new.later ≡ self.old.later }
         ensures waiting { waiting self.new ≡ waiting self.old }
+        ensures later { self.new.later ≡ self.old.later }
         ensures finished { self.new.finished ≡ self.old.finished }
+        ensures rows { self.new.rows ≡ self.old.rows }
     {
         let value = P::end(program, &self.store);
         let cells = Values::copy_of(alloc, self.store.lows())?;
@@ -103,11 +122,29 @@ impl Crew {
         Ok(())
     }
 
-    /// Finishes the node whose box is in the store by an end of it; whether another one is open.
+    /// Adds the row of the node at hand.
+    fn add_row(&mut self, steps: Steps, end: &NodeEnd) -> Result<(), AllocError>
+        requires room { self.old.finished + 1 < 2 ^ 32 }
+        ensures added { OnOk result (IsAdded self.old self.new steps (line_of end.now)) }
+        ensures steps_fit { All StepFits steps }
+        ensures end_fits { EndFits (line_of end.now) }
+        ensures store { self.new.store ≡ self.old.store }
+        ensures later { self.new.later ≡ self.old.later }
+    {
+        steps_fit(steps.as_slice());
+        let end = end.line();
+        let parent = self.parent;
+        self.rows.push(Row { parent, steps, end })?;
+        self.finished += 1;
+        Ok(())
+    }
+
+    /// Finishes the node at hand, whose box these steps have narrowed, by an end of it; whether another one is open.
     fn close<P: Posed>(
         &mut self,
         alloc: Global,
         program: &P::Program,
+        steps: Steps,
         end: &NodeEnd,
     ) -> Result<bool, AllocError>
         requires posed { IsPosed (P.problem program.now) }
@@ -117,14 +154,18 @@ impl Crew {
         requires ends { Ends (P.problem program.now) (value_of self.old.best) self.old.store.box end.now }
         requires room { self.old.finished + 1 < 2 ^ 32 }
         ensures stands { IfOk result (λ more. Stands (P.problem program.now) more self.new) }
+        ensures keeps { (start : Box) → Appended (P.problem program.now) (value_of self.old.best) start [] steps self.old.store.box
+            → KeepsFrom (P.problem program.now) start self.old
+            → IfOk result (λ more. Keeps (P.problem program.now) more self.new) }
         ensures cuts { OnOk result (CutsMarks self.new) }
         ensures finished { OnOk result (self.new.finished ≡ self.old.finished + 1) }
     {
-        self.finished += 1;
+        let node = u64::from(self.finished);
+        self.add_row(steps, end)?;
         match end {
             NodeEnd::Refuted(_) => self.next(),
             NodeEnd::Split(cut) => {
-                self.split(cut)?;
+                self.split(node, cut)?;
                 Ok(true)
             }
             NodeEnd::Point => {
@@ -147,8 +188,10 @@ impl Crew {
         requires all { AreAll (P.problem program.now) (together (map P.reasons list.old)) }
         requires cuts { CutsMarks self.old }
         requires stands { Stands (P.problem program.now) true self.old }
+        requires keeps { Keeps (P.problem program.now) true self.old }
         requires room { self.old.finished + 1 < 2 ^ 32 }
         ensures stands { IfOk result (λ more. Stands (P.problem program.now) more self.new) }
+        ensures keeps { IfOk result (λ more. Keeps (P.problem program.now) more self.new) }
         ensures cuts { OnOk result (CutsMarks self.new) }
         ensures finished { OnOk result (self.new.finished ≡ self.old.finished + 1) }
         ensures same_reasons { map P.reasons list.new ≡ map P.reasons list.old }
@@ -157,7 +200,7 @@ impl Crew {
         let best = self.value();
         let mut steps = Steps::new(alloc);
         let end = finish(list, program, &mut self.store, best, &mut steps)?;
-        self.close::<P>(alloc, program, &end)
+        self.close::<P>(alloc, program, steps, &end)
     }
 
     /// Finishes nodes until none is open or `budget` of them are finished; whether one is still open.
@@ -174,9 +217,14 @@ impl Crew {
         requires all { AreAll (P.problem program.now) (together (map P.reasons list.old)) }
         requires cuts { CutsMarks self.old }
         requires stands { Stands (P.problem program.now) true self.old }
+        requires keeps { Keeps (P.problem program.now) true self.old }
         requires none_finished { self.old.finished ≡ 0 }
+        requires budget { 1 ≤ budget }
         ensures stands { IfOk result (λ more. Stands (P.problem program.now) more self.new) }
+        ensures keeps { IfOk result (λ more. Keeps (P.problem program.now) more self.new) }
         ensures cuts { OnOk result (CutsMarks self.new) }
+        ensures some { OnOk result (0 < self.new.finished) }
+        ensures within { OnOk result (self.new.finished ≤ budget) }
         ensures spent { IfOk result (λ more. more ≡ true → self.new.finished ≡ budget) }
     {
         'nodes: while self.finished < budget {
@@ -185,5 +233,16 @@ impl Crew {
             }
         }
         Ok(true)
+    }
+
+    /// Adds the rows of the nodes that are open, by parent, and of one parent the low side first.
+    pub(crate) fn list_open(&mut self, alloc: Global) -> Result<(), AllocError>
+        ensures rows { OnOk result (self.new.rows.items ≡ self.old.rows.items ++ map open_line (reverse (last_first self.old.parent (reverse self.old.later.items)))) }
+        ensures opens { opens true self.new ≡ opens true self.old }
+        ensures cuts { CutsMarks self.old → CutsMarks self.new }
+        ensures best { self.new.best ≡ self.old.best }
+        ensures finished { self.new.finished ≡ self.old.finished }
+    {
+        add_opens(alloc, &mut self.rows, self.parent, self.later.as_slice())
     }
 }

@@ -16,6 +16,17 @@ pub(crate) struct Cut {
 }
 
 impl Cut {
+    /// The cut as a log tells it.
+    pub(crate) fn row(&self) -> log_rows::Cut
+        ensures cell { result.cell ≡ self.now.cell }
+        ensures k { result.k ≡ self.now.k }
+    {
+        log_rows::Cut {
+            cell: self.cell,
+            k: self.k,
+        }
+    }
+
     /// Narrows the box of a store to its low half.
     #[tactic(auto, using(crate::proofs::Numbers::same_small))]
     pub(crate) fn take_low(&self, store: &mut BoxStore)

@@ -4,10 +4,14 @@ ghost use Rattle.std.specs.Prelude.{◌≡◌, ◌<ℤ◌, map, IfOk};
 ghost use Rattle.box_problem.specs.Box.{Inside, low, high};
 ghost use Rattle.box_problem.specs.Rightness.{Appended};
 ghost use Rattle.prop_core.specs.Members.{AllFit, StillFit, together};
+ghost use Rattle.log_tree.specs.Ranges.{EndFits};
+ghost use Rattle.box_search.specs.Lines.{line_of};
 ghost use Rattle.box_search.specs.Ends.{AreAll, Ends, EndsFirst, IsMiddle, IsNear, IsNearBox, IsPosed};
 
 use crate::cut::Cut;
+use crate::fitting::reason_fits;
 use box_store::BoxStore;
+use log_rows::EndLine;
 use prop_core::{Calm, Propagator, fixpoint};
 use sopl_base::{Reason, Steps, midpoint};
 use std::alloc::AllocError;
@@ -18,6 +22,23 @@ pub(crate) enum NodeEnd {
     Refuted(Reason),
     Split(Cut),
     Point,
+}
+
+impl NodeEnd {
+    /// The line of a log that tells this end.
+    pub(crate) fn line(&self) -> EndLine
+        ensures line { result ≡ line_of self.now }
+        ensures fits { EndFits (line_of self.now) }
+    {
+        match self {
+            NodeEnd::Refuted(reason) => {
+                reason_fits(reason);
+                EndLine::Refuted(*reason)
+            }
+            NodeEnd::Split(cut) => EndLine::Split(cut.row()),
+            NodeEnd::Point => EndLine::Point,
+        }
+    }
 }
 
 /// The cut of a cell's interval in its middle.

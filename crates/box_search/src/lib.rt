@@ -5,12 +5,16 @@ mod bounding;
 mod crew;
 mod cut;
 mod ending;
+mod fitting;
+mod high;
+mod listing;
 mod outcome;
 mod posed;
 mod searching;
+mod tree;
 mod values;
 
-pub use outcome::{Found, Outcome};
+pub use outcome::{Found, Outcome, SearchStop};
 pub use posed::Posed;
 pub use searching::search;
 pub use values::Values;

@@ -6,6 +6,7 @@ use crate::tests::pairs::{Pair, near_pair};
 use box_store::BoxStore;
 use prop_core::{Finding, Propagator};
 use sopl_base::{Direction, Interval, Reason, Side, Step};
+use sopl_io::MemSink;
 use std::alloc::{AllocError, Global};
 
 mod pairs;
@@ -91,14 +92,18 @@ impl Posed for Climb {
     }
 }
 
-/// What a search over a pair of cells answers.
-#[tactic(auto, using(crate::proofs::Climbing::climb_all))]
-fn outcome_of(alloc: Global, pair: &Pair, budget: u32) -> Result<Outcome, AllocError>
+/// What a search over a pair of cells answers; a sink takes its log.
+#[tactic(auto, using(crate::proofs::Climbing::climb_all, crate::proofs::Climbing::pair_bits))]
+fn outcome_of(
+    alloc: Global,
+    pair: &Pair,
+    budget: u32,
+    sink: &mut MemSink,
+) -> Result<Outcome, SearchStop>
     requires { 1 ≤ budget }
 {
-    let mut props = Vec::new(alloc);
-    props.push(Climb)?;
-    search(alloc, pair, props, budget)
+    let props = Vec::from_slice(alloc, &[Climb])?;
+    search(alloc, pair, props, budget, sink)
 }
 
 /// Whether a point and its value are these.
@@ -126,6 +131,11 @@ fn is_found(found: &Option<Found>, want: Option<(i128, [i64; 2])>) -> bool {
     }
 }
 
+/// A sink without bytes; the calls with these numbers fail.
+fn empty_sink(alloc: Global, failing: &[u64]) -> Result<MemSink, AllocError> {
+    MemSink::new(alloc, 1000, Vec::from_slice(alloc, failing)?)
+}
+
 #[test]
 fn outcomes(rt: HostRuntime) {
     for (first, second, budget, want, bound) in [
@@ -136,8 +146,58 @@ fn outcomes(rt: HostRuntime) {
         ((0, 7), (0, 5), 7, Some((0, [0, 0])), Some(5)),
     ] {
         if let Some(pair) = near_pair(first, second) {
-            let outcome = outcome_of(rt.alloc(), &pair, budget).expect(&rt, "memory");
+            let mut sink = empty_sink(rt.alloc(), &[]).expect(&rt, "memory");
+            let outcome = outcome_of(rt.alloc(), &pair, budget, &mut sink).expect(&rt, "outcome");
             assert!(rt; is_told(&outcome, want, bound), "another outcome");
+        }
+    }
+}
+
+#[test]
+fn logs(rt: HostRuntime) {
+    for (first, second, budget, log) in [
+        ((3, 3), (4, 4), 1, "sopl-log 1\nn 0 r\nv\nend optimal 3\n"),
+        (
+            (5, 6),
+            (0, 4),
+            100,
+            "sopl-log 1\nn 0 r\nf h 0 0\nend infeasible\n",
+        ),
+        (
+            (0, 2),
+            (0, 1),
+            100,
+            "sopl-log 1\nn 0 r\ns h 0 0 0 le 1\nx 0 0\nn 1 0 l\nx 1 0\nn 2 1 l\nv\nn 3 1 h\nf b\nn 4 0 h\ns h 0 0 1 ge 1\nv\nend optimal 1\n",
+        ),
+        (
+            (0, 7),
+            (0, 5),
+            3,
+            "sopl-log 1\nn 0 r\ns h 0 0 0 le 5\nx 0 2\nn 1 0 l\nx 0 1\nn 2 1 l\nx 0 0\nn 3 0 h\no\nn 4 1 h\no\nn 5 2 l\no\nn 6 2 h\no\nend bounded none 5\n",
+        ),
+        (
+            (0, 7),
+            (0, 5),
+            7,
+            "sopl-log 1\nn 0 r\ns h 0 0 0 le 5\nx 0 2\nn 1 0 l\nx 0 1\nn 2 1 l\nx 0 0\nn 3 2 l\nx 1 2\nn 4 3 l\nx 1 1\nn 5 4 l\nx 1 0\nn 6 5 l\nv\nn 7 0 h\no\nn 8 1 h\no\nn 9 2 h\no\nn 10 3 h\no\nn 11 4 h\no\nn 12 5 h\no\nend bounded 0 5\n",
+        ),
+    ] {
+        if let Some(pair) = near_pair(first, second) {
+            let mut sink = empty_sink(rt.alloc(), &[]).expect(&rt, "memory");
+            outcome_of(rt.alloc(), &pair, budget, &mut sink).expect(&rt, "outcome");
+            assert!(rt; sink.bytes() == log.as_bytes(), "another log");
+        }
+    }
+}
+
+#[test]
+fn faults(rt: HostRuntime) {
+    for (failing, log) in [(0, ""), (2, "sopl-log 1\nn 0 r\n")] {
+        if let Some(pair) = near_pair((3, 3), (4, 4)) {
+            let mut sink = empty_sink(rt.alloc(), &[failing]).expect(&rt, "memory");
+            let stopped = outcome_of(rt.alloc(), &pair, 1, &mut sink);
+            assert!(rt; matches!(stopped, Err(SearchStop::Write)), "no fault");
+            assert!(rt; sink.bytes() == log.as_bytes(), "another front");
         }
     }
 }

@@ -10,7 +10,7 @@ mod text_laws;
 pub use line::Line;
 pub use lines::{put_end, put_footer, put_head, put_node, put_step};
 pub use log_rows::{Cut, EndLine, Footer, Parent, Row};
-pub use rows::{put_log, put_row, put_rows};
+pub use rows::{put_log, put_row, put_rows, put_steps};
 pub use text_laws::texts_are_logs;
 
 #[cfg(test)]

@@ -26,7 +26,7 @@ pub fn put_row<K: Sink>(sink: &mut K, number: u64, row: &Row) -> Result<(), Fail
 
 /// Writes steps.
 #[tactic(auto, using(crate::proofs::Texts::steps_more, crate::proofs::Texts::steps_front, crate::proofs::Texts::steps_all, crate::proofs::Written::none_written, crate::proofs::Written::cause_later))]
-fn put_steps<K: Sink>(sink: &mut K, steps: &[Step]) -> Result<(), Failed>
+pub fn put_steps<K: Sink>(sink: &mut K, steps: &[Step]) -> Result<(), Failed>
     ensures all { OnOk result (Appends (K.taken sink.old) (K.taken sink.new) (text_of (map step_line steps.now))) }
     ensures prefix { OnErr result (AppendsPrefix (K.taken sink.old) (K.taken sink.new) (text_of (map step_line steps.now))) }
     ensures names { K.names sink.new ≡ K.names sink.old }

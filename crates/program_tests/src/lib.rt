@@ -1,7 +1,7 @@
-//! Tests of the programs of texts: their limits, what they tell of themselves, and their best values.
+//! Tests of the programs of texts: their limits, what they tell of themselves and where their propagators come to rest.
 #![tactic(auto)]
 
 #[cfg(test)]
-mod programs;
+mod narrowing;
 #[cfg(test)]
-mod values;
+mod programs;

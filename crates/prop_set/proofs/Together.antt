@@ -10,7 +10,9 @@ use Rattle.std.specs.List.{All}
 use Rattle.sopl_base.specs.declared.places.Reason.{Reason}
 use Rattle.box_rules.specs.Terms.{Cond}
 use Rattle.prop_core.specs.Members.{together}
+use Rattle.program_laws.specs.Stated.{box_problem_of}
 use Rattle.prop_linear.specs.Kinds.{IsLinear}
+use Rattle.prop_set.specs.Kinds.{chance_reasons, goal_reasons, hard_reasons}
 use Rattle.term_program.specs.declared.program.Program.{Program}
 use Rattle.term_program.specs.declared.shapes.Form.{Form}
 use Rattle.term_program.specs.declared.shapes.Form.TheVariants.{Linear}
@@ -68,6 +70,28 @@ instances_more f n old new so_far next =
 pub instances_all : (all : List Reason) (f : ℕ → List Reason) (n i : ℕ) → n ≤ i → i ≤ n → all ≡ flat_map f (range_with_len 0 i) → all ≡ flat_map f (range_with_len 0 n)
 instances_all all f n i past within is =
     subst (λ (k : ℕ). all ≡ flat_map f (range_with_len 0 k)) (let same : i ≡ n = omega (arith, past, within) in same) is
+
+-- the reasons of the objective, and of all together
+pub goal_more : {P : Type 0} (of : P → List Reason) (xs new : List P) (p : P) (reasons : List Reason) → of p ≡ reasons → new ≡ xs ++ p ∷ [] → together (map of new) ≡ together (map of xs) ++ reasons
+goal_more of xs new p reasons is pushed =
+    ap (λ list. together (map of list)) pushed
+    ∙ ap together (map-append of xs (p ∷ []))
+    ∙ together_append (map of xs) (of p ∷ [])
+    ∙ ap (λ (list : List Reason). together (map of xs) ++ list) (append-nil (of p) ∙ is)
+
+in_order : (hards chances undefined : List Reason) (bound : List Reason) → (hards ++ chances) ++ (undefined ++ bound) ≡ ((hards ++ chances) ++ undefined) ++ bound
+in_order hards chances undefined bound = sym (append_behind (hards ++ chances) undefined bound)
+  where
+    append_behind : (xs ys zs : List Reason) → (xs ++ ys) ++ zs ≡ xs ++ (ys ++ zs)
+    append_behind [] ys zs = refl
+    append_behind (x ∷ xs) ys zs = ap (λ (list : List Reason). x ∷ list) (append_behind xs ys zs)
+
+pub all_reasons : (program : Program) (hards chances all : List Reason) → hards ≡ hard_reasons (problem_in program) → chances ≡ hards ++ chance_reasons (problem_in program) → all ≡ chances ++ goal_reasons (problem_in program) → all ≡ (box_problem_of program).reasons
+unfolding box_problem_of
+all_reasons program hards chances all first second third =
+    third
+    ∙ ap (λ (list : List Reason). list ++ goal_reasons (problem_in program)) (second ∙ ap (λ (list : List Reason). list ++ chance_reasons (problem_in program)) first)
+    ∙ in_order (hard_reasons (problem_in program)) (chance_reasons (problem_in program)) _ _
 
 -- all of them fit
 pub fit_more : {P : Type 0} (Fit : P → Type 0) (xs new : List P) (p : P) → All Fit xs → Fit p → new ≡ xs ++ p ∷ [] → All Fit new

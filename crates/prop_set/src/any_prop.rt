@@ -4,16 +4,19 @@ ghost use Rattle.program_laws.specs.Stated.{box_problem_of};
 ghost use Rattle.prop_set.specs.Kinds.{Fits, reasons_of};
 
 use box_store::BoxStore;
+use prop_chance::{Chance, Goal};
 use prop_core::{Finding, Propagator};
 use prop_linear::Linear;
 use prop_term::AnyTerm;
 use term_program::Program;
 
-/// A propagator of any kind: of a linear comparison, or of another hard constraint.
-#[derive(Clone, Copy, Debug, PartialEq, Eq)]
+/// A propagator of any kind: of a linear comparison, of another hard constraint, of a chance constraint, or of the objective.
+#[derive(Drop)]
 pub enum AnyProp {
     Linear(Linear),
     AnyTerm(AnyTerm),
+    Chance(Chance),
+    Goal(Goal),
 }
 
 impl Propagator for AnyProp {
@@ -29,6 +32,8 @@ impl Propagator for AnyProp {
         match self {
             AnyProp::Linear(prop) => prop.revise(program, store, best),
             AnyProp::AnyTerm(prop) => prop.revise(program, store, best),
+            AnyProp::Chance(prop) => prop.revise(program, store, best),
+            AnyProp::Goal(prop) => prop.revise(program, store, best),
         }
     }
 }

@@ -1,8 +1,11 @@
-//! The propagators of a program: one of any kind, and those of all its hard constraints.
+//! The propagators of a program: one of any kind, those of all its hard constraints, and all of them.
 #![tactic(auto)]
 
 mod any_prop;
 mod members;
+mod posing;
+mod reasons;
 
 pub use any_prop::AnyProp;
 pub use members::hard_props;
+pub use reasons::props_of;

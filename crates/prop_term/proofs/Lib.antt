@@ -1,3 +1,1 @@
-pub mod Opening
-pub mod Mentioned
 pub mod Finding

@@ -2,16 +2,18 @@
 
 ghost use Rattle.std.specs.Prelude.{◌≡◌, ◌<◌, ◌∷◌, [], length, IfOk};
 ghost use Rattle.sopl_base.specs.declared.places.Reason.TheVariants.{Hard};
-ghost use Rattle.term_program.specs.Programs.{IsMade, problem_in};
+ghost use Rattle.box_problem.specs.Box.{Inside};
+ghost use Rattle.term_program.specs.Programs.{IsMade, problem_in, root_in};
+ghost use Rattle.prop_core.specs.Findings.{Finds};
 ghost use Rattle.prop_term.specs.Kinds.{Fits, reasons_of};
 ghost use Rattle.program_laws.specs.Stated.{box_problem_of};
 
-use crate::questions::Question;
 use box_store::BoxStore;
+use cell_questions::Question;
 use prop_core::{Finding, Propagator};
 use sopl_base::Reason;
 use std::alloc::AllocError;
-use term_program::{Program, refuted};
+use term_program::Program;
 
 /// Narrows a box for one hard constraint in one scenario, whatever its form: both ends of each cell that the condition mentions are tried, and as many
 /// values are removed there as doubled and then halved steps reach.
@@ -42,6 +44,23 @@ impl AnyTerm {
             scenario: self.scenario,
         }
     }
+
+    /// What is found of the box of a store for the constraint.
+    fn found<'a>(&self, program: &'a Program, store: &'a BoxStore, best: Option<i128>) -> Finding
+        requires fits { Fits self.now program.now }
+        requires inside { Inside store.now.box (root_in program.now) }
+        ensures finds { Finds (box_problem_of program.now) (reasons_of self.now) best store.now.box result }
+    {
+        let cond = program.hard(self.instance, self.scenario);
+        let question = Question {
+            program,
+            store,
+            reason: self.reason(),
+            best,
+            weighed: None,
+        };
+        question.finding(program.cells_of(cond))
+    }
 }
 
 impl Propagator for AnyTerm {
@@ -53,22 +72,7 @@ impl Propagator for AnyTerm {
 
     ghost fits = { Fits };
 
-    #[tactic(auto, using(crate::proofs::Finding::found_dead, crate::proofs::Finding::found_cut, crate::proofs::Finding::found_quiet))]
     fn revise(&mut self, program: &Program, store: &BoxStore, best: Option<i128>) -> Finding {
-        let reason = self.reason();
-        if refuted(program, reason, store, best) {
-            return Finding::Dead(reason);
-        }
-        let question = Question {
-            program,
-            store,
-            reason,
-            best,
-        };
-        let cond = program.hard(self.instance, self.scenario);
-        match question.first_step(program.cells_of(cond)) {
-            Some(step) => Finding::Cut(step),
-            None => Finding::Quiet,
-        }
+        self.found(program, store, best)
     }
 }

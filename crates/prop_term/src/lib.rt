@@ -2,7 +2,5 @@
 #![tactic(auto)]
 
 mod any_term;
-mod questions;
-mod removals;
 
 pub use any_term::AnyTerm;

@@ -11,13 +11,19 @@ use sopl_io::{FileSink, FileSource};
 use sopl_run::{Status, Word, Words, run};
 use std::alloc::{AllocError, Global};
 use std::env;
+use std::io::ErrorKind;
 use std::process::ExitCode;
 use std::rt::{Env, Files};
 
-/// The words after the program's name.
+/// The words after the program's name. Where one of them is no text there are none, which are out of form as well.
 fn words_given<R: Env + AllocGlobal>(rt: &R) -> Result<Words, AllocError> {
     let mut words = Words::new(rt.alloc());
-    for text in env::args(rt).map_err(|_| AllocError)?.skip(1) {
+    let texts = match env::args(rt) {
+        Ok(texts) => texts,
+        Err(error) if error.kind() == ErrorKind::OutOfMemory => return Err(AllocError),
+        Err(_) => return Ok(words),
+    };
+    for text in texts.skip(1) {
         words.push(Word::new(text))?;
     }
     Ok(words)

@@ -39,15 +39,31 @@ struct Ended {
     log: MemSink,
 }
 
-/// Runs over a source, with an answer sink that takes so many bytes.
+/// How many bytes the two sinks take, and which calls of the log's sink fail.
+#[derive(Clone, Copy)]
+struct Room {
+    answer: usize,
+    log: usize,
+    failing: &'static [u64],
+}
+
+/// Sinks that take all.
+const WIDE: Room = Room {
+    answer: 1000,
+    log: 100_000,
+    failing: &[],
+};
+
+/// Runs over a source, with sinks that take so many bytes.
 fn ran_over(
     alloc: Global,
     words: &Words,
     source: &mut MemSource,
-    capacity: usize,
+    room: &Room,
 ) -> Result<Ended, AllocError> {
-    let mut answer = MemSink::new(alloc, capacity, Vec::new(alloc))?;
-    let mut log = MemSink::new(alloc, 10, Vec::new(alloc))?;
+    let mut answer = MemSink::new(alloc, room.answer, Vec::new(alloc))?;
+    let failing = Vec::from_slice(alloc, room.failing)?;
+    let mut log = MemSink::new(alloc, room.log, failing)?;
     let status = run(alloc, words, source, &mut answer, &mut log);
     Ok(Ended {
         status,
@@ -62,63 +78,154 @@ fn ran(
     words: &[&str],
     text: &str,
     failing: &[u64],
-    capacity: usize,
+    room: &Room,
 ) -> Result<Ended, AllocError> {
     let words = words_of(alloc, words)?;
     let mut source = source_of(alloc, text, failing)?;
-    ran_over(alloc, &words, &mut source, capacity)
+    ran_over(alloc, &words, &mut source, room)
 }
 
-/// A run ended so, with this line and nothing in the log.
+/// A run ended so, with this line.
 fn ends(rt: &impl Abort, about: &str, ended: &Ended, status: Status, want: &str) {
     assert_eq!(rt; ended.status, status, "{about}");
     assert_eq!(rt; ended.answer.bytes(), want.as_bytes(), "{about}");
-    assert_eq!(rt; ended.log.bytes().len(), 0);
 }
 
-/// A run: its words, the text of `m`, and the status and the line that must come.
-type Case = (&'static [&'static str], &'static str, Status, &'static str);
+/// The last line of a log is this; no line where nothing was written.
+fn claims(rt: &impl Abort, about: &str, ended: &Ended, want: &str) {
+    let log = std::str::from_utf8(ended.log.bytes()).unwrap_or("");
+    assert_eq!(rt; log.lines().last().unwrap_or(""), want, "{about}");
+}
+
+/// A run: its words, the text of `m`, and the status, the line and the last line of the log that must come.
+type Case = (
+    &'static [&'static str],
+    &'static str,
+    Status,
+    &'static str,
+    &'static str,
+);
 
 /// Runs that end with an answer.
 const CASES: &[Case] = &[
-    (&["solve", "m"], ORDER, Status::Done, ORDER_ANSWER),
+    (
+        &["solve", "m"],
+        ORDER,
+        Status::Done,
+        ORDER_ANSWER,
+        "end optimal 2",
+    ),
+    (
+        &["solve", "m", "--log", "f", "--budget", "7000"],
+        ORDER,
+        Status::Done,
+        ORDER_ANSWER,
+        "end optimal 2",
+    ),
+    (
+        &["solve", "--log=a=b", "--budget=0004294967295", "m"],
+        ORDER,
+        Status::Usage,
+        "{\"answer\":\"usage\"}\n",
+        "",
+    ),
+    (
+        &["solve", "--log=a=b", "--budget=4294967295", "m"],
+        ORDER,
+        Status::Done,
+        ORDER_ANSWER,
+        "end optimal 2",
+    ),
+    (&[], ORDER, Status::Usage, "{\"answer\":\"usage\"}\n", ""),
     (
         &["solve", "m"],
         "",
         Status::Refused,
         "{\"answer\":\"refused\",\"at\":0,\"code\":104}\n",
-    ),
-    (&["solve"], "", Status::Usage, "{\"answer\":\"usage\"}\n"),
-    (&["tree"], "", Status::Usage, "{\"answer\":\"usage\"}\n"),
-    (
-        &["tree", "-m"],
         "",
-        Status::Usage,
-        "{\"answer\":\"usage\"}\n",
-    ),
-    (
-        &["trees", "m"],
-        "",
-        Status::Usage,
-        "{\"answer\":\"usage\"}\n",
     ),
     (
         &["tree", "m"],
         ORDER,
         Status::Done,
         "{\"answer\":\"tree\",\"den\":\"2\",\"histories\":[1,2],\"scenarios\":[{\"seen\":[[\"d\",[],1]],\"weight\":\"1\"},{\"seen\":[[\"d\",[],3]],\"weight\":\"1\"}]}\n",
+        "",
     ),
     (
         &["tree", "m"],
         "range T = 1..2; stoch int d[t in T] in {0:1, t:2} stage t; dvar int x in 0..1 stage 3; subject to { }",
         Status::Done,
         "{\"answer\":\"tree\",\"den\":\"9\",\"histories\":[1,2,4],\"scenarios\":[{\"seen\":[[\"d\",[1],0],[\"d\",[2],0]],\"weight\":\"1\"},{\"seen\":[[\"d\",[1],0],[\"d\",[2],2]],\"weight\":\"2\"},{\"seen\":[[\"d\",[1],1],[\"d\",[2],0]],\"weight\":\"2\"},{\"seen\":[[\"d\",[1],1],[\"d\",[2],2]],\"weight\":\"4\"}]}\n",
+        "",
     ),
     (
         &["tree", "m"],
         "subject to { }",
         Status::Done,
         "{\"answer\":\"tree\",\"den\":\"1\",\"histories\":[1],\"scenarios\":[{\"seen\":[],\"weight\":\"1\"}]}\n",
+        "",
+    ),
+];
+
+/// Words that are not of the form.
+const USAGE: &str = r##"
+solve
+tree
+tree -m
+trees m
+solve --budget 0 m
+solve -- m
+solve --branch x m
+solve --budget 3 --budget 3 m
+solve --budget 3 --budget=3 m
+solve --budget m
+solve --budget -3 m
+solve --budget= m
+solve --budget 12345678901 m
+solve --budget 4294967296 m
+solve --budget 3x m
+solve --budget +3 m
+solve --log m
+solve --log= m
+solve --log -f m
+solve --log f --log f m
+solve m --log
+solve m n
+solve =m -m
+solve --log f
+tree --budget 3 m
+tree --log=f m
+"##;
+
+/// Searches with a budget: the budget, the text, the status, the line and the whole log that must come, the lines of the log parted by ` / `.
+const LOGS: &[(&str, &str, Status, &str, &str)] = &[
+    (
+        "1",
+        "dvar int x in 0..1; maximize expected(x); subject to { }",
+        Status::Bounded,
+        "{\"answer\":\"bounded\",\"bound\":\"1/1\"}\n",
+        "sopl-log 1 / n 0 r / x 0 0 / n 1 0 l / o / n 2 0 h / o / end bounded none 1",
+    ),
+    (
+        "3",
+        "dvar int x in 0..1; maximize expected(x); subject to { }",
+        Status::Done,
+        "{\"answer\":\"optimal\",\"policy\":{\"decide\":[[\"x\",[],1]],\"next\":[]},\"value\":\"1/1\"}\n",
+        "sopl-log 1 / n 0 r / x 0 0 / n 1 0 l / v / n 2 0 h / v / end optimal 1",
+    ),
+    (
+        "3",
+        "dvar int x in 0..3; maximize expected(x); subject to { }",
+        Status::Bounded,
+        "{\"answer\":\"bounded\",\"bound\":\"3/1\",\"policy\":{\"decide\":[[\"x\",[],0]],\"next\":[]},\"value\":\"0/1\"}\n",
+        "sopl-log 1 / n 0 r / x 0 1 / n 1 0 l / x 0 0 / n 2 1 l / v / n 3 0 h / o / n 4 1 h / o / end bounded 0 3",
+    ),
+    (
+        "1000",
+        "dvar int x in 0..1; subject to { x >= 2; }",
+        Status::Done,
+        "{\"answer\":\"infeasible\"}\n",
+        "sopl-log 1 / n 0 r / f h 0 0 / end infeasible",
     ),
 ];
 
@@ -212,7 +319,7 @@ fn command_ends(
     row: (&str, &str),
     status: Status,
 ) -> Result<(), AllocError> {
-    let ended = ran(alloc, &[command, "m"], row.0, &[], 1000)?;
+    let ended = ran(alloc, &[command, "m"], row.0, &[], &WIDE)?;
     ends_line(rt, row.0, &ended, status, row.1);
     Ok(())
 }
@@ -259,36 +366,156 @@ fn refusals_and_limits(rt: HostRuntime) -> Result<(), Fail> {
 
 #[test]
 fn answers(rt: HostRuntime) -> Result<(), Fail> {
-    for (words, text, status, want) in CASES {
-        let ended = ran(rt.alloc(), words, text, &[], 1000)?;
+    for (words, text, status, want, claim) in CASES {
+        let ended = ran(rt.alloc(), words, text, &[], &WIDE)?;
         ends(&rt, text, &ended, *status, want);
+        claims(&rt, text, &ended, claim);
     }
     Ok(())
 }
 
-/// Runs on the ordering text that end early: the calls of the source that fail, how many bytes the
-/// answer sink takes, and the status and the line that must come.
-const FAULTS: &[(&[u64], usize, Status, &str)] = &[
-    (&[9], 10, Status::WriteFault, "{\"answer\":"),
+/// The words of a line.
+fn words_in(alloc: Global, line: &str) -> Result<Words, AllocError> {
+    let mut words = Words::new(alloc);
+    for word in line.split(' ') {
+        words.push(Word::new(String::from_str(alloc, word)?))?;
+    }
+    Ok(words)
+}
+
+#[test]
+fn words_out_of_form(rt: HostRuntime) -> Result<(), Fail> {
+    let alloc = rt.alloc();
+    for line in USAGE.lines() {
+        let words = words_in(alloc, line)?;
+        let mut source = source_of(alloc, ORDER, &[])?;
+        let ended = ran_over(alloc, &words, &mut source, &WIDE)?;
+        ends(&rt, line, &ended, Status::Usage, "{\"answer\":\"usage\"}\n");
+        claims(&rt, line, &ended, "");
+    }
+    Ok(())
+}
+
+/// The log has these lines.
+fn logs(rt: &impl Abort, about: &str, ended: &Ended, want: &str) {
+    let log = std::str::from_utf8(ended.log.bytes()).unwrap_or("");
+    let mut lines = log.lines();
+    for line in want.split(" / ") {
+        assert_eq!(rt; lines.next(), Some(line), "{about}");
+    }
+    assert_eq!(rt; lines.next(), None, "{about}");
+}
+
+#[test]
+fn searches_with_a_budget(rt: HostRuntime) -> Result<(), Fail> {
+    for (budget, text, status, want, log) in LOGS {
+        let ended = ran(
+            rt.alloc(),
+            &["solve", "--budget", budget, "m"],
+            text,
+            &[],
+            &WIDE,
+        )?;
+        ends(&rt, text, &ended, *status, want);
+        logs(&rt, text, &ended, log);
+    }
+    Ok(())
+}
+
+/// Texts, and what their logs claim: the best sum over the scenarios of their weights times the objective, reckoned by hand. Chains of signs, of factors and of divisors, that
+/// of a binder, the least, the greatest and the size, sums behind binders, conditions as numbers and in one another, arrays by constants, scenarios and cells, binders in binders, and
+/// what is undefined in a scenario.
+const CLAIMED: &str = r##"
+dvar int x in 3..3; maximize expected(-x - (2 - x) + 7); subject to { } -> end optimal 5
+dvar int x in 2..3; maximize expected(x * x * 2 div 3 mod 5 * 10); subject to { } -> end optimal 20
+dvar int x in 7..7; maximize expected(-x div 2 * 10 + -x mod 2); subject to { } -> end optimal -31
+range R = 1..3; dvar int x in 12..12; maximize expected(sum(i in R) (x div i)); subject to { } -> end optimal 22
+range R = 1..3; dvar int x in 12..12; maximize expected(sum(i in R) (x mod (i + 4))); subject to { } -> end optimal 7
+dvar int x in -2..1; maximize expected(max(x, -x, 0) * 10 + min(3, abs(x))); subject to { } -> end optimal 22
+range R = 1..3; dvar int x[R] in 0..1; maximize expected(sum(i in R, j in i..3) (x[i] * j)); subject to { } -> end optimal 14
+range R = 1..3; dvar int x[R] in 0..4; maximize expected(sum(i in R) (x[4 - i] * i)); subject to { forall(i in R) x[i] <= i; } -> end optimal 10
+dvar int x in 0..3; maximize expected((x >= 2) * 5 - x); subject to { } -> end optimal 3
+dvar int x in 0..1; dvar int y in 0..1; maximize expected(2 * ((x == 1) => (y == 1)) + x - y); subject to { } -> end optimal 2
+dvar int x in 0..1; dvar int y in 0..1; maximize expected(4 * ((x == 1) && (y == 0)) + ((x == 0) || (y == 1))); subject to { } -> end optimal 4
+dvar int x in 0..9; maximize expected(x); subject to { !(x == 9 || x == 8) && (x >= 5 => x <= 6); } -> end optimal 6
+range R = 1..2; int a[R] = [5, 7]; stoch int d in {1:1, 2:3}; dvar int x in 0..1; maximize expected(a[d] + x * d); subject to { } -> end optimal 33
+range R = 1..2; int a[R] = [5, 7]; stoch int d[R] in {1:1, 2:1}; dvar int x[R] in 0..2; maximize expected(sum(i in R) x[d[i]]); subject to { x[1] <= 1; } -> end optimal 12
+range R = 1..2; maximize expected(sum(i in R) (i * sum(j in 1..i) j)); subject to { } -> end optimal 7
+range R = 1..2; int a[R] = [5, 7]; stoch int d in {1:1, 3:1}; dvar int x in 0..1; maximize expected(x); subject to { !(a[d] >= 7); } -> end optimal 2
+range R = 1..2; int a[R] = [5, 7]; stoch int d in {1:1, 3:1}; dvar int x in 0..1; maximize expected(x); subject to { a[d] < 7; } -> end infeasible
+range R = 1..2; int a[R] = [5, 7]; stoch int d in {1:1, 2:1}; dvar int x in 0..1; maximize expected(x); subject to { !(a[d] == 6); } -> end optimal 2
+range R = 1..2; int a[R] = [5, 7]; stoch int d in {1:1, 3:1}; dvar int x in 0..1; maximize expected(a[d] * x); subject to { } -> end infeasible
+"##;
+
+#[test]
+fn values_of_expressions(rt: HostRuntime) -> Result<(), Fail> {
+    for line in CLAIMED.lines() {
+        if let Some((text, want)) = line.split_once(" -> ") {
+            let ended = ran(rt.alloc(), &["solve", "m"], text, &[], &WIDE)?;
+            claims(&rt, text, &ended, want);
+        }
+    }
+    Ok(())
+}
+
+/// Runs on the ordering text that end early: the calls of the source that fail, what the sinks take, and the status, the line and the last line of the
+/// log that must come.
+const FAULTS: &[(&[u64], Room, Status, &str, &str)] = &[
+    (
+        &[9],
+        Room {
+            answer: 10,
+            log: 100_000,
+            failing: &[],
+        },
+        Status::WriteFault,
+        "{\"answer\":",
+        "end optimal 2",
+    ),
+    (
+        &[],
+        Room {
+            answer: 1000,
+            log: 14,
+            failing: &[],
+        },
+        Status::WriteFault,
+        "",
+        "n 0",
+    ),
+    (
+        &[],
+        Room {
+            answer: 1000,
+            log: 100_000,
+            failing: &[0],
+        },
+        Status::WriteFault,
+        "",
+        "",
+    ),
     (
         &[0],
-        1000,
+        WIDE,
         Status::ReadFault,
         "{\"answer\":\"read fault\"}\n",
+        "",
     ),
     (
         &[1],
-        1000,
+        WIDE,
         Status::ReadFault,
         "{\"answer\":\"read fault\"}\n",
+        "",
     ),
 ];
 
 #[test]
 fn faults(rt: HostRuntime) -> Result<(), Fail> {
-    for (failing, capacity, status, want) in FAULTS {
-        let ended = ran(rt.alloc(), &["solve", "m"], ORDER, failing, *capacity)?;
+    for (failing, room, status, want, claim) in FAULTS {
+        let ended = ran(rt.alloc(), &["solve", "m"], ORDER, failing, room)?;
         ends(&rt, want, &ended, *status, want);
+        claims(&rt, want, &ended, claim);
     }
     Ok(())
 }
@@ -296,7 +523,7 @@ fn faults(rt: HostRuntime) -> Result<(), Fail> {
 /// The right line is answered, or nothing where memory is wanting: also where any one allocation fails.
 #[test]
 fn line_or_nothing(rt: HostRuntime) {
-    let Ok(ended) = ran(rt.alloc(), &["solve", "m"], ORDER, &[], 1000) else {
+    let Ok(ended) = ran(rt.alloc(), &["solve", "m"], ORDER, &[], &WIDE) else {
         return;
     };
     if ended.status == Status::NoMemory {
@@ -387,7 +614,8 @@ fn one_byte_at_a_time(rt: HostRuntime) -> Result<(), Fail> {
     let ended = run(alloc, &words, &mut source, &mut answer, &mut log);
     assert_eq!(rt; ended, Status::Done);
     assert_eq!(rt; answer.taken.as_slice(), ORDER_ANSWER.as_bytes());
-    assert_eq!(rt; log.taken.len(), 0);
+    let text = std::str::from_utf8(log.taken.as_slice()).unwrap_or("");
+    assert_eq!(rt; text.lines().last(), Some("end optimal 2"));
     Ok(())
 }
 

@@ -1,2 +1,4 @@
+mod Parts
+mod Numbers
 pub mod WholeText
 pub mod Statuses

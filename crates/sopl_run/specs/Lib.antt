@@ -1,3 +1,5 @@
 pub mod Words
 pub mod Shown
+pub mod Splits
 pub mod Replies
+pub mod Runs

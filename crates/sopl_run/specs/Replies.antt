@@ -1,72 +1,105 @@
--- Which reply goes with which words and why, and what a sink took of it.
-use Rattle.std.specs.Prelude.{◌≡◌, ◌⊎◌, ℕ, codes, List, Option, Some, None, IsSome, IfSome, option_map, option_and_then}
+-- Which reply goes with which words and why, and what the sinks took of it and of its log.
+use Rattle.std.specs.Prelude.{◌≡◌, ◌⊎◌, ℕ, ◌≤◌, codes, List, [], Option, Some, None, IsSome, IfSome, option_map}
 use Rattle.std.specs.Io.KnownBytes.{Keeps, Appends}
+use Rattle.std.specs.Option.{option_and_then, option_map_or}
 use Rattle.sopl_io.specs.Causes.{Rose}
 use Rattle.sopl_io.specs.Stock.{Stock, text_of, with_name}
 use Rattle.sopl_io.specs.Transfer.{AppendsPrefix}
+use Rattle.sopl_base.specs.declared.places.Excess.{Excess}
 use Rattle.sopl_base.specs.declared.places.Refusal.{Refusal}
-use Rattle.sopl_ast.specs.Accepted.{IsRefusedFor}
+use Rattle.sopl_ast.specs.Instances.{Problem}
+use Rattle.solved_texts.specs.Solved.{SolvedText}
 use Rattle.answer_lines.specs.Answers.{word_data, line_of}
-use Rattle.text_replies.specs.Replies.{Ends, IsTextReply}
+use Rattle.text_solver.specs.Logs.{IsUnused, Told, most_nodes}
+use Rattle.text_replies.specs.Replies.{Ends, settled, IsLimitedOn, IsRefusedOn, IsTextReply, IsCut, Logged}
 use Rattle.text_replies.specs.declared.command.Command.{Command}
+use Rattle.text_replies.specs.declared.command.Command.TheVariants.{Solve}
 use Rattle.text_replies.specs.declared.status.Status.{Status}
-use Rattle.text_replies.specs.declared.status.Status.TheVariants.{Usage, ReadFault, WriteFault, NoMemory}
+use Rattle.text_replies.specs.declared.status.Status.TheVariants.{Done, Usage, Bounded, ReadFault, WriteFault, NoMemory}
 use Rattle.sopl_run.specs.Words.{Request, request_of}
 
--- the words ask for the command on a file, and this is the file's text: the one that the source's stock gives for it, where the stock is told
-pub record IsModelText (command : Command) (words : List (List ℕ)) (stock : Option Stock) (text : List ℕ) : Type 0 where
-  pub request : Request
+-- the words ask for this, and this is the text of the model's file: the one that the source's stock gives for it, where the stock is told
+pub record IsModelText (request : Request) (words : List (List ℕ)) (stock : Option Stock) (text : List ℕ) : Type 0 where
   pub asked : request_of words ≡ Some request
-  pub commanded : request.command ≡ command
   pub given : IfSome stock (λ s. text ≡ text_of s request.model)
 
--- a reply to the words: the status that it ends with, its line, and why it comes; the stock is the source's, and the counts are those of its faults
-pub data IsReply (words : List (List ℕ)) (stock : Option Stock) (before now : ℕ) : Status → List ℕ → Type 0 where
+-- a reply to the words: the log that goes with it, the status that it ends with, its line, and why it comes; the stock is the source's, and the counts
+-- are those of its faults
+pub data IsReply (words : List (List ℕ)) (stock : Option Stock) (before now : ℕ) : Option (List ℕ) → Status → List ℕ → Type 0 where
   -- a reply to the command on the text of the file that the words name
-  replied : (command : Command) (text : List ℕ) (status : Status) (line : List ℕ) → IsModelText command words stock text
-      → IsTextReply text command status line → IsReply words stock before now status line
+  replied : (request : Request) (text : List ℕ) (log : Option (List ℕ)) (status : Status) (line : List ℕ) → IsModelText request words stock text
+      → IsTextReply text request.budget request.command log status line → IsReply words stock before now log status line
   -- the words are not of the form
-  usage : request_of words ≡ None → IsReply words stock before now Usage (line_of (word_data (codes "usage")))
+  usage : request_of words ≡ None → IsReply words stock before now None Usage (line_of (word_data (codes "usage")))
   -- the words name a file, and the source failed
-  read_fault : IsSome (request_of words) → Rose before now → IsReply words stock before now ReadFault (line_of (word_data (codes "read fault")))
+  read_fault : IsSome (request_of words) → Rose before now → IsReply words stock before now None ReadFault (line_of (word_data (codes "read fault")))
 
--- what a sink took, and the status after it
-pub data Answers (words : List (List ℕ)) (stock : Option Stock) (before now : ℕ) (old new : Option (List ℕ)) : Status → Type 0 where
-  -- the whole line of a reply with this status
-  whole : (status : Status) (line : List ℕ) → IsReply words stock before now status line → Appends old new line
-      → Answers words stock before now old new status
-  -- a front of the line of some reply, where the sink failed
-  front : (meant : Status) (line : List ℕ) → IsReply words stock before now meant line → AppendsPrefix old new line
-      → Answers words stock before now old new WriteFault
-  -- nothing, where memory ran out
-  nothing : Keeps old new → Answers words stock before now old new NoMemory
+-- the name of the log that the words give
+abbrev pub log_name : List (List ℕ) → List ℕ
+log_name words = option_map_or (λ (r : Request). r.log) (request_of words) []
 
--- a command, and the text that it works on
+-- the words ask for a search of a text that is solved, and the log's sink was begun with the log's name and took a front of a log
+pub data IsCutOff (words : List (List ℕ)) (stock : Option Stock) (old new : Told) : Type 0 where
+  cut_off : (request : Request) (text : List ℕ) → IsModelText request words stock text
+      → IsCut text request.budget request.command request.log old new → IsCutOff words stock old new
+
+-- what the answer's sink took, what the log's sink took and was begun with, and the status after it
+pub data Answers (words : List (List ℕ)) (stock : Option Stock) (before now : ℕ) (old new : Option (List ℕ)) (log_old log_new : Told) : Status → Type 0 where
+  -- the whole line of a reply with this status, and the log that goes with it
+  whole : (log : Option (List ℕ)) (status : Status) (line : List ℕ) → IsReply words stock before now log status line → Appends old new line
+      → Logged (log_name words) log log_old log_new → Answers words stock before now old new log_old log_new status
+  -- a front of the line of some reply, where the answer's sink failed, and the log that goes with it
+  front : (log : Option (List ℕ)) (meant : Status) (line : List ℕ) → IsReply words stock before now log meant line → AppendsPrefix old new line
+      → Logged (log_name words) log log_old log_new → Answers words stock before now old new log_old log_new WriteFault
+  -- no answer, and a front of a log, where the log's sink failed
+  log_front : Keeps old new → IsCutOff words stock log_old log_new → Answers words stock before now old new log_old log_new WriteFault
+  -- no answer, and no log or a front of one, where memory ran out
+  nothing : Keeps old new → IsUnused log_old log_new ⊎ IsCutOff words stock log_old log_new → Answers words stock before now old new log_old log_new NoMemory
+
+-- a command, the text that it works on, and how many nodes a search may finish
 pub record Asked : Type 0 where
   pub command : Command
   pub text : List ℕ
+  pub budget : ℕ
 
 -- what is asked for, where the words are of the form and the source tells its stock: the text is what the stock gives for the model's file
-abbrev pub asked_in : Option Stock → List (List ℕ) → Option Asked
-asked_in stock words =
-    option_and_then (λ (r : Request). option_map (λ s. record { command = r.command; text = text_of s r.model }) stock) (request_of words)
+abbrev pub asked_by : Request → Stock → Asked
+asked_by r s = record { command = r.command; text = text_of s r.model; budget = r.budget }
 
--- the run ended early: the source failed, the answer sink failed, or memory was wanting
+abbrev pub asked_in : Option Stock → List (List ℕ) → Option Asked
+asked_in stock words = option_and_then (λ (r : Request). option_map (asked_by r) stock) (request_of words)
+
+-- the run ended early: the source failed, a sink failed, or memory was wanting
 abbrev pub EndedEarly : Status → Type 0
 EndedEarly status = (status ≡ ReadFault) ⊎ (status ≡ WriteFault) ⊎ (status ≡ NoMemory)
 
+-- the text was answered
+abbrev pub IsAnswered : Status → Type 0
+IsAnswered status = (status ≡ Done) ⊎ (status ≡ Bounded)
+
 -- a run that did not end early ended as its command ends on its text
 abbrev pub EndsSo : Option Asked → Status → Type 0
-EndsSo asked status = IfSome asked (λ a. EndedEarly status ⊎ Ends a.text a.command status)
+EndsSo asked status = IfSome asked (λ a. EndedEarly status ⊎ Ends a.text a.budget a.command status)
 
--- and as its command ends on its text a run ends, unless it ends early
+-- and as its command ends on its text a run ends, but that a search may be cut short, unless it ends early
 abbrev pub EndsWhen : Option Asked → Status → Type 0
-EndsWhen asked status = IfSome asked (λ a. (end : Status) → Ends a.text a.command end → (status ≡ end) ⊎ EndedEarly status)
+EndsWhen asked status =
+    IfSome asked (λ a. (end : Status) → Ends a.text a.budget a.command end → (settled status ≡ settled end) ⊎ EndedEarly status)
 
--- what is asked for is refused for breaking a rule by one code at one place
+-- with a budget of as many nodes as a search may have, it is not cut short
+abbrev pub EndsSettled : Option Asked → Status → Type 0
+EndsSettled asked status =
+    IfSome asked (λ a. a.command ≡ Solve → (problem : Problem) → SolvedText a.text problem → most_nodes problem ≤ a.budget → (status ≡ Done) ⊎ EndedEarly status)
+
+-- what is asked for is refused by one code at one place
 abbrev pub RefusedOnce : Option Asked → Type 0
 RefusedOnce asked =
-    IfSome asked (λ a. (one other : Refusal) → IsRefusedFor a.text one → IsRefusedFor a.text other → one ≡ other)
+    IfSome asked (λ a. (one other : Refusal) → IsRefusedOn a.text one a.command → IsRefusedOn a.text other a.command → one ≡ other)
+
+-- and passes one limit
+abbrev pub LimitedOnce : Option Asked → Type 0
+LimitedOnce asked =
+    IfSome asked (λ a. (one other : Excess) → IsLimitedOn a.text one a.command → IsLimitedOn a.text other a.command → one ≡ other)
 
 -- the names with which a source was begun, after it was begun with the file of the model, where there is one
 abbrev pub begun_names : Option (List ℕ) → Option (List (List ℕ)) → Option (List (List ℕ))

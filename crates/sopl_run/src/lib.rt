@@ -3,6 +3,8 @@
 //! `run` reads the words and the text of the model; what the command is answered on that text is the reply of `text_replies`.
 #![tactic(auto)]
 
+mod options;
+mod request;
 mod top;
 mod words;
 

@@ -1,1 +1,5 @@
 pub mod Solving
+pub mod Bounds
+pub mod Logs
+pub mod Answering
+pub mod Stops

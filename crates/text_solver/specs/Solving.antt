@@ -1,18 +1,15 @@
--- Which program is that of a problem, what a fault says of a model, and what is answered of a problem.
-use Rattle.std.specs.Prelude.{◌≡◌, ℕ, ℤ, codes, List}
+-- Which program is that of a problem, and what a fault says of a model.
+use Rattle.std.specs.Prelude.{◌≡◌}
 use Rattle.sopl_base.specs.declared.places.Fault.{Fault}
 use Rattle.sopl_base.specs.declared.places.Fault.TheVariants as fault
 use Rattle.sopl_ast.specs.Cells.{cells}
 use Rattle.sopl_ast.specs.Instances.{Problem}
-use Rattle.sopl_ast.specs.Optimal.{IsOptimal, IsInfeasible}
-use Rattle.sopl_ast.specs.Policies.{Policy}
 use Rattle.sopl_ast.specs.Whole.{ModelTree}
 use Rattle.instantiation.specs.Root.{root_box}
 use Rattle.instantiation.specs.Whole.{problem_terms}
 use Rattle.term_program.specs.Programs.{IsMade, problem_in, root_in}
 use Rattle.term_program.specs.declared.program.Program.{Program}
 use Rattle.solved_texts.specs.Models.{IsUnsupported, IsLarge}
-use Rattle.answer_lines.specs.Answers.{word_data, optimal_data, line_of}
 
 -- the program is that of the problem: over the box of all its points, with the problem's terms
 pub record IsProgramOf (problem : Problem) (program : Program) : Type 0 where
@@ -25,10 +22,3 @@ abbrev pub IsSolveFault : ModelTree → Fault → Type 0
 IsSolveFault model (fault.Text refusal) = IsUnsupported model refusal
 IsSolveFault model (fault.Limit excess) = IsLarge model excess
 IsSolveFault model fault.NoMemory = Unit {0}
-
--- a line answers a problem
-pub data IsAnswerTo (problem : Problem) : List ℕ → Type 0 where
-  -- this policy of it is optimal and has this value
-  optimal : (policy : Policy) (value : ℤ) → IsOptimal problem policy value → IsAnswerTo problem (line_of (optimal_data problem policy value))
-  -- no policy of it satisfies
-  infeasible : IsInfeasible problem → IsAnswerTo problem (line_of (word_data (codes "infeasible")))

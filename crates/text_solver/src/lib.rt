@@ -1,7 +1,11 @@
-//! The answer to `solve` on an accepted text: the line of its best policy, or that none satisfies; or why it is not solved.
+//! The answer to `solve` on an accepted text: the line of its best policy, that none satisfies, or a bound, and the log of the search; or why
+//! it is not solved.
 #![tactic(auto)]
 
+mod answer;
+mod lines;
 mod program;
 mod solved;
 
-pub use solved::solved_line;
+pub use answer::{Answer, SolveStop};
+pub use solved::solved_answer;

@@ -1,70 +1,99 @@
-//! From what an accepted text states to the line that answers it.
+//! From what an accepted text states to the line that answers it, and the log of the search.
 
-ghost use Rattle.std.specs.Prelude.{◌≡◌, ℕ, List, string_bytes, IfOk, IfErr};
-ghost use Rattle.sopl_ast.specs.Cells.{cells, IsPoint, policy_at};
-ghost use Rattle.answer_lines.specs.Answers.{line_of, optimal_data};
+ghost use Rattle.std.specs.Prelude.{◌≡◌, ◌≤◌, ℕ, List, Err, IfOk, IfErr};
+ghost use Rattle.sopl_io.specs.Causes.{Rose};
 ghost use Rattle.text_problem.specs.Stated.{IsLaid, States, model_in, problem_in};
 ghost use Rattle.solved_texts.specs.Models.{IsSolvable};
-ghost use Rattle.text_solver.specs.Solving.{IsProgramOf, IsSolveFault, IsAnswerTo};
+ghost use Rattle.box_search.specs.declared.outcome.SearchStop.TheVariants as search;
+ghost use Rattle.text_solver.specs.Solving.{IsProgramOf};
+ghost use Rattle.text_solver.specs.Logs.{told, TookFront, WroteFront};
+ghost use Rattle.text_solver.specs.Answering.{Answers, Searched, Stops};
+ghost use Rattle.text_solver.specs.declared.answer.SolveStop.TheVariants.{Write};
 
+use crate::answer::{Answer, SolveStop, made, solved};
+use crate::lines::answer_of;
 use crate::program::program_of;
-use answer_lines::{optimal_line, word_line};
-use policy_json::policy_value;
-use program_points::best_point_of;
-use sopl_base::Fault;
-use sopl_search::Found;
+use box_search::SearchStop;
+use program_search::search_program;
+use sopl_io::Sink;
 use sopl_term::Program;
-use std::alloc::{AllocError, Global};
+use std::alloc::Global;
 use text_problem::Stated;
 
-/// The line of an optimal policy.
-#[tactic(auto, using(crate::proofs::Points::printed))]
-fn line_of_found(
+/// The answer of a search within a budget, whose log the sink takes.
+fn searched_answer<K: Sink>(
     alloc: Global,
     stated: &Stated,
     program: &Program,
-    found: &Found,
-) -> Result<String, AllocError>
-    requires laid { IsLaid stated.now }
-    requires program { IsProgramOf (problem_in stated.now) program.now }
-    requires inside { IsPoint (cells (problem_in stated.now)) found.now.cells }
-    ensures line { IfOk result (λ line. string_bytes line ≡ line_of (optimal_data (problem_in stated.now)
-        (policy_at (cells (problem_in stated.now)) found.now.cells) found.now.value)) }
-{
-    let ground = &stated.ground;
-    let values = found.cells.as_slice();
-    let policy = policy_value(
-        alloc,
-        ground.decisions(),
-        ground.stochs(),
-        &stated.tree,
-        values,
-    )?;
-    optimal_line(alloc, policy, found.value, program.denominator())
-}
-
-/// The line that answers what a text states, by its program.
-fn line_of_program(alloc: Global, stated: &Stated, program: &Program) -> Result<String, AllocError>
+    budget: u32,
+    sink: &mut K,
+) -> Result<Answer, SearchStop>
     requires stated { (text : List ℕ) × States text stated.now }
     requires laid { IsLaid stated.now }
     requires program { IsProgramOf (problem_in stated.now) program.now }
-    ensures answer { IfOk result (λ line. IsAnswerTo (problem_in stated.now) (string_bytes line)) }
+    requires budget { 1 ≤ budget }
+    ensures answer { IfOk result (Searched (problem_in stated.now) budget (K.taken sink.old) (K.taken sink.new)) }
+    ensures stopped { IfErr result (λ stop. TookFront (problem_in stated.now) budget (K.taken sink.old) (K.taken sink.new)) }
+    ensures names { K.names sink.new ≡ K.names sink.old }
+    ensures later { K.faults sink.old ≤ K.faults sink.new }
+    ensures write { result ≡ Err search.Write → Rose (K.faults sink.old) (K.faults sink.new) }
 {
-    match best_point_of(alloc, program)? {
-        Some(found) => line_of_found(alloc, stated, program, &found),
-        None => word_line(alloc, "infeasible"),
+    match search_program(alloc, program, budget, sink) {
+        Ok(outcome) => made(answer_of(alloc, stated, program, &outcome)),
+        Err(stop) => Err(stop),
     }
 }
 
-/// The line that answers what an accepted text states: its optimal policy with the value, or `infeasible` where no policy satisfies.
-/// Or why it is not solved: its first form that is not solved yet (117), or the first limit that its terms pass (206, 207).
-pub fn solved_line(alloc: Global, stated: &Stated) -> Result<String, Fault>
+/// The same, where the sink is begun with a name first.
+fn logged_answer<K: Sink>(
+    alloc: Global,
+    stated: &Stated,
+    program: &Program,
+    budget: u32,
+    name: &str,
+    sink: &mut K,
+) -> Result<Answer, SearchStop>
     requires stated { (text : List ℕ) × States text stated.now }
     requires laid { IsLaid stated.now }
-    ensures answer { IfOk result (λ line. IsAnswerTo (problem_in stated.now) (string_bytes line)) }
-    ensures solvable { IfOk result (λ line. IsSolvable (model_in stated.now)) }
-    ensures refused { IfErr result (IsSolveFault (model_in stated.now)) }
+    requires program { IsProgramOf (problem_in stated.now) program.now }
+    requires budget { 1 ≤ budget }
+    ensures answer { IfOk result (Answers (problem_in stated.now) budget name.now
+        (told (K.taken sink.old) (K.names sink.old)) (told (K.taken sink.new) (K.names sink.new))) }
+    ensures stopped { IfErr result (λ stop. WroteFront (problem_in stated.now) budget name.now
+        (told (K.taken sink.old) (K.names sink.old)) (told (K.taken sink.new) (K.names sink.new))) }
+    ensures later { K.faults sink.old ≤ K.faults sink.new }
+    ensures write { result ≡ Err search.Write → Rose (K.faults sink.old) (K.faults sink.new) }
 {
-    let program = program_of(alloc, stated)?;
-    Ok(line_of_program(alloc, stated, &program)?)
+    if sink.begin(name).is_err() {
+        return Err(SearchStop::Write);
+    }
+    searched_answer(alloc, stated, program, budget, sink)
+}
+
+/// The answer to what an accepted text states: its optimal policy with the value, `infeasible` where no policy satisfies, or a bound
+/// where the search ends with as many nodes as the budget allows before it is done. The sink is begun with the name, and takes the
+/// log of the search. Or why there is none: the text's first form that is not solved yet (117), the first limit that its terms pass
+/// (206, 207), or a fault of the sink; of the first two the sink knows nothing.
+pub fn solved_answer<K: Sink>(
+    alloc: Global,
+    stated: &Stated,
+    budget: u32,
+    name: &str,
+    sink: &mut K,
+) -> Result<Answer, SolveStop>
+    requires stated { (text : List ℕ) × States text stated.now }
+    requires laid { IsLaid stated.now }
+    requires budget { 1 ≤ budget }
+    ensures answer { IfOk result (Answers (problem_in stated.now) budget name.now
+        (told (K.taken sink.old) (K.names sink.old)) (told (K.taken sink.new) (K.names sink.new))) }
+    ensures solvable { IfOk result (λ answer. IsSolvable (model_in stated.now)) }
+    ensures stopped { IfErr result (Stops stated.now budget name.now
+        (told (K.taken sink.old) (K.names sink.old)) (told (K.taken sink.new) (K.names sink.new))) }
+    ensures later { K.faults sink.old ≤ K.faults sink.new }
+    ensures write { result ≡ Err Write → Rose (K.faults sink.old) (K.faults sink.new) }
+{
+    match program_of(alloc, stated) {
+        Ok(program) => solved(logged_answer(alloc, stated, &program, budget, name, sink)),
+        Err(fault) => Err(SolveStop::Unsolved(fault)),
+    }
 }

@@ -1,10 +1,10 @@
-use Rattle.std.proofs.Common.{rules, ℤ, Bool, true, false, List, Some, SFits, to_z, refl, sym, subst, ◌∙◌}
+use Rattle.std.proofs.Common.{rules, ℤ, Bool, true, false, List, Some, SFits, to_z, refl, sym, ap, subst, ◌∙◌}
 use Rattle.std.specs.Int.{w128}
 use Rattle.std.proofs.lemmas.List.Elements.{All-head, All-tail}
 use Rattle.std.specs.List.{All}
 use Rattle.box_problem.specs.Box.{Box, Inside}
 use Rattle.open_boxes.specs.Opens.{IsBound}
-use Rattle.box_search.specs.Crews.{IsNext, waiting}
+use Rattle.box_search.specs.Crews.{IsNext, boxes, waiting}
 use Rattle.box_search.specs.Outcomes.{value_of}
 use Rattle.box_search.proofs.Numbers.{same_large}
 use Rattle.box_search.proofs.Settling.{bound_ended, bound_kept, bound_more}
@@ -13,7 +13,7 @@ use Rattle.box_search.proofs.bounding.bound_over.Goals as goal
 
 pub end-requires-clause-inside : goal.end-requires-clause-inside
 end-requires-clause-inside g c =
-    first_inside (g.P.Propagator.problem c.args.program.now) c.args.crew.now.best c.args.crew.now.finished c.args.crew.now.store.box (waiting c.args.crew.now) c.requires.stands
+    first_inside (g.P.Propagator.problem c.args.program.now) c.args.crew.now.best c.args.crew.now.finished c.args.crew.now.store.box (boxes (waiting c.args.crew.now)) c.requires.stands
 
 pub waiting-init : goal.waiting-init
 waiting-init g c =
@@ -21,20 +21,21 @@ waiting-init g c =
     let best_fits : SFits w128 c.better_of-bound.result = search rules in
     record {
       grows = λ bound is.
-          bound_more (g.P.Propagator.problem c.args.program.now) _ (value_of c.args.crew.now.best) _ _ _ c.args.crew.now.store.box (waiting c.args.crew.now) bound
+          bound_more (g.P.Propagator.problem c.args.program.now) _ (value_of c.args.crew.now.best) _ _ _ c.args.crew.now.store.box (boxes (waiting c.args.crew.now)) bound
           c.direction-direction.ensures c.value.ensures (same_large c.end.result fits ∙ c.end.ensures) c.better_of-bound.ensures
-          (bound_kept (g.P.Propagator.problem c.args.program.now) _ c.better_of-bound.result (waiting c.args.crew.now) bound (same_large c.better_of-bound.result best_fits) is);
-      inside = waiting_inside (g.P.Propagator.problem c.args.program.now) c.args.crew.now.best c.args.crew.now.finished c.args.crew.now.store.box (waiting c.args.crew.now) c.requires.stands;
+          (bound_kept (g.P.Propagator.problem c.args.program.now) _ c.better_of-bound.result (boxes (waiting c.args.crew.now)) bound (same_large c.better_of-bound.result best_fits) is);
+      inside = waiting_inside (g.P.Propagator.problem c.args.program.now) c.args.crew.now.best c.args.crew.now.finished c.args.crew.now.store.box (boxes (waiting c.args.crew.now)) c.requires.stands;
       cuts = c.requires.cuts;
       best = refl;
+      rows = refl;
     }
 
 pub end-requires-in-waiting-clause-inside : goal.end-requires-in-waiting-clause-inside
 end-requires-in-waiting-clause-inside g c =
     let root = (g.P.Propagator.problem c.args.program.now).root in
     let took : IsNext c.waiting.crew c.next.new.self true = subst (λ (more : Bool). IsNext c.waiting.crew c.next.new.self more) c.if-branch.true c.in_ok-next.ensures.next in
-    All-head (λ (b : Box). Inside b root) c.next.new.self.store.box (waiting c.next.new.self)
-    (subst (λ (boxes : List Box). All (λ (b : Box). Inside b root) boxes) took.boxes c.waiting.invariant.inside)
+    All-head (λ (b : Box). Inside b root) c.next.new.self.store.box (boxes (waiting c.next.new.self))
+    (subst (λ (bs : List Box). All (λ (b : Box). Inside b root) bs) (ap boxes took.nodes) c.waiting.invariant.inside)
 
 pub waiting-preserved : goal.waiting-preserved
 waiting-preserved g c =
@@ -46,14 +47,15 @@ waiting-preserved g c =
     record {
       grows = λ bound is.
           c.waiting.invariant.grows bound
-          (subst (λ (boxes : List Box). IsBound problem (Some now) boxes bound) (sym took.boxes)
-          (bound_more problem _ (Some now) _ _ _ c.next.new.self.store.box (waiting c.next.new.self) bound
+          (subst (λ (bs : List Box). IsBound problem (Some now) bs bound) (sym (ap boxes took.nodes))
+          (bound_more problem _ (Some now) _ _ _ c.next.new.self.store.box (boxes (waiting c.next.new.self)) bound
           c.direction-direction.ensures refl (same_large c.end-in-waiting.result end_fits ∙ c.end-in-waiting.ensures) c.better_of-bound-in-waiting.ensures
-          (bound_kept problem _ c.better_of-bound-in-waiting.result (waiting c.next.new.self) bound (same_large c.better_of-bound-in-waiting.result best_fits) is)));
-      inside = All-tail (λ (b : Box). Inside b problem.root) c.next.new.self.store.box (waiting c.next.new.self)
-          (subst (λ (boxes : List Box). All (λ (b : Box). Inside b problem.root) boxes) took.boxes c.waiting.invariant.inside);
+          (bound_kept problem _ c.better_of-bound-in-waiting.result (boxes (waiting c.next.new.self)) bound (same_large c.better_of-bound-in-waiting.result best_fits) is)));
+      inside = All-tail (λ (b : Box). Inside b problem.root) c.next.new.self.store.box (boxes (waiting c.next.new.self))
+          (subst (λ (bs : List Box). All (λ (b : Box). Inside b problem.root) bs) (ap boxes took.nodes) c.waiting.invariant.inside);
       cuts = took.cuts;
       best = search rules;
+      rows = search rules;
     }
 
 pub returns-clause-bound : goal.returns-clause-bound
@@ -61,4 +63,4 @@ returns-clause-bound g c =
     let problem = g.P.Propagator.problem c.args.program.now in
     let now : ℤ = to_z w128 c.waiting.bound-bits in
     let ended : IsNext c.waiting.crew c.next.new.self false = subst (λ (more : Bool). IsNext c.waiting.crew c.next.new.self more) c.if-branch.false c.in_ok-next.ensures.next in
-    c.waiting.invariant.grows now (bound_ended problem now now (waiting c.waiting.crew) ended.boxes refl)
+    c.waiting.invariant.grows now (bound_ended problem now now (boxes (waiting c.waiting.crew)) (ap boxes ended.nodes) refl)

@@ -1,12 +1,19 @@
-use Rattle.text_replies.proofs.Answered.{text_fault}
+use Rattle.std.proofs.Common.{Result, IfOk, string_bytes, sym, subst}
+use Rattle.box_search.specs.declared.outcome.SearchStop.{SearchStop}
+use Rattle.text_solver.specs.Logs.{told}
+use Rattle.text_replies.specs.Replies.{Replies}
+use Rattle.text_replies.specs.declared.reply.Reply.{Reply}
+use Rattle.text_replies.proofs.Answered.{plain_replies, text_fault}
 use Rattle.text_replies.proofs.answer.reply_to.Goals as goal
 
-pub stated_reply-requires-clause-stated : goal.stated_reply-requires-clause-stated
-stated_reply-requires-clause-stated c = (c.args.text.now, c.in-Ok.ensures.stated)
-
-pub returns-in-Err : goal.returns-in-Err
-returns-in-Err c =
-    record {
-      reply =
-          c.fault_reply.ensures.reply c.args.command c.args.text.now (text_fault c.args.command c.args.text.now c.in-Err.fault c.in-Err.ensures.refused);
-    }
+pub returns-in-Err-clause-reply : goal.returns-in-Err-clause-reply
+returns-in-Err-clause-reply g c =
+    subst
+    (λ (r : Result Reply SearchStop).
+    IfOk r
+    (λ reply.
+    Replies c.args.text.now c.args.budget c.args.command c.args.name.now (told (g.K.Sink.taken c.args.sink.now) (g.K.Sink.names c.args.sink.now))
+    (told (g.K.Sink.taken c.args.sink.now) (g.K.Sink.names c.args.sink.now)) reply.status (string_bytes reply.line)))
+    (sym c.without_log.ensures.reply)
+    (plain_replies c.args.text.now c.args.budget c.args.command c.args.name.now (told (g.K.Sink.taken c.args.sink.now) (g.K.Sink.names c.args.sink.now)) c.fault_reply.result
+    (c.fault_reply.ensures.reply c.args.command c.args.text.now c.args.budget (text_fault c.args.command c.args.text.now c.in-Err.fault c.in-Err.ensures.refused)))

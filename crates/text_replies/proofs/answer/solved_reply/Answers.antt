@@ -1,18 +1,30 @@
-use Rattle.std.proofs.Common.{string_bytes}
+use Rattle.std.proofs.Common.{string_bytes, sym, subst}
+use Rattle.text_solver.specs.Logs.{told}
+use Rattle.text_replies.specs.Replies.{Replies}
 use Rattle.text_replies.specs.declared.command.Command.TheVariants.{Solve}
-use Rattle.text_replies.proofs.Answered.{solved_so, unsolved_so}
+use Rattle.text_replies.specs.declared.reply.Reply.{Reply}
+use Rattle.text_replies.proofs.Answered.{answer_replies}
 use Rattle.text_replies.proofs.answer.solved_reply.Goals as goal
 
-pub returns-in-Ok : goal.returns-in-Ok
-returns-in-Ok c =
-    record {
-      reply = λ text states. solved_so text c.args.stated.now (string_bytes c.in-Ok.line) states c.in-Ok.ensures.solvable c.in-Ok.ensures.answer;
-    }
+pub returns-in-Ok-clause-reply : goal.returns-in-Ok-clause-reply
+returns-in-Ok-clause-reply g c =
+    λ text states.
+    subst
+    (λ (r : Reply).
+    Replies text c.args.budget Solve c.args.name.now (told (g.K.Sink.taken c.args.sink.now) (g.K.Sink.names c.args.sink.now))
+    (told (g.K.Sink.taken c.solved_answer.new.sink) (g.K.Sink.names c.solved_answer.new.sink)) r.status (string_bytes r.line))
+    (sym c.reply_of.ensures.reply)
+    (answer_replies text c.args.budget c.args.stated.now states c.args.name.now (told (g.K.Sink.taken c.args.sink.now) (g.K.Sink.names c.args.sink.now))
+    (told (g.K.Sink.taken c.solved_answer.new.sink) (g.K.Sink.names c.solved_answer.new.sink)) c.in-Ok.answer c.in-Ok.ensures.solvable c.in-Ok.ensures.answer)
 
-pub returns-in-Err : goal.returns-in-Err
-returns-in-Err c =
-    record {
-      reply =
-          λ text states.
-          c.fault_reply.ensures.reply Solve text (unsolved_so text c.args.stated.now c.in-Err.fault states c.in-Err.ensures.refused);
-    }
+pub returns-in-Err-clause-reply : goal.returns-in-Err-clause-reply
+returns-in-Err-clause-reply g c =
+    λ text states.
+    c.stopped_reply.ensures.reply text c.args.budget c.args.stated.now c.args.name.now (told (g.K.Sink.taken c.args.sink.now) (g.K.Sink.names c.args.sink.now))
+    (told (g.K.Sink.taken c.solved_answer.new.sink) (g.K.Sink.names c.solved_answer.new.sink)) states c.in-Err.ensures.stopped
+
+pub returns-in-Err-clause-stopped : goal.returns-in-Err-clause-stopped
+returns-in-Err-clause-stopped g c =
+    λ text states.
+    c.stopped_reply.ensures.stopped text c.args.budget c.args.stated.now c.args.name.now (told (g.K.Sink.taken c.args.sink.now) (g.K.Sink.names c.args.sink.now))
+    (told (g.K.Sink.taken c.solved_answer.new.sink) (g.K.Sink.names c.solved_answer.new.sink)) states c.in-Err.ensures.stopped

@@ -3,4 +3,4 @@ use Rattle.text_replies.proofs.Answered.{tree_so}
 use Rattle.text_replies.proofs.answer.tree_reply.Goals as goal
 
 pub returns : goal.returns
-returns c = record { reply = λ text states. tree_so text c.args.stated.now (string_bytes c.in_ok-line.line) states c.in_ok-line.ensures.text }
+returns c = record { reply = λ text budget states. tree_so text budget c.args.stated.now (string_bytes c.in_ok-line.line) states c.in_ok-line.ensures.text }

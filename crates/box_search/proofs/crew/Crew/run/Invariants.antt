@@ -1,11 +1,12 @@
 use Rattle.std.proofs.Common.{◌≡◌, ◌-◌, ◌≤◌, true, map}
 use Rattle.prop_core.specs.Members.{StillFit}
-use Rattle.box_search.specs.Crews.{CutsMarks, Stands}
+use Rattle.box_search.specs.Crews.{CutsMarks, Keeps, Stands}
 use Rattle.box_search.proofs.crew.Crew.run.Given as goal
 
 abbrev pub invariant-nodes : goal.invariant-nodes
 invariant-nodes g l = record {
   stands : Stands (g.P.Propagator.problem l.program) true l.self;
+  keeps : Keeps (g.P.Propagator.problem l.program) true l.self;
   cuts : CutsMarks l.self;
   within : l.self.finished ≤ l.budget;
   same_reasons : map g.P.Propagator.reasons l.list ≡ map g.P.Propagator.reasons l.fn.list;

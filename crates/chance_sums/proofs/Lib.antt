@@ -1,0 +1,4 @@
+pub mod Fractions
+pub mod Mentioned
+pub mod Adding
+pub mod Leaving

@@ -1,0 +1,63 @@
+//! The scenarios in which a chance constraint's condition mentions a cell.
+
+ghost use Rattle.std.specs.Prelude.{◌≡◌, ◌<◌, ◌∷◌, ◌++◌, [], length, nat_eq, if◌then◌else◌, IfOk, OnOk};
+ghost use Rattle.std.specs.List.{list_any};
+ghost use Rattle.term_program.specs.Programs.{IsMade, problem_in, root_in};
+ghost use Rattle.chance_sums.specs.Sums.{is_touched, touched_by};
+
+use std::alloc::{AllocError, Global};
+use term_program::Program;
+
+/// The numbers of several scenarios.
+#[derive(Drop)]
+pub struct Scenarios {
+    pub numbers: Vec<u32>,
+}
+
+/// Whether a list has a cell.
+fn has(cells: &[u32], cell: u32) -> bool
+    ensures { result ≡ list_any (λ n. nat_eq n cell) cells.now }
+{
+    cells.contains(&cell)
+}
+
+/// Whether a chance constraint's condition mentions a cell in a scenario.
+fn touches(program: &Program, instance: u32, scenario: u32, cell: u32) -> bool
+    requires made { IsMade program.now }
+    requires instance { instance < length (problem_in program.now).chances }
+    requires scenario { scenario < length (problem_in program.now).weights }
+    ensures { result ≡ is_touched (root_in program.now) (problem_in program.now) instance cell scenario }
+{
+    has(program.cells_of(program.chance(instance, scenario)), cell)
+}
+
+/// Adds a number to a list, or nothing.
+fn put_if(list: &mut Vec<u32>, number: u32, wanted: bool) -> Result<(), AllocError>
+    ensures { OnOk result (list.new.items ≡ list.old.items ++ (if wanted then number ∷ [] else [])) }
+{
+    if wanted {
+        list.push(number)?;
+        return Ok(());
+    }
+    Ok(())
+}
+
+/// The scenarios in which a chance constraint's condition mentions a cell.
+#[tactic(auto, using(crate::proofs::Mentioned::touched_more))]
+pub fn touching(
+    alloc: Global,
+    program: &Program,
+    instance: u32,
+    cell: u32,
+) -> Result<Scenarios, AllocError>
+    requires made { IsMade program.now }
+    requires instance { instance < length (problem_in program.now).chances }
+    ensures touched { IfOk result (λ list. list.numbers.items ≡ touched_by (root_in program.now) (problem_in program.now) instance cell) }
+{
+    let mut numbers = Vec::new(alloc);
+    'scenarios: for scenario in 0..program.scenarios() {
+        let wanted = touches(program, instance, scenario, cell);
+        put_if(&mut numbers, scenario, wanted)?;
+    }
+    Ok(Scenarios { numbers })
+}

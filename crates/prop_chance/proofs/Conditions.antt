@@ -1,0 +1,80 @@
+-- The cells that the conditions of a chance constraint mention.
+use Rattle.std.proofs.Common.{◌≡◌, ℕ, ◌+◌, ◌<◌, ◌≤◌, List, [], Option, Some, None, IfSome, slice_get, length, map, take, get_or, ◌∷◌, ◌++◌, arith, ap, subst, sym, ◌∙◌}
+use Rattle.std.specs.List.{flat_map}
+use Rattle.std.proofs.lemmas.List.{get_or-map, length-map, map-append, take_all, take_more}
+use Rattle.std.specs.Option.{option_and_then, option_map_or}
+use Rattle.sopl_base.specs.declared.places.Reason.{Reason}
+use Rattle.sopl_base.specs.declared.places.Reason.TheVariants.{Chance}
+use Rattle.box_problem.specs.Box.{Box}
+use Rattle.box_rules.specs.Terms.{Cond}
+use Rattle.cell_mentions.specs.Mentions.{cond_mentions}
+use Rattle.cell_questions.specs.declared.questions.Question.{Question}
+use Rattle.cell_questions.specs.Opened.{IsOpen}
+use Rattle.cell_questions.specs.Questions.{HasAll}
+use Rattle.chance_sums.specs.declared.sums.Weighed.{Weighed}
+use Rattle.program_rules.specs.Problems.{ChanceTerms, IsChance, IsProblem, ProblemTerms}
+use Rattle.reason_mentions.specs.Reasons.{reason_mentions}
+use Rattle.term_program.specs.Mentions.{IsListOf}
+use Rattle.prop_chance.proofs.Reached.{AreIn, at_place, flat_in, more_in, none_mentioned}
+
+-- those of its condition in a scenario
+abbrev pub part_of : Box → ProblemTerms → ℕ → ℕ → List ℕ
+part_of root terms instance scenario =
+    option_map_or (cond_mentions root) (option_and_then (λ (chance : ChanceTerms). slice_get chance.conditions scenario) (slice_get terms.chances instance)) []
+
+pub part_more : (root : Box) (terms : ProblemTerms) (instance scenario : ℕ) (cond : Cond) (cells old new : List ℕ) → option_and_then (λ (chance : ChanceTerms). slice_get chance.conditions scenario) (slice_get terms.chances instance) ≡ Some cond → IsListOf (cond_mentions root cond) cells → AreIn (part_of root terms instance) scenario old → HasAll new old → HasAll new cells → AreIn (part_of root terms instance) (scenario + 1) new
+part_more root terms instance scenario cond cells old new at listed before kept put =
+    more_in (part_of root terms instance) scenario old new before kept
+    (subst (λ (found : Option Cond). HasAll new (option_map_or (cond_mentions root) found [])) (sym at)
+    (λ cell here. put cell ((listed.mentions cell).1 here)))
+
+-- those of all its conditions
+all_of : (root : Box) (found : Option ChanceTerms) (n : ℕ) (set : List ℕ) → IfSome found (λ (chance : ChanceTerms). length chance.conditions ≡ n) → AreIn (λ k. option_map_or (cond_mentions root) (option_and_then (λ (chance : ChanceTerms). slice_get chance.conditions k) found) []) n set → HasAll set (option_map_or (λ (chance : ChanceTerms). flat_map (cond_mentions root) chance.conditions) found [])
+all_of root None n set few each = none_mentioned set
+all_of root (Some chance) n set few each =
+    flat_in (cond_mentions root) chance.conditions set (λ k below. each k (omega (arith, below, few)))
+
+each_scenario : (terms : ProblemTerms) (found : Option ChanceTerms) → IfSome found (IsChance terms) → IfSome found (λ (chance : ChanceTerms). length chance.conditions ≡ length terms.weights)
+each_scenario terms None is = tt
+each_scenario terms (Some chance) is = is.each
+
+pub parts_all : (root : Box) (terms : ProblemTerms) (instance n : ℕ) (set list : List ℕ) → IsProblem terms → length terms.weights ≤ n → n ≤ length terms.weights → AreIn (part_of root terms instance) n set → list ≡ set → HasAll list (reason_mentions root terms (Chance instance))
+parts_all root terms instance n set list problem past within each is =
+    let same : n ≡ length terms.weights = omega (arith, past, within) in
+    subst (λ (cells : List ℕ). HasAll cells (reason_mentions root terms (Chance instance))) (sym is)
+    (all_of root (slice_get terms.chances instance) (length terms.weights) set
+    (each_scenario terms (slice_get terms.chances instance) (at_place (IsChance terms) terms.chances instance problem.chances))
+    (subst (λ (k : ℕ). AreIn (part_of root terms instance) k set) same each))
+
+-- the scenarios of one cell more, and of all
+pub lists_more : {A : Type 0} (f : A → List ℕ) (g : ℕ → List ℕ) (cells : List ℕ) (i d : ℕ) (old new : List A) (x : A) → i < length cells → map f old ≡ map g (take i cells) → f x ≡ g (get_or cells i d) → new ≡ old ++ x ∷ [] → map f new ≡ map g (take (i + 1) cells)
+lists_more f g cells i d old new x below so_far is pushed =
+    ap (map f) pushed
+    ∙ map-append f old (x ∷ [])
+    ∙ ap (λ (lists : List (List ℕ)). lists ++ f x ∷ []) so_far
+    ∙ ap (λ (list : List ℕ). map g (take i cells) ++ list ∷ []) is
+    ∙ sym (ap (map g) (take_more cells i d below) ∙ map-append g (take i cells) (get_or cells i d ∷ []))
+
+pub lists_all : (g : ℕ → List ℕ) (cells : List ℕ) (i : ℕ) (lists : List (List ℕ)) → length cells ≤ i → lists ≡ map g (take i cells) → lists ≡ map g cells
+lists_all g cells i lists past so_far = so_far ∙ ap (map g) (take_all i cells past)
+
+-- those of a cell at its place
+pub list_at : {A : Type 0} (f : A → List ℕ) (g : ℕ → List ℕ) (lists : List A) (cells : List ℕ) (i d : ℕ) (e : A) → map f lists ≡ map g cells → i < length cells → f (get_or lists i e) ≡ g (get_or cells i d)
+list_at f g lists cells i d e same below =
+    let count = length-map lists f in
+    let other = length-map cells g in
+    let as_many = ap length same in
+    sym (get_or-map f lists i e (f e) (omega (arith, below, count, other, as_many)))
+    ∙ ap (λ (xs : List (List ℕ)). get_or xs i (f e)) same
+    ∙ get_or-map g cells i d (f e) below
+
+pub as_long : {A : Type 0} (f : A → List ℕ) (g : ℕ → List ℕ) (lists : List A) (cells : List ℕ) (i : ℕ) → map f lists ≡ map g cells → i < length cells → i < length lists
+as_long f g lists cells i same below =
+    let count = length-map lists f in
+    let other = length-map cells g in
+    let as_many = ap length same in
+    omega (arith, below, count, other, as_many)
+
+-- what is at hand besides changes nothing of what was tried
+pub open_known : (q : Question) (weighed : Option Weighed) (cell : ℕ) → IsOpen (record { program = q.program; store = q.store; reason = q.reason; best = q.best; weighed = weighed }) cell → IsOpen q cell
+open_known q weighed cell opened = record { at_low = opened.at_low; at_high = opened.at_high }

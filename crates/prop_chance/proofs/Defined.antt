@@ -1,0 +1,85 @@
+-- Where a term is always defined, its lack of a value closes no part of a box.
+use Rattle.std.proofs.Common.{◌≡◌, ℕ, ◌<◌, ℤ, pos, false, List, [], ◌∷◌, Option, Some, None, IfSome, length, slice_get, arith, refl, ap, subst, sym, ◌∙◌}
+use Rattle.std.specs.List.{AllByRecursion, Contains}
+use Rattle.std.specs.Option.{option_and_then, option_map_or}
+use Rattle.std.proofs.lemmas.Int.{ints}
+use Rattle.sopl_base.specs.declared.places.Reason.{Reason}
+use Rattle.sopl_base.specs.declared.places.Reason.TheVariants.{Undefined}
+use Rattle.box_problem.specs.Box.{Box, InBox, Inside, IsBox, high, low, with_high, with_low}
+use Rattle.box_problem.specs.Rightness.{Quiets}
+use Rattle.box_problem.proofs.Boxes.{part_of_itself, points_of_parts}
+use Rattle.box_problem.proofs.Cuts.{high_lowered, low_raised}
+use Rattle.box_rules.specs.declared.answers.Defined.{Defined}
+use Rattle.box_rules.specs.declared.answers.Defined.TheVariants.{Never, Maybe, Always}
+use Rattle.box_rules.specs.Laws.{IsProper, Marks}
+use Rattle.box_rules.specs.Rules.{Near, mark}
+use Rattle.box_rules.specs.Terms.{Term}
+use Rattle.box_rules.specs.Values.{value}
+use Rattle.box_rules.proofs.Soundness.{marks_tell}
+use Rattle.cell_questions.specs.declared.questions.Question.{Question}
+use Rattle.cell_questions.specs.Questions.{IsAsked, closes}
+use Rattle.cell_questions.proofs.Finding.{for_each}
+use Rattle.program_laws.specs.Stated.{box_problem_of}
+use Rattle.program_rules.specs.Problems.{GoalTerms, ProblemTerms}
+use Rattle.program_rules.specs.Refuted.{is_never, refutes}
+use Rattle.term_program.specs.Programs.{problem_in, root_in}
+use Rattle.prop_chance.specs.Goals.{term_in}
+use Rattle.prop_chance.proofs.Reached.{at_place}
+
+-- a box has its lower ends as a point
+lows_lie : (b : Box) → IsBox b → InBox b b.lows
+lows_lie b is_box = record {
+  same_cells = refl;
+  from_low = λ cell exists. omega (arith, ints);
+  to_high = λ cell exists. is_box.ordered cell exists;
+}
+
+by_marks : (m : Defined) (v : Option ℤ) → Marks m v → Marks Always v → is_never m ≡ false
+by_marks Never None here there = absurd there
+by_marks Never (Some x) here there = absurd here
+by_marks Maybe v here there = refl
+by_marks Always v here there = refl
+
+never_there : (root b c : Box) (t : Term) → IsBox b → Inside c b → IsProper t → mark Near root b t ≡ Always → is_never (mark Near root c t) ≡ false
+never_there root b c t is_box inside proper always =
+    let within = lows_lie c inside.is_box in
+    by_marks (mark Near root c t) (value c.lows t) (marks_tell Near root c c.lows t inside.is_box within proper)
+    (subst (λ (m : Defined). Marks m (value c.lows t)) always (marks_tell Near root b c.lows t is_box (points_of_parts c b c.lows inside within) proper))
+
+-- the terms of an objective are proper
+proper_at : (goal : Option GoalTerms) (scenario : ℕ) (t : Term) → IfSome goal (λ (g : GoalTerms). AllByRecursion IsProper g.terms) → Some t ≡ option_and_then (λ (g : GoalTerms). slice_get g.terms scenario) goal → IsProper t
+proper_at None scenario t all at = absurd (cc)
+proper_at (Some goal) scenario t all at =
+    subst (λ (found : Option Term). IfSome found IsProper) (sym at) (at_place IsProper goal.terms scenario all)
+
+by_goal : (root b : Box) (goal : Option GoalTerms) (scenario : ℕ) → option_map_or (λ (g : GoalTerms). option_map_or (λ t. is_never (mark Near root b t)) (slice_get g.terms scenario) false) goal false ≡ option_map_or (λ t. is_never (mark Near root b t)) (option_and_then (λ (g : GoalTerms). slice_get g.terms scenario) goal) false
+by_goal root b None scenario = refl
+by_goal root b (Some g) scenario = refl
+
+closed_where_never : (root b : Box) (terms : ProblemTerms) (scenario : ℕ) (v : Option ℤ) (t : Term) → Some t ≡ term_in terms scenario → is_never (mark Near root b t) ≡ false → refutes root terms (Undefined scenario) b v ≡ false
+closed_where_never root b terms scenario v t at defined =
+    by_goal root b terms.goal scenario
+    ∙ sym (ap (λ (found : Option Term). option_map_or (λ u. is_never (mark Near root b u)) found false) at)
+    ∙ defined
+
+-- so the reason rests
+pub always_rests : (q : Question) (scenario : ℕ) (t : Term) → IsAsked q → q.reason ≡ Undefined scenario → Some t ≡ term_in (problem_in q.program.now) scenario → mark Near (root_in q.program.now) q.store.now.box t ≡ Always → Quiets (box_problem_of q.program.now) (Undefined scenario ∷ []) q.best q.store.now.box
+unfolding box_problem_of
+always_rests q scenario t asked is at always =
+    let root = root_in q.program.now in
+    let terms = problem_in q.program.now in
+    let b = q.store.now.box in
+    let is_box = asked.inside.is_box in
+    let proper = proper_at terms.goal scenario t asked.made.problem.proper.goal at in
+    let over : (c : Box) → Inside c b → refutes root terms (Undefined scenario) c q.best ≡ false =
+    λ c inside. closed_where_never root c terms scenario q.best t at (never_there root b c t is_box inside proper always)
+    in
+    record {
+      whole = for_each (Undefined scenario) (λ reason. refutes root terms reason b q.best ≡ false) (over b (part_of_itself b is_box));
+      at_low = λ reason cell own exists.
+          for_each (Undefined scenario) (λ other. refutes root terms other (with_high b cell (low b cell)) q.best ≡ false)
+          (over (with_high b cell (low b cell)) (high_lowered b cell (low b cell) is_box exists (omega (arith, ints)) (is_box.ordered cell exists))) reason own;
+      at_high = λ reason cell own exists.
+          for_each (Undefined scenario) (λ other. refutes root terms other (with_low b cell (high b cell)) q.best ≡ false)
+          (over (with_low b cell (high b cell)) (low_raised b cell (high b cell) is_box exists (is_box.ordered cell exists) (omega (arith, ints)))) reason own;
+    }

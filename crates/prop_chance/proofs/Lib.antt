@@ -1,0 +1,5 @@
+pub mod CellSets
+pub mod Reached
+pub mod Conditions
+pub mod Objectives
+pub mod Defined

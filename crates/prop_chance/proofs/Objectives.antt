@@ -1,0 +1,137 @@
+-- The cells that the objective's terms mention, and what is found for the objective.
+use Rattle.std.proofs.Common.{◌≡◌, ℕ, ◌+◌, ◌<◌, ◌≤◌, ℤ, true, false, List, [], ◌∷◌, ◌++◌, Option, Some, None, IfSome, slice_get, length, map, Result, Ok, Err, OnOk, IfNone, arith, refl, ap, subst, sym, ◌∙◌}
+use Rattle.std.specs.List.{All, Contains, flat_map, range_with_len}
+use Rattle.std.specs.Option.{option_and_then, option_map_or}
+use Rattle.std.proofs.lemmas.List.Elements.{All-append, All-cons, All-contains, All-nil, Contains-append_left, Contains-append_right}
+use Rattle.std.proofs.lemmas.List.FromFn.{get_or-map-range_with_len, length-map-range_with_len, map-range_with_len_more}
+use Rattle.sopl_base.specs.declared.places.Direction.TheVariants.{Nothing}
+use Rattle.sopl_base.specs.declared.places.Reason.{Reason}
+use Rattle.sopl_base.specs.declared.places.Reason.TheVariants.{Bound, Undefined}
+use Rattle.sopl_base.specs.declared.places.Step.{Step}
+use Rattle.box_problem.specs.Box.{Box}
+use Rattle.box_problem.specs.BoxProblem.{BoxProblem}
+use Rattle.box_problem.specs.Rightness.{IsRight, Quiets}
+use Rattle.box_rules.specs.Terms.{Term}
+use Rattle.cell_mentions.specs.Mentions.{mentions}
+use Rattle.cell_questions.specs.declared.questions.Question.{Question}
+use Rattle.cell_questions.specs.Opened.{IsOpen, IsWhole}
+use Rattle.cell_questions.specs.Questions.{HasAll}
+use Rattle.cell_questions.proofs.Finding.{found_quiet, itself}
+use Rattle.program_laws.specs.Stated.{box_problem_of}
+use Rattle.program_rules.specs.Problems.{GoalTerms, IsProblem, ProblemTerms}
+use Rattle.program_rules.specs.Refuted.{refutes}
+use Rattle.program_rules.specs.Search.{numbers_to}
+use Rattle.prop_core.specs.Findings.{Closes, Narrows}
+use Rattle.reason_mentions.specs.Reasons.{reason_mentions}
+use Rattle.term_program.specs.declared.program.Program.{Program}
+use Rattle.term_program.specs.Mentions.{IsListOf}
+use Rattle.term_program.specs.Programs.{problem_in, root_in}
+use Rattle.prop_chance.specs.Goals.{IsOpenTo, term_in}
+use Rattle.prop_chance.proofs.Reached.{AreIn, flat_in, none_mentioned}
+
+-- the cells that the term in a scenario mentions
+by_goal : (root : Box) (goal : Option GoalTerms) (scenario : ℕ) → option_map_or (λ (g : GoalTerms). option_map_or (mentions root) (slice_get g.terms scenario) []) goal [] ≡ option_map_or (mentions root) (option_and_then (λ (g : GoalTerms). slice_get g.terms scenario) goal) []
+by_goal root None scenario = refl
+by_goal root (Some g) scenario = refl
+
+pub undefined_cells : (root : Box) (terms : ProblemTerms) (scenario : ℕ) (term : Term) (cells : List ℕ) → Some term ≡ term_in terms scenario → IsListOf (mentions root term) cells → HasAll cells (reason_mentions root terms (Undefined scenario))
+undefined_cells root terms scenario term cells at listed =
+    subst (HasAll cells) (sym (by_goal root terms.goal scenario))
+    (subst (λ (found : Option Term). HasAll cells (option_map_or (mentions root) found [])) at
+    (λ cell here. (listed.mentions cell).1 here))
+
+pub nothing_undefined : (root : Box) (terms : ProblemTerms) (scenario : ℕ) (set : List ℕ) → None ≡ term_in terms scenario → HasAll set (reason_mentions root terms (Undefined scenario))
+nothing_undefined root terms scenario set at =
+    subst (HasAll set) (sym (by_goal root terms.goal scenario))
+    (subst (λ (found : Option Term). HasAll set (option_map_or (mentions root) found [])) at (none_mentioned set))
+
+-- what has the cells of a list has them too
+pub put_through : {A B : Type 0} (r : Result A B) (new cells mentioned : List ℕ) → HasAll cells mentioned → OnOk r (HasAll new cells) → OnOk r (HasAll new mentioned)
+put_through (Ok x) new cells mentioned all put = λ cell here. put cell (all cell here)
+put_through (Err e) new cells mentioned all put = tt
+
+-- those of all terms
+abbrev pub scenario_of : Box → ProblemTerms → ℕ → List ℕ
+scenario_of root terms scenario = reason_mentions root terms (Undefined scenario)
+
+all_of : (root : Box) (goal : Option GoalTerms) (n : ℕ) (set : List ℕ) → IfSome goal (λ (g : GoalTerms). (length g.terms ≡ n) × (¬ g.direction ≡ Nothing)) → AreIn (λ k. option_map_or (λ (g : GoalTerms). option_map_or (mentions root) (slice_get g.terms k) []) goal []) n set → HasAll set (option_map_or (λ (g : GoalTerms). flat_map (mentions root) g.terms) goal [])
+all_of root None n set few each = none_mentioned set
+all_of root (Some goal) n set few each = flat_in (mentions root) goal.terms set (λ k below. each k (omega (arith, below, few.0)))
+
+pub scenarios_all : (root : Box) (terms : ProblemTerms) (n : ℕ) (set list : List ℕ) → IsProblem terms → length terms.weights ≤ n → n ≤ length terms.weights → AreIn (scenario_of root terms) n set → list ≡ set → HasAll list (reason_mentions root terms Bound)
+scenarios_all root terms n set list problem past within each is =
+    let same : n ≡ length terms.weights = omega (arith, past, within) in
+    subst (λ (cells : List ℕ). HasAll cells (reason_mentions root terms Bound)) (sym is)
+    (all_of root terms.goal (length terms.weights) set problem.goal (subst (λ (k : ℕ). AreIn (scenario_of root terms) k set) same each))
+
+-- a scenario in which there is no term
+pub quiet_without : (q : Question) (scenario : ℕ) → q.reason ≡ Undefined scenario → None ≡ term_in (problem_in q.program.now) scenario → IsWhole q → Quiets (box_problem_of q.program.now) (Undefined scenario ∷ []) q.best q.store.now.box
+quiet_without q scenario is at whole =
+    subst (λ (reason : Reason). Quiets (box_problem_of q.program.now) (reason ∷ []) q.best q.store.now.box) is
+    (found_quiet q []
+    (subst (λ (reason : Reason). HasAll [] (reason_mentions (root_in q.program.now) (problem_in q.program.now) reason)) (sym is)
+    (nothing_undefined (root_in q.program.now) (problem_in q.program.now) scenario [] at))
+    whole (All-nil (IsOpen q)))
+
+-- the reasons of the first scenarios
+pub none_before : (P : Reason → Type 0) (f : ℕ → Reason) → All P (map f (range_with_len 0 0))
+none_before P f = All-nil P
+
+pub one_before : (P : Reason → Type 0) (f : ℕ → Reason) (n : ℕ) → All P (map f (range_with_len 0 n)) → P (f n) → All P (map f (range_with_len 0 (n + 1)))
+one_before P f n before here =
+    subst (All P) (sym (map-range_with_len_more f 0 n n (omega arith)))
+    (All-append P (map f (range_with_len 0 n)) (f n ∷ []) before (All-cons P (f n) [] here (All-nil P)))
+
+pub all_and_last : (P : Reason → Type 0) (f : ℕ → Reason) (n i : ℕ) (last : Reason) → n ≤ i → i ≤ n → All P (map f (range_with_len 0 i)) → P last → All P (map f (range_with_len 0 n) ++ last ∷ [])
+all_and_last P f n i last past within before here =
+    let same : i ≡ n = omega (arith, past, within) in
+    All-append P (map f (range_with_len 0 n)) (last ∷ []) (subst (λ (k : ℕ). All P (map f (range_with_len 0 k))) same before) (All-cons P last [] here (All-nil P))
+
+pub has_scenario : (f : ℕ → Reason) (n k : ℕ) (last : Reason) → k < n → Contains (map f (range_with_len 0 n) ++ last ∷ []) (f k)
+has_scenario f n k last below =
+    let count = length-map-range_with_len f 0 n in
+    Contains-append_left (map f (range_with_len 0 n)) (last ∷ []) (f k)
+    (k, omega (arith, below, count), get_or-map-range_with_len f 0 n k k (f k) below (omega arith))
+
+pub has_last : (f : ℕ → Reason) (n : ℕ) (last : Reason) → Contains (map f (range_with_len 0 n) ++ last ∷ []) last
+has_last f n last = Contains-append_right (map f (range_with_len 0 n)) (last ∷ []) last (itself last)
+
+-- what closes a box of a program
+pub open_to : (program : Program) (v : Option ℤ) (b : Box) (reason : Reason) → refutes (root_in program) (problem_in program) reason b v ≡ false → IsOpenTo (box_problem_of program) v b reason
+unfolding box_problem_of
+open_to program v b reason is = is
+
+pub closed_by : (program : Program) (v : Option ℤ) (b : Box) (reasons : List Reason) (reason : Reason) → Contains reasons reason → refutes (root_in program) (problem_in program) reason b v ≡ true → Closes (box_problem_of program) reasons v b reason
+unfolding box_problem_of
+closed_by program v b reasons reason own is = record { own = own; closed = is }
+
+pub whole_for : (q : Question) (reasons : List Reason) → All (IsOpenTo (box_problem_of q.program.now) q.best q.store.now.box) reasons → Contains reasons q.reason → IsWhole q
+unfolding box_problem_of
+whole_for q reasons all own = All-contains (IsOpenTo (box_problem_of q.program.now) q.best q.store.now.box) reasons q.reason all own
+
+-- all reasons together
+abbrev pub RestsFor : BoxProblem → Option ℤ → Box → Reason → Type 0
+RestsFor problem v b reason = Quiets problem (reason ∷ []) v b
+
+pub rest_together : (problem : BoxProblem) (v : Option ℤ) (b : Box) (reasons : List Reason) → All (RestsFor problem v b) reasons → Quiets problem reasons v b
+rest_together problem v b reasons all = record {
+  whole = λ reason own. (All-contains (RestsFor problem v b) reasons reason all own).whole reason (itself reason);
+  at_low = λ reason cell own exists. (All-contains (RestsFor problem v b) reasons reason all own).at_low reason cell (itself reason) exists;
+  at_high = λ reason cell own exists. (All-contains (RestsFor problem v b) reasons reason all own).at_high reason cell (itself reason) exists;
+}
+
+pub narrows_by : (problem : BoxProblem) (v : Option ℤ) (b : Box) (reasons : List Reason) (step : Step) → All (IsOpenTo problem v b) reasons → Contains reasons step.reason → IsRight problem v b step → Narrows problem reasons v b step
+narrows_by problem v b reasons step whole own right = record {
+  own = own;
+  right = right;
+  whole = λ reason here. All-contains (IsOpenTo problem v b) reasons reason whole here;
+}
+
+-- what the last call gives
+pub own_last : (reasons : List Reason) (reason : Reason) (found : Option Step) → Contains reasons reason → IfSome found (λ (step : Step). step.reason ≡ reason) → IfSome found (λ (step : Step). Contains reasons step.reason)
+own_last reasons reason None own is = tt
+own_last reasons reason (Some step) own is = subst (Contains reasons) (sym is) own
+
+pub none_last : {A : Type 0} (found : Option A) (fact more : Type 0) → (fact → more) → IfNone found fact → IfNone found more
+none_last None fact more leads is = leads is
+none_last (Some x) fact more leads is = tt

@@ -1,0 +1,26 @@
+use Rattle.std.proofs.Common.{◌∙◌, ap, sym}
+use Rattle.chance_sums.specs.Sums.{touched_by}
+use Rattle.term_program.specs.Programs.{problem_in, root_in}
+use Rattle.prop_chance.specs.Chances.{numbers_in}
+use Rattle.prop_chance.proofs.Conditions.{list_at}
+use Rattle.prop_chance.proofs.chances.Chance.step_for.Goals as goal
+
+pub step_at-requires-clause-asked : goal.step_at-requires-clause-asked
+step_at-requires-clause-asked c =
+    let touched = touched_by (root_in c.args.question.now.program.now) (problem_in c.args.question.now.program.now) c.args.self.now.instance in
+    record {
+      made = c.requires.asked.made;
+      inside = c.requires.asked.inside;
+      weighed = record {
+        reason = c.requires.reason;
+        known = record {
+          exists = c.requires.fits.exists;
+          left = c.requires.left;
+          scenarios =
+              c.as_slice.ensures.value
+              ∙ ap numbers_in c.index.ensures
+              ∙ list_at numbers_in touched c.args.self.now.touched.items c.args.self.now.cells.items c.args.at c.index-cell.result.now c.index.result.now c.requires.fits.touched c.requires.exists
+              ∙ ap touched (sym c.index-cell.ensures);
+        };
+      };
+    }

@@ -1,0 +1,5 @@
+use Rattle.cell_questions.proofs.Finding.{inside_root}
+use Rattle.prop_chance.proofs.chances.ChancePropagator.revise.Goals as goal
+
+pub found-requires-clause-inside : goal.found-requires-clause-inside
+found-requires-clause-inside c = inside_root c.args.program.now c.args.store.now.box c.requires.inside

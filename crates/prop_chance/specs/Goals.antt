@@ -1,0 +1,33 @@
+-- What the propagator of the objective stands for.
+use Rattle.std.specs.Prelude.{◌≡◌, ℕ, ℤ, false, List, [], ◌∷◌, ◌++◌, Option, length, map, slice_get}
+use Rattle.std.specs.Option.{option_and_then}
+use Rattle.sopl_base.specs.declared.places.Reason.{Reason}
+use Rattle.sopl_base.specs.declared.places.Reason.TheVariants.{Bound, Undefined}
+use Rattle.box_problem.specs.Box.{Box}
+use Rattle.box_problem.specs.BoxProblem.{BoxProblem}
+use Rattle.box_rules.specs.Terms.{Term}
+use Rattle.cell_questions.specs.Questions.{HasAll}
+use Rattle.program_rules.specs.Problems.{GoalTerms, ProblemTerms}
+use Rattle.program_rules.specs.Search.{numbers_to}
+use Rattle.reason_mentions.specs.Reasons.{reason_mentions}
+use Rattle.term_program.specs.declared.program.Program.{Program}
+use Rattle.term_program.specs.Programs.{IsMade, problem_in, root_in}
+use Rattle.prop_chance.specs.declared.goals.Goal.{Goal}
+
+-- the objective's lack of a value in each scenario, and the bound
+abbrev pub reasons_of : Goal → List Reason
+reasons_of p = map Undefined (numbers_to p.scenarios) ++ Bound ∷ []
+
+-- its scenarios are those of the program, and its cells are all that the objective's terms mention there, and maybe others
+pub record Fits (p : Goal) (program : Program) : Type 0 where
+  pub made : IsMade program
+  pub scenarios : p.scenarios ≡ length (problem_in program).weights
+  pub all : HasAll p.cells.items (reason_mentions (root_in program) (problem_in program) Bound)
+
+-- a reason does not close a box
+abbrev pub IsOpenTo : BoxProblem → Option ℤ → Box → Reason → Type 0
+IsOpenTo problem v b reason = problem.refutes reason b v ≡ false
+
+-- the objective's term in a scenario, where there is an objective
+abbrev pub term_in : ProblemTerms → ℕ → Option Term
+term_in terms scenario = option_and_then (λ (goal : GoalTerms). slice_get goal.terms scenario) terms.goal

@@ -1,0 +1,191 @@
+//! The propagator of the objective.
+
+ghost use Rattle.std.specs.Prelude.{◌≡◌, ◌<◌, ◌∷◌, ◌++◌, [], false, length, map, Some, All, Contains, IfNone, IfOk, IfSome, OnOk};
+ghost use Rattle.sopl_base.specs.declared.places.Reason.TheVariants.{Bound, Undefined};
+ghost use Rattle.box_problem.specs.Box.{Inside};
+ghost use Rattle.box_problem.specs.Rightness.{IsRight, Quiets};
+ghost use Rattle.cell_questions.specs.Opened.{IsWhole};
+ghost use Rattle.cell_questions.specs.Questions.{HasAll, IsAsked};
+ghost use Rattle.program_laws.specs.Stated.{box_problem_of};
+ghost use Rattle.program_rules.specs.Search.{numbers_to};
+ghost use Rattle.prop_core.specs.Findings.{Closes};
+ghost use Rattle.reason_mentions.specs.Reasons.{reason_mentions};
+ghost use Rattle.term_nodes.specs.Things.{term_at};
+ghost use Rattle.term_program.specs.Programs.{IsListedTerm, IsMade, problem_in, root_in, things_in};
+ghost use Rattle.prop_chance.specs.Goals.{Fits, IsOpenTo, reasons_of, term_in};
+
+use crate::cell_sets::{listed, put_all};
+use box_rules::Defined;
+use box_store::BoxStore;
+use cell_questions::Question;
+use prop_core::{Finding, Propagator};
+use sopl_base::{Reason, Step};
+use std::alloc::{AllocError, Global};
+use std::collections::BTreeSet;
+use term_program::{Program, TermId, range_of, refuted};
+
+/// Narrows a box for the objective: what it is to be better than, and where it has to be defined. For each scenario both ends of each cell that the
+/// objective's term mentions are tried, and then those of all these cells together.
+#[derive(Drop)]
+pub struct Goal {
+    scenarios: u32,
+    cells: Vec<u32>,
+}
+
+/// Puts the cells that the objective's term mentions in a scenario into a set.
+#[tactic(auto, using(crate::proofs::Objectives::nothing_undefined, crate::proofs::CellSets::has_itself))]
+fn put_scenario(
+    cells: &mut BTreeSet<u32>,
+    program: &Program,
+    scenario: u32,
+) -> Result<(), AllocError>
+    requires made { IsMade program.now }
+    requires scenario { scenario < length (problem_in program.now).weights }
+    ensures kept { OnOk result (HasAll cells.new.keys cells.old.keys) }
+    ensures put { OnOk result (HasAll cells.new.keys (reason_mentions (root_in program.now) (problem_in program.now) (Undefined scenario))) }
+{
+    match program.goal(scenario) {
+        Some(term) => put_all(cells, program.term_cells(term)),
+        None => Ok(()),
+    }
+}
+
+/// The cells that the objective's terms mention, in ascending order.
+fn goal_cells(alloc: Global, program: &Program) -> Result<Vec<u32>, AllocError>
+    requires made { IsMade program.now }
+    ensures all { IfOk result (λ cells. HasAll cells.items (reason_mentions (root_in program.now) (problem_in program.now) Bound)) }
+{
+    let mut cells = BTreeSet::new(alloc);
+    'scenarios: for scenario in 0..program.scenarios() {
+        put_scenario(&mut cells, program, scenario)?;
+    }
+    let list = listed(alloc, &cells)?;
+    Ok(list)
+}
+
+/// A right step at one of the ends of the cells that this term of the objective mentions, or none where its lack of a value closes the box with no cell
+/// at an end. A term that has a value all over the box has one all over each part of it, and no end is tried.
+#[tactic(auto, using(crate::proofs::Objectives::undefined_cells))]
+fn term_step(question: &Question<'_>, scenario: u32, term: TermId) -> Option<Step>
+    requires asked { IsAsked question.now }
+    requires reason { question.now.reason ≡ Undefined scenario }
+    requires exists { term.0 < length (things_in question.now.program.now) }
+    requires listed { IsListedTerm question.now.program.now term.0 }
+    requires term { Some (term_at (things_in question.now.program.now) term.0) ≡ term_in (problem_in question.now.program.now) scenario }
+    requires whole { IsWhole question.now }
+    ensures right { IfSome result (IsRight (box_problem_of question.now.program.now) question.now.best question.now.store.now.box) }
+    ensures own { IfSome result (λ step. step.reason ≡ Undefined scenario) }
+    ensures none { IfNone result (Quiets (box_problem_of question.now.program.now) (Undefined scenario ∷ []) question.now.best question.now.store.now.box) }
+{
+    match range_of(question.program, term, question.store).defined {
+        Defined::Always => None,
+        _ => question.first_step(question.program.term_cells(term)),
+    }
+}
+
+/// The same of the term in that scenario, where there is an objective.
+#[tactic(auto, using(crate::proofs::Objectives::quiet_without))]
+fn undefined_step(question: &Question<'_>, scenario: u32) -> Option<Step>
+    requires asked { IsAsked question.now }
+    requires reason { question.now.reason ≡ Undefined scenario }
+    requires scenario { scenario < length (problem_in question.now.program.now).weights }
+    requires whole { IsWhole question.now }
+    ensures right { IfSome result (IsRight (box_problem_of question.now.program.now) question.now.best question.now.store.now.box) }
+    ensures own { IfSome result (λ step. step.reason ≡ Undefined scenario) }
+    ensures none { IfNone result (Quiets (box_problem_of question.now.program.now) (Undefined scenario ∷ []) question.now.best question.now.store.now.box) }
+{
+    match question.program.goal(scenario) {
+        Some(term) => term_step(question, scenario, term),
+        None => None,
+    }
+}
+
+impl Goal {
+    /// The propagator of the objective, also where there is none.
+    pub fn new(alloc: Global, program: &Program) -> Result<Goal, AllocError>
+        requires made { IsMade program.now }
+        ensures reasons { IfOk result (λ made. reasons_of made ≡ map Undefined (numbers_to (length (problem_in program.now).weights)) ++ Bound ∷ []) }
+        ensures fits { IfOk result (λ made. Fits made program.now) }
+    {
+        let cells = goal_cells(alloc, program)?;
+        Ok(Goal {
+            scenarios: program.scenarios(),
+            cells,
+        })
+    }
+
+    /// The first reason that closes the box, if one does.
+    fn closing(&self, program: &Program, store: &BoxStore, best: Option<i128>) -> Option<Reason>
+        requires made { IsMade program.now }
+        requires inside { Inside store.now.box (root_in program.now) }
+        ensures closes { IfSome result (Closes (box_problem_of program.now) (reasons_of self.now) best store.now.box) }
+        ensures none { IfNone result (All (IsOpenTo (box_problem_of program.now) best store.now.box) (reasons_of self.now)) }
+    {
+        'scenarios: for scenario in 0..self.scenarios {
+            let reason = Reason::Undefined { scenario };
+            if refuted(program, reason, store, best) {
+                return Some(reason);
+            }
+        }
+        if refuted(program, Reason::Bound, store, best) {
+            return Some(Reason::Bound);
+        }
+        None
+    }
+
+    /// A right step for the first reason that has one, or none where no reason closes the box with a cell at an end.
+    fn first_step<'a>(
+        &self,
+        program: &'a Program,
+        store: &'a BoxStore,
+        best: Option<i128>,
+    ) -> Option<Step>
+        requires fits { Fits self.now program.now }
+        requires inside { Inside store.now.box (root_in program.now) }
+        requires whole { All (IsOpenTo (box_problem_of program.now) best store.now.box) (reasons_of self.now) }
+        ensures right { IfSome result (IsRight (box_problem_of program.now) best store.now.box) }
+        ensures own { IfSome result (λ step. Contains (reasons_of self.now) step.reason) }
+        ensures none { IfNone result (Quiets (box_problem_of program.now) (reasons_of self.now) best store.now.box) }
+    {
+        'scenarios: for scenario in 0..self.scenarios {
+            let question = Question {
+                program,
+                store,
+                reason: Reason::Undefined { scenario },
+                best,
+                weighed: None,
+            };
+            if let Some(step) = undefined_step(&question, scenario) {
+                return Some(step);
+            }
+        }
+        let question = Question {
+            program,
+            store,
+            reason: Reason::Bound,
+            best,
+            weighed: None,
+        };
+        question.first_step(self.cells.as_slice())
+    }
+}
+
+impl Propagator for Goal {
+    type Program = Program;
+
+    ghost problem = { box_problem_of };
+
+    ghost reasons = { reasons_of };
+
+    ghost fits = { Fits };
+
+    fn revise(&mut self, program: &Program, store: &BoxStore, best: Option<i128>) -> Finding {
+        if let Some(reason) = self.closing(program, store, best) {
+            return Finding::Dead(reason);
+        }
+        match self.first_step(program, store, best) {
+            Some(step) => Finding::Cut(step),
+            None => Finding::Quiet,
+        }
+    }
+}

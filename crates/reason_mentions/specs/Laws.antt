@@ -1,0 +1,14 @@
+-- What the cells that a reason mentions decide.
+use Rattle.std.specs.Prelude.{◌≡◌, ℤ, Option}
+use Rattle.sopl_base.specs.declared.places.Reason.{Reason}
+use Rattle.box_problem.specs.Box.{Box}
+use Rattle.cell_mentions.specs.Laws.{BoxesAgree}
+use Rattle.program_rules.specs.Problems.{ProblemTerms}
+use Rattle.program_rules.specs.Refuted.{refutes}
+use Rattle.reason_mentions.specs.Reasons.{reason_mentions}
+
+-- boxes that agree on the cells that a reason mentions are closed by it alike
+abbrev pub ReasonsAgree : Type 0
+ReasonsAgree =
+    (root b c : Box) (terms : ProblemTerms) (reason : Reason) (v : Option ℤ) → BoxesAgree (reason_mentions root terms reason) b c
+    → refutes root terms reason b v ≡ refutes root terms reason c v

@@ -1,0 +1,3 @@
+pub mod Near
+pub mod Counted
+pub mod Allowed

@@ -1,2 +1,0 @@
-pub mod Box
-pub mod Outcome

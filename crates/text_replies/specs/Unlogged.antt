@@ -1,0 +1,25 @@
+-- Replies of answers, and replies with no log.
+use Rattle.std.specs.Prelude.{Result, Ok, Err}
+use Rattle.std.specs.declared.alloc.AllocError.{AllocError}
+use Rattle.sopl_base.specs.declared.places.Fault.{Fault}
+use Rattle.sopl_base.specs.declared.places.Fault.TheVariants as fault
+use Rattle.box_search.specs.declared.outcome.SearchStop.{SearchStop}
+use Rattle.box_search.specs.declared.outcome.SearchStop.TheVariants.{NoMemory}
+use Rattle.text_solver.specs.declared.answer.Answer.{Answer}
+use Rattle.text_solver.specs.declared.answer.Answer.TheVariants.{Settled, Cut}
+use Rattle.text_replies.specs.declared.status.Status.TheVariants.{Done, Bounded}
+use Rattle.text_replies.specs.declared.reply.Reply.{Reply}
+
+abbrev pub without_log : Result Reply AllocError → Result Reply SearchStop
+without_log (Ok reply) = Ok reply
+without_log (Err error) = Err NoMemory
+
+abbrev pub reply_of : Answer → Reply
+reply_of (Settled line) = record { status = Done; line = line }
+reply_of (Cut line) = record { status = Bounded; line = line }
+
+-- a fault that is told
+abbrev pub IsTold : Fault → Type 0
+IsTold (fault.Text refusal) = Unit {0}
+IsTold (fault.Limit excess) = Unit {0}
+IsTold fault.NoMemory = ⊥
