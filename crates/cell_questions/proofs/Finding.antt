@@ -3,11 +3,12 @@ use Rattle.std.proofs.Common.{◌≡◌, inl, inr, ℕ, ◌<◌, ℤ, List, [], 
 use Rattle.std.specs.List.{Contains}
 use Rattle.std.proofs.lemmas.List.Elements.{All-contains}
 use Rattle.sopl_base.specs.declared.places.Reason.{Reason}
-use Rattle.sopl_base.specs.declared.places.Reason.TheVariants.{Chance}
+use Rattle.sopl_base.specs.declared.places.Reason.TheVariants.{Bound, Chance}
 use Rattle.sopl_base.specs.declared.places.Step.{Step}
 use Rattle.box_problem.specs.Box.{Box, Inside, high, low, with_high, with_low}
 use Rattle.box_problem.specs.Rightness.{IsRight, Quiets}
 use Rattle.chance_sums.specs.declared.sums.Weighed.{Weighed}
+use Rattle.goal_sums.specs.declared.counting.Counted.{Counted}
 use Rattle.program_laws.specs.Stated.{box_problem_of}
 use Rattle.program_rules.specs.Refuted.{refutes}
 use Rattle.prop_core.specs.Findings.{Closes, Narrows}
@@ -52,6 +53,14 @@ told_is q w cell lo hi None reason same told = tt
 told_is q w cell lo hi (Some closed) reason same told =
     told
     ∙ ap (λ (n : ℕ). refutes (root_in q.program.now) (problem_in q.program.now) (Chance w.instance) (with_interval q.store.now.box n lo hi) q.best) same
+    ∙ sym (ap (λ (r : Reason). refutes (root_in q.program.now) (problem_in q.program.now) r (with_interval q.store.now.box cell lo hi) q.best) reason)
+
+pub counted_is : (q : Question) (c : Counted) (cell : ℕ) (lo hi v : ℤ) (answer : Option Bool) → q.reason ≡ Bound → q.best ≡ Some v → c.cell ≡ cell → IfSome answer (λ closed. closed ≡ refutes (root_in q.program.now) (problem_in q.program.now) Bound (with_interval q.store.now.box c.cell lo hi) (Some v)) → IfSome answer (λ closed. closed ≡ closes q (with_interval q.store.now.box cell lo hi))
+counted_is q c cell lo hi v None reason best same told = tt
+counted_is q c cell lo hi v (Some closed) reason best same told =
+    told
+    ∙ ap (λ (n : ℕ). refutes (root_in q.program.now) (problem_in q.program.now) Bound (with_interval q.store.now.box n lo hi) (Some v)) same
+    ∙ sym (ap (λ (o : Option ℤ). refutes (root_in q.program.now) (problem_in q.program.now) Bound (with_interval q.store.now.box cell lo hi) o) best)
     ∙ sym (ap (λ (r : Reason). refutes (root_in q.program.now) (problem_in q.program.now) r (with_interval q.store.now.box cell lo hi) q.best) reason)
 
 -- a cell at its lower end, and at its upper end: it was tried, or it is not mentioned and changes nothing

@@ -1,9 +1,11 @@
 -- Whether a reason closes a box or parts of it.
 use Rattle.std.specs.Prelude.{◌≡◌, ℕ, ◌<◌, pos, ℤ, ◌≤ℤ◌, ◌-ℤ◌, Bool, true, List, length, Contains, IfSome}
-use Rattle.sopl_base.specs.declared.places.Reason.TheVariants.{Chance}
+use Rattle.sopl_base.specs.declared.places.Reason.TheVariants.{Bound, Chance}
 use Rattle.box_problem.specs.Box.{Box, Inside, high, low}
 use Rattle.chance_sums.specs.Known.{IsWeighed}
 use Rattle.chance_sums.specs.declared.sums.Weighed.{Weighed}
+use Rattle.goal_sums.specs.Known.{IsCounted}
+use Rattle.goal_sums.specs.declared.counting.Counted.{Counted}
 use Rattle.program_rules.specs.Refuted.{refutes}
 use Rattle.term_program.specs.Programs.{IsMade, problem_in, root_in, with_interval}
 use Rattle.end_values.specs.declared.ends.End.{End}
@@ -20,11 +22,17 @@ pub record IsWeighedOf (q : Question) (w : Weighed) : Type 0 where
   pub reason : q.reason ≡ Chance w.instance
   pub known : IsWeighed (root_in q.program.now) (problem_in q.program.now) q.store.now.box w
 
--- the box of the store is a part of the program's root, and a weight that is at hand is right
+-- the better end is that of the objective over the box of the store, for the bound
+pub record IsCountedOf (q : Question) (c : Counted) : Type 0 where
+  pub reason : q.reason ≡ Bound
+  pub known : IsCounted q.program.now q.store.now.box c
+
+-- the box of the store is a part of the program's root, and what is at hand is right
 pub record IsAsked (q : Question) : Type 0 where
   pub made : IsMade q.program.now
   pub inside : Inside q.store.now.box (root_in q.program.now)
   pub weighed : IfSome q.weighed (IsWeighedOf q)
+  pub counted : IfSome q.counted (IsCountedOf q)
 
 -- whether the reason closes a box
 abbrev pub closes : Question → Box → Bool

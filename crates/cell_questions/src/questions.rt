@@ -1,8 +1,8 @@
 //! Whether a reason closes a box or a part of it.
 
-ghost use Rattle.std.specs.Prelude.{◌≡◌, ◌∷◌, [], pos, ◌≤ℤ◌, ◌-ℤ◌, IfSome};
+ghost use Rattle.std.specs.Prelude.{◌≡◌, ◌∷◌, [], pos, ◌≤ℤ◌, ◌-ℤ◌, IfSome, Some};
 ghost use Rattle.box_problem.specs.Box.{high, low};
-ghost use Rattle.cell_questions.specs.Questions.{HasAll, IsAsked, IsEndOf, IsWeighedOf, closes, closes_part};
+ghost use Rattle.cell_questions.specs.Questions.{HasAll, IsAsked, IsCountedOf, IsEndOf, IsWeighedOf, closes, closes_part};
 ghost use Rattle.program_laws.specs.Stated.{box_problem_of};
 ghost use Rattle.prop_core.specs.Findings.{Finds};
 ghost use Rattle.reason_mentions.specs.Reasons.{reason_mentions};
@@ -11,12 +11,13 @@ ghost use Rattle.term_program.specs.Programs.{problem_in, root_in, with_interval
 use box_store::BoxStore;
 use chance_sums::Weighed;
 use end_values::{End, Removal};
+use goal_sums::{Counted, Value};
 use prop_core::Finding;
 use sopl_base::{Interval, Reason};
 use term_program::{Program, refuted, refuted_in};
 
-/// A reason of a program, the box of a store, and the best value where there is one; of a chance constraint also, where it is at hand, the weight that
-/// is left over the box, for one cell.
+/// A reason of a program, the box of a store, and the best value where there is one; where they are at hand, for one cell, also the weight that is left to
+/// a chance constraint over the box, or the better end of the objective.
 #[derive(Clone, Copy)]
 pub struct Question<'a> {
     pub program: &'a Program,
@@ -24,6 +25,7 @@ pub struct Question<'a> {
     pub reason: Reason,
     pub best: Option<i128>,
     pub weighed: Option<Weighed<'a>>,
+    pub counted: Option<Counted<'a>>,
 }
 
 impl Question<'_> {
@@ -60,7 +62,7 @@ impl Question<'_> {
         }
     }
 
-    /// The same by the weight that is at hand, or none where it does not tell.
+    /// The same by what is at hand, or none where it does not tell.
     fn told_with(&self, cell: u32, part: Interval) -> Option<bool>
         requires asked { IsAsked self.now }
         requires from_low { low (root_in self.now.program.now) cell ≤ℤ part.lo }
@@ -69,7 +71,7 @@ impl Question<'_> {
     {
         match &self.weighed {
             Some(weighed) => self.told_by(weighed, cell, part),
-            None => None,
+            None => self.counted_with(cell, part),
         }
     }
 
@@ -85,6 +87,44 @@ impl Question<'_> {
             return None;
         }
         weighed.closes_with(self.program, self.store, part)
+    }
+
+    /// The same by the better end that is at hand, or none where it does not tell.
+    fn counted_with(&self, cell: u32, part: Interval) -> Option<bool>
+        requires asked { IsAsked self.now }
+        requires from_low { low (root_in self.now.program.now) cell ≤ℤ part.lo }
+        requires to_high { part.hi ≤ℤ high (root_in self.now.program.now) cell }
+        ensures { IfSome result (λ closed. closed ≡ closes self.now (with_interval self.now.store.now.box cell part.lo part.hi)) }
+    {
+        match &self.counted {
+            Some(counted) => self.counted_by(counted, cell, part),
+            None => None,
+        }
+    }
+
+    /// The best value, where there is one.
+    fn best_value(&self) -> Option<Value>
+        ensures { IfSome result (λ value. self.now.best ≡ Some value.number) }
+    {
+        match &self.best {
+            Some(best) => Some(Value { number: *best }),
+            None => None,
+        }
+    }
+
+    /// The same by this better end.
+    fn counted_by(&self, counted: &Counted<'_>, cell: u32, part: Interval) -> Option<bool>
+        requires asked { IsAsked self.now }
+        requires known { IsCountedOf self.now counted.now }
+        requires from_low { low (root_in self.now.program.now) cell ≤ℤ part.lo }
+        requires to_high { part.hi ≤ℤ high (root_in self.now.program.now) cell }
+        ensures { IfSome result (λ closed. closed ≡ closes self.now (with_interval self.now.store.now.box cell part.lo part.hi)) }
+    {
+        if counted.cell != cell {
+            return None;
+        }
+        let best = self.best_value()?;
+        counted.closes_with(self.program, self.store, &best, part)
     }
 
     /// What is found of the box for this reason alone, where these cells are all that it mentions, and maybe others: that it closes the box, a

@@ -3,15 +3,11 @@ use Rattle.std.proofs.Common.{◌≡◌, ℕ, ◌+◌, ◌<◌, ◌≤◌, List,
 use Rattle.std.specs.List.{flat_map}
 use Rattle.std.proofs.lemmas.List.{get_or-map, length-map, map-append, take_all, take_more}
 use Rattle.std.specs.Option.{option_and_then, option_map_or}
-use Rattle.sopl_base.specs.declared.places.Reason.{Reason}
 use Rattle.sopl_base.specs.declared.places.Reason.TheVariants.{Chance}
 use Rattle.box_problem.specs.Box.{Box}
 use Rattle.box_rules.specs.Terms.{Cond}
 use Rattle.cell_mentions.specs.Mentions.{cond_mentions}
-use Rattle.cell_questions.specs.declared.questions.Question.{Question}
-use Rattle.cell_questions.specs.Opened.{IsOpen}
 use Rattle.cell_questions.specs.Questions.{HasAll}
-use Rattle.chance_sums.specs.declared.sums.Weighed.{Weighed}
 use Rattle.program_rules.specs.Problems.{ChanceTerms, IsChance, IsProblem, ProblemTerms}
 use Rattle.reason_mentions.specs.Reasons.{reason_mentions}
 use Rattle.term_program.specs.Mentions.{IsListOf}
@@ -47,34 +43,30 @@ parts_all root terms instance n set list problem past within each is =
     (subst (λ (k : ℕ). AreIn (part_of root terms instance) k set) same each))
 
 -- the scenarios of one cell more, and of all
-pub lists_more : {A : Type 0} (f : A → List ℕ) (g : ℕ → List ℕ) (cells : List ℕ) (i d : ℕ) (old new : List A) (x : A) → i < length cells → map f old ≡ map g (take i cells) → f x ≡ g (get_or cells i d) → new ≡ old ++ x ∷ [] → map f new ≡ map g (take (i + 1) cells)
+pub lists_more : {A B : Type 0} (f : A → List B) (g : ℕ → List B) (cells : List ℕ) (i d : ℕ) (old new : List A) (x : A) → i < length cells → map f old ≡ map g (take i cells) → f x ≡ g (get_or cells i d) → new ≡ old ++ x ∷ [] → map f new ≡ map g (take (i + 1) cells)
 lists_more f g cells i d old new x below so_far is pushed =
     ap (map f) pushed
     ∙ map-append f old (x ∷ [])
-    ∙ ap (λ (lists : List (List ℕ)). lists ++ f x ∷ []) so_far
-    ∙ ap (λ (list : List ℕ). map g (take i cells) ++ list ∷ []) is
+    ∙ ap (λ (lists : List (List _)). lists ++ f x ∷ []) so_far
+    ∙ ap (λ (list : List _). map g (take i cells) ++ list ∷ []) is
     ∙ sym (ap (map g) (take_more cells i d below) ∙ map-append g (take i cells) (get_or cells i d ∷ []))
 
-pub lists_all : (g : ℕ → List ℕ) (cells : List ℕ) (i : ℕ) (lists : List (List ℕ)) → length cells ≤ i → lists ≡ map g (take i cells) → lists ≡ map g cells
+pub lists_all : {B : Type 0} (g : ℕ → List B) (cells : List ℕ) (i : ℕ) (lists : List (List B)) → length cells ≤ i → lists ≡ map g (take i cells) → lists ≡ map g cells
 lists_all g cells i lists past so_far = so_far ∙ ap (map g) (take_all i cells past)
 
 -- those of a cell at its place
-pub list_at : {A : Type 0} (f : A → List ℕ) (g : ℕ → List ℕ) (lists : List A) (cells : List ℕ) (i d : ℕ) (e : A) → map f lists ≡ map g cells → i < length cells → f (get_or lists i e) ≡ g (get_or cells i d)
+pub list_at : {A B : Type 0} (f : A → List B) (g : ℕ → List B) (lists : List A) (cells : List ℕ) (i d : ℕ) (e : A) → map f lists ≡ map g cells → i < length cells → f (get_or lists i e) ≡ g (get_or cells i d)
 list_at f g lists cells i d e same below =
     let count = length-map lists f in
     let other = length-map cells g in
     let as_many = ap length same in
     sym (get_or-map f lists i e (f e) (omega (arith, below, count, other, as_many)))
-    ∙ ap (λ (xs : List (List ℕ)). get_or xs i (f e)) same
+    ∙ ap (λ (xs : List (List _)). get_or xs i (f e)) same
     ∙ get_or-map g cells i d (f e) below
 
-pub as_long : {A : Type 0} (f : A → List ℕ) (g : ℕ → List ℕ) (lists : List A) (cells : List ℕ) (i : ℕ) → map f lists ≡ map g cells → i < length cells → i < length lists
+pub as_long : {A B : Type 0} (f : A → List B) (g : ℕ → List B) (lists : List A) (cells : List ℕ) (i : ℕ) → map f lists ≡ map g cells → i < length cells → i < length lists
 as_long f g lists cells i same below =
     let count = length-map lists f in
     let other = length-map cells g in
     let as_many = ap length same in
     omega (arith, below, count, other, as_many)
-
--- what is at hand besides changes nothing of what was tried
-pub open_known : (q : Question) (weighed : Option Weighed) (cell : ℕ) → IsOpen (record { program = q.program; store = q.store; reason = q.reason; best = q.best; weighed = weighed }) cell → IsOpen q cell
-open_known q weighed cell opened = record { at_low = opened.at_low; at_high = opened.at_high }

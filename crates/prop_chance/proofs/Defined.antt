@@ -1,9 +1,8 @@
 -- Where a term is always defined, its lack of a value closes no part of a box.
-use Rattle.std.proofs.Common.{◌≡◌, ℕ, ◌<◌, ℤ, pos, false, List, [], ◌∷◌, Option, Some, None, IfSome, length, slice_get, arith, refl, ap, subst, sym, ◌∙◌}
-use Rattle.std.specs.List.{AllByRecursion, Contains}
+use Rattle.std.proofs.Common.{◌≡◌, ℕ, ℤ, false, [], ◌∷◌, Option, Some, None, IfSome, slice_get, arith, refl, ap, subst, sym, ◌∙◌}
+use Rattle.std.specs.List.{AllByRecursion}
 use Rattle.std.specs.Option.{option_and_then, option_map_or}
 use Rattle.std.proofs.lemmas.Int.{ints}
-use Rattle.sopl_base.specs.declared.places.Reason.{Reason}
 use Rattle.sopl_base.specs.declared.places.Reason.TheVariants.{Undefined}
 use Rattle.box_problem.specs.Box.{Box, InBox, Inside, IsBox, high, low, with_high, with_low}
 use Rattle.box_problem.specs.Rightness.{Quiets}
@@ -17,7 +16,7 @@ use Rattle.box_rules.specs.Terms.{Term}
 use Rattle.box_rules.specs.Values.{value}
 use Rattle.box_rules.proofs.Soundness.{marks_tell}
 use Rattle.cell_questions.specs.declared.questions.Question.{Question}
-use Rattle.cell_questions.specs.Questions.{IsAsked, closes}
+use Rattle.cell_questions.specs.Questions.{IsAsked}
 use Rattle.cell_questions.proofs.Finding.{for_each}
 use Rattle.program_laws.specs.Stated.{box_problem_of}
 use Rattle.program_rules.specs.Problems.{GoalTerms, ProblemTerms}

@@ -1,5 +1,5 @@
 -- The cells that the objective's terms mention, and what is found for the objective.
-use Rattle.std.proofs.Common.{◌≡◌, ℕ, ◌+◌, ◌<◌, ◌≤◌, ℤ, true, false, List, [], ◌∷◌, ◌++◌, Option, Some, None, IfSome, slice_get, length, map, Result, Ok, Err, OnOk, IfNone, arith, refl, ap, subst, sym, ◌∙◌}
+use Rattle.std.proofs.Common.{◌≡◌, ℕ, ◌+◌, ◌<◌, ◌≤◌, ℤ, true, false, List, [], ◌∷◌, ◌++◌, Option, Some, None, IfSome, slice_get, length, map, Result, Ok, Err, OnOk, IfNone, arith, refl, subst, sym}
 use Rattle.std.specs.List.{All, Contains, flat_map, range_with_len}
 use Rattle.std.specs.Option.{option_and_then, option_map_or}
 use Rattle.std.proofs.lemmas.List.Elements.{All-append, All-cons, All-contains, All-nil, Contains-append_left, Contains-append_right}
@@ -20,7 +20,6 @@ use Rattle.cell_questions.proofs.Finding.{found_quiet, itself}
 use Rattle.program_laws.specs.Stated.{box_problem_of}
 use Rattle.program_rules.specs.Problems.{GoalTerms, IsProblem, ProblemTerms}
 use Rattle.program_rules.specs.Refuted.{refutes}
-use Rattle.program_rules.specs.Search.{numbers_to}
 use Rattle.prop_core.specs.Findings.{Closes, Narrows}
 use Rattle.reason_mentions.specs.Reasons.{reason_mentions}
 use Rattle.term_program.specs.declared.program.Program.{Program}

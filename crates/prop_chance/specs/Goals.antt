@@ -1,5 +1,5 @@
 -- What the propagator of the objective stands for.
-use Rattle.std.specs.Prelude.{◌≡◌, ℕ, ℤ, false, List, [], ◌∷◌, ◌++◌, Option, length, map, slice_get}
+use Rattle.std.specs.Prelude.{◌≡◌, ℕ, ℤ, false, List, [], ◌∷◌, ◌++◌, Option, length, map, slice_get, IfSome}
 use Rattle.std.specs.Option.{option_and_then}
 use Rattle.sopl_base.specs.declared.places.Reason.{Reason}
 use Rattle.sopl_base.specs.declared.places.Reason.TheVariants.{Bound, Undefined}
@@ -7,22 +7,37 @@ use Rattle.box_problem.specs.Box.{Box}
 use Rattle.box_problem.specs.BoxProblem.{BoxProblem}
 use Rattle.box_rules.specs.Terms.{Term}
 use Rattle.cell_questions.specs.Questions.{HasAll}
+use Rattle.goal_sums.specs.Sums.{AreParts, touched_by}
+use Rattle.goal_sums.specs.declared.listing.Parts.{Parts}
 use Rattle.program_rules.specs.Problems.{GoalTerms, ProblemTerms}
 use Rattle.program_rules.specs.Search.{numbers_to}
 use Rattle.reason_mentions.specs.Reasons.{reason_mentions}
+use Rattle.term_goals.specs.declared.sums.Atom.{Atom}
 use Rattle.term_program.specs.declared.program.Program.{Program}
-use Rattle.term_program.specs.Programs.{IsMade, problem_in, root_in}
+use Rattle.term_program.specs.Programs.{IsMade, problem_in, root_in, things_in}
 use Rattle.prop_chance.specs.declared.goals.Goal.{Goal}
 
 -- the objective's lack of a value in each scenario, and the bound
 abbrev pub reasons_of : Goal → List Reason
 reasons_of p = map Undefined (numbers_to p.scenarios) ++ Bound ∷ []
 
--- its scenarios are those of the program, and its cells are all that the objective's terms mention there, and maybe others
+-- several parts of an objective's sum
+abbrev pub atoms_in : Parts → List Atom
+atoms_in p = p.atoms.items
+
+-- for each cell the parts of an expected objective that mention it
+pub record IsIndexed (program : Program) (cells : List ℕ) (lists : List Parts) : Type 0 where
+  pub atoms : List Atom
+  pub are : AreParts program atoms
+  pub touched : map atoms_in lists ≡ map (touched_by (root_in program) (things_in program) atoms) cells
+
+-- its scenarios are those of the program, and its cells are all that the objective's terms mention there, and maybe others, each
+-- with the parts of an expected objective that mention it
 pub record Fits (p : Goal) (program : Program) : Type 0 where
   pub made : IsMade program
   pub scenarios : p.scenarios ≡ length (problem_in program).weights
   pub all : HasAll p.cells.items (reason_mentions (root_in program) (problem_in program) Bound)
+  pub parts : IfSome p.parts (λ lists. IsIndexed program p.cells.items lists.items)
 
 -- a reason does not close a box
 abbrev pub IsOpenTo : BoxProblem → Option ℤ → Box → Reason → Type 0

@@ -97,7 +97,7 @@ impl Chance {
     }
 
     /// A right step at one of the ends of a cell of the list, or none where the constraint does not close the box with the cell at either end.
-    fn step_for(&self, question: &Question<'_>, left: &Weight, at: usize) -> Option<Step>
+    fn step_for<'a>(&'a self, question: &'a Question<'a>, left: &Weight, at: usize) -> Option<Step>
         requires fits { Fits self.now question.now.program.now }
         requires asked { IsAsked question.now }
         requires reason { question.now.reason ≡ reason.Chance self.now.instance }
@@ -121,13 +121,14 @@ impl Chance {
             reason: question.reason,
             best: question.best,
             weighed: Some(weighed),
+            counted: None,
         };
         known.step_at(cell)
     }
 
     /// A right step at one of the ends of the cells, by the weight that is left over the box; none where the constraint does not close the box with any
     /// cell at an end.
-    fn step_by(&self, question: &Question<'_>, left: &Weight) -> Option<Step>
+    fn step_by<'a>(&'a self, question: &'a Question<'a>, left: &Weight) -> Option<Step>
         requires fits { Fits self.now question.now.program.now }
         requires asked { IsAsked question.now }
         requires reason { question.now.reason ≡ reason.Chance self.now.instance }
@@ -146,7 +147,7 @@ impl Chance {
     }
 
     /// The same; where the weight that is left has no room, each end is tried by all scenarios.
-    fn first_step(&self, question: &Question<'_>) -> Option<Step>
+    fn first_step<'a>(&'a self, question: &'a Question<'a>) -> Option<Step>
         requires fits { Fits self.now question.now.program.now }
         requires asked { IsAsked question.now }
         requires reason { question.now.reason ≡ reason.Chance self.now.instance }
@@ -163,7 +164,7 @@ impl Chance {
 
     /// What is found of the box of a question for the constraint.
     #[tactic(auto, using(cell_questions::proofs::Finding::found_dead, cell_questions::proofs::Finding::found_cut))]
-    fn finding(&self, question: &Question<'_>) -> Finding
+    fn finding<'a>(&'a self, question: &'a Question<'a>) -> Finding
         requires fits { Fits self.now question.now.program.now }
         requires asked { IsAsked question.now }
         requires reason { question.now.reason ≡ reason.Chance self.now.instance }
@@ -190,6 +191,7 @@ impl Chance {
             reason: self.reason(),
             best,
             weighed: None,
+            counted: None,
         };
         self.finding(&question)
     }

@@ -1,35 +1,44 @@
 //! The propagator of the objective.
 
-ghost use Rattle.std.specs.Prelude.{◌≡◌, ◌<◌, ◌∷◌, ◌++◌, [], false, length, map, Some, All, Contains, IfNone, IfOk, IfSome, OnOk};
+ghost use Rattle.std.specs.Prelude.{◌≡◌, ◌<◌, ◌∷◌, ◌++◌, [], false, get_or, length, map, Some, All, Contains, IfNone, IfOk, IfSome, OnOk};
 ghost use Rattle.sopl_base.specs.declared.places.Reason.TheVariants.{Bound, Undefined};
 ghost use Rattle.box_problem.specs.Box.{Inside};
 ghost use Rattle.box_problem.specs.Rightness.{IsRight, Quiets};
-ghost use Rattle.cell_questions.specs.Opened.{IsWhole};
+ghost use Rattle.cell_questions.specs.Opened.{IsOpen, IsWhole};
 ghost use Rattle.cell_questions.specs.Questions.{HasAll, IsAsked};
 ghost use Rattle.program_laws.specs.Stated.{box_problem_of};
+ghost use Rattle.goal_sums.specs.Sums.{touched_by};
+ghost use Rattle.program_rules.specs.Objective.{better_end, goal_ends};
+ghost use Rattle.program_rules.specs.Problems.{direction_in};
 ghost use Rattle.program_rules.specs.Search.{numbers_to};
+ghost use Rattle.std.specs.List.{AllByRecursion};
+ghost use Rattle.term_program.specs.Mentions.{atom_ids};
 ghost use Rattle.prop_core.specs.Findings.{Closes};
 ghost use Rattle.reason_mentions.specs.Reasons.{reason_mentions};
 ghost use Rattle.term_nodes.specs.Things.{term_at};
 ghost use Rattle.term_program.specs.Programs.{IsListedTerm, IsMade, problem_in, root_in, things_in};
-ghost use Rattle.prop_chance.specs.Goals.{Fits, IsOpenTo, reasons_of, term_in};
+ghost use Rattle.prop_chance.specs.Goals.{Fits, IsIndexed, IsOpenTo, atoms_in, reasons_of, term_in};
 
 use crate::cell_sets::{listed, put_all};
 use box_rules::Defined;
 use box_store::BoxStore;
 use cell_questions::Question;
+use goal_sums::{Counted, Parts, Value, end_over, touching};
 use prop_core::{Finding, Propagator};
 use sopl_base::{Reason, Step};
 use std::alloc::{AllocError, Global};
 use std::collections::BTreeSet;
+use term_goals::Atom;
 use term_program::{Program, TermId, range_of, refuted};
 
 /// Narrows a box for the objective: what it is to be better than, and where it has to be defined. For each scenario both ends of each cell that the
-/// objective's term mentions are tried, and then those of all these cells together.
+/// objective's term mentions are tried, and then those of all these cells together; for an end only the parts of an expected objective are seen anew that
+/// mention the cell.
 #[derive(Drop)]
 pub struct Goal {
     scenarios: u32,
     cells: Vec<u32>,
+    parts: Option<Vec<Parts>>,
 }
 
 /// Puts the cells that the objective's term mentions in a scenario into a set.
@@ -61,6 +70,42 @@ fn goal_cells(alloc: Global, program: &Program) -> Result<Vec<u32>, AllocError>
     }
     let list = listed(alloc, &cells)?;
     Ok(list)
+}
+
+/// For each of these cells the parts of an objective's sum that mention it.
+#[tactic(auto, using(crate::proofs::Conditions::lists_more, crate::proofs::Conditions::lists_all))]
+fn touched_parts(
+    alloc: Global,
+    program: &Program,
+    atoms: &[Atom],
+    cells: &[u32],
+) -> Result<Vec<Parts>, AllocError>
+    requires made { IsMade program.now }
+    requires listed { AllByRecursion (IsListedTerm program.now) (atom_ids atoms.now) }
+    ensures touched { IfOk result (λ lists. map atoms_in lists.items ≡ map (touched_by (root_in program.now) (things_in program.now) atoms.now) cells.now) }
+{
+    let mut lists = Vec::new(alloc);
+    'cells: for cell in cells {
+        let list = touching(alloc, program, atoms, *cell)?;
+        lists.push(list)?;
+    }
+    Ok(lists)
+}
+
+/// The same of an expected objective; none where the worst scenario counts.
+fn indexed_parts(
+    alloc: Global,
+    program: &Program,
+    cells: &[u32],
+) -> Result<Option<Vec<Parts>>, AllocError>
+    requires made { IsMade program.now }
+    ensures parts { IfOk result (λ parts. IfSome parts (λ lists. IsIndexed program.now cells.now lists.items)) }
+{
+    if program.worst() {
+        return Ok(None);
+    }
+    let lists = touched_parts(alloc, program, program.goal_atoms(), cells)?;
+    Ok(Some(lists))
 }
 
 /// A right step at one of the ends of the cells that this term of the objective mentions, or none where its lack of a value closes the box with no cell
@@ -108,9 +153,11 @@ impl Goal {
         ensures fits { IfOk result (λ made. Fits made program.now) }
     {
         let cells = goal_cells(alloc, program)?;
+        let parts = indexed_parts(alloc, program, cells.as_slice())?;
         Ok(Goal {
             scenarios: program.scenarios(),
             cells,
+            parts,
         })
     }
 
@@ -154,6 +201,7 @@ impl Goal {
                 reason: Reason::Undefined { scenario },
                 best,
                 weighed: None,
+                counted: None,
             };
             if let Some(step) = undefined_step(&question, scenario) {
                 return Some(step);
@@ -165,8 +213,82 @@ impl Goal {
             reason: Reason::Bound,
             best,
             weighed: None,
+            counted: None,
         };
-        question.first_step(self.cells.as_slice())
+        self.bound_step(&question)
+    }
+
+    /// A right step for the bound, or none where it does not close the box with any cell at an end.
+    fn bound_step<'a>(&'a self, question: &'a Question<'a>) -> Option<Step>
+        requires fits { Fits self.now question.now.program.now }
+        requires asked { IsAsked question.now }
+        requires reason { question.now.reason ≡ Bound }
+        requires whole { IsWhole question.now }
+        ensures right { IfSome result (IsRight (box_problem_of question.now.program.now) question.now.best question.now.store.now.box) }
+        ensures own { IfSome result (λ step. step.reason ≡ question.now.reason) }
+        ensures none { IfNone result (Quiets (box_problem_of question.now.program.now) (question.now.reason ∷ []) question.now.best question.now.store.now.box) }
+    {
+        match &self.parts {
+            Some(parts) => self.step_by(question, parts.as_slice()),
+            None => question.first_step(self.cells.as_slice()),
+        }
+    }
+
+    /// The same by the better end over the box and the parts that mention each cell.
+    fn step_by<'a>(&'a self, question: &'a Question<'a>, parts: &'a [Parts]) -> Option<Step>
+        requires fits { Fits self.now question.now.program.now }
+        requires indexed { IsIndexed question.now.program.now self.now.cells.items parts.now }
+        requires asked { IsAsked question.now }
+        requires reason { question.now.reason ≡ Bound }
+        requires whole { IsWhole question.now }
+        ensures right { IfSome result (IsRight (box_problem_of question.now.program.now) question.now.best question.now.store.now.box) }
+        ensures own { IfSome result (λ step. step.reason ≡ question.now.reason) }
+        ensures none { IfNone result (Quiets (box_problem_of question.now.program.now) (question.now.reason ∷ []) question.now.best question.now.store.now.box) }
+    {
+        let end = end_over(question.program, question.store);
+        'cells: for at in 0..self.cells.len() {
+            if let Some(step) = self.step_for(question, parts, &end, at) {
+                return Some(step);
+            }
+        }
+        None
+    }
+
+    /// A right step at one of the ends of a cell of the list, or none where the bound does not close the box with the cell at either end.
+    #[tactic(auto, using(crate::proofs::Conditions::as_long))]
+    fn step_for<'a>(
+        &'a self,
+        question: &'a Question<'a>,
+        parts: &'a [Parts],
+        end: &Value,
+        at: usize,
+    ) -> Option<Step>
+        requires fits { Fits self.now question.now.program.now }
+        requires indexed { IsIndexed question.now.program.now self.now.cells.items parts.now }
+        requires asked { IsAsked question.now }
+        requires reason { question.now.reason ≡ Bound }
+        requires whole { IsWhole question.now }
+        requires end { end.now.number ≡ better_end (direction_in (problem_in question.now.program.now)) (goal_ends (root_in question.now.program.now) question.now.store.now.box (problem_in question.now.program.now)) }
+        requires exists { at < length self.now.cells.items }
+        ensures right { IfSome result (IsRight (box_problem_of question.now.program.now) question.now.best question.now.store.now.box) }
+        ensures own { IfSome result (λ step. step.reason ≡ question.now.reason) }
+        ensures none { IfNone result (IsOpen question.now (get_or self.now.cells.items at 0)) }
+    {
+        let cell = self.cells[at];
+        let counted = Counted {
+            cell,
+            end: *end,
+            parts: parts[at].atoms.as_slice(),
+        };
+        let known = Question {
+            program: question.program,
+            store: question.store,
+            reason: question.reason,
+            best: question.best,
+            weighed: None,
+            counted: Some(counted),
+        };
+        known.step_at(cell)
     }
 }
 

@@ -58,6 +58,7 @@ impl AnyTerm {
             reason: self.reason(),
             best,
             weighed: None,
+            counted: None,
         };
         question.finding(program.cells_of(cond))
     }

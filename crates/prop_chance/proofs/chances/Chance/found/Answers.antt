@@ -5,4 +5,5 @@ finding-requires-clause-asked c = record {
   made = c.requires.fits.made;
   inside = c.requires.inside;
   weighed = tt;
+  counted = tt;
 }

@@ -1,4 +1,4 @@
-use Rattle.std.proofs.Common.{arith, length, rules, List, subst, sym, ℕ, ◌<◌}
+use Rattle.std.proofs.Common.{arith, length, rules, subst, sym, ◌<◌}
 use Rattle.sopl_base.specs.declared.places.Reason.{Reason}
 use Rattle.cell_questions.specs.Questions.{HasAll}
 use Rattle.cell_questions.proofs.Finding.{found_quiet}

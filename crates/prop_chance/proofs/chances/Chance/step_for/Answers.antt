@@ -23,4 +23,5 @@ step_at-requires-clause-asked c =
               ∙ ap touched (sym c.index-cell.ensures);
         };
       };
+      counted = tt;
     }

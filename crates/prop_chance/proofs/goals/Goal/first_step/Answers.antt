@@ -1,18 +1,15 @@
-use Rattle.std.proofs.Common.{◌≤◌, arith, rules, subst, sym, List, None, ℕ}
+use Rattle.std.proofs.Common.{◌≤◌, arith, rules, subst, sym, None}
 use Rattle.std.specs.List.{Contains}
 use Rattle.sopl_base.specs.declared.places.Reason.TheVariants.{Bound, Undefined}
 use Rattle.cell_questions.specs.declared.questions.Question.{Question}
-use Rattle.cell_questions.specs.Questions.{HasAll}
 use Rattle.program_laws.specs.Stated.{box_problem_of}
-use Rattle.reason_mentions.specs.Reasons.{reason_mentions}
-use Rattle.term_program.specs.Programs.{problem_in, root_in}
 use Rattle.prop_chance.specs.Goals.{reasons_of}
 use Rattle.prop_chance.proofs.Objectives.{RestsFor, all_and_last, has_last, has_scenario, none_last, one_before, own_last, rest_together, whole_for}
 use Rattle.prop_chance.proofs.goals.Goal.first_step.Goals as goal
 
 pub undefined_step-requires-clause-whole : goal.undefined_step-requires-clause-whole
 undefined_step-requires-clause-whole c =
-    let q : Question = record { program = c.args.program; store = c.args.store; reason = Undefined c.scenarios.scenario; best = c.args.best; weighed = None } in
+    let q : Question = record { program = c.args.program; store = c.args.store; reason = Undefined c.scenarios.scenario; best = c.args.best; weighed = None; counted = None } in
     whole_for q (reasons_of c.args.self.now) c.requires.whole (has_scenario Undefined c.args.self.now.scenarios c.scenarios.scenario Bound c.scenarios-test.true)
 
 pub returns-in-Some-clause-own : goal.returns-in-Some-clause-own
@@ -23,25 +20,21 @@ pub scenarios-preserved : goal.scenarios-preserved
 scenarios-preserved c =
     one_before (RestsFor (box_problem_of c.args.program.now) c.args.best c.args.store.now.box) Undefined c.scenarios.scenario c.scenarios.invariant c.in_default.ensures.none
 
-pub first_step-requires-clause-whole : goal.first_step-requires-clause-whole
-first_step-requires-clause-whole c =
-    let q : Question = record { program = c.args.program; store = c.args.store; reason = Bound; best = c.args.best; weighed = None } in
+pub bound_step-requires-clause-whole : goal.bound_step-requires-clause-whole
+bound_step-requires-clause-whole c =
+    let q : Question = record { program = c.args.program; store = c.args.store; reason = Bound; best = c.args.best; weighed = None; counted = None } in
     whole_for q (reasons_of c.args.self.now) c.requires.whole (has_last Undefined c.args.self.now.scenarios Bound)
-
-pub first_step-requires-clause-all : goal.first_step-requires-clause-all
-first_step-requires-clause-all c =
-    subst (λ (cells : List ℕ). HasAll cells (reason_mentions (root_in c.args.program.now) (problem_in c.args.program.now) Bound)) (sym c.as_slice.ensures.value) c.requires.fits.all
 
 pub returns-clause-own : goal.returns-clause-own
 returns-clause-own c =
-    own_last (reasons_of c.args.self.now) Bound c.first_step.result (has_last Undefined c.args.self.now.scenarios Bound) c.first_step.ensures.own
+    own_last (reasons_of c.args.self.now) Bound c.bound_step.result (has_last Undefined c.args.self.now.scenarios Bound) c.bound_step.ensures.own
 
 pub returns-clause-none : goal.returns-clause-none
 returns-clause-none c =
     let within : c.scenarios.scenario ≤ c.args.self.now.scenarios = search rules in
     let problem = box_problem_of c.args.program.now in
     let b = c.args.store.now.box in
-    none_last c.first_step.result _ _
+    none_last c.bound_step.result _ _
     (λ last. rest_together problem c.args.best b (reasons_of c.args.self.now)
     (all_and_last (RestsFor problem c.args.best b) Undefined c.args.self.now.scenarios c.scenarios.scenario Bound (omega (arith, c.scenarios-test.false)) within c.scenarios.invariant last))
-    c.first_step.ensures.none
+    c.bound_step.ensures.none

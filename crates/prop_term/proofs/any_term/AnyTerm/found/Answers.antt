@@ -8,6 +8,7 @@ finding-requires-clause-asked c = record {
   made = c.requires.fits.made;
   inside = c.requires.inside;
   weighed = tt;
+  counted = tt;
 }
 
 pub finding-requires-clause-all : goal.finding-requires-clause-all

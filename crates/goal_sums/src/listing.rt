@@ -1,0 +1,63 @@
+//! The parts of an objective's sum that mention a cell.
+
+ghost use Rattle.std.specs.Prelude.{◌≡◌, ◌∷◌, ◌++◌, [], nat_eq, if◌then◌else◌, IfOk, OnOk};
+ghost use Rattle.std.specs.List.{AllByRecursion, list_any};
+ghost use Rattle.term_program.specs.Mentions.{atom_ids};
+ghost use Rattle.term_program.specs.Programs.{IsListedTerm, IsMade, root_in, things_in};
+ghost use Rattle.goal_sums.specs.Sums.{is_touched, touched_by};
+
+use std::alloc::{AllocError, Global};
+use term_goals::Atom;
+use term_program::{Program, TermId};
+
+/// Several parts of an objective's sum.
+#[derive(Drop)]
+pub struct Parts {
+    pub atoms: Vec<Atom>,
+}
+
+/// Whether a list has a cell.
+fn has(cells: &[u32], cell: u32) -> bool
+    ensures { result ≡ list_any (λ n. nat_eq n cell) cells.now }
+{
+    cells.contains(&cell)
+}
+
+/// Whether a part mentions a cell.
+fn touches(program: &Program, atom: &Atom, cell: u32) -> bool
+    requires made { IsMade program.now }
+    requires listed { IsListedTerm program.now atom.now.term }
+    ensures { result ≡ is_touched (root_in program.now) (things_in program.now) cell atom.now }
+{
+    has(program.term_cells(TermId(atom.term)), cell)
+}
+
+/// Adds a part to a list, or nothing.
+fn put_if(list: &mut Vec<Atom>, atom: &Atom, wanted: bool) -> Result<(), AllocError>
+    ensures { OnOk result (list.new.items ≡ list.old.items ++ (if wanted then atom.now ∷ [] else [])) }
+{
+    if wanted {
+        list.push(*atom)?;
+        return Ok(());
+    }
+    Ok(())
+}
+
+/// The parts that mention a cell, in the same order.
+pub fn touching(
+    alloc: Global,
+    program: &Program,
+    atoms: &[Atom],
+    cell: u32,
+) -> Result<Parts, AllocError>
+    requires made { IsMade program.now }
+    requires listed { AllByRecursion (IsListedTerm program.now) (atom_ids atoms.now) }
+    ensures touched { IfOk result (λ list. list.atoms.items ≡ touched_by (root_in program.now) (things_in program.now) atoms.now cell) }
+{
+    let mut list = Vec::new(alloc);
+    'atoms: for atom in atoms {
+        let wanted = touches(program, atom, cell);
+        put_if(&mut list, atom, wanted)?;
+    }
+    Ok(Parts { atoms: list })
+}

@@ -1,0 +1,69 @@
+//! Ends of an objective's interval.
+
+ghost use Rattle.std.specs.Prelude.{◌≡◌, ◌+ℤ◌, ◌-ℤ◌, ◌*ℤ◌, IfSome};
+ghost use Rattle.box_rules.specs.Ends.{between, ends, scaled};
+ghost use Rattle.program_rules.specs.Objective as objective;
+ghost use Rattle.goal_sums.specs.Sums.{no_better};
+
+use sopl_base::{Direction, Interval};
+use term_goals::Atom;
+
+/// An end of an objective's interval, or of a part of it.
+#[derive(Clone, Copy)]
+pub struct Value {
+    pub number: i128,
+}
+
+impl Value {
+    /// This end with one part in it in place of another, or none where there is no room.
+    pub(crate) fn turned(&self, before: &Value, after: &Value) -> Option<Value>
+        ensures { IfSome result (λ turned. turned.number ≡ (self.now.number +ℤ after.now.number) -ℤ before.now.number) }
+    {
+        let more = self.number.checked_add(after.number)?;
+        let number = more.checked_sub(before.number)?;
+        Some(Value { number })
+    }
+}
+
+/// Of two ends in any order the better one.
+fn better_of(direction: Direction, first: &Value, second: &Value) -> Value
+    ensures { result.number ≡ objective.better_end direction (between first.now.number second.now.number) }
+{
+    match direction {
+        Direction::Minimize => Value {
+            number: first.number.min(second.number),
+        },
+        Direction::Maximize => Value {
+            number: first.number.max(second.number),
+        },
+        Direction::Nothing => Value { number: 0 },
+    }
+}
+
+/// So many times a number, or none where it has no room.
+fn times(atom: &Atom, number: i64) -> Option<Value>
+    ensures { IfSome result (λ product. product.number ≡ atom.now.k *ℤ number) }
+{
+    let number = atom.k.checked_mul(i128::from(number))?;
+    Some(Value { number })
+}
+
+/// The better end of so many times an interval, or none where it has no room.
+pub(crate) fn end_of_part(direction: Direction, atom: &Atom, interval: &Interval) -> Option<Value>
+    ensures { IfSome result (λ end. end.number ≡ objective.better_end direction (scaled atom.now.k (ends interval.now.lo interval.now.hi))) }
+{
+    let first = times(atom, interval.lo)?;
+    let second = times(atom, interval.hi)?;
+    Some(better_of(direction, &first, &second))
+}
+
+/// Whether the better end of an interval is not better than a value.
+pub(crate) fn is_no_better(direction: Direction, end: &Value, best: &Value) -> bool
+    ensures { result ≡ no_better direction end.now.number best.now.number }
+{
+    match direction {
+        Direction::Minimize => best.number <= end.number,
+        Direction::Maximize => end.number <= best.number,
+        Direction::Nothing => true,
+    }
+}
