@@ -1,1 +1,4 @@
 pub mod Texts
+pub mod Ordered
+pub mod Growth
+pub mod Fitting
