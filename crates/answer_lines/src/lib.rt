@@ -1,4 +1,5 @@
 //! The lines of answers: one JSON object in compact form, and a line feed.
+//! Its tests stand in `sopl`.
 #![tactic(auto)]
 
 mod lines;

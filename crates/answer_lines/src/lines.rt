@@ -4,7 +4,7 @@ ghost use Rattle.std.specs.Prelude.{◌≡◌, false, codes, string_bytes, IfOk,
 ghost use Rattle.serde_json.specs.View.{view};
 ghost use Rattle.serde_json.specs.Written.{has_float};
 ghost use Rattle.std.specs.Fmt.{signed_decimal};
-ghost use Rattle.answer_lines.specs.Answers.{word_data, refused_data, limit_data, limit_object, optimal_object, bound_object, found_object, fraction, line_of};
+ghost use Rattle.answer_lines.specs.AnswerData.{word_data, refused_data, limit_data, limit_object, optimal_object, bound_object, found_object, fraction, line_of};
 
 use serde_json::{Value, json};
 use sopl_base::{Excess, Refusal};

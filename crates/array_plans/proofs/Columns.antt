@@ -7,7 +7,8 @@ use Rattle.std.specs.List.{fold, range_with_len}
 use Rattle.std.specs.Ordering.{int_cmp}
 use Rattle.std.specs.declared.alloc.Global.{Global}
 use Rattle.std.specs.declared.vec.Vec.{Vec}
-use Rattle.array_plans.specs.Kept.{column, now_of, sets_in}
+use Rattle.sopl_ast.specs.References.{now_of}
+use Rattle.array_plans.specs.Kept.{column, sets_in}
 
 -- one set more
 pub column_more : (given : List (List ℤ)) (place : ℕ) (sets new : List (Vec ℤ Global)) (set : Vec ℤ Global)

@@ -1,5 +1,6 @@
 -- Which index is the first that is the same, noted one by one.
-use Rattle.std.proofs.Common.{◌≡◌, refl, sym, ap, subst, ◌∙◌, ℕ, ◌+◌, ◌<◌, ◌≤◌, ℤ, Bool, true, false, true≢false, ◌&&◌, cond, List, [], ◌∷◌, length, map, get_or, drop, Option, Some, None, is_some, Bor}
+use Rattle.std.proofs.Common.{◌≡◌, refl, sym, ap, subst, ◌∙◌, ℕ, ◌+◌, ◌<◌, ◌≤◌, ℤ, Bool, true, false, true≢false, ◌&&◌, cond, List, [], ◌∷◌, length, map, get_or, drop, Option}
+use Rattle.std.proofs.Common.{Some, None, is_some, Bor}
 use Rattle.std.proofs.lemmas.Bool.Decides.{same_from_decides}
 use Rattle.std.proofs.lemmas.List.{at_drop_more, at_drop_all}
 use Rattle.std.specs.Cmp.Lexicographic.{pointwise}
@@ -11,8 +12,8 @@ use Rattle.std.specs.declared.alloc.Global.{Global}
 use Rattle.std.specs.declared.vec.Vec.{Vec}
 use Rattle.indexmap.specs.IndexMap.{insert_entry}
 use Rattle.sopl_ast.specs.Numbers.{or_else}
+use Rattle.sopl_ast.specs.References.{now_of}
 use Rattle.box_rules.specs.Arrays.{same_index}
-use Rattle.array_plans.specs.Kept.{now_of}
 use Rattle.array_plans.specs.Plans.{place_among}
 
 abbrev Noted : Type 0
@@ -72,7 +73,8 @@ comes [] key index place is none other =
 comes (e ∷ es) key index place is none other = by (pointwise int_eq index e.0.items) refl none (λ rest. comes es key index place is rest other)
   where
     by : (b : Bool) → pointwise int_eq index e.0.items ≡ b → cond b (Some e.1) (noted index es) ≡ None
-        → (noted index es ≡ None → noted other (insert_entry (λ (a : Vec ℤ Global) (b : Vec ℤ Global). pointwise int_eq a.items b.items) es key place) ≡ or_else (noted other es) (cond (same_index index other) (Some place) None))
+        → (noted index es ≡ None → noted other (insert_entry (λ (a : Vec ℤ Global) (b : Vec ℤ Global). pointwise int_eq a.items b.items) es key place)
+        ≡ or_else (noted other es) (cond (same_index index other) (Some place) None))
         → noted other (insert_entry (λ (a : Vec ℤ Global) (b : Vec ℤ Global). pointwise int_eq a.items b.items) (e ∷ es) key place)
         ≡ or_else (noted other (e ∷ es)) (cond (same_index index other) (Some place) None)
     by true same found later = absurd (true≢false (ap is_some found))

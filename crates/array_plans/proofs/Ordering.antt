@@ -6,7 +6,7 @@ use Rattle.std.specs.List.{flat_map}
 use Rattle.std.specs.declared.alloc.Global.{Global}
 use Rattle.std.specs.declared.vec.Vec.{Vec}
 use Rattle.box_rules.specs.Arrays.{indices}
-use Rattle.array_plans.specs.declared.places.Places.{Places}
+use Rattle.array_plans.specs.declared.first_places.Places.{Places}
 use Rattle.array_plans.specs.Kept.{place_in, places_behind, sets_in}
 use Rattle.array_plans.specs.Plans.{place_among}
 use Rattle.array_plans.proofs.Planned.{same_map}
@@ -32,7 +32,8 @@ module _ (places : Places) (numbers : List ℤ) where
       first : map (λ more. place_in places (numbers ++ more)) (map (λ more. n ∷ more) rest) ≡ map (λ more. place_in places ((numbers ++ n ∷ []) ++ more)) rest
       first =
           map-map (λ more. place_in places (numbers ++ more)) (λ more. n ∷ more) rest
-          ∙ same_map (λ more. place_in places (numbers ++ n ∷ more)) (λ more. place_in places ((numbers ++ n ∷ []) ++ more)) (λ more. ap (place_in places) (sym (append_assoc numbers (n ∷ []) more))) rest
+          ∙ same_map (λ more. place_in places (numbers ++ n ∷ more)) (λ more. place_in places ((numbers ++ n ∷ []) ++ more))
+          (λ more. ap (place_in places) (sym (append_assoc numbers (n ∷ []) more))) rest
 
   pub sets_behind : (set : Vec ℤ Global) (later : List (Vec ℤ Global)) → places_behind places numbers (set ∷ later) ≡ each_behind later set.items
   sets_behind set later = set_behind (indices (sets_in later)) set.items

@@ -1,6 +1,5 @@
 -- What is kept while an array is planned, in the words of the definitions.
 use Rattle.std.specs.Prelude.{ℕ, ℤ, pos, List, [], ◌++◌, map, Option, get_or}
-use Rattle.std.specs.Borrow.{Bor}
 use Rattle.std.specs.BTreeSet.{insert_key}
 use Rattle.std.specs.Cmp.Lexicographic.{pointwise}
 use Rattle.std.specs.List.{fold}
@@ -9,11 +8,7 @@ use Rattle.std.specs.Ordering.{int_cmp, int_eq}
 use Rattle.std.specs.declared.alloc.Global.{Global}
 use Rattle.std.specs.declared.vec.Vec.{Vec}
 use Rattle.box_rules.specs.Arrays.{indices}
-use Rattle.array_plans.specs.declared.places.Places.{Places}
-
--- what a reference shows
-abbrev pub now_of : {A : Type 0} → Bor A → A
-now_of reference = reference.now
+use Rattle.array_plans.specs.declared.first_places.Places.{Places}
 
 -- the numbers of sets
 abbrev pub sets_in : List (Vec ℤ Global) → List (List ℤ)

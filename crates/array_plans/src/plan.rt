@@ -1,12 +1,13 @@
 //! The sets of an array, and which element stands at each index.
 
 ghost use Rattle.std.specs.Prelude.{◌≡◌, map, IfOk};
+ghost use Rattle.sopl_ast.specs.References.{now_of};
 ghost use Rattle.instantiation.specs.Instances as instances;
-ghost use Rattle.array_plans.specs.Kept.{now_of, sets_in};
+ghost use Rattle.array_plans.specs.Kept.{sets_in};
 ghost use Rattle.box_rules.specs.Arrays.{indices};
 ghost use Rattle.array_plans.specs.Plans.{order_of, place_among};
 
-use crate::places::Places;
+use crate::first_places::Places;
 use crate::sets::sets_of;
 use std::alloc::{AllocError, Global};
 

@@ -4,8 +4,9 @@ ghost use Rattle.std.specs.Prelude.{◌≡◌, ◌∷◌, [], map, pos, get_or, 
 ghost use Rattle.std.specs.BTreeSet.{insert_key};
 ghost use Rattle.std.specs.List.{range_with_len};
 ghost use Rattle.std.specs.Ordering.{int_cmp};
+ghost use Rattle.sopl_ast.specs.References.{now_of};
 ghost use Rattle.instantiation.specs.Instances as instances;
-ghost use Rattle.array_plans.specs.Kept.{column, now_of, sets_in};
+ghost use Rattle.array_plans.specs.Kept.{column, sets_in};
 
 use std::alloc::{AllocError, Global};
 use std::collections::BTreeSet;

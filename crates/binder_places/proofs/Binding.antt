@@ -9,10 +9,10 @@ use Rattle.sopl_ast.specs.Lists.{BinderTree, binders}
 use Rattle.sopl_ast.specs.Numbers.{both_of, all_of, joined, up_to, count_between}
 use Rattle.sopl_ast.specs.Known.{Known, with_bound}
 use Rattle.sopl_ast.specs.Constants.{value_or_zero, bindings, all_bindings, numbers_of, numbers_in}
-use Rattle.sopl_ast.specs.Occurrences.{Occurrence, Counted, too_many, constant_occurrences, range_occurrences, binding_occurrences}
+use Rattle.sopl_ast.specs.Occurrences.{Counted, too_many, constant_occurrences, range_occurrences, binding_occurrences}
 use Rattle.unfold_laws.specs.Passing.{Passes}
 use Rattle.unfold_laws.proofs.Passing.{parts_pass, passes_counted, each_passes, value_given}
-use Rattle.unfold_laws.proofs.Declared.{all_append}
+use Rattle.unfold_laws.proofs.Declared.{each_joined, each_of}
 use Rattle.binder_places.specs.Walked.{AreMet, RangesPass, BodiesPass}
 
 -- what is there is what stands in place of nothing
@@ -32,16 +32,6 @@ range_there known whole (Ends lo hi) is =
     let a = value_given known least lo first.0 in
     let b = value_given known greatest hi second.0 in
     there (numbers_of known (Ends lo hi)) (up_to a.0 b.0) [] (λ i. both_of up_to (a.1 i) (b.1 i))
-
--- what follows of each
-pub each_of : {A : Type 0} (P Q : A → Type 0) → ((x : A) → P x → Q x) → (xs : List A) → AllByRecursion P xs → AllByRecursion Q xs
-each_of P Q so [] all = tt
-each_of P Q so (x ∷ xs) all = (so x all.0, each_of P Q so xs all.1)
-
--- what holds of each part of each
-each_joined : {A B : Type 0} (P : B → Type 0) (f : A → List B) (xs : List A) → AllByRecursion (λ x. AllByRecursion P (f x)) xs → AllByRecursion P (flat_map f xs)
-each_joined P f [] all = tt
-each_joined P f (x ∷ xs) all = all_append P (f x) (flat_map f xs) all.0 (each_joined P f xs all.1)
 
 -- one list before others, each of them there
 one_there : (o : Option (List Known)) (x : List Known) (p : Option (List (List Known))) (xs : List Known) → o ≡ Some x → option_map joined p ≡ Some xs

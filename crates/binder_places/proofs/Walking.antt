@@ -1,18 +1,20 @@
 -- The binders and divisors inside an expression that passes.
 use Rattle.std.proofs.Common.{◌≡◌, ap, subst, ℕ, ℤ, List, ◌++◌, Option, Some, None, Ok, is_ok}
 use Rattle.std.specs.List.{AllByRecursion}
-use Rattle.sopl_ast.specs.declared.operators.MulOp.{MulOp}
 use Rattle.sopl_ast.specs.declared.operators.MulOp.TheVariants.{Times, Div, Mod}
 use Rattle.sopl_ast.specs.Tree as t
 use Rattle.sopl_ast.specs.Tree.{Tree, Shape, Trees, Terms, Factors, Binders, Node, no_tree, tree, no_term, term, no_factor, factor, place_of}
 use Rattle.sopl_ast.specs.Known.{Known}
 use Rattle.sopl_ast.specs.Constants.{value, applied_within, all_bindings}
-use Rattle.sopl_ast.specs.Occurrences.{Occurrence, met, no_value, constant_occurrences, inside_occurrences, constants_occurrences, constant_terms_occurrences, constant_factors_occurrences, constant_place, divisor_occurrences, expression_occurrences, parts_occurrences, expressions_occurrences, terms_occurrences, factors_occurrences, binding_occurrences}
+use Rattle.sopl_ast.specs.Occurrences.{Occurrence, met, no_value, constant_occurrences, inside_occurrences, constants_occurrences, constant_terms_occurrences}
+use Rattle.sopl_ast.specs.Occurrences.{constant_factors_occurrences, divisor_occurrences, expression_occurrences, parts_occurrences, expressions_occurrences}
+use Rattle.sopl_ast.specs.Occurrences.{terms_occurrences, factors_occurrences, binding_occurrences}
 use Rattle.unfold_laws.specs.Passing.{Passes}
 use Rattle.unfold_laws.proofs.Passing.{parts_pass}
 use Rattle.binder_places.specs.Walked.{AreMet, IsWalked, ShapeIsWalked, AreWalked, TermsAreWalked, FactorsAreWalked, ExpressionsAreWalked}
 use Rattle.binder_places.proofs.Passed.{divisor_part}
-use Rattle.binder_places.proofs.Binding.{each_of, ranges_pass, bodies_pass}
+use Rattle.binder_places.proofs.Binding.{ranges_pass, bodies_pass}
+use Rattle.unfold_laws.proofs.Declared.{each_of}
 
 -- binders, and what holds of what stands behind them
 abbrev Behind : Option ℕ → Known → Binders → (Known → Type 0) → Type 0
@@ -54,7 +56,8 @@ mutual
   inside_walked (t.AllDifferent bs e) whole known is =
       behind (Some whole) known bs (λ here. constant_occurrences here whole e) (λ here. IsWalked (Some whole) here e) (λ here passes. constant_walked e whole here passes) is
   inside_walked (t.Cumulative bs start duration demand capacity) whole known is =
-      let both = parts_pass (binding_occurrences known (Some whole) bs (λ here. constant_occurrences here whole start ++ (constant_occurrences here whole duration ++ constant_occurrences here whole demand))) (constant_occurrences known whole capacity) is in
+      let both = parts_pass (binding_occurrences known (Some whole) bs (λ here. constant_occurrences here whole start
+      ++ (constant_occurrences here whole duration ++ constant_occurrences here whole demand))) (constant_occurrences known whole capacity) is in
       let tasks = behind (Some whole) known bs (λ here. constant_occurrences here whole start ++ (constant_occurrences here whole duration ++ constant_occurrences here whole demand))
       (λ here. IsWalked (Some whole) here start × IsWalked (Some whole) here duration × IsWalked (Some whole) here demand)
       (λ here passes.
@@ -114,7 +117,8 @@ mutual
   parts_walked (t.AllDifferent bs e) known is =
       behind None known bs (λ here. expression_occurrences here e) (λ here. IsWalked None here e) (λ here passes. expression_walked e here passes) is
   parts_walked (t.Cumulative bs start duration demand capacity) known is =
-      let both = parts_pass (binding_occurrences known None bs (λ here. expression_occurrences here start ++ (expression_occurrences here duration ++ expression_occurrences here demand))) (expression_occurrences known capacity) is in
+      let both = parts_pass (binding_occurrences known None bs (λ here. expression_occurrences here start ++ (expression_occurrences here duration ++ expression_occurrences here demand)))
+      (expression_occurrences known capacity) is in
       let tasks = behind None known bs (λ here. expression_occurrences here start ++ (expression_occurrences here duration ++ expression_occurrences here demand))
       (λ here. IsWalked None here start × IsWalked None here duration × IsWalked None here demand)
       (λ here passes.

@@ -3,7 +3,7 @@
 ghost use Rattle.std.specs.Prelude.{◌≡◌, ◌≤◌, ◌^◌, false, Ok, IfOk, IfErr, Some, pos};
 ghost use Rattle.std.specs.Int.RustNames.{unsigned_abs};
 ghost use Rattle.std.specs.Ordering.{int_eq};
-ghost use Rattle.sopl_base.specs.declared.places.Fault.TheVariants.{NoMemory};
+ghost use Rattle.sopl_base.specs.declared.fault.Fault.TheVariants.{NoMemory};
 ghost use Rattle.sopl_ast.specs.Constants.{value, numbers_in};
 ghost use Rattle.sopl_ast.specs.Occurrences.{divisor_occurrences, range_occurrences};
 ghost use Rattle.sopl_ast.specs.Ranges.{range_of};

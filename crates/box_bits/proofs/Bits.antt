@@ -2,7 +2,7 @@
 use Rattle.std.proofs.Common.{◌≡◌, ℕ, zero, suc, ◌*◌, ◌^◌, ◌<◌, ◌≤◌, ℤ, pos, ◌+ℤ◌, ◌-ℤ◌, ◌*ℤ◌, ◌≤ℤ◌, ◌<ℤ◌, List, [], ◌∷◌, length, get_or, set, arith}
 use Rattle.std.specs.Int.{int_gap}
 use Rattle.std.proofs.lemmas.Int.{ints}
-use Rattle.sopl_base.specs.declared.places.Side.TheVariants.{Le}
+use Rattle.sopl_base.specs.declared.reason.Side.TheVariants.{Le}
 use Rattle.box_problem.specs.Box.{Box, IsBox, Inside, low, high}
 use Rattle.box_problem.specs.Steps.{narrowed, cut_away}
 use Rattle.box_problem.proofs.Counts.{gap_leads}
@@ -15,7 +15,8 @@ gap_most lo hi from to low order high =
     omega (arith, ints, low, high, gap_leads lo hi order, gap_leads from to (omega (arith, ints, low, order, high)))
 
 bits_most : (lows highs wide_lows wide_highs : List ℤ) → length highs ≡ length lows → length lows ≡ length wide_lows → length wide_highs ≡ length wide_lows
-    → ((cell : ℕ) → cell < length lows → (get_or wide_lows cell (pos 0) ≤ℤ get_or lows cell (pos 0)) × (get_or lows cell (pos 0) ≤ℤ get_or highs cell (pos 0)) × (get_or highs cell (pos 0) ≤ℤ get_or wide_highs cell (pos 0)))
+    → ((cell : ℕ) → cell < length lows → (get_or wide_lows cell (pos 0) ≤ℤ get_or lows cell (pos 0)) × (get_or lows cell (pos 0) ≤ℤ get_or highs cell (pos 0)) ×
+    (get_or highs cell (pos 0) ≤ℤ get_or wide_highs cell (pos 0)))
     → bits_between lows highs ≤ bits_between wide_lows wide_highs
 bits_most [] highs wide_lows wide_highs paired same wide each = omega arith
 bits_most (lo ∷ lows) [] wide_lows wide_highs paired same wide each = absurd (omega (arith, paired))
@@ -33,14 +34,16 @@ parts_have_no_more_bits part whole is_box inside =
     (λ cell exists. (inside.from_low cell exists, inside.is_box.ordered cell exists, inside.to_high cell exists))
 
 -- the one interval has fewer digits, and all others stay
-bits_lowered : (lows highs : List ℤ) (cell : ℕ) (k : ℤ) → cell < length lows → length highs ≡ length lows → digits (int_gap (get_or lows cell (pos 0)) k) < digits (int_gap (get_or lows cell (pos 0)) (get_or highs cell (pos 0))) → bits_between lows (set highs cell k) < bits_between lows highs
+bits_lowered : (lows highs : List ℤ) (cell : ℕ) (k : ℤ) → cell < length lows → length highs ≡ length lows
+    → digits (int_gap (get_or lows cell (pos 0)) k) < digits (int_gap (get_or lows cell (pos 0)) (get_or highs cell (pos 0))) → bits_between lows (set highs cell k) < bits_between lows highs
 bits_lowered [] highs cell k exists paired fewer = absurd (omega (arith, exists))
 bits_lowered (lo ∷ lows) [] cell k exists paired fewer = absurd (omega (arith, paired))
 bits_lowered (lo ∷ lows) (hi ∷ highs) zero k exists paired fewer = omega (arith, fewer)
 bits_lowered (lo ∷ lows) (hi ∷ highs) (suc cell) k exists paired fewer =
     omega (arith, bits_lowered lows highs cell k (omega (arith, exists)) (omega (arith, paired)) fewer)
 
-bits_raised : (lows highs : List ℤ) (cell : ℕ) (k : ℤ) → cell < length lows → length highs ≡ length lows → digits (int_gap k (get_or highs cell (pos 0))) < digits (int_gap (get_or lows cell (pos 0)) (get_or highs cell (pos 0))) → bits_between (set lows cell k) highs < bits_between lows highs
+bits_raised : (lows highs : List ℤ) (cell : ℕ) (k : ℤ) → cell < length lows → length highs ≡ length lows
+    → digits (int_gap k (get_or highs cell (pos 0))) < digits (int_gap (get_or lows cell (pos 0)) (get_or highs cell (pos 0))) → bits_between (set lows cell k) highs < bits_between lows highs
 bits_raised [] highs cell k exists paired fewer = absurd (omega (arith, exists))
 bits_raised (lo ∷ lows) [] cell k exists paired fewer = absurd (omega (arith, paired))
 bits_raised (lo ∷ lows) (hi ∷ highs) zero k exists paired fewer = omega (arith, fewer)
@@ -59,7 +62,9 @@ high_half lo k hi above below rounded =
 some_gap : (lo hi : ℤ) → lo <ℤ hi → 0 < int_gap lo hi
 some_gap lo hi order = omega (arith, ints, order, gap_leads lo hi (omega (arith, ints, order)))
 
-pub middles_take_a_bit : (b : Box) (cell : ℕ) (k : ℤ) → IsBox b → cell < length b.lows → int_gap (low b cell) (high b cell) < 2 ^ 64 → low b cell ≤ℤ k → k <ℤ high b cell → (pos 2 *ℤ (k -ℤ low b cell)) ≤ℤ (high b cell -ℤ low b cell) → (high b cell -ℤ low b cell) ≤ℤ (pos 2 *ℤ (k -ℤ low b cell) +ℤ pos 1) → (bits_in (narrowed b cell Le k) < bits_in b) × (bits_in (cut_away b cell Le k) < bits_in b)
+pub middles_take_a_bit : (b : Box) (cell : ℕ) (k : ℤ) → IsBox b → cell < length b.lows → int_gap (low b cell) (high b cell) < 2 ^ 64 → low b cell ≤ℤ k → k <ℤ high b cell
+    → (pos 2 *ℤ (k -ℤ low b cell)) ≤ℤ (high b cell -ℤ low b cell) → (high b cell -ℤ low b cell) ≤ℤ (pos 2 *ℤ (k -ℤ low b cell) +ℤ pos 1)
+    → (bits_in (narrowed b cell Le k) < bits_in b) × (bits_in (cut_away b cell Le k) < bits_in b)
 middles_take_a_bit b cell k is_box exists small above below half rounded =
     let lo = low b cell in
     let hi = high b cell in

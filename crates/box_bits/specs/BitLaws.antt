@@ -1,7 +1,7 @@
 -- What holds of the bits of boxes.
 use Rattle.std.specs.Prelude.{ℕ, ◌^◌, ◌<◌, ◌≤◌, ℤ, pos, ◌+ℤ◌, ◌-ℤ◌, ◌*ℤ◌, ◌≤ℤ◌, ◌<ℤ◌, length}
 use Rattle.std.specs.Int.{int_gap}
-use Rattle.sopl_base.specs.declared.places.Side.TheVariants.{Le}
+use Rattle.sopl_base.specs.declared.reason.Side.TheVariants.{Le}
 use Rattle.box_problem.specs.Box.{Box, IsBox, Inside, low, high}
 use Rattle.box_problem.specs.Steps.{narrowed, cut_away}
 use Rattle.box_bits.specs.Bits.{bits_in}

@@ -1,5 +1,6 @@
 //! How many binary digits it takes to name a point of a box. The functions are empty and state what was proved of the
 //! definitions, so that no body here could be wrong; hence the crate has no must-fail edits.
+//! There is nothing to test.
 #![tactic(auto)]
 
 ghost use Rattle.box_bits.specs.BitLaws.{MiddlesTakeABit, PartsHaveNoMoreBits};

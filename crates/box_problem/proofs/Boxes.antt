@@ -2,11 +2,12 @@
 use Rattle.std.proofs.Common.{◌≡◌, ℕ, zero, suc, ◌<◌, ℤ, pos, ◌≤ℤ◌, List, [], ◌∷◌, length, get_or, map, arith, sym, subst, refl, ◌∙◌, ◌↔◌}
 use Rattle.std.proofs.lemmas.Int.{ints}
 use Rattle.std.proofs.lemmas.List.{length-map, ext_get_or}
-use Rattle.sopl_base.specs.declared.places.Interval.{Interval}
+use Rattle.sopl_base.specs.declared.interval.Interval.{Interval}
 use Rattle.box_problem.specs.Box.{Box, box_of, IsBox, Inside, InBox, IsPoint}
 
 -- the ends of intervals are in order
-ordered_ends : (intervals : List Interval) (cell : ℕ) → cell < length (map (λ (i : Interval). i.lo) intervals) → get_or (map (λ (i : Interval). i.lo) intervals) cell (pos 0) ≤ℤ get_or (map (λ (i : Interval). i.hi) intervals) cell (pos 0)
+ordered_ends : (intervals : List Interval) (cell : ℕ) → cell < length (map (λ (i : Interval). i.lo) intervals)
+    → get_or (map (λ (i : Interval). i.lo) intervals) cell (pos 0) ≤ℤ get_or (map (λ (i : Interval). i.hi) intervals) cell (pos 0)
 ordered_ends [] cell exists = absurd (omega arith)
 ordered_ends (interval ∷ intervals) zero exists = interval.ordered
 ordered_ends (interval ∷ intervals) (suc cell) exists = ordered_ends intervals cell (omega arith)

@@ -2,8 +2,8 @@
 use Rattle.std.proofs.Common.{◌⊎◌, ◌↔◌, inl, inr, ℕ, ◌<◌, ℤ, pos, ◌+ℤ◌, ◌-ℤ◌, ◌≤ℤ◌, List, length, get_or, arith, refl, sym, subst, ◌∙◌}
 use Rattle.std.proofs.lemmas.Int.{ints, by_lt_z}
 use Rattle.std.proofs.lemmas.List.{length-set, get_or-set_same}
-use Rattle.sopl_base.specs.declared.places.Side.{Side}
-use Rattle.sopl_base.specs.declared.places.Side.TheVariants.{Le, Ge}
+use Rattle.sopl_base.specs.declared.reason.Side.{Side}
+use Rattle.sopl_base.specs.declared.reason.Side.TheVariants.{Le, Ge}
 use Rattle.box_problem.specs.Box.{Box, low, high, with_low, with_high, IsBox, Inside, InBox}
 use Rattle.box_problem.specs.Steps.{IsCut, narrowed, cut_away}
 use Rattle.box_problem.proofs.Lists.{at_set}
@@ -65,10 +65,14 @@ below_high b cell k point is_box exists q =
     subst (λ (z : ℤ). get_or point cell (pos 0) ≤ℤ z) (get_or-set_same b.highs cell k (pos 0) paired) (q.to_high cell (omega (arith, q.same_cells)))
 
 pub cuts_make_parts : (b : Box) (cell : ℕ) (side : Side) (k : ℤ) → IsBox b → IsCut b cell side k → Inside (narrowed b cell side k) b × Inside (cut_away b cell side k) b
-cuts_make_parts b cell Le k is_box cut =
-    (high_lowered b cell k is_box cut.exists (omega (arith, ints, cut.between.0)) (omega (arith, ints, cut.between.1)), low_raised b cell (k +ℤ pos 1) is_box cut.exists (omega (arith, ints, cut.between.0)) (omega (arith, ints, cut.between.1)))
-cuts_make_parts b cell Ge k is_box cut =
-    (low_raised b cell k is_box cut.exists (omega (arith, ints, cut.between.0)) (omega (arith, ints, cut.between.1)), high_lowered b cell (k -ℤ pos 1) is_box cut.exists (omega (arith, ints, cut.between.0)) (omega (arith, ints, cut.between.1)))
+cuts_make_parts b cell Le k is_box cut = (
+  high_lowered b cell k is_box cut.exists (omega (arith, ints, cut.between.0)) (omega (arith, ints, cut.between.1)),
+  low_raised b cell (k +ℤ pos 1) is_box cut.exists (omega (arith, ints, cut.between.0)) (omega (arith, ints, cut.between.1)),
+)
+cuts_make_parts b cell Ge k is_box cut = (
+  low_raised b cell k is_box cut.exists (omega (arith, ints, cut.between.0)) (omega (arith, ints, cut.between.1)),
+  high_lowered b cell (k -ℤ pos 1) is_box cut.exists (omega (arith, ints, cut.between.0)) (omega (arith, ints, cut.between.1)),
+)
 
 -- a point lies below k or from k on
 in_one_part : (b : Box) (cell : ℕ) (side : Side) (k : ℤ) (point : List ℤ) → IsBox b → IsCut b cell side k → InBox b point → InBox (narrowed b cell side k) point ⊎ InBox (cut_away b cell side k) point
@@ -81,7 +85,8 @@ in_one_part b cell Ge k point is_box cut q =
     (λ below. inr (in_lowered b cell (k -ℤ pos 1) point is_box cut.exists q (omega (arith, ints))))
     (λ above. inl (in_raised b cell k point cut.exists q above))
 
-pub cuts_cover : (b : Box) (cell : ℕ) (side : Side) (k : ℤ) (point : List ℤ) → IsBox b → IsCut b cell side k → InBox b point ↔ (InBox (narrowed b cell side k) point ⊎ InBox (cut_away b cell side k) point)
+pub cuts_cover : (b : Box) (cell : ℕ) (side : Side) (k : ℤ) (point : List ℤ) → IsBox b → IsCut b cell side k
+    → InBox b point ↔ (InBox (narrowed b cell side k) point ⊎ InBox (cut_away b cell side k) point)
 cuts_cover b cell side k point is_box cut =
     let parts = cuts_make_parts b cell side k is_box cut in (
       in_one_part b cell side k point is_box cut,

@@ -2,12 +2,12 @@
 use Rattle.std.proofs.Common.{◌≡◌, ◌⊎◌, ◌↔◌, inl, inr, ℕ, zero, suc, ◌+◌, ◌<◌, ◌≤◌, ℤ, true, List, [], ◌∷◌, ◌++◌, length, get_or, Option, Some, None, IfSome, All, Any, sum_by, arith, refl, sym, subst}
 use Rattle.std.proofs.lemmas.List.Sums.{sum_by-append, sum_by_from}
 use Rattle.std.proofs.lemmas.List.Elements.{All-nil, All-cons, All-head, All-tail}
-use Rattle.sopl_base.specs.declared.places.Side.{Side}
-use Rattle.sopl_base.specs.declared.places.Reason.{Reason}
-use Rattle.sopl_base.specs.declared.places.Step.{Step}
+use Rattle.sopl_base.specs.declared.reason.Side.{Side}
+use Rattle.sopl_base.specs.declared.reason.Reason.{Reason}
+use Rattle.sopl_base.specs.declared.reason.Step.{Step}
 use Rattle.sopl_base.specs.Better.{IsBetter}
-use Rattle.sopl_base.specs.declared.places.Direction.{Direction}
-use Rattle.sopl_base.specs.declared.places.Direction.TheVariants.{Minimize, Maximize, Nothing}
+use Rattle.sopl_base.specs.declared.direction.Direction.{Direction}
+use Rattle.sopl_base.specs.declared.direction.Direction.TheVariants.{Minimize, Maximize, Nothing}
 use Rattle.std.proofs.lemmas.Int.{ints, by_lt_z}
 use Rattle.box_problem.specs.Box.{Box, IsBox, Inside, InBox, IsPoint, points}
 use Rattle.box_problem.specs.Steps.{IsCut, narrowed, cut_away, after_steps, after_step}
@@ -66,7 +66,8 @@ all_from_head : {X : Type 0} (P : X → Type 0) (x : X) (front back : List X) �
 all_from_head P x [] back each = each
 all_from_head P x (y ∷ front) back each =
     let rest = All-tail P x (y ∷ (front ++ back)) each in
-    All-cons P y (front ++ x ∷ back) (All-head P y (front ++ back) rest) (all_from_head P x front back (All-cons P x (front ++ back) (All-head P x (y ∷ (front ++ back)) each) (All-tail P y (front ++ back) rest)))
+    All-cons P y (front ++ x ∷ back) (All-head P y (front ++ back) rest)
+    (all_from_head P x front back (All-cons P x (front ++ back) (All-head P x (y ∷ (front ++ back)) each) (All-tail P y (front ++ back) rest)))
 
 sum_cons : {X : Type 0} (f : X → ℕ) (x : X) (xs : List X) → sum_by f (x ∷ xs) ≡ f x + sum_by f xs
 sum_cons f x xs = omega (arith, sum_by_from f (0 + f x) xs)
@@ -95,7 +96,8 @@ covers_in_any_order problem v b front back = (
 )
 
 -- another box in the place of the first one, which has all its points that still count
-replaced : (problem : BoxProblem) (v : Option ℤ) (b part : Box) (opens : List Box) → Inside part problem.root → ((point : List ℤ) → InBox b point → Beats problem v point → InBox part point) → Covers problem v (b ∷ opens) → Covers problem v (part ∷ opens)
+replaced : (problem : BoxProblem) (v : Option ℤ) (b part : Box) (opens : List Box) → Inside part problem.root → ((point : List ℤ) → InBox b point → Beats problem v point → InBox part point)
+    → Covers problem v (b ∷ opens) → Covers problem v (part ∷ opens)
 replaced problem v b part opens inside keeps covers = record {
   inside = All-cons (λ p. Inside p problem.root) part opens inside (All-tail (λ p. Inside p problem.root) b opens covers.inside);
   cover = λ point q beats. elim (any_cases (λ p. InBox p point) b opens (covers.cover point q beats)) [
@@ -107,7 +109,8 @@ replaced problem v b part opens inside keeps covers = record {
 head_inside : (problem : BoxProblem) (v : Option ℤ) (b : Box) (opens : List Box) → Covers problem v (b ∷ opens) → Inside b problem.root
 head_inside problem v b opens covers = All-head (λ p. Inside p problem.root) b opens covers.inside
 
-pub covers_after_steps : (problem : BoxProblem) (v : Option ℤ) (b : Box) (steps : List Step) (opens : List Box) → Lawful problem → AllRight problem v b steps → Covers problem v (b ∷ opens) → Covers problem v (after_steps b steps ∷ opens)
+pub covers_after_steps : (problem : BoxProblem) (v : Option ℤ) (b : Box) (steps : List Step) (opens : List Box) → Lawful problem → AllRight problem v b steps → Covers problem v (b ∷ opens)
+    → Covers problem v (after_steps b steps ∷ opens)
 covers_after_steps problem v b steps opens lawful right covers =
     let inside = head_inside problem v b opens covers in
     replaced problem v b (after_steps b steps) opens
@@ -116,7 +119,8 @@ covers_after_steps problem v b steps opens lawful right covers =
     covers
 
 -- the first box may be left out where none of its points counts
-left_out : (problem : BoxProblem) (v w : Option ℤ) (b : Box) (opens : List Box) → ((point : List ℤ) → Beats problem w point → Beats problem v point) → ((point : List ℤ) → InBox b point → ¬ Beats problem w point) → Covers problem v (b ∷ opens) → Covers problem w opens
+left_out : (problem : BoxProblem) (v w : Option ℤ) (b : Box) (opens : List Box) → ((point : List ℤ) → Beats problem w point → Beats problem v point)
+    → ((point : List ℤ) → InBox b point → ¬ Beats problem w point) → Covers problem v (b ∷ opens) → Covers problem w opens
 left_out problem v w b opens earlier none covers = record {
   inside = All-tail (λ p. Inside p problem.root) b opens covers.inside;
   cover = λ point q beats. elim (any_cases (λ p. InBox p point) b opens (covers.cover point q (earlier point beats))) [
@@ -125,7 +129,8 @@ left_out problem v w b opens earlier none covers = record {
   ];
 }
 
-pub covers_after_refuted : (problem : BoxProblem) (reason : Reason) (v : Option ℤ) (b : Box) (opens : List Box) → Lawful problem → problem.refutes reason b v ≡ true → Covers problem v (b ∷ opens) → Covers problem v opens
+pub covers_after_refuted : (problem : BoxProblem) (reason : Reason) (v : Option ℤ) (b : Box) (opens : List Box) → Lawful problem → problem.refutes reason b v ≡ true → Covers problem v (b ∷ opens)
+    → Covers problem v opens
 covers_after_refuted problem reason v b opens lawful refuted covers =
     left_out problem v v b opens (λ point beats. beats)
     (λ point q beats. lawful.sound reason b v point (head_inside problem v b opens covers) refuted q beats)
@@ -152,14 +157,17 @@ beats_follows : (problem : BoxProblem) (v : Option ℤ) (point : List ℤ) → B
 beats_follows problem v point beats =
     follows_better problem.direction (problem.value point) v beats.better
 
-pub covers_after_point : (problem : BoxProblem) (v : Option ℤ) (b : Box) (opens : List Box) → IsPoint b → Beats problem v b.lows → Covers problem v (b ∷ opens) → Covers problem (Some (problem.value b.lows)) opens
+pub covers_after_point : (problem : BoxProblem) (v : Option ℤ) (b : Box) (opens : List Box) → IsPoint b → Beats problem v b.lows → Covers problem v (b ∷ opens)
+    → Covers problem (Some (problem.value b.lows)) opens
 covers_after_point problem v b opens one found covers =
     left_out problem v (Some (problem.value b.lows)) b opens
     (λ point beats. beats_earlier problem (Some (problem.value b.lows)) v point (beats_follows problem v b.lows found) beats)
-    (λ point q beats. not_better_than_itself problem.direction (problem.value b.lows) (subst (λ (p : List ℤ). IsBetter problem.direction (problem.value p) (problem.value b.lows)) (only_point b point one q) beats.better))
+    (λ point q beats. not_better_than_itself problem.direction (problem.value b.lows)
+    (subst (λ (p : List ℤ). IsBetter problem.direction (problem.value p) (problem.value b.lows)) (only_point b point one q) beats.better))
     covers
 
-pub covers_after_split : (problem : BoxProblem) (v : Option ℤ) (b : Box) (cell : ℕ) (side : Side) (k : ℤ) (opens : List Box) → IsCut b cell side k → Covers problem v (b ∷ opens) → Covers problem v (narrowed b cell side k ∷ cut_away b cell side k ∷ opens)
+pub covers_after_split : (problem : BoxProblem) (v : Option ℤ) (b : Box) (cell : ℕ) (side : Side) (k : ℤ) (opens : List Box) → IsCut b cell side k → Covers problem v (b ∷ opens)
+    → Covers problem v (narrowed b cell side k ∷ cut_away b cell side k ∷ opens)
 covers_after_split problem v b cell side k opens cut covers =
     let inside = head_inside problem v b opens covers in
     let parts = cuts_make_parts b cell side k inside.is_box cut in
@@ -189,12 +197,15 @@ still_not_better Maximize x y z first second better =
 still_not_better Nothing x y z first second better = better
 
 -- where a better value would be known in an open box, and another is not better than v, it is no better than the bound
-unless_beaten : (direction : Direction) (x bound : ℤ) (v : Option ℤ) → IfSome v (λ y. ¬ IsBetter direction y bound) → (IfSome v (λ y. IsBetter direction x y) → ¬ IsBetter direction x bound) → ¬ IsBetter direction x bound
+unless_beaten : (direction : Direction) (x bound : ℤ) (v : Option ℤ) → IfSome v (λ y. ¬ IsBetter direction y bound) → (IfSome v (λ y. IsBetter direction x y) → ¬ IsBetter direction x bound)
+    → ¬ IsBetter direction x bound
 unless_beaten direction x bound None reached beaten better = beaten tt better
 unless_beaten direction x bound (Some y) reached beaten better =
     still_not_better direction x y bound (λ beats. beaten beats better) reached better
 
-pub covers_bound : (problem : BoxProblem) (v : Option ℤ) (opens : List Box) (bound : ℤ) (point : List ℤ) → Lawful problem → Covers problem v opens → IfSome v (λ x. ¬ IsBetter problem.direction x bound) → All (λ b. ¬ IsBetter problem.direction (problem.end b) bound) opens → InBox problem.root point → problem.satisfies point ≡ true → ¬ IsBetter problem.direction (problem.value point) bound
+pub covers_bound : (problem : BoxProblem) (v : Option ℤ) (opens : List Box) (bound : ℤ) (point : List ℤ) → Lawful problem → Covers problem v opens
+    → IfSome v (λ x. ¬ IsBetter problem.direction x bound) → All (λ b. ¬ IsBetter problem.direction (problem.end b) bound) opens → InBox problem.root point → problem.satisfies point
+    ≡ true → ¬ IsBetter problem.direction (problem.value point) bound
 covers_bound problem v opens bound point lawful covers reached ends q satisfies =
     unless_beaten problem.direction (problem.value point) bound v reached
     (λ better.
@@ -222,7 +233,8 @@ points_after problem v b (s ∷ steps) is_box right =
     let first = (steps_narrow problem v b s is_box right.0).0 in
     omega (arith, points_after problem v (after_step b s) steps first.is_box right.1, cuts_count b s.cell s.side s.k is_box right.0.cut)
 
-pub counts_after_steps : (problem : BoxProblem) (v : Option ℤ) (finished : ℕ) (b : Box) (steps : List Step) (opens : List Box) → IsBox b → AllRight problem v b steps → Counts problem finished (b ∷ opens) → Counts problem finished (after_steps b steps ∷ opens)
+pub counts_after_steps : (problem : BoxProblem) (v : Option ℤ) (finished : ℕ) (b : Box) (steps : List Step) (opens : List Box) → IsBox b → AllRight problem v b steps
+    → Counts problem finished (b ∷ opens) → Counts problem finished (after_steps b steps ∷ opens)
 counts_after_steps problem v finished b steps opens is_box right counts = record {
   count = omega (arith, counts.count, sum_cons nodes b opens, sum_cons nodes (after_steps b steps) opens, points_after problem v b steps is_box right);
 }
@@ -232,12 +244,22 @@ counts_after_end problem finished b opens counts = record {
   count = omega (arith, counts.count, sum_cons nodes b opens, points_alive b.lows b.highs);
 }
 
-pub counts_after_split : (problem : BoxProblem) (finished : ℕ) (b : Box) (cell : ℕ) (side : Side) (k : ℤ) (opens : List Box) → IsBox b → IsCut b cell side k → Counts problem finished (b ∷ opens) → Counts problem (finished + 1) (narrowed b cell side k ∷ cut_away b cell side k ∷ opens)
+pub counts_after_split : (problem : BoxProblem) (finished : ℕ) (b : Box) (cell : ℕ) (side : Side) (k : ℤ) (opens : List Box) → IsBox b → IsCut b cell side k → Counts problem finished (b ∷ opens)
+    → Counts problem (finished + 1) (narrowed b cell side k ∷ cut_away b cell side k ∷ opens)
 counts_after_split problem finished b cell side k opens is_box cut counts =
     let kept = narrowed b cell side k in
     let lost = cut_away b cell side k in
     record {
-      count = omega (arith, counts.count, sum_cons nodes b opens, sum_cons nodes kept (lost ∷ opens), sum_cons nodes lost opens, cuts_count b cell side k is_box cut, points_alive kept.lows kept.highs, points_alive lost.lows lost.highs);
+      count = omega (
+        arith,
+        counts.count,
+        sum_cons nodes b opens,
+        sum_cons nodes kept (lost ∷ opens),
+        sum_cons nodes lost opens,
+        cuts_count b cell side k is_box cut,
+        points_alive kept.lows kept.highs,
+        points_alive lost.lows lost.highs,
+      );
     }
 
 pub counts_leave : (problem : BoxProblem) (finished : ℕ) (b : Box) (opens : List Box) → Counts problem finished (b ∷ opens) → finished < nodes_for (points problem.root)

@@ -34,7 +34,8 @@ abbrev IsBegun : ℤ → ℤ → List (List ℤ) → List ℤ → Type 0
 IsBegun from to rests [] = ⊥
 IsBegun from to rests (x ∷ rest) = (from ≤ℤ x) × (x ≤ℤ to) × Contains rests rest
 
-wider : (from to least most : ℤ) (rests more : List (List ℤ)) (p : List ℤ) → least ≤ℤ from → to ≤ℤ most → ((q : List ℤ) → Contains rests q → Contains more q) → IsBegun from to rests p → IsBegun least most more p
+wider : (from to least most : ℤ) (rests more : List (List ℤ)) (p : List ℤ) → least ≤ℤ from → to ≤ℤ most → ((q : List ℤ) → Contains rests q → Contains more q) → IsBegun from to rests p
+    → IsBegun least most more p
 wider from to least most rests more [] low high grows is = is
 wider from to least most rests more (x ∷ rest) low high grows is =
     (omega (arith, ints, is.0), omega (arith, ints, is.1), grows rest is.2)
@@ -55,7 +56,8 @@ is_begun lo zero rests p some =
 is_begun lo (suc n) rests p some =
     elim (Contains-append_cases (map (λ rest. lo ∷ rest) rests) (begun (lo +ℤ pos 1) n rests) p some) [
       | inl first ↦ wider lo lo lo (lo +ℤ pos (suc n)) rests rests p (omega (arith, ints)) (omega (arith, ints)) (λ q has. has) (map_at lo rests first.0 p first.1 first.2)
-      | inr later ↦ wider (lo +ℤ pos 1) ((lo +ℤ pos 1) +ℤ pos n) lo (lo +ℤ pos (suc n)) rests rests p (omega (arith, ints)) (omega (arith, ints)) (λ q has. has) (is_begun (lo +ℤ pos 1) n rests p later)
+      | inr later ↦ wider (lo +ℤ pos 1) ((lo +ℤ pos 1) +ℤ pos n) lo (lo +ℤ pos (suc n)) rests rests p (omega (arith, ints)) (omega (arith, ints)) (λ q has. has)
+          (is_begun (lo +ℤ pos 1) n rests p later)
     ]
 
 map_contains : (lo : ℤ) (rests : List (List ℤ)) (k : ℕ) (rest : List ℤ) → k < length rests → get_or rests k rest ≡ rest → Contains (map (λ r. lo ∷ r) rests) (lo ∷ rest)
@@ -73,7 +75,8 @@ begun_has lo (suc n) rests x rest low high has =
     (λ above. Contains-append_right (map (λ r. lo ∷ r) rests) (begun (lo +ℤ pos 1) n rests) (x ∷ rest) (begun_has (lo +ℤ pos 1) n rests x rest (omega (arith, ints)) (omega (arith, ints)) has))
     (λ below.
     let same : lo ≡ x = omega (arith, ints) in
-    subst (λ (y : ℤ). Contains (begun lo (suc n) rests) (y ∷ rest)) same (Contains-append_left (map (λ r. lo ∷ r) rests) (begun (lo +ℤ pos 1) n rests) (lo ∷ rest) (map_contains lo rests has.0 rest has.1 has.2)))
+    subst (λ (y : ℤ). Contains (begun lo (suc n) rests) (y ∷ rest)) same
+    (Contains-append_left (map (λ r. lo ∷ r) rests) (begun (lo +ℤ pos 1) n rests) (lo ∷ rest) (map_contains lo rests has.0 rest has.1 has.2)))
 
 -- a point with one cell more
 abbrev between : List ℤ → List ℤ → Box
@@ -111,7 +114,8 @@ only_empty : (highs : List ℤ) (k : ℕ) (point : List ℤ) → k < length {A =
 only_empty highs zero point exists is = subst (InBox (between [] highs)) is (no_cells highs)
 only_empty highs (suc k) point exists is = absurd (omega arith)
 
-listed_in : (lows highs point : List ℤ) → length highs ≡ length lows → ((cell : ℕ) → cell < length lows → get_or lows cell (pos 0) ≤ℤ get_or highs cell (pos 0)) → Contains (listed lows highs) point → InBox (between lows highs) point
+listed_in : (lows highs point : List ℤ) → length highs ≡ length lows → ((cell : ℕ) → cell < length lows → get_or lows cell (pos 0) ≤ℤ get_or highs cell (pos 0)) → Contains (listed lows highs) point
+    → InBox (between lows highs) point
 listed_in [] highs point paired ordered some = only_empty highs some.0 point some.1 some.2
 listed_in (lo ∷ lows) [] point paired ordered some = absurd (omega arith)
 listed_in (lo ∷ lows) (hi ∷ highs) [] paired ordered some =
@@ -121,7 +125,8 @@ listed_in (lo ∷ lows) (hi ∷ highs) (x ∷ rest) paired ordered some =
     in_longer lo hi x lows highs rest is.0 (subst (λ (z : ℤ). x ≤ℤ z) (gap_leads lo hi (ordered zero (omega arith))) is.1)
     (listed_in lows highs rest (omega arith) (λ cell exists. ordered (suc cell) (omega arith)) is.2)
 
-in_listed : (lows highs point : List ℤ) → length highs ≡ length lows → ((cell : ℕ) → cell < length lows → get_or lows cell (pos 0) ≤ℤ get_or highs cell (pos 0)) → InBox (between lows highs) point → Contains (listed lows highs) point
+in_listed : (lows highs point : List ℤ) → length highs ≡ length lows → ((cell : ℕ) → cell < length lows → get_or lows cell (pos 0) ≤ℤ get_or highs cell (pos 0)) → InBox (between lows highs) point
+    → Contains (listed lows highs) point
 in_listed [] highs [] paired ordered q = (zero, omega arith, refl)
 in_listed [] highs (x ∷ rest) paired ordered q = absurd (omega (arith, q.same_cells))
 in_listed (lo ∷ lows) [] point paired ordered q = absurd (omega arith)
@@ -149,7 +154,8 @@ map_apart : (lo : ℤ) (rests : List (List ℤ)) → AllPairs (λ p q. ¬ p ≡ 
 map_apart lo [] apart = λ i j d before exists. absurd (omega arith)
 map_apart lo (rest ∷ rests) apart =
     AllPairs-cons (λ p q. ¬ p ≡ q) (lo ∷ rest) (map (λ r. lo ∷ r) rests)
-    (All-map (λ q. ¬ (lo ∷ rest) ≡ q) (λ r. lo ∷ r) rests (All-weaker (λ q. ¬ rest ≡ q) (λ q. ¬ (lo ∷ rest) ≡ (lo ∷ q)) (λ q differs same. differs (cc)) rests (all_of_pairs (λ p q. ¬ p ≡ q) rest rests apart)))
+    (All-map (λ q. ¬ (lo ∷ rest) ≡ q) (λ r. lo ∷ r) rests (All-weaker (λ q. ¬ rest ≡ q) (λ q. ¬ (lo ∷ rest) ≡ (lo ∷ q)) (λ q differs same. differs (cc)) rests
+    (all_of_pairs (λ p q. ¬ p ≡ q) rest rests apart)))
     (map_apart lo rests (pairs_of_pairs (λ p q. ¬ p ≡ q) rest rests apart))
 
 -- lists that begin with values of which the one is below the other
@@ -173,5 +179,9 @@ listed_apart (lo ∷ lows) [] = one_apart
 listed_apart (lo ∷ lows) (hi ∷ highs) = apart lo (int_gap lo hi) (listed lows highs) (listed_apart lows highs)
 
 pub points_are_counted : (b : Box) → IsBox b → (list : List (List ℤ)) × (length list ≡ points b) × ((point : List ℤ) → Contains list point ↔ InBox b point) × AllPairs (λ p q. ¬ p ≡ q) list
-points_are_counted b is_box =
-    (listed b.lows b.highs, length_listed b.lows b.highs, λ point. (listed_in b.lows b.highs point is_box.paired is_box.ordered, in_listed b.lows b.highs point is_box.paired is_box.ordered), listed_apart b.lows b.highs)
+points_are_counted b is_box = (
+  listed b.lows b.highs,
+  length_listed b.lows b.highs,
+  λ point. (listed_in b.lows b.highs point is_box.paired is_box.ordered, in_listed b.lows b.highs point is_box.paired is_box.ordered),
+  listed_apart b.lows b.highs,
+)

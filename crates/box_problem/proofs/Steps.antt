@@ -2,9 +2,9 @@
 use Rattle.std.proofs.Common.{◌≡◌, inl, inr, ◌<◌, ℤ, List, [], ◌∷◌, ◌++◌, Option, Some, None, IfSome, arith, refl, sym, ap, subst, ◌∙◌}
 use Rattle.std.proofs.lemmas.List.{append_assoc, append-nil}
 use Rattle.std.proofs.lemmas.Int.{ints, by_lt_z}
-use Rattle.sopl_base.specs.declared.places.Direction.{Direction}
-use Rattle.sopl_base.specs.declared.places.Direction.TheVariants.{Minimize, Maximize, Nothing}
-use Rattle.sopl_base.specs.declared.places.Step.{Step}
+use Rattle.sopl_base.specs.declared.direction.Direction.{Direction}
+use Rattle.sopl_base.specs.declared.direction.Direction.TheVariants.{Minimize, Maximize, Nothing}
+use Rattle.sopl_base.specs.declared.reason.Step.{Step}
 use Rattle.sopl_base.specs.Better.{IsBetter}
 use Rattle.box_problem.specs.Box.{Box, IsBox, Inside, InBox, IsPoint, width}
 use Rattle.box_problem.specs.Steps.{after_step, removed, after_steps}
@@ -25,7 +25,8 @@ steps_lead_inside problem v b (s ∷ steps) is_box right =
     parts_of_parts (after_steps (after_step b s) steps) (after_step b s) b (steps_lead_inside problem v (after_step b s) steps first.is_box right.1) first
 
 -- one right step loses no point that beats v
-step_keeps : (problem : BoxProblem) (v : Option ℤ) (b : Box) (s : Step) (point : List ℤ) → Lawful problem → Inside b problem.root → IsRight problem v b s → InBox b point → Beats problem v point → InBox (after_step b s) point
+step_keeps : (problem : BoxProblem) (v : Option ℤ) (b : Box) (s : Step) (point : List ℤ) → Lawful problem → Inside b problem.root → IsRight problem v b s → InBox b point → Beats problem v point
+    → InBox (after_step b s) point
 step_keeps problem v b s point lawful inside right q beats =
     let parts = cuts_make_parts b s.cell s.side s.k inside.is_box right.cut in
     elim ((cuts_cover b s.cell s.side s.k point inside.is_box right.cut).0 q) [
@@ -33,7 +34,8 @@ step_keeps problem v b s point lawful inside right q beats =
       | inr lost ↦ absurd (lawful.sound s.reason (removed b s) v point (parts_of_parts (removed b s) b problem.root parts.1 inside) right.refuted lost beats)
     ]
 
-pub steps_keep : (problem : BoxProblem) (v : Option ℤ) (b : Box) (steps : List Step) (point : List ℤ) → Lawful problem → Inside b problem.root → AllRight problem v b steps → InBox b point → Beats problem v point → InBox (after_steps b steps) point
+pub steps_keep : (problem : BoxProblem) (v : Option ℤ) (b : Box) (steps : List Step) (point : List ℤ) → Lawful problem → Inside b problem.root → AllRight problem v b steps → InBox b point
+    → Beats problem v point → InBox (after_steps b steps) point
 steps_keep problem v b [] point lawful inside right q beats = q
 steps_keep problem v b (s ∷ steps) point lawful inside right q beats =
     let first = (steps_narrow problem v b s inside.is_box right.0).0 in
@@ -44,7 +46,8 @@ pub after_append : (b : Box) (steps more : List Step) → after_steps b (steps +
 after_append b [] more = refl
 after_append b (s ∷ steps) more = after_append (after_step b s) steps more
 
-pub right_append : (problem : BoxProblem) (v : Option ℤ) (b : Box) (steps more : List Step) → AllRight problem v b steps → AllRight problem v (after_steps b steps) more → AllRight problem v b (steps ++ more)
+pub right_append : (problem : BoxProblem) (v : Option ℤ) (b : Box) (steps more : List Step) → AllRight problem v b steps → AllRight problem v (after_steps b steps) more
+    → AllRight problem v b (steps ++ more)
 right_append problem v b [] more right later = later
 right_append problem v b (s ∷ steps) more right later =
     (right.0, right_append problem v (after_step b s) steps more right.1 later)

@@ -1,7 +1,7 @@
 -- Boxes of cells, their parts and their points.
 use Rattle.std.specs.Prelude.{◌≡◌, ℕ, ◌+◌, ◌*◌, ◌<◌, ℤ, pos, ◌≤ℤ◌, List, [], ◌∷◌, length, map, slice_index_or, slice_set}
 use Rattle.std.specs.Int.{int_gap}
-use Rattle.sopl_base.specs.declared.places.Interval.{Interval}
+use Rattle.sopl_base.specs.declared.interval.Interval.{Interval}
 
 -- the lower end and the upper end of each cell
 pub record Box : Type 0 where

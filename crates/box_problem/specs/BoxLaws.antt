@@ -1,7 +1,7 @@
 -- What holds of boxes, their parts, their points and their cuts.
 use Rattle.std.specs.Prelude.{◌≡◌, ◌↔◌, ◌⊎◌, ℕ, ◌+◌, ◌<◌, ℤ, List, length, Contains, AllPairs}
-use Rattle.sopl_base.specs.declared.places.Interval.{Interval}
-use Rattle.sopl_base.specs.declared.places.Side.{Side}
+use Rattle.sopl_base.specs.declared.interval.Interval.{Interval}
+use Rattle.sopl_base.specs.declared.reason.Side.{Side}
 use Rattle.box_problem.specs.Box.{Box, box_of, IsBox, Inside, InBox, IsPoint, points, width}
 use Rattle.box_problem.specs.Steps.{IsCut, narrowed, cut_away}
 

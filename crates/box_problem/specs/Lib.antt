@@ -3,5 +3,6 @@ pub mod Steps
 pub mod BoxProblem
 pub mod Rightness
 pub mod Covers
+pub mod Reached
 pub mod BoxLaws
 pub mod SearchLaws

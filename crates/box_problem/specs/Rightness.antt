@@ -1,7 +1,7 @@
 -- Which steps are right, and when no step is left to make.
 use Rattle.std.specs.Prelude.{◌≡◌, ℕ, ◌<◌, ℤ, true, false, List, [], ◌∷◌, ◌++◌, length, Option, Contains}
-use Rattle.sopl_base.specs.declared.places.Reason.{Reason}
-use Rattle.sopl_base.specs.declared.places.Step.{Step}
+use Rattle.sopl_base.specs.declared.reason.Reason.{Reason}
+use Rattle.sopl_base.specs.declared.reason.Step.{Step}
 use Rattle.box_problem.specs.Box.{Box, low, high, with_low, with_high}
 use Rattle.box_problem.specs.Steps.{IsCut, after_step, removed, after_steps}
 use Rattle.box_problem.specs.BoxProblem.{BoxProblem}

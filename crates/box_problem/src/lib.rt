@@ -1,5 +1,6 @@
 //! Boxes of cells, and a problem over their points as a search sees it. The functions are empty and state what was proved of
 //! the definitions, so that no body here could be wrong; hence the crate has no must-fail edits.
+//! There is nothing to test.
 #![tactic(auto)]
 
 mod box_laws;

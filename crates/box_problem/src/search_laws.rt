@@ -1,4 +1,6 @@
-ghost use Rattle.box_problem.specs.SearchLaws.{BeatsEarlier, ConsistentPoint, CountsAfterEnd, CountsAfterSplit, CountsAfterSteps, CountsAtFirst, CountsInAnyOrder, CountsLeave, CoversAfterPoint, CoversAfterRefuted, CoversAfterSplit, CoversAfterSteps, CoversAtFirst, CoversAtLast, CoversBound, CoversInAnyOrder, StepsKeep, StepsLeadInside, StepsNarrow};
+ghost use Rattle.box_problem.specs.SearchLaws.{BeatsEarlier, ConsistentPoint, CountsAfterEnd, CountsAfterSplit, CountsAfterSteps, CountsAtFirst, CountsInAnyOrder, CountsLeave};
+ghost use Rattle.box_problem.specs.SearchLaws.{CoversAfterPoint, CoversAfterRefuted, CoversAfterSplit, CoversAfterSteps, CoversAtFirst, CoversAtLast, CoversBound};
+ghost use Rattle.box_problem.specs.SearchLaws.{CoversInAnyOrder, StepsKeep, StepsLeadInside, StepsNarrow};
 
 /// A right step leads to a part of the box that is less wide.
 pub fn steps_narrow()

@@ -72,10 +72,13 @@ bounds_alone f a =
 
 pub bounds_product : (root : Box) (f g : Form) (a c : Ends) (m n : ℕ) → Bounds a m → Bounds c n → Bounds (product_atoms root f g a c) (product_weight f g m n (product_atoms root f g a c))
 bounds_product root f g a c m n p q =
-    by_bool (λ constant. Bounds (if constant then scaled f.constant c else if is_constant g then scaled g.constant a else times (whole root f a) (whole root g c)) (if constant then unsigned_abs f.constant * n else if is_constant g then unsigned_abs g.constant * m else weight_of (if constant then scaled f.constant c else if is_constant g then scaled g.constant a else times (whole root f a) (whole root g c)))) (is_constant f)
+    by_bool (λ constant. Bounds (if constant then scaled f.constant c else if is_constant g then scaled g.constant a else times (whole root f a) (whole root g c))
+    (if constant then unsigned_abs f.constant * n else if is_constant g then unsigned_abs g.constant * m else weight_of
+    (if constant then scaled f.constant c else if is_constant g then scaled g.constant a else times (whole root f a) (whole root g c)))) (is_constant f)
     (λ constant. bounds_scaled f.constant c n q)
     (λ other.
-    by_bool (λ constant. Bounds (if constant then scaled g.constant a else times (whole root f a) (whole root g c)) (if constant then unsigned_abs g.constant * m else weight_of (if constant then scaled g.constant a else times (whole root f a) (whole root g c)))) (is_constant g)
+    by_bool (λ constant. Bounds (if constant then scaled g.constant a else times (whole root f a) (whole root g c))
+    (if constant then unsigned_abs g.constant * m else weight_of (if constant then scaled g.constant a else times (whole root f a) (whole root g c)))) (is_constant g)
     (λ constant. bounds_scaled g.constant a m p)
     (λ neither. bounds_weight (times (whole root f a) (whole root g c))))
 
@@ -115,9 +118,11 @@ bounded_cells root (c ∷ later) =
 
 pub bounded_whole : (root : Box) (t : Term) → IsProper t → Bounds (interval Wide root root t) (size root t)
 bounded_whole root t proper =
-    let all = bounds_plus (exactly (form root t).constant) (plus (cells_ends root (form root t).cells) (atoms Wide root root t)) (unsigned_abs (form root t).constant) (cells_weight root (form root t).cells + atoms_weight root t)
+    let all = bounds_plus (exactly (form root t).constant) (plus (cells_ends root (form root t).cells) (atoms Wide root root t)) (unsigned_abs (form root t).constant)
+    (cells_weight root (form root t).cells + atoms_weight root t)
     (record { low = omega arith; high = omega arith })
-    (bounds_plus (cells_ends root (form root t).cells) (atoms Wide root root t) (cells_weight root (form root t).cells) (atoms_weight root t) (bounded_cells root (form root t).cells) (bounded root t proper)) in
+    (bounds_plus (cells_ends root (form root t).cells) (atoms Wide root root t) (cells_weight root (form root t).cells) (atoms_weight root t) (bounded_cells root (form root t).cells)
+    (bounded root t proper)) in
     record { low = omega (arith, all.low); high = omega (arith, all.high) }
 
 pub sizes_bound : (reading : Reading) (root part : Box) (t : Term) → IsBox root → Inside part root → IsProper t → IsAtMost (interval reading root part t) (size root t)

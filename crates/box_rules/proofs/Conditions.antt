@@ -1,8 +1,8 @@
 -- Truths of comparisons, and of three-valued logic.
 use Rattle.std.proofs.Common.{◌≡◌, ℤ, negsuc, ◌-ℤ◌, Bool, true, false, not, ◌&&◌, ◌||◌, List, Option, Some, None, IfSome, arith, refl, sym}
 use Rattle.std.proofs.lemmas.Int.{ints}
-use Rattle.sopl_base.specs.declared.places.CmpOp.{CmpOp}
-use Rattle.sopl_base.specs.declared.places.CmpOp.TheVariants.{Eq, Ne, Lt, Le, Gt, Ge}
+use Rattle.sopl_base.specs.declared.comparison.CmpOp.{CmpOp}
+use Rattle.sopl_base.specs.declared.comparison.CmpOp.TheVariants.{Eq, Ne, Lt, Le, Gt, Ge}
 use Rattle.box_problem.specs.Box.{Box, IsBox, InBox}
 use Rattle.box_rules.specs.declared.answers.Defined.{Defined}
 use Rattle.box_rules.specs.declared.answers.Defined.TheVariants.{Never, Maybe, Always}
@@ -124,7 +124,8 @@ difference_off p x y f g a c off_x off_y =
       to_high = omega (arith, ints, s.to_high, off_x.to_high, d, v, w);
     }
 
-pub tells_compared : (b : Box) (p : List ℤ) (op : CmpOp) (v w : Option ℤ) (f g : Form) (a c : Ends) (m n : Defined) → IsBox b → InBox b p → IsRead p v f a m → IsRead p w g c n → Tells (compared op (difference_ends b f g a c) (both m n)) (holds_of (λ same. same) (both_of (compares op) v w))
+pub tells_compared : (b : Box) (p : List ℤ) (op : CmpOp) (v w : Option ℤ) (f g : Form) (a c : Ends) (m n : Defined) → IsBox b → InBox b p → IsRead p v f a m → IsRead p w g c n
+    → Tells (compared op (difference_ends b f g a c) (both m n)) (holds_of (λ same. same) (both_of (compares op) v w))
 tells_compared b p op v w f g a c m n is_box q first second =
     let d = difference_ends b f g a c in
     tells_judged (both m n) (none_compares op d) (all_compare op d) (λ same. same) (both_of (compares op) v w)

@@ -1,5 +1,6 @@
 -- `allDifferent`: too many values between two numbers, and intervals with no number in common.
-use Rattle.std.proofs.Common.{◌≡◌, inl, inr, ℕ, zero, suc, ◌+◌, ◌<◌, ◌≤◌, nat_lt, ℤ, pos, ◌+ℤ◌, ◌-ℤ◌, ◌≤ℤ◌, ◌<ℤ◌, int_lt, int_le, Bool, true, false, not, ◌&&◌, ◌||◌, if◌then◌else◌, List, [], ◌∷◌, length, Option, Some, None, IfSome, arith, refl, sym, subst}
+use Rattle.std.proofs.Common.{◌≡◌, inl, inr, ℕ, zero, suc, ◌+◌, ◌<◌, ◌≤◌, nat_lt, ℤ, pos, ◌+ℤ◌, ◌-ℤ◌, ◌≤ℤ◌, ◌<ℤ◌, int_lt, int_le, Bool, true, false, not, ◌&&◌, ◌||◌, if◌then◌else◌}
+use Rattle.std.proofs.Common.{List, [], ◌∷◌, length, Option, Some, None, IfSome, arith, refl, sym, subst}
 use Rattle.std.specs.List.{filter, list_all, list_any}
 use Rattle.std.specs.Int.{int_gap}
 use Rattle.std.specs.Ordering.{int_eq}
@@ -216,6 +217,7 @@ some_decides : (es : List Ends) (vs : Option (List ℤ)) → IfSome vs (λ xs. A
 some_decides es None lie = tt
 some_decides es (Some xs) lie = record { wrong = never_right es xs lie; right = always_right es xs lie }
 
-pub tells_different : (m : Defined) (es : List Ends) (vs : Option (List ℤ)) → Marks m vs → IfSome vs (λ xs. AllLie xs es) → Tells (judged m (never_differ es) (always_differ es)) (holds_of all_distinct vs)
+pub tells_different : (m : Defined) (es : List Ends) (vs : Option (List ℤ)) → Marks m vs → IfSome vs (λ xs. AllLie xs es)
+    → Tells (judged m (never_differ es) (always_differ es)) (holds_of all_distinct vs)
 tells_different m es vs marked lie =
     tells_judged m (never_differ es) (always_differ es) all_distinct vs marked (some_decides es vs lie)

@@ -1,5 +1,6 @@
 -- `allDifferent` over a part of a box.
-use Rattle.std.proofs.Common.{◌≡◌, ◌⊎◌, inl, inr, ℕ, ◌+◌, ◌<◌, ◌≤◌, nat_lt, ℤ, ◌≤ℤ◌, ◌<ℤ◌, int_lt, int_le, Bool, true, false, ◌||◌, if◌then◌else◌, List, [], ◌∷◌, length, arith, refl, sym, ap, subst, ◌∙◌}
+use Rattle.std.proofs.Common.{◌≡◌, ◌⊎◌, inl, inr, ℕ, ◌+◌, ◌<◌, ◌≤◌, nat_lt, ℤ, ◌≤ℤ◌, ◌<ℤ◌, int_lt, int_le, Bool, true, false, ◌||◌, if◌then◌else◌, List, [], ◌∷◌, length, arith}
+use Rattle.std.proofs.Common.{refl, sym, ap, subst, ◌∙◌}
 use Rattle.std.specs.List.{filter, list_all, list_any}
 use Rattle.std.specs.Int.{int_gap}
 use Rattle.std.proofs.lemmas.Int.{ints, by_lt_z}
@@ -80,7 +81,8 @@ more_inside a b [] (y ∷ wide) all = absurd all
 more_inside a b (x ∷ narrow) [] all = absurd all
 more_inside a b (x ∷ narrow) (y ∷ wide) all =
     let rest = more_inside a b narrow wide all.1 in
-    by_bool (λ p. length (if p then y ∷ filter (is_inside a b) wide else filter (is_inside a b) wide) ≤ length (if is_inside a b x then x ∷ filter (is_inside a b) narrow else filter (is_inside a b) narrow)) (is_inside a b y)
+    by_bool (λ p. length (if p then y ∷ filter (is_inside a b) wide else filter (is_inside a b) wide) ≤ length
+    (if is_inside a b x then x ∷ filter (is_inside a b) narrow else filter (is_inside a b) narrow)) (is_inside a b y)
     (λ met.
     by_bool (λ p. length (y ∷ filter (is_inside a b) wide) ≤ length (if p then x ∷ filter (is_inside a b) narrow else filter (is_inside a b) narrow)) (is_inside a b x)
     (λ inside. omega (arith, rest))
@@ -237,6 +239,8 @@ not_both_differ narrow wide all always =
     absurd (cc))
     (λ other. refl)
 
-pub surer_different : (m n : Defined) (narrow wide : List Ends) → Sharper m n → AllWithin narrow wide → Surer (judged m (never_differ narrow) (always_differ narrow)) (judged n (never_differ wide) (always_differ wide))
+pub surer_different : (m n : Defined) (narrow wide : List Ends) → Sharper m n → AllWithin narrow wide
+    → Surer (judged m (never_differ narrow) (always_differ narrow)) (judged n (never_differ wide) (always_differ wide))
 surer_different m n narrow wide p all =
-    surer_judged m n (never_differ narrow) (always_differ narrow) (never_differ wide) (always_differ wide) p (never_narrower narrow wide all) (always_narrower narrow wide all) (not_both_differ narrow wide all)
+    surer_judged m n (never_differ narrow) (always_differ narrow) (never_differ wide) (always_differ wide) p (never_narrower narrow wide all) (always_narrower narrow wide all)
+    (not_both_differ narrow wide all)

@@ -42,13 +42,18 @@ item_within part whole (Free cell) is_box inside = within_cell part whole cell i
 
 each_fold : (part whole : Box) (a : Ends) (es : List Entry) → IsBox whole → Inside part whole → EachIn part (fold hull a (item_intervals whole es)) es
 each_fold part whole a [] is_box inside = tt
-each_fold part whole a (e ∷ later) is_box inside =
-    (within_more (item_ends part e.item) (hull a (item_ends whole e.item)) (item_intervals whole later) (within_right (item_ends part e.item) a (item_ends whole e.item) (item_within part whole e.item is_box inside)), each_fold part whole (hull a (item_ends whole e.item)) later is_box inside)
+each_fold part whole a (e ∷ later) is_box inside = (
+  within_more (item_ends part e.item) (hull a (item_ends whole e.item)) (item_intervals whole later)
+      (within_right (item_ends part e.item) a (item_ends whole e.item) (item_within part whole e.item is_box inside)),
+  each_fold part whole (hull a (item_ends whole e.item)) later is_box inside,
+)
 
 each_hull : (part whole : Box) (es : List Entry) → IsBox whole → Inside part whole → EachIn part (hull_of (item_intervals whole es)) es
 each_hull part whole [] is_box inside = tt
-each_hull part whole (e ∷ later) is_box inside =
-    (within_more (item_ends part e.item) (item_ends whole e.item) (item_intervals whole later) (item_within part whole e.item is_box inside), each_fold part whole (item_ends whole e.item) later is_box inside)
+each_hull part whole (e ∷ later) is_box inside = (
+  within_more (item_ends part e.item) (item_ends whole e.item) (item_intervals whole later) (item_within part whole e.item is_box inside),
+  each_fold part whole (item_ends whole e.item) later is_box inside,
+)
 
 each_kept : (b : Box) (c : Ends) (test : Entry → Bool) (es : List Entry) → EachIn b c es → EachIn b c (filter test es)
 each_kept b c test [] each = tt
@@ -78,7 +83,8 @@ empty_hull : (b : Box) (es : List Entry) → es ≡ [] → Within (exactly (pos 
 empty_hull b es none =
     subst (λ (xs : List Entry). Within (exactly (pos 0)) (hull_of (item_intervals b xs))) (sym none) (within_exactly (pos 0))
 
-pub within_element : (reading : Reading) (part whole : Box) (narrow wide : List Ends) (table : Table) → IsBox whole → Inside part whole → Within (element_ends reading part narrow table) (element_ends Wide whole wide table)
+pub within_element : (reading : Reading) (part whole : Box) (narrow wide : List Ends) (table : Table) → IsBox whole → Inside part whole
+    → Within (element_ends reading part narrow table) (element_ends Wide whole wide table)
 within_element Wide part whole narrow wide table is_box inside =
     hull_of_each part (hull_of (item_intervals whole (entries table))) (entries table) (empty_hull whole (entries table)) (each_hull part whole (entries table) is_box inside)
 within_element Near part whole narrow wide table is_box inside =
@@ -112,7 +118,8 @@ allowed (a ∷ narrow) (c ∷ wide) (x ∷ xs) all inside =
 none_kept : (few many : List ℤ → Bool) (es : List Entry) → ((xs : List ℤ) → few xs ≡ true → many xs ≡ true) → filter (λ (e : Entry). many e.index) es ≡ [] → filter (λ (e : Entry). few e.index) es ≡ []
 none_kept few many [] goes none = refl
 none_kept few many (e ∷ later) goes none =
-    by_if (λ (kept : List Entry). kept ≡ [] → filter (λ (x : Entry). few x.index) (e ∷ later) ≡ []) (many e.index) (e ∷ filter (λ (x : Entry). many x.index) later) (filter (λ (x : Entry). many x.index) later)
+    by_if (λ (kept : List Entry). kept ≡ [] → filter (λ (x : Entry). few x.index) (e ∷ later) ≡ []) (many e.index) (e ∷ filter (λ (x : Entry). many x.index) later)
+    (filter (λ (x : Entry). many x.index) later)
     (λ met is. absurd (cc))
     (λ unmet is.
     by_if (λ (kept : List Entry). kept ≡ []) (few e.index) (e ∷ filter (λ (x : Entry). few x.index) later) (filter (λ (x : Entry). few x.index) later)
@@ -152,7 +159,8 @@ lows_lie (a ∷ narrow) [] all = absurd all
 lows_lie (a ∷ narrow) (c ∷ wide) all =
     (record { from_low = omega (arith, ints); to_high = all.0.ordered }, lows_lie narrow wide all.1)
 
-some_reached : (table : Table) (narrow wide : List Ends) → length table.items ≡ length (indices table.sets) → AllWithin narrow wide → are_covered narrow table.sets ≡ true → reached narrow table ≡ [] → ⊥
+some_reached : (table : Table) (narrow wide : List Ends) → length table.items ≡ length (indices table.sets) → AllWithin narrow wide → are_covered narrow table.sets ≡ true
+    → reached narrow table ≡ [] → ⊥
 some_reached table narrow wide complete all covered none =
     let lie = lows_lie narrow wide all in
     let xs = lows_of narrow in
@@ -161,7 +169,8 @@ some_reached table narrow wide complete all covered none =
     (λ item found is. subst (λ (es : List Entry). Has es item xs) none (reached_has table narrow xs item found lie))
     refl
 
-reached_sharper : (covered all_covered : Bool) (few many : List Entry) → (many ≡ [] → few ≡ []) → (all_covered ≡ true → covered ≡ true) → (covered ≡ true → few ≡ [] → ⊥) → Sharper (reached_mark covered few) (reached_mark all_covered many)
+reached_sharper : (covered all_covered : Bool) (few many : List Entry) → (many ≡ [] → few ≡ []) → (all_covered ≡ true → covered ≡ true) → (covered ≡ true → few ≡ [] → ⊥)
+    → Sharper (reached_mark covered few) (reached_mark all_covered many)
 reached_sharper covered all_covered [] [] none covers some = tt
 reached_sharper covered all_covered (e ∷ few) [] none covers some = absurd (let wrong = none refl in cc)
 reached_sharper covered false few (x ∷ many) none covers some = tt
@@ -169,7 +178,8 @@ reached_sharper covered true [] (x ∷ many) none covers some = absurd (some (co
 reached_sharper true true (e ∷ few) (x ∷ many) none covers some = tt
 reached_sharper false true (e ∷ few) (x ∷ many) none covers some = absurd (let wrong = covers refl in cc)
 
-pub sharper_element : (table : Table) (m n : Defined) (narrow wide : List Ends) → length table.items ≡ length (indices table.sets) → Sharper m n → AllWithin narrow wide → Sharper (element_mark table m narrow) (element_mark table n wide)
+pub sharper_element : (table : Table) (m n : Defined) (narrow wide : List Ends) → length table.items ≡ length (indices table.sets) → Sharper m n → AllWithin narrow wide
+    → Sharper (element_mark table m narrow) (element_mark table n wide)
 sharper_element table m n narrow wide complete p all =
     sharper_both m (reached_mark (are_covered narrow table.sets) (reached narrow table)) n (reached_mark (are_covered wide table.sets) (reached wide table)) p
     (reached_sharper (are_covered narrow table.sets) (are_covered wide table.sets) (reached narrow table) (reached wide table)

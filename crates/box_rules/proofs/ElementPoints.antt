@@ -35,7 +35,8 @@ AtMostOne (e ∷ f ∷ later) = ⊥
 abbrev kept : (List ℤ → Bool) → List (List ℤ) → List Item → List Entry
 kept test lists items = filter (λ (e : Entry). test e.index) (paired lists items)
 
-no_other : (test : List ℤ → Bool) (xs : List ℤ) (lists : List (List ℤ)) (items : List Item) → ((ys : List ℤ) → test ys ≡ true → ys ≡ xs) → ((k : ℕ) (d : List ℤ) → k < length lists → ¬ xs ≡ get_or lists k d) → kept test lists items ≡ []
+no_other : (test : List ℤ → Bool) (xs : List ℤ) (lists : List (List ℤ)) (items : List Item) → ((ys : List ℤ) → test ys ≡ true → ys ≡ xs)
+    → ((k : ℕ) (d : List ℤ) → k < length lists → ¬ xs ≡ get_or lists k d) → kept test lists items ≡ []
 no_other test xs [] items only differ = refl
 no_other test xs (ys ∷ later) [] only differ = refl
 no_other test xs (ys ∷ later) (item ∷ items) only differ =
@@ -43,7 +44,8 @@ no_other test xs (ys ∷ later) (item ∷ items) only differ =
     (λ met. absurd (differ zero ys (omega arith) (sym (only ys met))))
     (λ unmet. no_other test xs later items only (λ k d exists. differ (suc k) d (omega arith)))
 
-one_kept : (test : List ℤ → Bool) (xs : List ℤ) (lists : List (List ℤ)) (items : List Item) → ((ys : List ℤ) → test ys ≡ true → ys ≡ xs) → AllPairs (λ p q. ¬ p ≡ q) lists → AtMostOne (kept test lists items)
+one_kept : (test : List ℤ → Bool) (xs : List ℤ) (lists : List (List ℤ)) (items : List Item) → ((ys : List ℤ) → test ys ≡ true → ys ≡ xs) → AllPairs (λ p q. ¬ p ≡ q) lists
+    → AtMostOne (kept test lists items)
 one_kept test xs [] items only pairs = tt
 one_kept test xs (ys ∷ later) [] only pairs = tt
 one_kept test xs (ys ∷ later) (item ∷ items) only pairs =
@@ -53,7 +55,8 @@ one_kept test xs (ys ∷ later) (item ∷ items) only pairs =
     subst (λ (es : List Entry). AtMostOne (record { index = ys; item = item } ∷ es)) (sym none) tt)
     (λ unmet. one_kept test xs later items only (pairs_of_pairs ys later pairs))
 
-covered_or_none : (test : List ℤ → Bool) (covered : Bool) (lists : List (List ℤ)) (items : List Item) → ((ys : List ℤ) → Mem ys lists → test ys ≡ true → covered ≡ true) → (covered ≡ true) ⊎ (kept test lists items ≡ [])
+covered_or_none : (test : List ℤ → Bool) (covered : Bool) (lists : List (List ℤ)) (items : List Item) → ((ys : List ℤ) → Mem ys lists → test ys ≡ true → covered ≡ true)
+    → (covered ≡ true) ⊎ (kept test lists items ≡ [])
 covered_or_none test covered [] items goes = inr refl
 covered_or_none test covered (ys ∷ later) [] goes = inr refl
 covered_or_none test covered (ys ∷ later) (item ∷ items) goes =
@@ -81,7 +84,8 @@ mem_append xs (ys ∷ later) second (inl here) = inl (inl here)
 mem_append xs (ys ∷ later) second (inr rest) =
     elim (mem_append xs later second rest) [ inl before ↦ inl (inr before) | inr behind ↦ inr behind ]
 
-in_sets : (x : ℤ) (set : List ℤ) (sets : List (List ℤ)) (xs : List ℤ) (lists : List (List ℤ)) → list_any (int_eq x) set ≡ true → ((ys : List ℤ) → Mem ys lists → AllIn ys sets) → Mem xs (map (λ later. x ∷ later) lists) → AllIn xs (set ∷ sets)
+in_sets : (x : ℤ) (set : List ℤ) (sets : List (List ℤ)) (xs : List ℤ) (lists : List (List ℤ)) → list_any (int_eq x) set ≡ true → ((ys : List ℤ) → Mem ys lists → AllIn ys sets)
+    → Mem xs (map (λ later. x ∷ later) lists) → AllIn xs (set ∷ sets)
 in_sets x set sets xs [] within goes some = absurd some
 in_sets x set sets xs (ys ∷ lists) within goes (inl here) =
     subst (λ (zs : List ℤ). AllIn zs (set ∷ sets)) here (within, goes ys (inl refl))
@@ -96,7 +100,8 @@ or_second : (a b : Bool) → b ≡ true → (a || b) ≡ true
 or_second true b p = refl
 or_second false b p = p
 
-in_all_sets : (some set : List ℤ) (sets : List (List ℤ)) (xs : List ℤ) (lists : List (List ℤ)) → ((x : ℤ) → list_any (int_eq x) some ≡ true → list_any (int_eq x) set ≡ true) → ((ys : List ℤ) → Mem ys lists → AllIn ys sets) → Mem xs (flat_map (λ number. map (λ later. number ∷ later) lists) some) → AllIn xs (set ∷ sets)
+in_all_sets : (some set : List ℤ) (sets : List (List ℤ)) (xs : List ℤ) (lists : List (List ℤ)) → ((x : ℤ) → list_any (int_eq x) some ≡ true → list_any (int_eq x) set ≡ true)
+    → ((ys : List ℤ) → Mem ys lists → AllIn ys sets) → Mem xs (flat_map (λ number. map (λ later. number ∷ later) lists) some) → AllIn xs (set ∷ sets)
 in_all_sets [] set sets xs lists within goes among = absurd among
 in_all_sets (number ∷ some) set sets xs lists within goes among =
     elim (mem_append xs (map (λ later. number ∷ later) lists) (flat_map (λ n. map (λ later. n ∷ later) lists) some) among) [
@@ -129,14 +134,16 @@ one_item : (b : Box) (item : Item) → IsBox b → IsPoint b → IsOne (item_end
 one_item b (Fixed z) is_box one = refl
 one_item b (Free cell) is_box one = one_cell b cell is_box one
 
-exact_reached : (b : Box) (plain covered : Bool) (some all : List Entry) → IsBox b → IsPoint b → AtMostOne some → (covered ≡ true) ⊎ (some ≡ []) → Exact (reached_mark covered some) (IsOne (unless_folded plain (hull_of (item_intervals b (if_any some all)))))
+exact_reached : (b : Box) (plain covered : Bool) (some all : List Entry) → IsBox b → IsPoint b → AtMostOne some → (covered ≡ true) ⊎ (some ≡ [])
+    → Exact (reached_mark covered some) (IsOne (unless_folded plain (hull_of (item_intervals b (if_any some all)))))
 exact_reached b plain covered [] all is_box one few covers = tt
 exact_reached b plain true (e ∷ []) all is_box one few covers = one_folded plain (item_ends b e.item) (one_item b e.item is_box one)
 exact_reached b plain false (e ∷ []) all is_box one few (inl covers) = absurd (cc)
 exact_reached b plain false (e ∷ []) all is_box one few (inr none) = absurd (cc)
 exact_reached b plain covered (e ∷ f ∷ later) all is_box one few covers = absurd few
 
-pub exact_element : (b : Box) (plain : Bool) (table : Table) (m : Defined) (es : List Ends) → IsBox b → IsPoint b → AllPairs (λ p q. ¬ p ≡ q) (indices table.sets) → Exact m (AllOne es) → Exact (element_mark table m es) (IsOne (unless_folded plain (element_ends Near b es table)))
+pub exact_element : (b : Box) (plain : Bool) (table : Table) (m : Defined) (es : List Ends) → IsBox b → IsPoint b → AllPairs (λ p q. ¬ p ≡ q) (indices table.sets) → Exact m (AllOne es)
+    → Exact (element_mark table m es) (IsOne (unless_folded plain (element_ends Near b es table)))
 exact_element b plain table Never es is_box one differ p = tt
 exact_element b plain table Maybe es is_box one differ p = absurd p
 exact_element b plain table Always es is_box one differ p =

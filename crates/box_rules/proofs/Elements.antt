@@ -1,5 +1,6 @@
 -- Elements of arrays.
-use Rattle.std.proofs.Common.{◌≡◌, ◌⊎◌, inl, inr, ℕ, zero, suc, ◌+◌, ℤ, pos, ◌+ℤ◌, ◌≤ℤ◌, ◌<ℤ◌, int_le, Bool, true, false, ◌&&◌, if◌then◌else◌, List, [], ◌∷◌, ◌++◌, map, length, Option, Some, None, option_map, option_and_then, IfSome, arith, refl, sym, ap, subst, ◌∙◌}
+use Rattle.std.proofs.Common.{◌≡◌, ◌⊎◌, inl, inr, ℕ, zero, suc, ◌+◌, ℤ, pos, ◌+ℤ◌, ◌≤ℤ◌, ◌<ℤ◌, int_le, Bool, true, false, ◌&&◌, if◌then◌else◌, List, [], ◌∷◌, ◌++◌, map, length}
+use Rattle.std.proofs.Common.{Option, Some, None, option_map, option_and_then, IfSome, arith, refl, sym, ap, subst, ◌∙◌}
 use Rattle.std.specs.List.{fold, filter, flat_map, list_all, list_any}
 use Rattle.std.specs.Int.{int_gap}
 use Rattle.std.specs.Ordering.{int_eq}
@@ -87,7 +88,8 @@ hull_keeps z a (c ∷ later) p =
 hull_right : (z : ℤ) (a c : Ends) → Lies z c → Lies z (hull a c)
 hull_right z a c p = record { from_low = omega (arith, ints, clamps, p.from_low); to_high = omega (arith, ints, clamps, p.to_high) }
 
-hull_has : (b : Box) (z : ℤ) (a : Ends) (entries : List Entry) (item : Item) (xs : List ℤ) → Has entries item xs → Lies z (item_ends b item) → Lies z (fold hull a (map (λ (e : Entry). item_ends b e.item) entries))
+hull_has : (b : Box) (z : ℤ) (a : Ends) (entries : List Entry) (item : Item) (xs : List ℤ) → Has entries item xs → Lies z (item_ends b item)
+    → Lies z (fold hull a (map (λ (e : Entry). item_ends b e.item) entries))
 hull_has b z a [] item xs some p = absurd some
 hull_has b z a (e ∷ later) item xs (inl here) p =
     hull_keeps z (hull a (item_ends b e.item)) (map (λ (e : Entry). item_ends b e.item) later)
@@ -104,7 +106,8 @@ pub reached_has : (table : Table) (es : List Ends) (xs : List ℤ) (item : Item)
 reached_has table es xs item is lie =
     has_kept (lies_in es) (entries table) item xs (lies_in_test xs es lie) (found (entries table) xs item is)
 
-in_element : (reading : Reading) (b : Box) (z : ℤ) (table : Table) (es : List Ends) (xs : List ℤ) (item : Item) → item_at table xs ≡ Some item → AllLie xs es → Lies z (item_ends b item) → Lies z (element_ends reading b es table)
+in_element : (reading : Reading) (b : Box) (z : ℤ) (table : Table) (es : List Ends) (xs : List ℤ) (item : Item) → item_at table xs ≡ Some item → AllLie xs es → Lies z (item_ends b item)
+    → Lies z (element_ends reading b es table)
 in_element Wide b z table es xs item is lie p = in_hull b z (entries table) item xs (found (entries table) xs item is) p
 in_element Near b z table es xs item is lie p =
     in_hull b z (if_any (reached es table) (entries table)) item xs (has_any (reached es table) (entries table) item xs (reached_has table es xs item is lie)) p
@@ -170,8 +173,11 @@ all_in [] (a ∷ es) sets covered lie = absurd lie
 all_in (x ∷ xs) [] sets covered lie = absurd lie
 all_in (x ∷ xs) (a ∷ es) [] covered lie = cc
 all_in (x ∷ xs) (a ∷ es) (set ∷ sets) covered lie =
-    let lead = gap_leads a.low a.high (omega (arith, ints, lie.0.from_low, lie.0.to_high)) in
-    (counted (λ number. list_any (int_eq number) set) x a.low (int_gap a.low a.high + 1) (and_first (is_covered a set) (are_covered es sets) covered) lie.0.from_low (omega (arith, ints, lie.0.to_high, lead)), all_in xs es sets (and_second (is_covered a set) (are_covered es sets) covered) lie.1)
+    let lead = gap_leads a.low a.high (omega (arith, ints, lie.0.from_low, lie.0.to_high)) in (
+      counted (λ number. list_any (int_eq number) set) x a.low (int_gap a.low a.high + 1) (and_first (is_covered a set) (are_covered es sets) covered) lie.0.from_low
+          (omega (arith, ints, lie.0.to_high, lead)),
+      all_in xs es sets (and_second (is_covered a set) (are_covered es sets) covered) lie.1,
+    )
 
 same_index_refl : (xs : List ℤ) → same_index xs xs ≡ true
 same_index_refl [] = refl
@@ -204,10 +210,12 @@ mark_none covered [] out = tt
 mark_none true (e ∷ later) out = absurd (out refl)
 mark_none false (e ∷ later) out = tt
 
-mark_at : (table : Table) (es : List Ends) (xs : List ℤ) → length table.items ≡ length (indices table.sets) → AllLie xs es → Marks (reached_mark (are_covered es table.sets) (reached es table)) (item_at table xs)
+mark_at : (table : Table) (es : List Ends) (xs : List ℤ) → length table.items ≡ length (indices table.sets) → AllLie xs es
+    → Marks (reached_mark (are_covered es table.sets) (reached es table)) (item_at table xs)
 mark_at table es xs complete lie =
     by_option (λ (v : Option Item). Marks (reached_mark (are_covered es table.sets) (reached es table)) v) (item_at table xs)
-    (λ none. mark_none (are_covered es table.sets) (reached es table) (λ covered. is_found xs (indices table.sets) table.items complete (mem_indices xs table.sets (all_in xs es table.sets covered lie)) none))
+    (λ none. mark_none (are_covered es table.sets) (reached es table)
+    (λ covered. is_found xs (indices table.sets) table.items complete (mem_indices xs table.sets (all_in xs es table.sets covered lie)) none))
     (λ item is. mark_some (are_covered es table.sets) (reached es table) item xs (reached_has table es xs item is lie))
 
 marked_then : {A B : Type 0} (f : A → Option B) (m n : Defined) (v : Option A) → Marks m v → IfSome v (λ x. Marks n (f x)) → Marks (both m n) (option_and_then f v)
@@ -242,28 +250,38 @@ some_both : {A C : Type 0} (P R : A → Type 0) (v : Option A) → IfSome v P �
 some_both P R None p r = tt
 some_both P R (Some x) p r = (p, r)
 
-element_off : (reading : Reading) (b : Box) (p : List ℤ) (table : Table) (fs : List Form) (es : List Ends) (xs : List ℤ) → IsBox b → InBox b p → AllLie xs es → (list_all is_constant fs ≡ true → xs ≡ constants fs) → IfSome (item_at table xs) (λ item. Off p (item_value p item) (element_form table fs) (unless_folded (element_form table fs).plain (element_ends reading b es table)))
+element_off : (reading : Reading) (b : Box) (p : List ℤ) (table : Table) (fs : List Form) (es : List Ends) (xs : List ℤ) → IsBox b → InBox b p → AllLie xs es
+    → (list_all is_constant fs ≡ true → xs ≡ constants fs) → IfSome (item_at table xs)
+    (λ item. Off p (item_value p item) (element_form table fs) (unless_folded (element_form table fs).plain (element_ends reading b es table)))
 element_off reading b p table fs es xs is_box q lie fixed =
-    by_option (λ (v : Option Item). IfSome v (λ item. Off p (item_value p item) (element_form table fs) (unless_folded (element_form table fs).plain (element_ends reading b es table)))) (item_at table xs)
+    by_option (λ (v : Option Item). IfSome v (λ item. Off p (item_value p item) (element_form table fs) (unless_folded (element_form table fs).plain (element_ends reading b es table))))
+    (item_at table xs)
     (λ none. tt)
     (λ item is.
-    by_bool (λ all. Off p (item_value p item) (if all then item_form (item_at table (constants fs)) else atom_form) (unless_folded (if all then item_form (item_at table (constants fs)) else atom_form).plain (element_ends reading b es table))) (list_all is_constant fs)
+    by_bool (λ all. Off p (item_value p item) (if all then item_form (item_at table (constants fs)) else atom_form)
+    (unless_folded (if all then item_form (item_at table (constants fs)) else atom_form).plain (element_ends reading b es table))) (list_all is_constant fs)
     (λ all.
     let there : item_at table (constants fs) ≡ Some item = ap (item_at table) (sym (fixed all)) ∙ is in
-    subst (λ (v : Option Item). Off p (item_value p item) (item_form v) (unless_folded (item_form v).plain (element_ends reading b es table))) (sym there) (item_off p item (element_ends reading b es table)))
+    subst (λ (v : Option Item). Off p (item_value p item) (item_form v) (unless_folded (item_form v).plain (element_ends reading b es table))) (sym there)
+    (item_off p item (element_ends reading b es table)))
     (λ other. off_atom p (item_value p item) (element_ends reading b es table) (in_element reading b (item_value p item) table es xs item is lie (item_lies b p item is_box q))))
 
 element_clear : (table : Table) (fs : List Form) (a : Ends) → (element_form table fs).plain ≡ true → IsClear (unless_folded (element_form table fs).plain a)
 element_clear table fs a =
-    by_bool (λ all. (if all then item_form (item_at table (constants fs)) else atom_form).plain ≡ true → IsClear (unless_folded (if all then item_form (item_at table (constants fs)) else atom_form).plain a)) (list_all is_constant fs)
+    by_bool (λ all. (if all then item_form (item_at table (constants fs)) else atom_form).plain ≡ true
+    → IsClear (unless_folded (if all then item_form (item_at table (constants fs)) else atom_form).plain a)) (list_all is_constant fs)
     (λ all plain. item_clear (item_at table (constants fs)) a plain)
     (λ other plain. absurd (cc))
 
-pub read_element : (reading : Reading) (b : Box) (p : List ℤ) (table : Table) (vs : Option (List ℤ)) (fs : List Form) (es : List Ends) (n : Defined) → IsBox b → InBox b p → length table.items ≡ length (indices table.sets) → AreRead vs fs es n → IsRead p (option_map (item_value p) (option_and_then (item_at table) vs)) (element_form table fs) (unless_folded (element_form table fs).plain (element_ends reading b es table)) (element_mark table n es)
+pub read_element : (reading : Reading) (b : Box) (p : List ℤ) (table : Table) (vs : Option (List ℤ)) (fs : List Form) (es : List Ends) (n : Defined) → IsBox b → InBox b p → length table.items
+    ≡ length (indices table.sets) → AreRead vs fs es n → IsRead p (option_map (item_value p) (option_and_then (item_at table) vs)) (element_form table fs)
+    (unless_folded (element_form table fs).plain (element_ends reading b es table)) (element_mark table n es)
 read_element reading b p table vs fs es n is_box q complete read = record {
   off =
-      map_holds (item_value p) (λ item. Off p (item_value p item) (element_form table fs) (unless_folded (element_form table fs).plain (element_ends reading b es table))) (λ x. Off p x (element_form table fs) (unless_folded (element_form table fs).plain (element_ends reading b es table))) (option_and_then (item_at table) vs) (λ item off. off)
-      (two_options (item_at table) (λ xs. AllLie xs es × (list_all is_constant fs ≡ true → xs ≡ constants fs)) (λ item. Off p (item_value p item) (element_form table fs) (unless_folded (element_form table fs).plain (element_ends reading b es table))) vs
+      map_holds (item_value p) (λ item. Off p (item_value p item) (element_form table fs) (unless_folded (element_form table fs).plain (element_ends reading b es table)))
+      (λ x. Off p x (element_form table fs) (unless_folded (element_form table fs).plain (element_ends reading b es table))) (option_and_then (item_at table) vs) (λ item off. off)
+      (two_options (item_at table) (λ xs. AllLie xs es × (list_all is_constant fs ≡ true → xs ≡ constants fs))
+      (λ item. Off p (item_value p item) (element_form table fs) (unless_folded (element_form table fs).plain (element_ends reading b es table))) vs
       (some_both (λ xs. AllLie xs es) (λ xs. xs ≡ constants fs) vs read.lie read.fixed)
       (λ xs both_of_xs. element_off reading b p table fs es xs is_box q both_of_xs.0 both_of_xs.1));
   clear = element_clear table fs (element_ends reading b es table);

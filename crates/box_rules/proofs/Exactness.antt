@@ -6,8 +6,8 @@ use Rattle.std.specs.Int.RustNames.{int_div, int_rem}
 use Rattle.std.specs.Ordering.{int_eq}
 use Rattle.std.proofs.lemmas.Int.{ints, clamps}
 use Rattle.std.proofs.lemmas.Bool.{cases_lt}
-use Rattle.sopl_base.specs.declared.places.CmpOp.{CmpOp}
-use Rattle.sopl_base.specs.declared.places.CmpOp.TheVariants.{Eq, Ne, Lt, Le, Gt, Ge}
+use Rattle.sopl_base.specs.declared.comparison.CmpOp.{CmpOp}
+use Rattle.sopl_base.specs.declared.comparison.CmpOp.TheVariants.{Eq, Ne, Lt, Le, Gt, Ge}
 use Rattle.box_problem.specs.Box.{Box, IsBox, IsPoint}
 use Rattle.box_rules.specs.declared.answers.Defined.{Defined}
 use Rattle.box_rules.specs.declared.answers.Defined.TheVariants.{Never, Maybe, Always}
@@ -164,7 +164,8 @@ known_judged Maybe fails holds p = absurd p
 known_judged Always fails holds p = known_always fails holds p
 
 -- each operation, where its operands are exact
-pub exact_one : (b : Box) (fold : Bool) (ends_of : Ends → Ends) (f : Form) (a : Ends) (m : Defined) → ((e : Ends) → IsOne e → IsOne (ends_of e)) → IsBox b → IsPoint b → Exact m (IsOne a) → Exact m (IsOne (unless_folded fold (ends_of (whole b f a))))
+pub exact_one : (b : Box) (fold : Bool) (ends_of : Ends → Ends) (f : Form) (a : Ends) (m : Defined) → ((e : Ends) → IsOne e → IsOne (ends_of e)) → IsBox b → IsPoint b → Exact m (IsOne a)
+    → Exact m (IsOne (unless_folded fold (ends_of (whole b f a))))
 exact_one b fold ends_of f a m goes is_box one p =
     exact_map m (IsOne a) (IsOne (unless_folded fold (ends_of (whole b f a))))
     (λ q. one_folded fold (ends_of (whole b f a)) (goes (whole b f a) (one_whole b f a is_box one q))) p
@@ -173,7 +174,8 @@ pub exact_product : (b : Box) (f g : Form) (a c : Ends) (m n : Defined) → IsBo
 exact_product b f g a c m n is_box one p q =
     exact_both m n (IsOne a) (IsOne c) (IsOne (product_atoms b f g a c)) (one_product b f g a c is_box one) p q
 
-pub exact_extreme : (b : Box) (fold_it : Bool) (pick : Ends → Ends → Ends) (f : Form) (a : Ends) (later : List Ends) (m n : Defined) → ((x y : Ends) → IsOne x → IsOne y → IsOne (pick x y)) → IsBox b → IsPoint b → Exact m (IsOne a) → Exact n (AllOne later) → Exact (both m n) (IsOne (unless_folded fold_it (fold pick (whole b f a) later)))
+pub exact_extreme : (b : Box) (fold_it : Bool) (pick : Ends → Ends → Ends) (f : Form) (a : Ends) (later : List Ends) (m n : Defined) → ((x y : Ends) → IsOne x → IsOne y → IsOne (pick x y))
+    → IsBox b → IsPoint b → Exact m (IsOne a) → Exact n (AllOne later) → Exact (both m n) (IsOne (unless_folded fold_it (fold pick (whole b f a) later)))
 exact_extreme b fold_it pick f a later m n goes is_box one p q =
     exact_both m n (IsOne a) (AllOne later) (IsOne (unless_folded fold_it (fold pick (whole b f a) later)))
     (λ x all. one_folded fold_it (fold pick (whole b f a) later) (one_fold pick (whole b f a) later goes (one_whole b f a is_box one x) all)) p q
@@ -182,11 +184,13 @@ pub exact_part : (k : ℤ) (a c : Ends) (m n : Defined) → Exact m (IsOne a) �
 exact_part k a c m n p q =
     exact_both m n (IsOne a) (IsOne c) (IsOne (plus (scaled k a) c)) (λ x y. one_plus (scaled k a) c (one_scaled k a x) y) p q
 
-pub exact_more : (b : Box) (f : Form) (a : Ends) (later : List Ends) (m n : Defined) → IsBox b → IsPoint b → Exact m (IsOne a) → Exact n (AllOne later) → Exact (both m n) (AllOne (whole b f a ∷ later))
+pub exact_more : (b : Box) (f : Form) (a : Ends) (later : List Ends) (m n : Defined) → IsBox b → IsPoint b → Exact m (IsOne a) → Exact n (AllOne later)
+    → Exact (both m n) (AllOne (whole b f a ∷ later))
 exact_more b f a later m n is_box one p q =
     exact_both m n (IsOne a) (AllOne later) (AllOne (whole b f a ∷ later)) (λ x all. (one_whole b f a is_box one x, all)) p q
 
-pub known_compared : (b : Box) (op : CmpOp) (f g : Form) (a c : Ends) (m n : Defined) → IsBox b → IsPoint b → Exact m (IsOne a) → Exact n (IsOne c) → IsKnown (compared op (difference_ends b f g a c) (both m n))
+pub known_compared : (b : Box) (op : CmpOp) (f g : Form) (a c : Ends) (m n : Defined) → IsBox b → IsPoint b → Exact m (IsOne a) → Exact n (IsOne c)
+    → IsKnown (compared op (difference_ends b f g a c) (both m n))
 known_compared b op f g a c m n is_box one p q =
     let d = difference_ends b f g a c in
     known_judged (both m n) (none_compares op d) (all_compare op d)

@@ -70,7 +70,14 @@ put_value p cell k (c ∷ later) =
 combined_value : (p : List ℤ) (factor : ℤ) (cells others : List Coefficient) → cells_value p (combined factor cells others) ≡ cells_value p cells +ℤ factor *ℤ cells_value p others
 combined_value p factor cells [] = omega (arith, ints, *ℤ-zero factor)
 combined_value p factor cells (c ∷ later) =
-    omega (arith, ints, put_value p c.cell (factor *ℤ c.k) (combined factor cells later), combined_value p factor cells later, *ℤ_assoc factor c.k (cell_value p c.cell), *ℤ-+ℤ factor (c.k *ℤ cell_value p c.cell) (cells_value p later))
+    omega (
+      arith,
+      ints,
+      put_value p c.cell (factor *ℤ c.k) (combined factor cells later),
+      combined_value p factor cells later,
+      *ℤ_assoc factor c.k (cell_value p c.cell),
+      *ℤ-+ℤ factor (c.k *ℤ cell_value p c.cell) (cells_value p later),
+    )
 
 pub plus_value : (p : List ℤ) (factor : ℤ) (f g : Form) → form_value p (plus_form factor f g) ≡ form_value p f +ℤ factor *ℤ form_value p g
 plus_value p factor f g =

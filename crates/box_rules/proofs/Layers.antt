@@ -50,7 +50,8 @@ marked_map f Always None p = absurd p
 marked_map f Always (Some x) p = tt
 
 -- what holds of two values that are both there
-pub both_hold : {A B C : Type 0} (make : A → B → C) (P : A → Type 0) (Q : B → Type 0) (R : C → Type 0) (v : Option A) (w : Option B) → ((x : A) (y : B) → P x → Q y → R (make x y)) → IfSome v P → IfSome w Q → IfSome (both_of make v w) R
+pub both_hold : {A B C : Type 0} (make : A → B → C) (P : A → Type 0) (Q : B → Type 0) (R : C → Type 0) (v : Option A) (w : Option B) → ((x : A) (y : B) → P x → Q y → R (make x y))
+    → IfSome v P → IfSome w Q → IfSome (both_of make v w) R
 both_hold make P Q R None w goes p q = tt
 both_hold make P Q R (Some x) None goes p q = tt
 both_hold make P Q R (Some x) (Some y) goes p q = goes x y p q
@@ -107,7 +108,8 @@ times_clear k f a clear plain =
 plus_clear : (a b : Ends) → IsClear a → IsClear b → IsClear (plus a b)
 plus_clear a b p q = record { low = omega (arith, ints, p.low, q.low); high = omega (arith, ints, p.high, q.high) }
 
-pub read_part : (p : List ℤ) (k : ℤ) (v w : Option ℤ) (f g : Form) (a c : Ends) (m n : Defined) → IsRead p v f a m → IsRead p w g c n → IsRead p (both_of (λ x sum. k *ℤ x +ℤ sum) v w) (plus_form k g f) (plus (scaled k a) c) (both m n)
+pub read_part : (p : List ℤ) (k : ℤ) (v w : Option ℤ) (f g : Form) (a c : Ends) (m n : Defined) → IsRead p v f a m → IsRead p w g c n
+    → IsRead p (both_of (λ x sum. k *ℤ x +ℤ sum) v w) (plus_form k g f) (plus (scaled k a) c) (both m n)
 read_part p k v w f g a c m n first later = record {
   off = both_hold (λ x sum. k *ℤ x +ℤ sum) (λ x. Off p x f a) (λ x. Off p x g c) (λ x. Off p x (plus_form k g f) (plus (scaled k a) c)) v w
       (λ x r p_x p_r. sum_off p k x r f g a c p_x p_r) first.off later.off;
@@ -136,9 +138,11 @@ turned_off p x y f a off = subst (λ z. Off p z f a) (*ℤ_comm x y) off
 pub off_atom : (p : List ℤ) (x : ℤ) (a : Ends) → Lies x a → Off p x atom_form a
 off_atom p x a lies = record { from_low = omega (arith, ints, lies.from_low); to_high = omega (arith, ints, lies.to_high) }
 
-pub read_product : (b : Box) (p : List ℤ) (v w : Option ℤ) (f g : Form) (a c : Ends) (m n : Defined) → IsBox b → InBox b p → IsRead p v f a m → IsRead p w g c n → IsRead p (both_of (λ x y. x *ℤ y) v w) (product_form f g) (product_atoms b f g a c) (both m n)
+pub read_product : (b : Box) (p : List ℤ) (v w : Option ℤ) (f g : Form) (a c : Ends) (m n : Defined) → IsBox b → InBox b p → IsRead p v f a m → IsRead p w g c n
+    → IsRead p (both_of (λ x y. x *ℤ y) v w) (product_form f g) (product_atoms b f g a c) (both m n)
 read_product b p v w f g a c m n is_box q first second =
-    by_bool (λ constant. IsRead p (both_of (λ x y. x *ℤ y) v w) (if constant then times_form f.constant g else if is_constant g then times_form g.constant f else atom_form) (if constant then scaled f.constant c else if is_constant g then scaled g.constant a else times (whole b f a) (whole b g c)) (both m n)) (is_constant f)
+    by_bool (λ constant. IsRead p (both_of (λ x y. x *ℤ y) v w) (if constant then times_form f.constant g else if is_constant g then times_form g.constant f else atom_form)
+    (if constant then scaled f.constant c else if is_constant g then scaled g.constant a else times (whole b f a) (whole b g c)) (both m n)) (is_constant f)
     (λ constant. record {
       off = both_hold (λ x y. x *ℤ y) (λ x. Off p x f a) (λ x. Off p x g c) (λ x. Off p x (times_form f.constant g) (scaled f.constant c)) v w
           (λ x y p_x p_y. times_off p f.constant x y g c (constant_is p x f a constant first.clear p_x) p_y) first.off second.off;
@@ -146,7 +150,8 @@ read_product b p v w f g a c m n is_box q first second =
       marked = marked;
     })
     (λ other.
-    by_bool (λ constant. IsRead p (both_of (λ x y. x *ℤ y) v w) (if constant then times_form g.constant f else atom_form) (if constant then scaled g.constant a else times (whole b f a) (whole b g c)) (both m n)) (is_constant g)
+    by_bool (λ constant. IsRead p (both_of (λ x y. x *ℤ y) v w) (if constant then times_form g.constant f else atom_form) (if constant then scaled g.constant a else times (whole b f a) (whole b g c))
+    (both m n)) (is_constant g)
     (λ constant. record {
       off = both_hold (λ x y. x *ℤ y) (λ x. Off p x f a) (λ x. Off p x g c) (λ x. Off p x (times_form g.constant f) (scaled g.constant a)) v w
           (λ x y p_x p_y. turned_off p y x (times_form g.constant f) (scaled g.constant a) (times_off p g.constant y x f a (constant_is p y g c constant second.clear p_y) p_x)) first.off second.off;
@@ -155,7 +160,8 @@ read_product b p v w f g a c m n is_box q first second =
     })
     (λ neither. record {
       off = both_hold (λ x y. x *ℤ y) (λ x. Off p x f a) (λ x. Off p x g c) (λ x. Off p x atom_form (times (whole b f a) (whole b g c))) v w
-          (λ x y p_x p_y. off_atom p (x *ℤ y) (times (whole b f a) (whole b g c)) (in_times x y (whole b f a) (whole b g c) (whole_lies b p x f a is_box q p_x) (whole_lies b p y g c is_box q p_y))) first.off second.off;
+          (λ x y p_x p_y. off_atom p (x *ℤ y) (times (whole b f a) (whole b g c)) (in_times x y (whole b f a) (whole b g c) (whole_lies b p x f a is_box q p_x) (whole_lies b p y g c is_box q p_y)))
+          first.off second.off;
       clear = λ plain. absurd (cc);
       marked = marked;
     }))
@@ -164,7 +170,8 @@ read_product b p v w f g a c m n is_box q first second =
     marked = marked_both (λ x y. x *ℤ y) m n v w first.marked second.marked
 
 -- what folds, or is an atom
-pub read_folded : (p : List ℤ) (v : Option ℤ) (fold : Bool) (z : ℤ) (a : Ends) (m : Defined) → (fold ≡ true → IfSome v (λ x. x ≡ z)) → IfSome v (λ x. Lies x a) → Marks m v → IsRead p v (folded fold z) (unless_folded fold a) m
+pub read_folded : (p : List ℤ) (v : Option ℤ) (fold : Bool) (z : ℤ) (a : Ends) (m : Defined) → (fold ≡ true → IfSome v (λ x. x ≡ z)) → IfSome v (λ x. Lies x a) → Marks m v
+    → IsRead p v (folded fold z) (unless_folded fold a) m
 read_folded p v true z a m is lies marked = record {
   off = some_exact v (is refl);
   clear = λ plain. record { low = refl; high = refl };
@@ -183,7 +190,8 @@ read_folded p v false z a m is lies marked = record {
   some_off (Some x) in_a = off_atom p x a in_a
 
 -- one operand
-pub read_one : (b : Box) (p : List ℤ) (op : ℤ → ℤ) (ends_of : Ends → Ends) (v : Option ℤ) (f : Form) (a : Ends) (m root_mark : Defined) → ((x : ℤ) (e : Ends) → Lies x e → Lies (op x) (ends_of e)) → IsBox b → InBox b p → IsRead p v f a m → IsRead p (option_map op v) (folded (folds (f ∷ []) root_mark) (op f.constant)) (unless_folded (folds (f ∷ []) root_mark) (ends_of (whole b f a))) m
+pub read_one : (b : Box) (p : List ℤ) (op : ℤ → ℤ) (ends_of : Ends → Ends) (v : Option ℤ) (f : Form) (a : Ends) (m root_mark : Defined) → ((x : ℤ) (e : Ends) → Lies x e → Lies (op x) (ends_of e))
+    → IsBox b → InBox b p → IsRead p v f a m → IsRead p (option_map op v) (folded (folds (f ∷ []) root_mark) (op f.constant)) (unless_folded (folds (f ∷ []) root_mark) (ends_of (whole b f a))) m
 read_one b p op ends_of v f a m root_mark goes is_box q read =
     read_folded p (option_map op v) (folds (f ∷ []) root_mark) (op f.constant) (ends_of (whole b f a)) m
     (λ fold.

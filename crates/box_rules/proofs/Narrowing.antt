@@ -1,13 +1,14 @@
 -- Intervals, marks and truths over a part of a box.
-use Rattle.std.proofs.Common.{◌≡◌, inl, inr, ℕ, ◌<◌, ℤ, pos, negsuc, unsigned_abs, ◌-ℤ◌, ◌*ℤ◌, ◌≤ℤ◌, ◌<ℤ◌, int_lt, int_le, Bool, true, false, if◌then◌else◌, List, [], ◌∷◌, length, arith, refl, sym, ◌∙◌}
+use Rattle.std.proofs.Common.{◌≡◌, inl, inr, ℕ, ◌<◌, ℤ, pos, negsuc, unsigned_abs, ◌-ℤ◌, ◌*ℤ◌, ◌≤ℤ◌, ◌<ℤ◌, int_lt, int_le, Bool, true, false, if◌then◌else◌, List, [], ◌∷◌, length}
+use Rattle.std.proofs.Common.{arith, refl, sym, ◌∙◌}
 use Rattle.std.specs.List.{fold}
 use Rattle.std.specs.Int.{int_min, int_max}
 use Rattle.std.specs.Int.RustNames.{int_div, int_rem}
 use Rattle.std.specs.Ordering.{int_eq}
 use Rattle.std.proofs.lemmas.Int.{ints, clamps}
 use Rattle.std.proofs.lemmas.Bool.{cases_lt}
-use Rattle.sopl_base.specs.declared.places.CmpOp.{CmpOp}
-use Rattle.sopl_base.specs.declared.places.CmpOp.TheVariants.{Eq, Ne, Lt, Le, Gt, Ge}
+use Rattle.sopl_base.specs.declared.comparison.CmpOp.{CmpOp}
+use Rattle.sopl_base.specs.declared.comparison.CmpOp.TheVariants.{Eq, Ne, Lt, Le, Gt, Ge}
 use Rattle.box_problem.specs.Box.{Box, IsBox, Inside}
 use Rattle.box_rules.specs.declared.answers.Defined.{Defined}
 use Rattle.box_rules.specs.declared.answers.Defined.TheVariants.{Never, Maybe, Always}
@@ -174,7 +175,8 @@ rem_high_order x y m divisor order =
     (λ x_above. let x_positive = above_zero x x_above in absurd (omega (arith, ints)))
     (λ x_below. omega (arith, ints)))
 
-many_within : (k : ℤ) (a c : Ends) → Within a c → int_eq (int_div a.low k) (int_div a.high k) ≡ false → Within (ends (rem_low a.low (unsigned_abs k)) (rem_high a.high (unsigned_abs k))) (remainders c k)
+many_within : (k : ℤ) (a c : Ends) → Within a c → int_eq (int_div a.low k) (int_div a.high k) ≡ false
+    → Within (ends (rem_low a.low (unsigned_abs k)) (rem_high a.high (unsigned_abs k))) (remainders c k)
 many_within k a c p differ =
     let divisor = divides a.low a.high k differ in
     let own : Lies a.low a = record { from_low = omega (arith, ints); to_high = p.ordered } in
@@ -282,7 +284,8 @@ impossible : true ≡ false → ⊥
 impossible same = cc
 
 -- what fails or holds over a box does so over each part, and not both
-pub surer_judged : (m n : Defined) (fails holds fails_whole holds_whole : Bool) → Sharper m n → (fails_whole ≡ true → fails ≡ true) → (holds_whole ≡ true → holds ≡ true) → (holds ≡ true → fails ≡ false) → Surer (judged m fails holds) (judged n fails_whole holds_whole)
+pub surer_judged : (m n : Defined) (fails holds fails_whole holds_whole : Bool) → Sharper m n → (fails_whole ≡ true → fails ≡ true) → (holds_whole ≡ true → holds ≡ true)
+    → (holds ≡ true → fails ≡ false) → Surer (judged m fails holds) (judged n fails_whole holds_whole)
 surer_judged Never Never f h g k p wrong right apart = tt
 surer_judged Maybe Never f h g k p wrong right apart = absurd p
 surer_judged Always Never f h g k p wrong right apart = absurd p
@@ -333,10 +336,12 @@ surer_compared op a c m n p q =
 -- products, and what folds
 pub within_product : (part b : Box) (f g : Form) (a c d e : Ends) → IsBox b → Inside part b → Within a d → Within c e → Within (product_atoms part f g a c) (product_atoms b f g d e)
 within_product part b f g a c d e is_box inside p q =
-    by_bool (λ constant. Within (if constant then scaled f.constant c else if is_constant g then scaled g.constant a else times (whole part f a) (whole part g c)) (if constant then scaled f.constant e else if is_constant g then scaled g.constant d else times (whole b f d) (whole b g e))) (is_constant f)
+    by_bool (λ constant. Within (if constant then scaled f.constant c else if is_constant g then scaled g.constant a else times (whole part f a) (whole part g c))
+    (if constant then scaled f.constant e else if is_constant g then scaled g.constant d else times (whole b f d) (whole b g e))) (is_constant f)
     (λ constant. within_scaled f.constant c e q)
     (λ other.
-    by_bool (λ constant. Within (if constant then scaled g.constant a else times (whole part f a) (whole part g c)) (if constant then scaled g.constant d else times (whole b f d) (whole b g e))) (is_constant g)
+    by_bool (λ constant. Within (if constant then scaled g.constant a else times (whole part f a) (whole part g c)) (if constant then scaled g.constant d else times (whole b f d) (whole b g e)))
+    (is_constant g)
     (λ constant. within_scaled g.constant a d p)
     (λ neither. within_times (whole part f a) (whole part g c) (whole b f d) (whole b g e) (within_whole part b f a d is_box inside p) (within_whole part b g c e is_box inside q)))
 
@@ -356,7 +361,8 @@ AllWithin [] (c ∷ wide) = ⊥
 AllWithin (a ∷ narrow) [] = ⊥
 AllWithin (a ∷ narrow) (c ∷ wide) = Within a c × AllWithin narrow wide
 
-pub within_fold : (pick : Ends → Ends → Ends) (a c : Ends) (narrow wide : List Ends) → ((a b c d : Ends) → Within a c → Within b d → Within (pick a b) (pick c d)) → Within a c → AllWithin narrow wide → Within (fold pick a narrow) (fold pick c wide)
+pub within_fold : (pick : Ends → Ends → Ends) (a c : Ends) (narrow wide : List Ends) → ((a b c d : Ends) → Within a c → Within b d → Within (pick a b) (pick c d)) → Within a c
+    → AllWithin narrow wide → Within (fold pick a narrow) (fold pick c wide)
 within_fold pick a c [] [] goes p all = p
 within_fold pick a c [] (d ∷ wide) goes p all = absurd all
 within_fold pick a c (b ∷ narrow) [] goes p all = absurd all

@@ -1,14 +1,16 @@
 -- Each term and condition on a box of one point.
 use Rattle.std.proofs.Common.{◌≡◌, true, false, [], ◌∷◌, refl, List}
 use Rattle.box_problem.specs.Box.{Box, IsBox, IsPoint}
-use Rattle.box_rules.specs.Terms.{Term, Constant, Cell, Sum, Product, Quotient, Remainder, Least, Greatest, Size, Element, Number, Terms, no_term, term, Parts, no_part, part, Cond, Compare, Not, All, Any, Implies, AllDifferent, Cumulative, Conds, no_cond, condition, Tasks, no_task, task}
+use Rattle.box_rules.specs.Terms.{Term, Constant, Cell, Sum, Product, Quotient, Remainder, Least, Greatest, Size, Element, Number, Terms, no_term, term, Parts, no_part, part, Cond}
+use Rattle.box_rules.specs.Terms.{Compare, Not, All, Any, Implies, AllDifferent, Cumulative, Conds, no_cond, condition, Tasks, no_task, task}
 use Rattle.box_rules.specs.Ends.{quotients, remainders, least, greatest, sizes, Ends}
 use Rattle.box_rules.specs.Forms.{sign, Form, whole}
 use Rattle.box_rules.specs.Marks.{both, all_marks, opposite}
 use Rattle.box_rules.specs.Globals.{never_differ, always_differ, TaskEnds, never_fit, always_fit}
 use Rattle.box_rules.specs.Rules.{Near, folds, form, forms, element_form, atoms, sum_atoms, intervals, mark, marks, sum_mark, truth, all_truth, any_truth, interval, task_ends, task_mark}
 use Rattle.box_rules.specs.Laws.{Exact, IsKnown, IsProper, AreProper, AreProperParts, IsProperCond, AreProperConds, AreProperTasks}
-use Rattle.box_rules.proofs.Exactness.{IsOne, AllOne, exact_map, exact_one, exact_product, exact_extreme, exact_part, exact_more, known_compared, known_judged, known_not, known_and, known_or, one_whole, one_least, one_greatest, one_quotients, one_remainders, one_sizes, one_truth, exact_both}
+use Rattle.box_rules.proofs.Exactness.{IsOne, AllOne, exact_map, exact_one, exact_product, exact_extreme, exact_part, exact_more, known_compared, known_judged, known_not}
+use Rattle.box_rules.proofs.Exactness.{known_and, known_or, one_whole, one_least, one_greatest, one_quotients, one_remainders, one_sizes, one_truth, exact_both}
 use Rattle.box_rules.proofs.ElementPoints.{exact_element}
 use Rattle.box_rules.proofs.DifferentPoints.{never_or_always}
 use Rattle.box_rules.proofs.TaskParts as parts
@@ -19,7 +21,8 @@ use Rattle.box_rules.specs.declared.answers.Defined.{Defined}
 abbrev ends_of : Ends → Ends → Ends → TaskEnds
 ends_of start duration demand = record { start = start; duration = duration; demand = demand }
 
-exact_task : (b : Box) (f g h : Form) (x y z : Ends) (later : List TaskEnds) (m n k l : Defined) → IsBox b → IsPoint b → Exact m (IsOne x) → Exact n (IsOne y) → Exact k (IsOne z) → Exact l (TasksOne later) → Exact (both m (both n (both k l))) (TasksOne (ends_of (whole b f x) (whole b g y) (whole b h z) ∷ later))
+exact_task : (b : Box) (f g h : Form) (x y z : Ends) (later : List TaskEnds) (m n k l : Defined) → IsBox b → IsPoint b → Exact m (IsOne x) → Exact n (IsOne y) → Exact k (IsOne z)
+    → Exact l (TasksOne later) → Exact (both m (both n (both k l))) (TasksOne (ends_of (whole b f x) (whole b g y) (whole b h z) ∷ later))
 exact_task b f g h x y z later m n k l is_box one p q r s =
     exact_both m (both n (both k l)) (IsOne x) (IsOne y × (IsOne z × TasksOne later)) (TasksOne (ends_of (whole b f x) (whole b g y) (whole b h z) ∷ later))
     (λ p_x rest. (record { start = one_whole b f x is_box one p_x; duration = one_whole b g y is_box one rest.0; demand = one_whole b h z is_box one rest.1.0 }, rest.1.1)) p
@@ -35,19 +38,24 @@ mutual
       exact_product b (form root a) (form root c) (atoms Near root b a) (atoms Near root b c) (mark Near root b a) (mark Near root b c) is_box one
       (exact root b a is_box one proper.0) (exact root b c is_box one proper.1)
   exact root b (Quotient a c) is_box one proper =
-      exact_one b (folds (form root a ∷ []) (mark Near root root a)) (λ e. quotients e c) (form root a) (atoms Near root b a) (mark Near root b a) (one_quotients c) is_box one (exact root b a is_box one proper)
+      exact_one b (folds (form root a ∷ []) (mark Near root root a)) (λ e. quotients e c) (form root a) (atoms Near root b a) (mark Near root b a) (one_quotients c) is_box one
+      (exact root b a is_box one proper)
   exact root b (Remainder a c) is_box one proper =
-      exact_one b (folds (form root a ∷ []) (mark Near root root a)) (λ e. remainders e c) (form root a) (atoms Near root b a) (mark Near root b a) (one_remainders c) is_box one (exact root b a is_box one proper)
+      exact_one b (folds (form root a ∷ []) (mark Near root root a)) (λ e. remainders e c) (form root a) (atoms Near root b a) (mark Near root b a) (one_remainders c) is_box one
+      (exact root b a is_box one proper)
   exact root b (Least a later) is_box one proper =
-      exact_extreme b (folds (form root a ∷ forms root later) (both (mark Near root root a) (all_marks (marks Near root root later)))) least (form root a) (atoms Near root b a) (intervals Near root b later) (mark Near root b a) (all_marks (marks Near root b later)) one_least is_box one
+      exact_extreme b (folds (form root a ∷ forms root later) (both (mark Near root root a) (all_marks (marks Near root root later)))) least (form root a) (atoms Near root b a)
+      (intervals Near root b later) (mark Near root b a) (all_marks (marks Near root b later)) one_least is_box one
       (exact root b a is_box one proper.0) (exact_all root b later is_box one proper.1)
   exact root b (Greatest a later) is_box one proper =
-      exact_extreme b (folds (form root a ∷ forms root later) (both (mark Near root root a) (all_marks (marks Near root root later)))) greatest (form root a) (atoms Near root b a) (intervals Near root b later) (mark Near root b a) (all_marks (marks Near root b later)) one_greatest is_box one
+      exact_extreme b (folds (form root a ∷ forms root later) (both (mark Near root root a) (all_marks (marks Near root root later)))) greatest (form root a) (atoms Near root b a)
+      (intervals Near root b later) (mark Near root b a) (all_marks (marks Near root b later)) one_greatest is_box one
       (exact root b a is_box one proper.0) (exact_all root b later is_box one proper.1)
   exact root b (Size a) is_box one proper =
       exact_one b (folds (form root a ∷ []) (mark Near root root a)) sizes (form root a) (atoms Near root b a) (mark Near root b a) one_sizes is_box one (exact root b a is_box one proper)
   exact root b (Element table at) is_box one proper =
-      exact_element b (element_form table (forms root at)).plain table (all_marks (marks Near root b at)) (intervals Near root b at) is_box one proper.0.distinct (exact_all root b at is_box one proper.1)
+      exact_element b (element_form table (forms root at)).plain table (all_marks (marks Near root b at)) (intervals Near root b at) is_box one proper.0.distinct
+      (exact_all root b at is_box one proper.1)
   exact root b (Number c) is_box one proper = one_truth (truth Near root b c) (known root b c is_box one proper)
 
   exact_parts : (root b : Box) (parts : Parts) → IsBox b → IsPoint b → AreProperParts parts → Exact (sum_mark Near root b parts) (IsOne (sum_atoms Near root b parts))
@@ -76,10 +84,13 @@ mutual
       (exact_map (all_marks (marks Near root b terms)) (AllOne (intervals Near root b terms)) (never_differ (intervals Near root b terms) ≡ false → always_differ (intervals Near root b terms) ≡ true)
       (never_or_always (intervals Near root b terms)) (exact_all root b terms is_box one proper))
   known root b (Cumulative tasks capacity) is_box one proper =
-      known_judged (both (task_mark Near root b tasks) (mark Near root b capacity)) (never_fit (task_ends Near root b tasks) (whole b (form root capacity) (atoms Near root b capacity))) (always_fit (task_ends Near root b tasks) (whole b (form root capacity) (atoms Near root b capacity)))
+      known_judged (both (task_mark Near root b tasks) (mark Near root b capacity)) (never_fit (task_ends Near root b tasks) (whole b (form root capacity) (atoms Near root b capacity)))
+      (always_fit (task_ends Near root b tasks) (whole b (form root capacity) (atoms Near root b capacity)))
       (exact_both (task_mark Near root b tasks) (mark Near root b capacity) (TasksOne (task_ends Near root b tasks)) (IsOne (atoms Near root b capacity))
-      (never_fit (task_ends Near root b tasks) (whole b (form root capacity) (atoms Near root b capacity)) ≡ false → always_fit (task_ends Near root b tasks) (whole b (form root capacity) (atoms Near root b capacity)) ≡ true)
-      (λ all room. parts.never_or_always (task_ends Near root b tasks) (whole b (form root capacity) (atoms Near root b capacity)) all (one_whole b (form root capacity) (atoms Near root b capacity) is_box one room))
+      (never_fit (task_ends Near root b tasks) (whole b (form root capacity) (atoms Near root b capacity)) ≡ false
+      → always_fit (task_ends Near root b tasks) (whole b (form root capacity) (atoms Near root b capacity)) ≡ true)
+      (λ all room. parts.never_or_always (task_ends Near root b tasks) (whole b (form root capacity) (atoms Near root b capacity)) all
+      (one_whole b (form root capacity) (atoms Near root b capacity) is_box one room))
       (exact_tasks root b tasks is_box one proper.0) (exact root b capacity is_box one proper.1))
 
   exact_tasks : (root b : Box) (tasks : Tasks) → IsBox b → IsPoint b → AreProperTasks tasks → Exact (task_mark Near root b tasks) (TasksOne (task_ends Near root b tasks))

@@ -3,7 +3,8 @@ use Rattle.std.proofs.Common.{ℤ, List, Option, Some, None, IfSome}
 use Rattle.std.specs.Int.{int_min, int_max}
 use Rattle.std.specs.Int.RustNames.{int_div, int_rem}
 use Rattle.box_problem.specs.Box.{Box, IsBox, InBox}
-use Rattle.box_rules.specs.Terms.{Term, Constant, Cell, Sum, Product, Quotient, Remainder, Least, Greatest, Size, Element, Number, Terms, no_term, term, Parts, no_part, part, Cond, Compare, Not, All, Any, Implies, AllDifferent, Cumulative, Conds, no_cond, condition, Tasks, no_task, task}
+use Rattle.box_rules.specs.Terms.{Term, Constant, Cell, Sum, Product, Quotient, Remainder, Least, Greatest, Size, Element, Number, Terms, no_term, term, Parts, no_part, part, Cond}
+use Rattle.box_rules.specs.Terms.{Compare, Not, All, Any, Implies, AllDifferent, Cumulative, Conds, no_cond, condition, Tasks, no_task, task}
 use Rattle.box_rules.specs.Ends.{Ends, Lies, quotients, remainders, least, greatest, size_of, sizes}
 use Rattle.box_rules.specs.Forms.{Form, sign, whole}
 use Rattle.box_rules.specs.Marks.{both, all_marks, opposite}
@@ -33,32 +34,41 @@ mutual
       read_product b p (value p a) (value p c) (form root a) (form root c) (atoms reading root b a) (atoms reading root b c) (mark reading root b a) (mark reading root b c) is_box q
       (read reading root b p a is_box q proper.0) (read reading root b p c is_box q proper.1)
   read reading root b p (Quotient a c) is_box q proper =
-      read_one b p (λ x. int_div x c) (λ e. quotients e c) (value p a) (form root a) (atoms reading root b a) (mark reading root b a) (mark Near root root a) (in_quotients c) is_box q (read reading root b p a is_box q proper)
+      read_one b p (λ x. int_div x c) (λ e. quotients e c) (value p a) (form root a) (atoms reading root b a) (mark reading root b a) (mark Near root root a) (in_quotients c) is_box
+      q (read reading root b p a is_box q proper)
   read reading root b p (Remainder a c) is_box q proper =
-      read_one b p (λ x. int_rem x c) (λ e. remainders e c) (value p a) (form root a) (atoms reading root b a) (mark reading root b a) (mark Near root root a) (in_remainders c) is_box q (read reading root b p a is_box q proper)
+      read_one b p (λ x. int_rem x c) (λ e. remainders e c) (value p a) (form root a) (atoms reading root b a) (mark reading root b a) (mark Near root root a) (in_remainders c) is_box
+      q (read reading root b p a is_box q proper)
   read reading root b p (Least a later) is_box q proper =
-      read_extreme b p int_min least (value p a) (values p later) (form root a) (forms root later) (atoms reading root b a) (intervals reading root b later) (mark reading root b a) (all_marks (marks reading root b later)) (both (mark Near root root a) (all_marks (marks Near root root later))) in_least is_box q
+      read_extreme b p int_min least (value p a) (values p later) (form root a) (forms root later) (atoms reading root b a) (intervals reading root b later) (mark reading root b a)
+      (all_marks (marks reading root b later)) (both (mark Near root root a) (all_marks (marks Near root root later))) in_least is_box q
       (read reading root b p a is_box q proper.0) (read_all reading root b p later is_box q proper.1)
   read reading root b p (Greatest a later) is_box q proper =
-      read_extreme b p int_max greatest (value p a) (values p later) (form root a) (forms root later) (atoms reading root b a) (intervals reading root b later) (mark reading root b a) (all_marks (marks reading root b later)) (both (mark Near root root a) (all_marks (marks Near root root later))) in_greatest is_box q
+      read_extreme b p int_max greatest (value p a) (values p later) (form root a) (forms root later) (atoms reading root b a) (intervals reading root b later) (mark reading root b a)
+      (all_marks (marks reading root b later)) (both (mark Near root root a) (all_marks (marks Near root root later))) in_greatest is_box q
       (read reading root b p a is_box q proper.0) (read_all reading root b p later is_box q proper.1)
   read reading root b p (Size a) is_box q proper =
       read_one b p size_of sizes (value p a) (form root a) (atoms reading root b a) (mark reading root b a) (mark Near root root a) in_sizes is_box q (read reading root b p a is_box q proper)
   read reading root b p (Element table at) is_box q proper =
-      read_element reading b p table (values p at) (forms root at) (intervals reading root b at) (all_marks (marks reading root b at)) is_box q proper.0.complete (read_all reading root b p at is_box q proper.1)
+      read_element reading b p table (values p at) (forms root at) (intervals reading root b at) (all_marks (marks reading root b at)) is_box q proper.0.complete
+      (read_all reading root b p at is_box q proper.1)
   read reading root b p (Number c) is_box q proper =
       read_truth p (truth reading root b c) (holds p c) (tells reading root b p c is_box q proper)
 
-  pub read_parts : (reading : Reading) (root b : Box) (p : List ℤ) (parts : Parts) → IsBox b → InBox b p → AreProperParts parts → IsRead p (sum_value p parts) (sum_form root parts) (sum_atoms reading root b parts) (sum_mark reading root b parts)
+  pub read_parts : (reading : Reading) (root b : Box) (p : List ℤ) (parts : Parts) → IsBox b → InBox b p → AreProperParts parts
+      → IsRead p (sum_value p parts) (sum_form root parts) (sum_atoms reading root b parts) (sum_mark reading root b parts)
   read_parts reading root b p no_part is_box q proper = read_number p _
   read_parts reading root b p (part subtracted t later) is_box q proper =
-      read_part p (sign subtracted) (value p t) (sum_value p later) (form root t) (sum_form root later) (atoms reading root b t) (sum_atoms reading root b later) (mark reading root b t) (sum_mark reading root b later)
+      read_part p (sign subtracted) (value p t) (sum_value p later) (form root t) (sum_form root later) (atoms reading root b t) (sum_atoms reading root b later) (mark reading root b t)
+      (sum_mark reading root b later)
       (read reading root b p t is_box q proper.0) (read_parts reading root b p later is_box q proper.1)
 
-  pub read_all : (reading : Reading) (root b : Box) (p : List ℤ) (ts : Terms) → IsBox b → InBox b p → AreProper ts → AreRead (values p ts) (forms root ts) (intervals reading root b ts) (all_marks (marks reading root b ts))
+  pub read_all : (reading : Reading) (root b : Box) (p : List ℤ) (ts : Terms) → IsBox b → InBox b p → AreProper ts
+      → AreRead (values p ts) (forms root ts) (intervals reading root b ts) (all_marks (marks reading root b ts))
   read_all reading root b p no_term is_box q proper = read_none
   read_all reading root b p (term t later) is_box q proper =
-      read_more b p (value p t) (values p later) (form root t) (forms root later) (atoms reading root b t) (intervals reading root b later) (mark reading root b t) (all_marks (marks reading root b later)) is_box q
+      read_more b p (value p t) (values p later) (form root t) (forms root later) (atoms reading root b t) (intervals reading root b later) (mark reading root b t)
+      (all_marks (marks reading root b later)) is_box q
       (read reading root b p t is_box q proper.0) (read_all reading root b p later is_box q proper.1)
 
   pub tells : (reading : Reading) (root b : Box) (p : List ℤ) (c : Cond) → IsBox b → InBox b p → IsProperCond c → Tells (truth reading root b c) (holds p c)
@@ -78,10 +88,12 @@ mutual
   tells reading root b p (Cumulative tasks capacity) is_box q proper =
       let all = read_tasks reading root b p tasks is_box q proper.0 in
       let room = read reading root b p capacity is_box q proper.1 in
-      tells_tasks (task_mark reading root b tasks) (mark reading root b capacity) (task_ends reading root b tasks) (whole b (form root capacity) (atoms reading root b capacity)) (all_task_values p tasks) (value p capacity) all.marked room.marked all.lie
+      tells_tasks (task_mark reading root b tasks) (mark reading root b capacity) (task_ends reading root b tasks) (whole b (form root capacity) (atoms reading root b capacity))
+      (all_task_values p tasks) (value p capacity) all.marked room.marked all.lie
       (lies_some b p (value p capacity) (form root capacity) (atoms reading root b capacity) is_box q room.off)
 
-  pub read_tasks : (reading : Reading) (root b : Box) (p : List ℤ) (tasks : Tasks) → IsBox b → InBox b p → AreProperTasks tasks → TasksRead (all_task_values p tasks) (task_ends reading root b tasks) (task_mark reading root b tasks)
+  pub read_tasks : (reading : Reading) (root b : Box) (p : List ℤ) (tasks : Tasks) → IsBox b → InBox b p → AreProperTasks tasks
+      → TasksRead (all_task_values p tasks) (task_ends reading root b tasks) (task_mark reading root b tasks)
   read_tasks reading root b p no_task is_box q proper = record { lie = tt; marked = tt }
   read_tasks reading root b p (task start duration demand later) is_box q proper =
       let s = read reading root b p start is_box q proper.0 in
@@ -90,11 +102,18 @@ mutual
       let rest = read_tasks reading root b p later is_box q proper.3 in
       record {
         lie = lie_tasks (value p start) (value p duration) (value p demand) (all_task_values p later)
-            (record { start = whole b (form root start) (atoms reading root b start); duration = whole b (form root duration) (atoms reading root b duration); demand = whole b (form root demand) (atoms reading root b demand) })
+            (record {
+              start = whole b (form root start) (atoms reading root b start);
+              duration = whole b (form root duration) (atoms reading root b duration);
+              demand =
+                  whole b (form root demand) (atoms reading root b demand);
+            })
             (task_ends reading root b later)
-            (lies_some b p (value p start) (form root start) (atoms reading root b start) is_box q s.off) (lies_some b p (value p duration) (form root duration) (atoms reading root b duration) is_box q d.off)
+            (lies_some b p (value p start) (form root start) (atoms reading root b start) is_box q s.off)
+            (lies_some b p (value p duration) (form root duration) (atoms reading root b duration) is_box q d.off)
             (lies_some b p (value p demand) (form root demand) (atoms reading root b demand) is_box q m.off) rest.lie;
-        marked = marked_tasks (mark reading root b start) (mark reading root b duration) (mark reading root b demand) (task_mark reading root b later) (value p start) (value p duration) (value p demand) (all_task_values p later) s.marked d.marked m.marked rest.marked;
+        marked = marked_tasks (mark reading root b start) (mark reading root b duration) (mark reading root b demand) (task_mark reading root b later) (value p start) (value p duration)
+            (value p demand) (all_task_values p later) s.marked d.marked m.marked rest.marked;
       }
 
   pub tells_all : (reading : Reading) (root b : Box) (p : List ℤ) (conds : Conds) → IsBox b → InBox b p → AreProperConds conds → Tells (all_truth reading root b conds) (all_hold p conds)

@@ -118,13 +118,16 @@ negative_narrower (e ∷ es) [] all some = absurd all
 negative_narrower (e ∷ es) (f ∷ fs) all some =
     elim (or_cases (is_negative f) (list_any is_negative fs) some) [
       | inl here ↦ or_first (is_negative e) (list_any is_negative es) (elim (or_cases (int_lt f.duration.high (pos 0)) (int_lt f.demand.high (pos 0)) here) [
-        | inl short ↦ or_first (int_lt e.duration.high (pos 0)) (int_lt e.demand.high (pos 0)) (lt_test e.duration.high (pos 0) (omega (arith, ints, lt_tested f.duration.high (pos 0) short, all.0.duration.to_high)))
-        | inr little ↦ or_second (int_lt e.duration.high (pos 0)) (int_lt e.demand.high (pos 0)) (lt_test e.demand.high (pos 0) (omega (arith, ints, lt_tested f.demand.high (pos 0) little, all.0.demand.to_high)))
+        | inl short ↦ or_first (int_lt e.duration.high (pos 0)) (int_lt e.demand.high (pos 0))
+            (lt_test e.duration.high (pos 0) (omega (arith, ints, lt_tested f.duration.high (pos 0) short, all.0.duration.to_high)))
+        | inr little ↦ or_second (int_lt e.duration.high (pos 0)) (int_lt e.demand.high (pos 0))
+            (lt_test e.demand.high (pos 0) (omega (arith, ints, lt_tested f.demand.high (pos 0) little, all.0.demand.to_high)))
       ])
       | inr later ↦ or_second (is_negative e) (list_any is_negative es) (negative_narrower es fs all.1 later)
     ]
 
-some_time : (capacity : Ends) (all es : List TaskEnds) → list_any (λ (t : TaskEnds). is_overfull all capacity t.start.high) es ≡ true → (time : ℤ) × (capacity.high <ℤ total (map (least_asked time) all))
+some_time : (capacity : Ends) (all es : List TaskEnds) → list_any (λ (t : TaskEnds). is_overfull all capacity t.start.high) es ≡ true
+    → (time : ℤ) × (capacity.high <ℤ total (map (least_asked time) all))
 some_time capacity all [] some = absurd (cc)
 some_time capacity all (e ∷ es) some =
     elim (or_cases (is_overfull all capacity e.start.high) (list_any (λ (t : TaskEnds). is_overfull all capacity t.start.high) es) some) [
@@ -133,7 +136,8 @@ some_time capacity all (e ∷ es) some =
     ]
 
 -- where the capacity is passed at some time it is below 0, or passed at a greatest start
-overfull_at : (time : ℤ) (capacity : Ends) (es : List TaskEnds) → capacity.high <ℤ total (map (least_asked time) es) → (int_lt capacity.high (pos 0) || list_any (λ (t : TaskEnds). is_overfull es capacity t.start.high) es) ≡ true
+overfull_at : (time : ℤ) (capacity : Ends) (es : List TaskEnds) → capacity.high <ℤ total (map (least_asked time) es)
+    → (int_lt capacity.high (pos 0) || list_any (λ (t : TaskEnds). is_overfull es capacity t.start.high) es) ≡ true
 overfull_at time capacity es over =
     by_bool (λ p. int_lt capacity.high (pos 0) ≡ p → (p || list_any (λ (t : TaskEnds). is_overfull es capacity t.start.high) es) ≡ true) (int_lt capacity.high (pos 0))
     (λ met is. refl)
@@ -153,7 +157,8 @@ never_narrower es fs a c all p never =
       | inl negative ↦ or_first (list_any is_negative es) (int_lt a.high (pos 0) || list_any (λ (t : TaskEnds). is_overfull es a t.start.high) es) (negative_narrower es fs all negative)
       | inr other ↦ or_second (list_any is_negative es) (int_lt a.high (pos 0) || list_any (λ (t : TaskEnds). is_overfull es a t.start.high) es)
           (elim (or_cases (int_lt c.high (pos 0)) (list_any (λ (t : TaskEnds). is_overfull fs c t.start.high) fs) other) [
-            | inl below ↦ or_first (int_lt a.high (pos 0)) (list_any (λ (t : TaskEnds). is_overfull es a t.start.high) es) (lt_test a.high (pos 0) (omega (arith, ints, lt_tested c.high (pos 0) below, p.to_high)))
+            | inl below ↦ or_first (int_lt a.high (pos 0)) (list_any (λ (t : TaskEnds). is_overfull es a t.start.high) es)
+                (lt_test a.high (pos 0) (omega (arith, ints, lt_tested c.high (pos 0) below, p.to_high)))
             | inr full ↦
                 let over = some_time c fs fs full in
                 overfull_at over.0 a es (omega (arith, ints, over.1, least_sums over.0 es fs all, p.to_high))
@@ -170,7 +175,8 @@ sound_narrower [] (f ∷ fs) all sound = absurd all
 sound_narrower (e ∷ es) [] all sound = absurd all
 sound_narrower (e ∷ es) (f ∷ fs) all sound =
     both_true (is_sound e) (list_all is_sound es)
-    (both_true (int_le (pos 0) e.duration.low) (int_le (pos 0) e.demand.low) (le_test (pos 0) e.duration.low (omega (arith, ints, sound.0, all.0.duration.from_low))) (le_test (pos 0) e.demand.low (omega (arith, ints, sound.1, all.0.demand.from_low))))
+    (both_true (int_le (pos 0) e.duration.low) (int_le (pos 0) e.demand.low) (le_test (pos 0) e.duration.low (omega (arith, ints, sound.0, all.0.duration.from_low)))
+    (le_test (pos 0) e.demand.low (omega (arith, ints, sound.1, all.0.demand.from_low))))
     (sound_narrower es fs all.1 sound.2)
 
 widest_nonneg : (es fs : List TaskEnds) → TasksWithin es fs → SoundEnds fs → NoneNegative (widest_of fs)
@@ -221,7 +227,8 @@ not_both es fs a c all p always =
     (λ unmet is. refl)
     refl
 
-pub surer_tasks : (m n : Defined) (es fs : List TaskEnds) (a c : Ends) → Sharper m n → TasksWithin es fs → Within a c → Surer (judged m (never_fit es a) (always_fit es a)) (judged n (never_fit fs c) (always_fit fs c))
+pub surer_tasks : (m n : Defined) (es fs : List TaskEnds) (a c : Ends) → Sharper m n → TasksWithin es fs → Within a c
+    → Surer (judged m (never_fit es a) (always_fit es a)) (judged n (never_fit fs c) (always_fit fs c))
 surer_tasks m n es fs a c q all p =
     surer_judged m n (never_fit es a) (always_fit es a) (never_fit fs c) (always_fit fs c) q (never_narrower es fs a c all p) (always_narrower es fs a c all p) (not_both es fs a c all p)
 
@@ -263,7 +270,8 @@ sound_at (e ∷ es) one none =
     let parts = or_false (is_negative e) (list_any is_negative es) none in
     let here = or_false (int_lt e.duration.high (pos 0)) (int_lt e.demand.high (pos 0)) parts.0 in
     both_true (is_sound e) (list_all is_sound es)
-    (both_true (int_le (pos 0) e.duration.low) (int_le (pos 0) e.demand.low) (le_test (pos 0) e.duration.low (omega (arith, ints, lt_untested e.duration.high (pos 0) here.0, one.0.duration))) (le_test (pos 0) e.demand.low (omega (arith, ints, lt_untested e.demand.high (pos 0) here.1, one.0.demand))))
+    (both_true (int_le (pos 0) e.duration.low) (int_le (pos 0) e.demand.low) (le_test (pos 0) e.duration.low (omega (arith, ints, lt_untested e.duration.high (pos 0) here.0, one.0.duration)))
+    (le_test (pos 0) e.demand.low (omega (arith, ints, lt_untested e.demand.high (pos 0) here.1, one.0.demand))))
     (sound_at es one.1 parts.1)
 
 pub never_or_always : (es : List TaskEnds) (a : Ends) → TasksOne es → IsOne a → never_fit es a ≡ false → always_fit es a ≡ true

@@ -1,5 +1,6 @@
 -- `cumulative`: tasks over intervals, and at a point.
-use Rattle.std.proofs.Common.{◌≡◌, inl, inr, ℤ, pos, ◌+ℤ◌, ◌≤ℤ◌, ◌<ℤ◌, int_lt, int_le, Bool, true, false, ◌&&◌, ◌||◌, List, [], ◌∷◌, map, Option, Some, None, option_and_then, IfSome, arith, refl, sym, ap, subst, ◌↔◌}
+use Rattle.std.proofs.Common.{◌≡◌, inl, inr, ℤ, pos, ◌+ℤ◌, ◌≤ℤ◌, ◌<ℤ◌, int_lt, int_le, Bool, true, false, ◌&&◌, ◌||◌, List, [], ◌∷◌, map, Option, Some, None, option_and_then}
+use Rattle.std.proofs.Common.{IfSome, arith, refl, sym, ap, subst, ◌↔◌}
 use Rattle.std.specs.List.{list_all, list_any}
 use Rattle.std.specs.Int.{int_max}
 use Rattle.std.proofs.lemmas.Int.{ints, clamps}
@@ -71,8 +72,11 @@ SoundValues (t ∷ ts) = (pos 0 ≤ℤ t.duration) × (pos 0 ≤ℤ t.demand) ×
 sound_values : (ts : List TaskValues) → list_all (λ (t : TaskValues). int_le (pos 0) t.duration && int_le (pos 0) t.demand) ts ≡ true → SoundValues ts
 sound_values [] all = tt
 sound_values (t ∷ ts) all =
-    let here = and_first (int_le (pos 0) t.duration && int_le (pos 0) t.demand) (list_all (λ (t : TaskValues). int_le (pos 0) t.duration && int_le (pos 0) t.demand) ts) all in
-    (le_tested (pos 0) t.duration (and_first (int_le (pos 0) t.duration) (int_le (pos 0) t.demand) here), le_tested (pos 0) t.demand (and_second (int_le (pos 0) t.duration) (int_le (pos 0) t.demand) here), sound_values ts (and_second (int_le (pos 0) t.duration && int_le (pos 0) t.demand) (list_all (λ (t : TaskValues). int_le (pos 0) t.duration && int_le (pos 0) t.demand) ts) all))
+    let here = and_first (int_le (pos 0) t.duration && int_le (pos 0) t.demand) (list_all (λ (t : TaskValues). int_le (pos 0) t.duration && int_le (pos 0) t.demand) ts) all in (
+      le_tested (pos 0) t.duration (and_first (int_le (pos 0) t.duration) (int_le (pos 0) t.demand) here),
+      le_tested (pos 0) t.demand (and_second (int_le (pos 0) t.duration) (int_le (pos 0) t.demand) here),
+      sound_values ts (and_second (int_le (pos 0) t.duration && int_le (pos 0) t.demand) (list_all (λ (t : TaskValues). int_le (pos 0) t.duration && int_le (pos 0) t.demand) ts) all),
+    )
 
 test_values : (ts : List TaskValues) → SoundValues ts → list_all (λ (t : TaskValues). int_le (pos 0) t.duration && int_le (pos 0) t.demand) ts ≡ true
 test_values [] all = refl
@@ -135,8 +139,11 @@ SoundEnds (e ∷ es) = (pos 0 ≤ℤ e.duration.low) × (pos 0 ≤ℤ e.demand.l
 pub sound_ends : (es : List TaskEnds) → list_all (λ (t : TaskEnds). int_le (pos 0) t.duration.low && int_le (pos 0) t.demand.low) es ≡ true → SoundEnds es
 sound_ends [] all = tt
 sound_ends (e ∷ es) all =
-    let here = and_first (int_le (pos 0) e.duration.low && int_le (pos 0) e.demand.low) (list_all (λ (t : TaskEnds). int_le (pos 0) t.duration.low && int_le (pos 0) t.demand.low) es) all in
-    (le_tested (pos 0) e.duration.low (and_first (int_le (pos 0) e.duration.low) (int_le (pos 0) e.demand.low) here), le_tested (pos 0) e.demand.low (and_second (int_le (pos 0) e.duration.low) (int_le (pos 0) e.demand.low) here), sound_ends es (and_second (int_le (pos 0) e.duration.low && int_le (pos 0) e.demand.low) (list_all (λ (t : TaskEnds). int_le (pos 0) t.duration.low && int_le (pos 0) t.demand.low) es) all))
+    let here = and_first (int_le (pos 0) e.duration.low && int_le (pos 0) e.demand.low) (list_all (λ (t : TaskEnds). int_le (pos 0) t.duration.low && int_le (pos 0) t.demand.low) es) all in (
+      le_tested (pos 0) e.duration.low (and_first (int_le (pos 0) e.duration.low) (int_le (pos 0) e.demand.low) here),
+      le_tested (pos 0) e.demand.low (and_second (int_le (pos 0) e.duration.low) (int_le (pos 0) e.demand.low) here),
+      sound_ends es (and_second (int_le (pos 0) e.duration.low && int_le (pos 0) e.demand.low) (list_all (λ (t : TaskEnds). int_le (pos 0) t.duration.low && int_le (pos 0) t.demand.low) es) all),
+    )
 
 most_sum : (time : ℤ) (ts : List TaskValues) (es : List TaskEnds) → TasksLie ts es → SoundEnds es → taken_by time (spans_of ts) ≤ℤ taken_by time (widest_of es)
 most_sum time [] [] lie sound = omega (arith, ints)
@@ -155,8 +162,11 @@ ends_nonneg (t ∷ ts) (e ∷ es) lie sound =
 pub enough_fit : (capacity : Ends) (all es : List TaskEnds) → list_all (λ (t : TaskEnds). is_enough all capacity t.start.low) es ≡ true → FitAtStarts capacity.low (widest_of all) (widest_of es)
 enough_fit capacity all [] enough = tt
 enough_fit capacity all (e ∷ es) enough =
-    let here = le_tested (total (map (most_asked e.start.low) all)) capacity.low (and_first (is_enough all capacity e.start.low) (list_all (λ (t : TaskEnds). is_enough all capacity t.start.low) es) enough) in
-    (subst (λ z. z ≤ℤ capacity.low) (most_is e.start.low all) here, enough_fit capacity all es (and_second (is_enough all capacity e.start.low) (list_all (λ (t : TaskEnds). is_enough all capacity t.start.low) es) enough))
+    let here = le_tested (total (map (most_asked e.start.low) all)) capacity.low
+    (and_first (is_enough all capacity e.start.low) (list_all (λ (t : TaskEnds). is_enough all capacity t.start.low) es) enough) in (
+      subst (λ z. z ≤ℤ capacity.low) (most_is e.start.low all) here,
+      enough_fit capacity all es (and_second (is_enough all capacity e.start.low) (list_all (λ (t : TaskEnds). is_enough all capacity t.start.low) es) enough),
+    )
 
 values_sound : (ts : List TaskValues) (es : List TaskEnds) → TasksLie ts es → SoundEnds es → SoundValues ts
 values_sound [] [] lie sound = tt
@@ -174,8 +184,10 @@ all_kept c all (t ∷ ts) fits =
 
 pub always_right : (ts : List TaskValues) (c : ℤ) (es : List TaskEnds) (capacity : Ends) → TasksLie ts es → Lies c capacity → always_fit es capacity ≡ true → do_fit ts c ≡ true
 always_right ts c es capacity lie lies fit =
-    let sound = sound_ends es (and_first (list_all (λ (t : TaskEnds). int_le (pos 0) t.duration.low && int_le (pos 0) t.demand.low) es) (int_le (pos 0) capacity.low && list_all (λ (t : TaskEnds). is_enough es capacity t.start.low) es) fit) in
-    let rest = and_second (list_all (λ (t : TaskEnds). int_le (pos 0) t.duration.low && int_le (pos 0) t.demand.low) es) (int_le (pos 0) capacity.low && list_all (λ (t : TaskEnds). is_enough es capacity t.start.low) es) fit in
+    let sound = sound_ends es (and_first (list_all (λ (t : TaskEnds). int_le (pos 0) t.duration.low && int_le (pos 0) t.demand.low) es)
+    (int_le (pos 0) capacity.low && list_all (λ (t : TaskEnds). is_enough es capacity t.start.low) es) fit) in
+    let rest = and_second (list_all (λ (t : TaskEnds). int_le (pos 0) t.duration.low && int_le (pos 0) t.demand.low) es)
+    (int_le (pos 0) capacity.low && list_all (λ (t : TaskEnds). is_enough es capacity t.start.low) es) fit in
     let room = le_tested (pos 0) capacity.low (and_first (int_le (pos 0) capacity.low) (list_all (λ (t : TaskEnds). is_enough es capacity t.start.low) es) rest) in
     let starts = enough_fit capacity es es (and_second (int_le (pos 0) capacity.low) (list_all (λ (t : TaskEnds). is_enough es capacity t.start.low) es) rest) in
     let nonneg = ends_nonneg ts es lie sound in
@@ -185,7 +197,8 @@ always_right ts c es capacity lie lies fit =
     (all_kept c ts ts (λ time. omega (arith, ints, most_sum time ts es lie sound, fit_always time capacity.low (widest_of es) nonneg room starts, lies.from_low))))
 
 -- tasks that never fit do not
-negative_some : (ts : List TaskValues) (es : List TaskEnds) → TasksLie ts es → SoundValues ts → list_any (λ (t : TaskEnds). int_lt t.duration.high (pos 0) || int_lt t.demand.high (pos 0)) es ≡ true → ⊥
+negative_some : (ts : List TaskValues) (es : List TaskEnds) → TasksLie ts es → SoundValues ts
+    → list_any (λ (t : TaskEnds). int_lt t.duration.high (pos 0) || int_lt t.demand.high (pos 0)) es ≡ true → ⊥
 negative_some [] [] lie sound some = cc
 negative_some [] (e ∷ es) lie sound some = lie
 negative_some (t ∷ ts) [] lie sound some = lie
@@ -198,7 +211,8 @@ negative_some (t ∷ ts) (e ∷ es) lie sound some =
       | inr later ↦ negative_some ts es lie.1 sound.2 later
     ]
 
-overfull_some : (capacity : Ends) (all es : List TaskEnds) → list_any (λ (t : TaskEnds). is_overfull all capacity t.start.high) es ≡ true → (time : ℤ) × (capacity.high <ℤ total (map (least_asked time) all))
+overfull_some : (capacity : Ends) (all es : List TaskEnds) → list_any (λ (t : TaskEnds). is_overfull all capacity t.start.high) es ≡ true
+    → (time : ℤ) × (capacity.high <ℤ total (map (least_asked time) all))
 overfull_some capacity all [] some = absurd (cc)
 overfull_some capacity all (e ∷ es) some =
     elim (or_cases (is_overfull all capacity e.start.high) (list_any (λ (t : TaskEnds). is_overfull all capacity t.start.high) es) some) [
@@ -208,11 +222,13 @@ overfull_some capacity all (e ∷ es) some =
 
 pub never_right : (ts : List TaskValues) (c : ℤ) (es : List TaskEnds) (capacity : Ends) → TasksLie ts es → Lies c capacity → never_fit es capacity ≡ true → do_fit ts c ≡ true → ⊥
 never_right ts c es capacity lie lies never fit =
-    let sound = sound_values ts (and_first (list_all (λ (t : TaskValues). int_le (pos 0) t.duration && int_le (pos 0) t.demand) ts) (int_le (pos 0) c && list_all (λ (t : TaskValues). is_kept c ts t.start) ts) fit) in
+    let sound = sound_values ts (and_first (list_all (λ (t : TaskValues). int_le (pos 0) t.duration && int_le (pos 0) t.demand) ts)
+    (int_le (pos 0) c && list_all (λ (t : TaskValues). is_kept c ts t.start) ts) fit) in
     let rest = and_second (list_all (λ (t : TaskValues). int_le (pos 0) t.duration && int_le (pos 0) t.demand) ts) (int_le (pos 0) c && list_all (λ (t : TaskValues). is_kept c ts t.start) ts) fit in
     let room = le_tested (pos 0) c (and_first (int_le (pos 0) c) (list_all (λ (t : TaskValues). is_kept c ts t.start) ts) rest) in
     let starts = kept_fit c ts ts (and_second (int_le (pos 0) c) (list_all (λ (t : TaskValues). is_kept c ts t.start) ts) rest) in
-    elim (or_cases (list_any (λ (t : TaskEnds). int_lt t.duration.high (pos 0) || int_lt t.demand.high (pos 0)) es) (int_lt capacity.high (pos 0) || list_any (λ (t : TaskEnds). is_overfull es capacity t.start.high) es) never) [
+    elim (or_cases (list_any (λ (t : TaskEnds). int_lt t.duration.high (pos 0) || int_lt t.demand.high (pos 0)) es)
+    (int_lt capacity.high (pos 0) || list_any (λ (t : TaskEnds). is_overfull es capacity t.start.high) es) never) [
       | inl negative ↦ negative_some ts es lie sound negative
       | inr other ↦ elim (or_cases (int_lt capacity.high (pos 0)) (list_any (λ (t : TaskEnds). is_overfull es capacity t.start.high) es) other) [
         | inl below ↦ omega (arith, ints, lt_tested capacity.high (pos 0) below, lies.to_high, room)
@@ -222,13 +238,15 @@ never_right ts c es capacity lie lies never fit =
       ]
     ]
 
-fits_decided : (ts : List TaskValues) (c : ℤ) (es : List TaskEnds) (capacity : Ends) → TasksLie ts es → Lies c capacity → Decides (never_fit es capacity) (always_fit es capacity) (λ fit. fit) (do_fit ts c)
+fits_decided : (ts : List TaskValues) (c : ℤ) (es : List TaskEnds) (capacity : Ends) → TasksLie ts es → Lies c capacity
+    → Decides (never_fit es capacity) (always_fit es capacity) (λ fit. fit) (do_fit ts c)
 fits_decided ts c es capacity lie lies = record {
   wrong = λ never. by_bool (λ fit. do_fit ts c ≡ fit → fit ≡ false) (do_fit ts c) (λ met is. absurd (never_right ts c es capacity lie lies never is)) (λ unmet is. refl) refl;
   right = λ always. always_right ts c es capacity lie lies always;
 }
 
-pub tells_tasks : (m n : Defined) (es : List TaskEnds) (capacity : Ends) (vs : Option (List TaskValues)) (c : Option ℤ) → Marks m vs → Marks n c → IfSome vs (λ ts. TasksLie ts es) → IfSome c (λ z. Lies z capacity) → Tells (judged (both m n) (never_fit es capacity) (always_fit es capacity)) (holds_of (λ fit. fit) (both_of do_fit vs c))
+pub tells_tasks : (m n : Defined) (es : List TaskEnds) (capacity : Ends) (vs : Option (List TaskValues)) (c : Option ℤ) → Marks m vs → Marks n c → IfSome vs (λ ts. TasksLie ts es)
+    → IfSome c (λ z. Lies z capacity) → Tells (judged (both m n) (never_fit es capacity) (always_fit es capacity)) (holds_of (λ fit. fit) (both_of do_fit vs c))
 tells_tasks m n es capacity vs c p q lie lies =
     tells_judged (both m n) (never_fit es capacity) (always_fit es capacity) (λ fit. fit) (both_of do_fit vs c) (marked_both do_fit m n vs c p q)
     (both_hold do_fit (λ ts. TasksLie ts es) (λ z. Lies z capacity) (Decides (never_fit es capacity) (always_fit es capacity) (λ fit. fit)) vs c
@@ -261,13 +279,15 @@ all_there (Some s) (Some d) None later = refl
 all_there (Some s) (Some d) (Some m) None = refl
 all_there (Some s) (Some d) (Some m) (Some ts) = refl
 
-pub marked_tasks : (ms md mm ml : Defined) (vs vd vm : Option ℤ) (later : Option (List TaskValues)) → Marks ms vs → Marks md vd → Marks mm vm → Marks ml later → Marks (both ms (both md (both mm ml))) (more_tasks vs vd vm later)
+pub marked_tasks : (ms md mm ml : Defined) (vs vd vm : Option ℤ) (later : Option (List TaskValues)) → Marks ms vs → Marks md vd → Marks mm vm → Marks ml later
+    → Marks (both ms (both md (both mm ml))) (more_tasks vs vd vm later)
 marked_tasks ms md mm ml vs vd vm later p q r s =
     same_mark (both ms (both md (both mm ml))) (both_of first vs (both_of first vd (both_of first vm later))) (more_tasks vs vd vm later) (all_there vs vd vm later)
     (marked_both first ms (both md (both mm ml)) vs (both_of first vd (both_of first vm later)) p
     (marked_both first md (both mm ml) vd (both_of first vm later) q (marked_both first mm ml vm later r s)))
 
-pub lie_tasks : (vs vd vm : Option ℤ) (later : Option (List TaskValues)) (e : TaskEnds) (es : List TaskEnds) → IfSome vs (λ x. Lies x e.start) → IfSome vd (λ x. Lies x e.duration) → IfSome vm (λ x. Lies x e.demand) → IfSome later (λ ts. TasksLie ts es) → IfSome (more_tasks vs vd vm later) (λ ts. TasksLie ts (e ∷ es))
+pub lie_tasks : (vs vd vm : Option ℤ) (later : Option (List TaskValues)) (e : TaskEnds) (es : List TaskEnds) → IfSome vs (λ x. Lies x e.start) → IfSome vd (λ x. Lies x e.duration)
+    → IfSome vm (λ x. Lies x e.demand) → IfSome later (λ ts. TasksLie ts es) → IfSome (more_tasks vs vd vm later) (λ ts. TasksLie ts (e ∷ es))
 lie_tasks None vd vm later e es p q r s = tt
 lie_tasks (Some a) None vm later e es p q r s = tt
 lie_tasks (Some a) (Some d) None later e es p q r s = tt
@@ -298,7 +318,8 @@ nothing_taken time (s ∷ later) nonneg =
 
 fit_at_all : (ts : List TaskValues) (c : ℤ) → do_fit ts c ≡ true → list.All IsSound ts × ((time : ℤ) → total (map (asked time) ts) ≤ℤ c)
 fit_at_all ts c fit =
-    let sound = sound_values ts (and_first (list_all (λ (t : TaskValues). int_le (pos 0) t.duration && int_le (pos 0) t.demand) ts) (int_le (pos 0) c && list_all (λ (t : TaskValues). is_kept c ts t.start) ts) fit) in
+    let sound = sound_values ts (and_first (list_all (λ (t : TaskValues). int_le (pos 0) t.duration && int_le (pos 0) t.demand) ts)
+    (int_le (pos 0) c && list_all (λ (t : TaskValues). is_kept c ts t.start) ts) fit) in
     let rest = and_second (list_all (λ (t : TaskValues). int_le (pos 0) t.duration && int_le (pos 0) t.demand) ts) (int_le (pos 0) c && list_all (λ (t : TaskValues). is_kept c ts t.start) ts) fit in
     let room = le_tested (pos 0) c (and_first (int_le (pos 0) c) (list_all (λ (t : TaskValues). is_kept c ts t.start) ts) rest) in
     let starts = kept_fit c ts ts (and_second (int_le (pos 0) c) (list_all (λ (t : TaskValues). is_kept c ts t.start) ts) rest) in

@@ -5,7 +5,8 @@ use Rattle.box_rules.specs.declared.answers.Defined.{Defined}
 use Rattle.box_rules.specs.declared.answers.Defined.TheVariants.{Never, Maybe, Always}
 use Rattle.box_rules.specs.declared.answers.Truth.{Truth}
 use Rattle.box_rules.specs.declared.answers.Truth.TheVariants.{False, Unknown, True}
-use Rattle.box_rules.specs.Terms.{Table, Term, Constant, Cell, Sum, Product, Quotient, Remainder, Least, Greatest, Size, Element, Number, Terms, no_term, term, Parts, no_part, part, Cond, Compare, Not, All, Any, Implies, AllDifferent, Cumulative, Conds, no_cond, condition, Tasks, no_task, task}
+use Rattle.box_rules.specs.Terms.{Table, Term, Constant, Cell, Sum, Product, Quotient, Remainder, Least, Greatest, Size, Element, Number, Terms, no_term, term, Parts, no_part}
+use Rattle.box_rules.specs.Terms.{part, Cond, Compare, Not, All, Any, Implies, AllDifferent, Cumulative, Conds, no_cond, condition, Tasks, no_task, task}
 use Rattle.box_rules.specs.Arrays.{indices}
 use Rattle.box_rules.specs.Ends.{Ends, Lies}
 use Rattle.box_rules.specs.Rules.{Reading, Near, Wide, interval, mark, truth}

@@ -1,11 +1,11 @@
-pub mod Terms
 pub mod Arrays
 pub mod Ends
 pub mod Forms
-pub mod Marks
 pub mod Globals
-pub mod Rules
-pub mod Values
-pub mod Sizes
-pub mod Worked
 pub mod Laws
+pub mod Marks
+pub mod Rules
+pub mod Sizes
+pub mod Terms
+pub mod Values
+pub mod WorkedIntervals

@@ -1,8 +1,8 @@
 -- Marks of definedness, and truths.
 use Rattle.std.specs.Prelude.{pos, int_lt, int_le, Bool, true, false, ◌&&◌, ◌||◌, List, [], ◌∷◌, if◌then◌else◌}
 use Rattle.std.specs.Ordering.{int_eq}
-use Rattle.sopl_base.specs.declared.places.CmpOp.{CmpOp}
-use Rattle.sopl_base.specs.declared.places.CmpOp.TheVariants.{Eq, Ne, Lt, Le, Gt, Ge}
+use Rattle.sopl_base.specs.declared.comparison.CmpOp.{CmpOp}
+use Rattle.sopl_base.specs.declared.comparison.CmpOp.TheVariants.{Eq, Ne, Lt, Le, Gt, Ge}
 use Rattle.box_rules.specs.declared.answers.Defined.{Defined}
 use Rattle.box_rules.specs.declared.answers.Defined.TheVariants.{Never, Maybe, Always}
 use Rattle.box_rules.specs.declared.answers.Truth.{Truth}

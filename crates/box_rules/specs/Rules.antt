@@ -8,7 +8,8 @@ use Rattle.box_rules.specs.declared.answers.Defined.{Defined}
 use Rattle.box_rules.specs.declared.answers.Defined.TheVariants.{Never, Maybe, Always}
 use Rattle.box_rules.specs.declared.answers.Truth.{Truth}
 use Rattle.box_rules.specs.declared.answers.Truth.TheVariants.{False, True}
-use Rattle.box_rules.specs.Terms.{Item, Fixed, Free, Table, Term, Constant, Cell, Sum, Product, Quotient, Remainder, Least, Greatest, Size, Element, Number, Terms, no_term, term, Parts, no_part, part, Cond, Compare, Not, All, Any, Implies, AllDifferent, Cumulative, Conds, no_cond, condition, Tasks, no_task, task}
+use Rattle.box_rules.specs.Terms.{Item, Fixed, Free, Table, Term, Constant, Cell, Sum, Product, Quotient, Remainder, Least, Greatest, Size, Element, Number, Terms, no_term, term}
+use Rattle.box_rules.specs.Terms.{Parts, no_part, part, Cond, Compare, Not, All, Any, Implies, AllDifferent, Cumulative, Conds, no_cond, condition, Tasks, no_task, task}
 use Rattle.box_rules.specs.Arrays.{Entry, entries, item_at, reached, are_covered}
 use Rattle.box_rules.specs.Ends.{Ends, exactly, plus, scaled, times, quotients, remainders, least, greatest, size_of, sizes, hull_of, cell_ends}
 use Rattle.box_rules.specs.Forms.{Form, number_form, cell_form, atom_form, is_constant, plus_form, product_form, sign, whole}

@@ -1,6 +1,6 @@
 -- Number expressions and conditions over cells, as plain data. Names, binders and the scenario are put in; the cells alone are open.
 use Rattle.std.specs.Prelude.{ℕ, ℤ, Bool, List}
-use Rattle.sopl_base.specs.declared.places.CmpOp.{CmpOp}
+use Rattle.sopl_base.specs.declared.comparison.CmpOp.{CmpOp}
 
 -- an element of an array: a number, or a cell
 pub data Item : Type 0 where

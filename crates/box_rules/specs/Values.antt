@@ -1,12 +1,14 @@
 -- What number expressions and conditions are worth at a point: a whole number or undefined, true or false.
-use Rattle.std.specs.Prelude.{ℕ, ℤ, pos, ◌+ℤ◌, ◌*ℤ◌, int_lt, int_le, Bool, true, false, not, ◌&&◌, ◌||◌, List, [], ◌∷◌, map, slice_index_or, Option, Some, None, option_map, option_and_then, if◌then◌else◌}
+use Rattle.std.specs.Prelude.{ℕ, ℤ, pos, ◌+ℤ◌, ◌*ℤ◌, int_lt, int_le, Bool, true, false, not, ◌&&◌, ◌||◌, List, [], ◌∷◌, map, slice_index_or, Option, Some, None, option_map}
+use Rattle.std.specs.Prelude.{option_and_then, if◌then◌else◌}
 use Rattle.std.specs.List.{fold, list_all, list_any}
 use Rattle.std.specs.Int.{int_min, int_max}
 use Rattle.std.specs.Int.RustNames.{int_div, int_rem}
 use Rattle.std.specs.Ordering.{int_eq}
-use Rattle.sopl_base.specs.declared.places.CmpOp.{CmpOp}
-use Rattle.sopl_base.specs.declared.places.CmpOp.TheVariants.{Eq, Ne, Lt, Le, Gt, Ge}
-use Rattle.box_rules.specs.Terms.{Item, Fixed, Free, Term, Constant, Cell, Sum, Product, Quotient, Remainder, Least, Greatest, Size, Element, Number, Terms, no_term, term, Parts, no_part, part, Cond, Compare, Not, All, Any, Implies, AllDifferent, Cumulative, Conds, no_cond, condition, Tasks, no_task, task}
+use Rattle.sopl_base.specs.declared.comparison.CmpOp.{CmpOp}
+use Rattle.sopl_base.specs.declared.comparison.CmpOp.TheVariants.{Eq, Ne, Lt, Le, Gt, Ge}
+use Rattle.box_rules.specs.Terms.{Item, Fixed, Free, Term, Constant, Cell, Sum, Product, Quotient, Remainder, Least, Greatest, Size, Element, Number, Terms, no_term, term, Parts}
+use Rattle.box_rules.specs.Terms.{no_part, part, Cond, Compare, Not, All, Any, Implies, AllDifferent, Cumulative, Conds, no_cond, condition, Tasks, no_task, task}
 use Rattle.box_rules.specs.Arrays.{item_at}
 use Rattle.box_rules.specs.Ends.{size_of}
 use Rattle.box_rules.specs.Forms.{sign}

@@ -1,6 +1,7 @@
 //! The rules on boxes: which linear form, interval and mark a number expression over cells has, which truth a condition has,
 //! what both are worth at a point, and how large numbers get. All of it is definitions, worked values and laws over them: the
 //! functions are empty and state what was proved, so that no body here could be wrong; hence the crate has no must-fail edits.
+//! There is nothing to test.
 #![tactic(auto)]
 
 mod answers;

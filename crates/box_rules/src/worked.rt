@@ -1,13 +1,15 @@
 ghost use Rattle.std.specs.Prelude.{◌≡◌, pos, true, false, [], ◌∷◌, map, Some, None};
-ghost use Rattle.sopl_base.specs.declared.places.CmpOp.TheVariants.{Eq, Ne, Lt, Le, Gt, Ge};
+ghost use Rattle.sopl_base.specs.declared.comparison.CmpOp.TheVariants.{Eq, Ne, Lt, Le, Gt, Ge};
 ghost use Rattle.box_rules.specs.declared.answers.Defined.TheVariants.{Never, Maybe, Always};
 ghost use Rattle.box_rules.specs.declared.answers.Truth.TheVariants.{False, Unknown, True};
-ghost use Rattle.box_rules.specs.Terms.{Constant, Product, Quotient, Remainder, Least, Greatest, Size, Element, Number, Sum, no_part, no_term, Compare, Not, All, Any, Implies, AllDifferent, Cumulative, no_cond, condition, no_task};
+ghost use Rattle.box_rules.specs.Terms.{Constant, Product, Quotient, Remainder, Least, Greatest, Size, Element, Number, Sum, no_part, no_term, Compare, Not, All, Any, Implies};
+ghost use Rattle.box_rules.specs.Terms.{AllDifferent, Cumulative, no_cond, condition, no_task};
 ghost use Rattle.box_rules.specs.Forms.{number_form, cell_form, atom_form};
 ghost use Rattle.box_rules.specs.Rules.{Wide, form};
 ghost use Rattle.box_rules.specs.Values.{value, holds};
 ghost use Rattle.box_rules.specs.Sizes.{size};
-ghost use Rattle.box_rules.specs.Worked.{minus, box, x, y, z, number, sum, difference, one, two, three, prices, empty, cells, grid, price_at, true_number, seen, seen_by, over, truth_over, two_tasks};
+ghost use Rattle.box_rules.specs.WorkedIntervals.{minus, box, x, y, z, number, sum, difference, one, two, three, prices, empty, cells, grid, price_at, true_number, seen, seen_by};
+ghost use Rattle.box_rules.specs.WorkedIntervals.{over, truth_over, two_tasks};
 
 /// Intervals of each operation, for x from -7 to 9 and y from -5 to 4, and for other boxes where that says more.
 pub fn worked_intervals()

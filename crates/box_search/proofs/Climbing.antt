@@ -1,5 +1,6 @@
 -- What holds of two cells of which the first one climbs.
-use Rattle.std.proofs.Common.{◌≡◌, ℕ, zero, suc, ◌^◌, ◌<◌, ◌≤◌, nat_le, ℤ, pos, ◌+ℤ◌, ◌-ℤ◌, ◌<ℤ◌, ◌≤ℤ◌, int_lt, int_le, Bool, true, false, List, [], ◌∷◌, ◌++◌, Option, Some, None, length, get_or, arith, refl, sym, ap, subst, ◌∙◌}
+use Rattle.std.proofs.Common.{◌≡◌, ℕ, zero, suc, ◌^◌, ◌<◌, ◌≤◌, nat_le, ℤ, pos, ◌+ℤ◌, ◌-ℤ◌, ◌<ℤ◌, ◌≤ℤ◌, int_lt, int_le, Bool, true, false, List, [], ◌∷◌, ◌++◌, Option, Some, None}
+use Rattle.std.proofs.Common.{length, get_or, arith, refl, sym, ap, subst, ◌∙◌}
 use Rattle.std.specs.Int.{int_gap}
 use Rattle.std.specs.List.{Contains, range_with_len}
 use Rattle.std.proofs.lemmas.List.FromFn.{length-range_with_len}
@@ -7,11 +8,11 @@ use Rattle.std.proofs.lemmas.List.Sums.{count_by-le-length, length-filter}
 use Rattle.box_bits.specs.Bits.{bits_in, digits}
 use Rattle.std.proofs.lemmas.Int.{ints, by_lt_z}
 use Rattle.std.proofs.lemmas.List.{get_or-set_same}
-use Rattle.sopl_base.specs.declared.places.Direction.TheVariants.{Maximize}
-use Rattle.sopl_base.specs.declared.places.Interval.{Interval}
-use Rattle.sopl_base.specs.declared.places.Reason.{Reason}
-use Rattle.sopl_base.specs.declared.places.Reason.TheVariants.{Hard, Chance, Undefined, Bound}
-use Rattle.sopl_base.specs.declared.places.Side.TheVariants.{Le, Ge}
+use Rattle.sopl_base.specs.declared.direction.Direction.TheVariants.{Maximize}
+use Rattle.sopl_base.specs.declared.interval.Interval.{Interval}
+use Rattle.sopl_base.specs.declared.reason.Reason.{Reason}
+use Rattle.sopl_base.specs.declared.reason.Reason.TheVariants.{Hard, Chance, Undefined, Bound}
+use Rattle.sopl_base.specs.declared.reason.Side.TheVariants.{Le, Ge}
 use Rattle.box_problem.specs.Box.{Box, Inside, InBox, IsPoint, low, high, with_low, with_high}
 use Rattle.box_problem.specs.BoxProblem.{Beats, Follows, Lawful}
 use Rattle.box_problem.specs.Rightness.{Quiets}
@@ -72,7 +73,14 @@ reached_at value end v result answer same is test = ap (λ z. reached z v) (sym 
 
 sound_reason : (reason : Reason) (b : Box) (v : Option ℤ) (point : List ℤ) (root : Box) → length b.lows ≡ 2 → is_closed reason b v ≡ true → InBox b point → ¬ Beats (climbing root) v point
 sound_reason (Hard zero zero) b v point root two test q beats =
-    absurd (omega (arith, ints, below (high b 1) (low b 0) test, within (get_or point 0 (pos 0)) (get_or point 1 (pos 0)) beats.satisfies, q.from_low 0 (omega (arith, q.same_cells, two)), q.to_high 1 (omega (arith, q.same_cells, two))))
+    absurd (omega (
+      arith,
+      ints,
+      below (high b 1) (low b 0) test,
+      within (get_or point 0 (pos 0)) (get_or point 1 (pos 0)) beats.satisfies,
+      q.from_low 0 (omega (arith, q.same_cells, two)),
+      q.to_high 1 (omega (arith, q.same_cells, two)),
+    ))
 sound_reason (Hard zero (suc scenario)) b v point root two test q beats = absurd (cc)
 sound_reason (Hard (suc instance) scenario) b v point root two test q beats = absurd (cc)
 sound_reason (Chance instance) b v point root two test q beats = absurd (cc)
@@ -140,7 +148,8 @@ moved_high b cell other P exists here there =
     at_set (λ n z. n ≡ other → P z) b.highs cell (low b cell) exists (λ same. here (sym same)) (λ n differs same. subst (λ (m : ℕ). P (high b m)) (sym same) there) other refl
 
 -- the propagator rests where both ends of both cells are possible
-pub climb_quiet : (first second : Interval) (b : Box) (v : Option ℤ) → Inside b (pair_of first second) → low b 0 ≤ℤ low b 1 → high b 0 ≤ℤ high b 1 → reached (low b 0) v ≡ false → Quiets (climbing (pair_of first second)) both_reasons v b
+pub climb_quiet : (first second : Interval) (b : Box) (v : Option ℤ) → Inside b (pair_of first second) → low b 0 ≤ℤ low b 1 → high b 0 ≤ℤ high b 1 → reached (low b 0) v ≡ false
+    → Quiets (climbing (pair_of first second)) both_reasons v b
 climb_quiet first second b v inside lows highs above =
     let is_box = inside.is_box in
     let two = both_cells first second b inside in
@@ -168,7 +177,8 @@ pub climb_bounded : (root b : Box) (v : Option ℤ) → reached (high b 0) v ≡
 climb_bounded root b v worse = record { own = bound_there; closed = worse }
 
 -- the upper end of the first cell, the lower end of the second one, and the lower end of the first one
-pub climb_first : (first second : Interval) (b : Box) (v : Option ℤ) (k : ℤ) → Inside b (pair_of first second) → low b 0 ≤ℤ high b 1 → reached (high b 0) v ≡ false → high b 1 <ℤ high b 0 → k ≡ high b 1 → Narrows (climbing (pair_of first second)) both_reasons v b (record { reason = Hard 0 0; cell = 0; side = Le; k = k })
+pub climb_first : (first second : Interval) (b : Box) (v : Option ℤ) (k : ℤ) → Inside b (pair_of first second) → low b 0 ≤ℤ high b 1 → reached (high b 0) v ≡ false → high b 1 <ℤ high b 0
+    → k ≡ high b 1 → Narrows (climbing (pair_of first second)) both_reasons v b (record { reason = Hard 0 0; cell = 0; side = Le; k = k })
 climb_first first second b v k inside hard above order is =
     let there : 0 < length b.lows = omega (arith, both_cells first second b inside) in
     record {
@@ -180,7 +190,8 @@ climb_first first second b v k inside hard above order is =
       whole = open_both b v hard above;
     }
 
-pub climb_second : (first second : Interval) (b : Box) (v : Option ℤ) (k : ℤ) → Inside b (pair_of first second) → low b 0 ≤ℤ high b 1 → reached (high b 0) v ≡ false → low b 1 <ℤ low b 0 → k ≡ low b 0 → Narrows (climbing (pair_of first second)) both_reasons v b (record { reason = Hard 0 0; cell = 1; side = Ge; k = k })
+pub climb_second : (first second : Interval) (b : Box) (v : Option ℤ) (k : ℤ) → Inside b (pair_of first second) → low b 0 ≤ℤ high b 1 → reached (high b 0) v ≡ false → low b 1 <ℤ low b 0
+    → k ≡ low b 0 → Narrows (climbing (pair_of first second)) both_reasons v b (record { reason = Hard 0 0; cell = 1; side = Ge; k = k })
 climb_second first second b v k inside hard above order is =
     let there : 1 < length b.lows = omega (arith, both_cells first second b inside) in
     record {
@@ -192,7 +203,8 @@ climb_second first second b v k inside hard above order is =
       whole = open_both b v hard above;
     }
 
-pub climb_up : (first second : Interval) (b : Box) (v : Option ℤ) (k : ℤ) → Inside b (pair_of first second) → low b 0 ≤ℤ high b 1 → reached (high b 0) v ≡ false → reached (low b 0) v ≡ true → k ≡ low b 0 +ℤ pos 1 → Narrows (climbing (pair_of first second)) both_reasons v b (record { reason = Bound; cell = 0; side = Ge; k = k })
+pub climb_up : (first second : Interval) (b : Box) (v : Option ℤ) (k : ℤ) → Inside b (pair_of first second) → low b 0 ≤ℤ high b 1 → reached (high b 0) v ≡ false → reached (low b 0) v
+    ≡ true → k ≡ low b 0 +ℤ pos 1 → Narrows (climbing (pair_of first second)) both_reasons v b (record { reason = Bound; cell = 0; side = Ge; k = k })
 climb_up first second b v k inside hard above reaches is =
     let there : 0 < length b.lows = omega (arith, both_cells first second b inside) in
     let order : low b 0 <ℤ high b 0 = reached_below (low b 0) (high b 0) v reaches above in

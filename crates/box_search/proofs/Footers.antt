@@ -2,8 +2,8 @@
 use Rattle.std.proofs.Common.{◌≡◌, inl, inr, ℤ, List, [], ◌∷◌, Option, Some, None, Any, Contains, refl, arith, sym, ap, subst, ◌∙◌}
 use Rattle.std.proofs.lemmas.Int.{ints, by_lt_z}
 use Rattle.std.proofs.lemmas.List.Elements.{All-contains}
-use Rattle.sopl_base.specs.declared.places.Direction.{Direction}
-use Rattle.sopl_base.specs.declared.places.Direction.TheVariants.{Minimize, Maximize, Nothing}
+use Rattle.sopl_base.specs.declared.direction.Direction.{Direction}
+use Rattle.sopl_base.specs.declared.direction.Direction.TheVariants.{Minimize, Maximize, Nothing}
 use Rattle.sopl_base.specs.Better.{IsBetter}
 use Rattle.box_problem.specs.Box.{Box}
 use Rattle.box_problem.specs.BoxProblem.{BoxProblem}
@@ -56,18 +56,21 @@ node_of_box (y ∷ nodes) b has =
     longer : (y : Pending) (nodes : List Pending) (b : Box) → HasBox nodes b → HasBox (y ∷ nodes) b
     longer y nodes b has = record { node = has.node; among = others_have [] nodes y has.node has.among; is = has.is }
 
-some_end : (problem : BoxProblem) (nodes opens : List Pending) (bound : ℤ) → ((x : Pending) → Contains nodes x → Contains opens x) → Any (λ b. bound ≡ problem.end b) (boxes nodes) → IsPendingEnd problem opens bound
+some_end : (problem : BoxProblem) (nodes opens : List Pending) (bound : ℤ) → ((x : Pending) → Contains nodes x → Contains opens x) → Any (λ b. bound ≡ problem.end b) (boxes nodes)
+    → IsPendingEnd problem opens bound
 some_end problem nodes opens bound same some =
     let there = node_of_box nodes some.1 (some.0, some.2, some.3) in
     record { node = there.node; is_open = same there.node there.among; end = ap problem.end there.is ∙ sym some.4 }
 
-bounds_all : (problem : BoxProblem) (v : Option ℤ) (nodes opens : List Pending) (bound : ℤ) → ((x : Pending) → Contains opens x → Contains nodes x) → IsBound problem v (boxes nodes) bound → BoundsPending problem opens bound
+bounds_all : (problem : BoxProblem) (v : Option ℤ) (nodes opens : List Pending) (bound : ℤ) → ((x : Pending) → Contains opens x → Contains nodes x) → IsBound problem v (boxes nodes) bound
+    → BoundsPending problem opens bound
 bounds_all problem v nodes opens bound same is x has = All-contains (λ (b : Box). ¬ IsBetter problem.direction (problem.end b) bound) (boxes nodes) x.at is.ends (box_has nodes x (same x has))
 
 the_bound : (v bound : ℤ) → Some v ≡ Some bound → bound ≡ v
 the_bound v bound same = cc
 
-bounded_footer : (problem : BoxProblem) (best : Option Found) (nodes opens : List Pending) (bound : ℤ) → ((x : Pending) → Contains nodes x → Contains opens x) → ((x : Pending) → Contains opens x → Contains nodes x)
+bounded_footer : (problem : BoxProblem) (best : Option Found) (nodes opens : List Pending) (bound : ℤ) → ((x : Pending) → Contains nodes x → Contains opens x)
+    → ((x : Pending) → Contains opens x → Contains nodes x)
     → IsBound problem (value_of best) (boxes nodes) bound → Closes problem opens (value_of best) (footer_of (Bounded best bound))
 bounded_footer problem None nodes opens bound to from is = record {
   best_is = refl;
@@ -88,7 +91,8 @@ bounded_footer problem (Some found) nodes opens bound to from is = record {
 }
 
 -- with nodes open
-pub settled_footer : (problem : BoxProblem) (best : Option Found) (nodes opens : List Pending) (bound : ℤ) (outcome : Outcome) → ((x : Pending) → Contains nodes x → Contains opens x) → ((x : Pending) → Contains opens x → Contains nodes x)
+pub settled_footer : (problem : BoxProblem) (best : Option Found) (nodes opens : List Pending) (bound : ℤ) (outcome : Outcome) → ((x : Pending) → Contains nodes x → Contains opens x)
+    → ((x : Pending) → Contains opens x → Contains nodes x)
     → IsBound problem (value_of best) (boxes nodes) bound → Settles problem.direction best bound outcome → Closes problem opens (value_of best) (footer_of outcome)
 settled_footer problem best nodes opens bound (Optimal value cells) to from is settles = record {
   best_is = ap value_of settles.0;

@@ -5,8 +5,8 @@ use Rattle.std.proofs.lemmas.List.{reverse-reverse}
 use Rattle.std.proofs.lemmas.List.Elements.{Contains-get_or}
 use Rattle.std.proofs.lemmas.List.Quantifiers.{all_pairs_push}
 use Rattle.std.proofs.lemmas.List.Sorted.{Contains-permutation, IsPermutation-reverse}
-use Rattle.sopl_base.specs.declared.places.Side.{Side}
-use Rattle.sopl_base.specs.declared.places.Side.TheVariants.{Le, Ge}
+use Rattle.sopl_base.specs.declared.reason.Side.{Side}
+use Rattle.sopl_base.specs.declared.reason.Side.TheVariants.{Le, Ge}
 use Rattle.log_rows.specs.declared.rows.Parent.{Parent}
 use Rattle.log_rows.specs.Made.{Pending}
 use Rattle.log_rows.proofs.Lists.{AreApart, first_or_later, middle_apart, middle_is, middle_or_others, none_has, others_apart, others_have, put_apart}
@@ -79,7 +79,8 @@ all_before : (x h : Option Parent) (nodes : List Pending) → IsOlder x h → Al
 all_before x h [] first are = tt
 all_before x h (z ∷ nodes) first are = (older_before x h z.parent first are.0, all_before x h nodes first are.1)
 
-all_before_newest : (x h : Option Parent) (nodes : List Pending) → IsOlder x h → AllByRecursion (λ (y : Pending). IsOlder h y.parent) nodes → AllByRecursion (λ (y : Pending). StandsBefore y.parent x) nodes
+all_before_newest : (x h : Option Parent) (nodes : List Pending) → IsOlder x h → AllByRecursion (λ (y : Pending). IsOlder h y.parent) nodes
+    → AllByRecursion (λ (y : Pending). StandsBefore y.parent x) nodes
 all_before_newest x h [] first are = tt
 all_before_newest x h (z ∷ nodes) first are = (older_before_newest x h z.parent first are.0, all_before_newest x h nodes first are.1)
 
@@ -113,14 +114,16 @@ abbrev pub AreInOrder : List Pending → Type 0
 AreInOrder nodes = AllPairs (λ (x y : Pending). StandsBefore x.parent y.parent) nodes
 
 pub from_reversed : (nodes : List Pending) (y : Pending) → Contains (reverse nodes) y → Contains nodes y
-from_reversed nodes y has = subst (λ (xs : List Pending). Contains xs y) (reverse-reverse nodes) (Contains-permutation (reverse nodes) (reverse (reverse nodes)) y (IsPermutation-reverse (reverse nodes)) has)
+from_reversed nodes y has = subst (λ (xs : List Pending). Contains xs y) (reverse-reverse nodes)
+    (Contains-permutation (reverse nodes) (reverse (reverse nodes)) y (IsPermutation-reverse (reverse nodes)) has)
 
 pub reversed_in_order : (nodes : List Pending) → AreDescending nodes → AreInOrder (reverse nodes)
 reversed_in_order [] descending = λ i j d before exists. absurd (omega arith)
 reversed_in_order (x ∷ nodes) descending =
     subst AreInOrder (sym (reverse_first x nodes))
     (all_pairs_push (λ (a b : Pending). StandsBefore a.parent b.parent) (reverse nodes) x (reversed_in_order nodes descending.1)
-    (λ k d exists. of_all (λ (y : Pending). StandsBefore y.parent x.parent) nodes (get_or (reverse nodes) k d) descending.0 (from_reversed nodes (get_or (reverse nodes) k d) (Contains-get_or (reverse nodes) k d exists))))
+    (λ k d exists. of_all (λ (y : Pending). StandsBefore y.parent x.parent) nodes (get_or (reverse nodes) k d) descending.0
+    (from_reversed nodes (get_or (reverse nodes) k d) (Contains-get_or (reverse nodes) k d exists))))
 
 -- the last two of a list in the other order
 swap_has : (front : List Pending) (a b y : Pending) → Contains (front ++ a ∷ b ∷ []) y → Contains (front ++ b ∷ a ∷ []) y
@@ -163,6 +166,7 @@ put_apart_too false x h nodes apart = apart
 put_apart_too true x h nodes apart =
     subst AreApart (sym (reverse_two h x nodes)) (swap_apart (reverse nodes) h x (subst AreApart (reverse_two x h nodes) apart))
 
-pub put_in_order : (sibling : Bool) (x h : Pending) (nodes : List Pending) → AreStacked (x ∷ h ∷ nodes) → (sibling ≡ true → HasNode x.parent h.parent) → (sibling ≡ false → ¬ HasNode x.parent h.parent) → AreInOrder (reverse (put_node sibling x h nodes))
+pub put_in_order : (sibling : Bool) (x h : Pending) (nodes : List Pending) → AreStacked (x ∷ h ∷ nodes) → (sibling ≡ true → HasNode x.parent h.parent) → (sibling ≡ false → ¬ HasNode x.parent h.parent)
+    → AreInOrder (reverse (put_node sibling x h nodes))
 put_in_order true x h nodes stacked same differs = reversed_in_order (h ∷ x ∷ nodes) (hand_second x h nodes stacked (same refl))
 put_in_order false x h nodes stacked same differs = reversed_in_order (x ∷ h ∷ nodes) (hand_first x h nodes stacked (differs refl))

@@ -1,13 +1,14 @@
 -- The rows of a search from one node to the next.
-use Rattle.std.proofs.Common.{◌≡◌, inl, inr, ℕ, suc, ◌+◌, ◌^◌, ◌<◌, ℤ, Bool, List, [], ◌∷◌, ◌++◌, length, reverse, Option, Some, None, Result, Ok, Err, IfOk, All, Contains, refl, arith, sym, ap, subst, ◌∙◌, append_assoc, true}
+use Rattle.std.proofs.Common.{◌≡◌, inl, inr, ℕ, suc, ◌+◌, ◌^◌, ◌<◌, ℤ, Bool, List, [], ◌∷◌, ◌++◌, length, reverse, Option, Some, None, Result, Ok, Err, IfOk, All, Contains, refl}
+use Rattle.std.proofs.Common.{arith, sym, ap, subst, ◌∙◌, append_assoc, true}
 use Rattle.std.specs.declared.alloc.AllocError.{AllocError}
 use Rattle.std.proofs.lemmas.Bool.{cases_eq}
 use Rattle.std.proofs.lemmas.List.{append-nil, length-append, reverse-append}
 use Rattle.std.proofs.lemmas.List.Elements.{All-nil, All-push}
 use Rattle.std.proofs.lemmas.List.Sorted.{Contains-permutation, IsPermutation-reverse}
-use Rattle.sopl_base.specs.declared.places.Reason.{Reason}
-use Rattle.sopl_base.specs.declared.places.Side.TheVariants.{Le, Ge}
-use Rattle.sopl_base.specs.declared.places.Step.{Step}
+use Rattle.sopl_base.specs.declared.reason.Reason.{Reason}
+use Rattle.sopl_base.specs.declared.reason.Side.TheVariants.{Le, Ge}
+use Rattle.sopl_base.specs.declared.reason.Step.{Step}
 use Rattle.std.proofs.lemmas.Int.{ints}
 use Rattle.box_bits.specs.Bits.{bits_in}
 use Rattle.box_bits.proofs.Bits.{middles_take_a_bit, parts_have_no_more_bits}
@@ -49,7 +50,8 @@ reverse_first x xs = reverse-append (x ∷ []) xs
 pub has_reversed : (xs : List Pending) (y : Pending) → Contains xs y → Contains (reverse xs) y
 has_reversed xs y has = Contains-permutation xs (reverse xs) y (IsPermutation-reverse xs) has
 
-pub kept_at_first : (problem : BoxProblem) (rows : List Row) (finished : ℕ) (parent : Option Parent) (b : Box) (best : Option ℤ) → IsPosed problem → rows ≡ [] → finished ≡ 0 → parent ≡ None → b ≡ problem.root → best ≡ None → AreKept problem rows finished (record { parent = parent; at = b } ∷ []) best
+pub kept_at_first : (problem : BoxProblem) (rows : List Row) (finished : ℕ) (parent : Option Parent) (b : Box) (best : Option ℤ) → IsPosed problem → rows ≡ [] → finished ≡ 0 → parent
+    ≡ None → b ≡ problem.root → best ≡ None → AreKept problem rows finished (record { parent = parent; at = b } ∷ []) best
 kept_at_first problem rows finished parent b best posed no_rows none root is nothing =
     subst (λ (xs : List Row). AreKept problem xs finished (record { parent = parent; at = b } ∷ []) best) (sym no_rows)
     (subst (λ (n : ℕ). AreKept problem [] n (record { parent = parent; at = b } ∷ []) best) (sym none)
@@ -79,7 +81,8 @@ each_row P rows row old new i exists =
 more_counted : (rows : List Row) (row : Row) (finished : ℕ) → length rows ≡ finished → length (rows ++ row ∷ []) ≡ finished + 1
 more_counted rows row finished is = omega (arith, is, length-append rows (row ∷ []))
 
-still_split_first : (root : Box) (rows : List Row) (x : Pending) (steps : List Step) (end : EndLine) → x.at ≡ box_at root rows x.parent → AllSplitFirst root rows → SplitsFirst (after_steps x.at steps) end
+still_split_first : (root : Box) (rows : List Row) (x : Pending) (steps : List Step) (end : EndLine) → x.at ≡ box_at root rows x.parent → AllSplitFirst root rows
+    → SplitsFirst (after_steps x.at steps) end
     → AllSplitFirst root (rows ++ row_of x steps end ∷ [])
 still_split_first root rows x steps end placed all new =
     let row = row_of x steps end in
@@ -118,7 +121,8 @@ node_hangs problem rows nodes best x logs has =
 
 -- a node that ends by a reason, or at a point, is one row more
 kept_after_end : (problem : BoxProblem) (rows : List Row) (finished : ℕ) (x : Pending) (later : List Pending) (best : Option ℤ) (steps : List Step) (end : EndLine)
-    → finished < 2 ^ 32 → AllRight problem best x.at steps → MadeEnd problem best (after_steps x.at steps) end → ¬ IsSplit end → IsFinished end → SplitsFirst (after_steps x.at steps) end → IsKnown steps end
+    → finished < 2 ^ 32 → AllRight problem best x.at steps → MadeEnd problem best (after_steps x.at steps) end → ¬ IsSplit end → IsFinished end → SplitsFirst (after_steps x.at steps) end
+    → IsKnown steps end
     → AreKept problem rows finished (x ∷ later) best → AreKept problem (rows ++ row_of x steps end ∷ []) (finished + 1) later (best_after problem best end (after_steps x.at steps))
 kept_after_end problem rows finished x later best steps end small right made isnt ended first known kept =
     let before : Logs problem rows (reverse later ++ x ∷ []) best = subst (λ (nodes : List Pending). Logs problem rows nodes best) (reverse_first x later) kept.logs in
@@ -141,8 +145,10 @@ right_from : (problem : BoxProblem) (v : Option ℤ) (start b : Box) (steps : Li
 right_from problem v start b steps appended =
     (subst (AllRight problem v start) (sym appended.added) appended.right, appended.leads ∙ ap (after_steps start) (sym appended.added))
 
-pub kept_after_refuted : (problem : BoxProblem) (rows after : List Row) (finished : ℕ) (parent : Option Parent) (start b : Box) (later : List Pending) (best : Option ℤ) (steps : List Step) (reason : Reason)
-    → finished < 2 ^ 32 → IsKnown steps (lines.Refuted reason) → Appended problem best start [] steps b → problem.refutes reason b best ≡ true → after ≡ rows ++ new_row parent steps (lines.Refuted reason) ∷ []
+pub kept_after_refuted : (problem : BoxProblem) (rows after : List Row) (finished : ℕ) (parent : Option Parent) (start b : Box) (later : List Pending) (best : Option ℤ) (steps : List Step)
+    (reason : Reason)
+    → finished < 2 ^ 32 → IsKnown steps (lines.Refuted reason) → Appended problem best start [] steps b → problem.refutes reason b best ≡ true → after ≡ rows
+    ++ new_row parent steps (lines.Refuted reason) ∷ []
     → AreKept problem rows finished (record { parent = parent; at = start } ∷ later) best → AreKept problem after (finished + 1) later best
 kept_after_refuted problem rows after finished parent start b later best steps reason small known appended refuted added kept =
     let from = right_from problem best start b steps appended in
@@ -151,8 +157,10 @@ kept_after_refuted problem rows after finished parent start b later best steps r
     (subst (λ (x : Box). problem.refutes reason x best ≡ true) from.1 refuted) (λ split. split) tt tt known kept)
 
 pub kept_after_point : (problem : BoxProblem) (rows after : List Row) (finished : ℕ) (parent : Option Parent) (start b : Box) (later : List Pending) (best new : Option Found) (steps : List Step)
-    → finished < 2 ^ 32 → IsKnown steps lines.Point → IsPosed problem → Inside b problem.root → Appended problem (value_of best) start [] steps b → IsNewPoint problem (value_of best) b → new ≡ Some (found_at problem b)
-    → after ≡ rows ++ new_row parent steps lines.Point ∷ [] → AreKept problem rows finished (record { parent = parent; at = start } ∷ later) (value_of best) → AreKept problem after (finished + 1) later (value_of new)
+    → finished < 2 ^ 32 → IsKnown steps lines.Point → IsPosed problem → Inside b problem.root → Appended problem (value_of best) start [] steps b → IsNewPoint problem (value_of best) b
+    → new ≡ Some (found_at problem b)
+    → after ≡ rows ++ new_row parent steps lines.Point ∷ [] → AreKept problem rows finished (record { parent = parent; at = start } ∷ later) (value_of best)
+    → AreKept problem after (finished + 1) later (value_of new)
 kept_after_point problem rows after finished parent start b later best new steps small known posed inside appended point is added kept =
     let v = value_of best in
     let from = right_from problem v start b steps appended in
@@ -165,7 +173,8 @@ kept_after_point problem rows after finished parent start b later best new steps
     (kept_after_end problem rows finished (record { parent = parent; at = start }) later v steps lines.Point small from.0 made (λ split. split) tt tt known kept))
 
 -- both halves of a box have fewer bits than the box from which steps led there
-halves_have_fewer_bits : (root start b : Box) (cell : ℕ) (k : ℤ) → IsNearBox root → Inside start root → Inside b start → IsFirstCut b cell k → (bits_in (narrowed b cell Le k) < bits_in start) × (bits_in (cut_away b cell Le k) < bits_in start)
+halves_have_fewer_bits : (root start b : Box) (cell : ℕ) (k : ℤ) → IsNearBox root → Inside start root → Inside b start → IsFirstCut b cell k
+    → (bits_in (narrowed b cell Le k) < bits_in start) × (bits_in (cut_away b cell Le k) < bits_in start)
 halves_have_fewer_bits root start b cell k near inside part first =
     let close = near_part root b near (parts_of_parts b start root part inside) in
     let low_near = close.lows cell first.exists in
@@ -181,20 +190,26 @@ halves_have_fewer_bits root start b cell k near inside part first =
 abbrev Holds : BoxProblem → Option ℤ → List Row → List Pending → Type 0
 Holds problem best rows nodes = Logs problem rows nodes best × AreShallow bits_in 1024 rows nodes
 
-split_holds : (problem : BoxProblem) (rows : List Row) (x : Pending) (later : List Pending) (best : Option ℤ) (steps : List Step) (cut : Cut) → IsPosed problem → Holds problem best rows (reverse later ++ x ∷ []) → AllRight problem best x.at steps
+split_holds : (problem : BoxProblem) (rows : List Row) (x : Pending) (later : List Pending) (best : Option ℤ) (steps : List Step) (cut : Cut) → IsPosed problem
+    → Holds problem best rows (reverse later ++ x ∷ []) → AllRight problem best x.at steps
     → IsCutInTwo problem best (after_steps x.at steps) cut
-    → Holds problem best (rows ++ row_of x steps (lines.Split (cut_of cut)) ∷ []) (reverse later ++ half (length rows) (after_steps x.at steps) (cut_of cut) Ge ∷ half (length rows) (after_steps x.at steps) (cut_of cut) Le ∷ [])
+    → Holds problem best (rows ++ row_of x steps (lines.Split (cut_of cut)) ∷ []) (reverse later
+    ++ half (length rows) (after_steps x.at steps) (cut_of cut) Ge ∷ half (length rows) (after_steps x.at steps) (cut_of cut) Le ∷ [])
 split_holds problem rows x later best steps cut posed before right split =
     let inside = opens_inside problem rows (reverse later ++ x ∷ []) best x posed.lawful before.0 (middle_is (reverse later) [] x) in
     let fewer = halves_have_fewer_bits problem.root x.at (after_steps x.at steps) cut.cell cut.k posed.near inside (steps_lead_inside problem best x.at steps inside.is_box right) split.first in (
-      logs_after_split problem rows x (reverse later) [] (reverse later) [] best steps (cut_of cut) before.0 right (record { cut = first_cut (after_steps x.at steps) cut.cell cut.k split.first; consistent = split.consistent }) refl,
+      logs_after_split problem rows x (reverse later) [] (reverse later) [] best steps (cut_of cut) before.0 right
+          (record { cut = first_cut (after_steps x.at steps) cut.cell cut.k split.first; consistent = split.consistent }) refl,
       depths_after_split problem bits_in 1024 rows x (reverse later) [] (reverse later) [] best steps (cut_of cut) before.0 before.1 fewer.0 fewer.1 refl,
     )
 
 -- a node that is split is one row more, and its two sides are the newest nodes
-pub kept_after_split : (problem : BoxProblem) (rows after : List Row) (finished : ℕ) (parent : Option Parent) (start b : Box) (later nodes : List Pending) (best : Option ℤ) (steps : List Step) (cut : Cut)
-    → finished < 2 ^ 32 → IsKnown steps (lines.Split (cut_of cut)) → IsPosed problem → Appended problem best start [] steps b → IsCutInTwo problem best b cut → nodes ≡ half finished b (cut_of cut) Le ∷ half finished b (cut_of cut) Ge ∷ later
-    → after ≡ rows ++ new_row parent steps (lines.Split (cut_of cut)) ∷ [] → AreKept problem rows finished (record { parent = parent; at = start } ∷ later) best → AreKept problem after (finished + 1) nodes best
+pub kept_after_split : (problem : BoxProblem) (rows after : List Row) (finished : ℕ) (parent : Option Parent) (start b : Box) (later nodes : List Pending) (best : Option ℤ)
+    (steps : List Step) (cut : Cut)
+    → finished < 2 ^ 32 → IsKnown steps (lines.Split (cut_of cut)) → IsPosed problem → Appended problem best start [] steps b → IsCutInTwo problem best b cut → nodes
+    ≡ half finished b (cut_of cut) Le ∷ half finished b (cut_of cut) Ge ∷ later
+    → after ≡ rows ++ new_row parent steps (lines.Split (cut_of cut)) ∷ [] → AreKept problem rows finished (record { parent = parent; at = start } ∷ later) best
+    → AreKept problem after (finished + 1) nodes best
 kept_after_split problem rows after finished parent start b later nodes best steps cut small known posed appended split is added kept =
     let x : Pending = record { parent = parent; at = start } in
     let row = row_of x steps (lines.Split (cut_of cut)) in
@@ -225,7 +240,8 @@ kept_after_split problem rows after finished parent start b later nodes best ste
     })
 
 -- the next node is taken
-pub next_keeps : (problem : BoxProblem) (old new : Crew) (result : Result Bool AllocError) → AreKept problem old.rows.items old.finished (waiting old) (value_of old.best) → new.rows ≡ old.rows → new.best ≡ old.best → new.finished ≡ old.finished → IfOk result (IsNext old new) → IfOk result (λ more. Keeps problem more new)
+pub next_keeps : (problem : BoxProblem) (old new : Crew) (result : Result Bool AllocError) → AreKept problem old.rows.items old.finished (waiting old) (value_of old.best) → new.rows
+    ≡ old.rows → new.best ≡ old.best → new.finished ≡ old.finished → IfOk result (IsNext old new) → IfOk result (λ more. Keeps problem more new)
 next_keeps problem old new (Ok more) kept rows best finished next =
     subst (λ (xs : List Row). AreKept problem xs new.finished (opens more new) (value_of new.best)) (ap (λ r. r.items) (sym rows))
     (subst (λ (n : ℕ). AreKept problem old.rows.items n (opens more new) (value_of new.best)) (sym finished)

@@ -62,7 +62,8 @@ has_other : (parent : Option Parent) (high : High) → is_sibling parent high �
 has_other None high is has = has
 has_other (Some p) high is has = eqb-false p.node high.node is has
 
-listed_one : (problem : BoxProblem) (rows all : List Row) (finished : ℕ) (x : Pending) (best : Option ℤ) → AreKept problem rows finished (x ∷ []) best → all ≡ rows ++ open_line x.parent ∷ [] → IsListing problem rows all (x ∷ []) (x ∷ []) best
+listed_one : (problem : BoxProblem) (rows all : List Row) (finished : ℕ) (x : Pending) (best : Option ℤ) → AreKept problem rows finished (x ∷ []) best → all ≡ rows ++ open_line x.parent ∷ []
+    → IsListing problem rows all (x ∷ []) (x ∷ []) best
 listed_one problem rows all finished x best kept is = record {
   rows_are = is;
   logs = kept.logs;
@@ -84,7 +85,8 @@ listed_more problem rows all finished x high highs mark marks best cuts kept is 
     ∙ ap reverse (put_parents sibling x h older ∙ ap (λ (ps : List (Option Parent)). put_hand sibling x.parent (high_parent high) ps) (waiting_parents highs marks cuts))) in
     record {
       rows_are = is ∙ ap (λ (more : List Row). rows ++ more) (sym lines);
-      logs = logs_in_any_order problem rows (reverse (x ∷ h ∷ older)) (reverse (put_node sibling x h older)) best kept.logs (put_has sibling x h older) (put_apart_too sibling x h older kept.logs.distinct);
+      logs = logs_in_any_order problem rows (reverse (x ∷ h ∷ older)) (reverse (put_node sibling x h older)) best kept.logs (put_has sibling x h older)
+          (put_apart_too sibling x h older kept.logs.distinct);
       shallow = depths_in_any_order bits_in 1024 rows (reverse (x ∷ h ∷ older)) (reverse (put_node sibling x h older)) kept.shallow (λ y has. (put_has sibling x h older y).1 has);
       in_order = put_in_order sibling x h older kept.stacked (λ yes. has_node x.parent high yes) (λ isnt. has_other x.parent high isnt);
       same = put_has sibling x h older;
@@ -96,7 +98,8 @@ pub record AreListed (problem : BoxProblem) (rows all : List Row) (nodes : List 
   pub listing : IsListing problem rows all nodes opens best
 
 pub nodes_listed : (problem : BoxProblem) (rows all : List Row) (finished : ℕ) (x : Pending) (highs : List High) (marks : List Mark) (best : Option ℤ) → AreCuts highs marks
-    → AreKept problem rows finished (x ∷ high_halves highs marks) best → all ≡ rows ++ map open_line (reverse (last_first x.parent highs)) → AreListed problem rows all (x ∷ high_halves highs marks) best
+    → AreKept problem rows finished (x ∷ high_halves highs marks) best → all ≡ rows ++ map open_line (reverse (last_first x.parent highs))
+    → AreListed problem rows all (x ∷ high_halves highs marks) best
 nodes_listed problem rows all finished x [] marks best cuts kept is = record { opens = x ∷ []; listing = listed_one problem rows all finished x best kept is }
 nodes_listed problem rows all finished x (high ∷ highs) [] best cuts kept is = absurd cuts
 nodes_listed problem rows all finished x (high ∷ highs) (mark ∷ marks) best cuts kept is = record {

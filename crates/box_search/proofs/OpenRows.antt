@@ -1,5 +1,6 @@
 -- The rows of open nodes, as they are added.
-use Rattle.std.proofs.Common.{◌≡◌, ℕ, ◌+◌, ◌-◌, ◌<◌, ◌≤◌, Bool, true, false, List, [], ◌∷◌, ◌++◌, length, get_or, map, take, reverse, Option, OnOk, Ok, Err, Result, arith, refl, sym, ap, ◌∙◌, append_assoc}
+use Rattle.std.proofs.Common.{◌≡◌, ℕ, ◌+◌, ◌-◌, ◌<◌, ◌≤◌, Bool, true, false, List, [], ◌∷◌, ◌++◌, length, get_or, map, take, reverse, Option, OnOk, Ok, Err, Result, arith, refl}
+use Rattle.std.proofs.Common.{sym, ap, ◌∙◌, append_assoc}
 use Rattle.std.proofs.lemmas.List.{append-nil, map-append, reverse-append, reverse-reverse, take_all, take_more}
 use Rattle.log_rows.specs.declared.rows.Parent.{Parent}
 use Rattle.log_rows.specs.declared.rows.Row.{Row}
@@ -21,7 +22,8 @@ high_lines_append xs ys = ap (map open_line) (map-append high_parent xs ys) ∙ 
 pub highs_begun : (rows : List Row) → rows ≡ rows ++ []
 highs_begun rows = sym (append-nil rows)
 
-pub highs_more : (old now next : List Row) (highs : List High) (i : ℕ) (d : High) → i < length highs → now ≡ old ++ high_lines (take i highs) → next ≡ now ++ open_line (high_parent (get_or highs i d)) ∷ [] → next ≡ old ++ high_lines (take (i + 1) highs)
+pub highs_more : (old now next : List Row) (highs : List High) (i : ℕ) (d : High) → i < length highs → now ≡ old ++ high_lines (take i highs) → next ≡ now
+    ++ open_line (high_parent (get_or highs i d)) ∷ [] → next ≡ old ++ high_lines (take (i + 1) highs)
 highs_more old now next highs i d exists before more =
     more
     ∙ (ap (λ (rows : List Row). rows ++ open_line (high_parent (get_or highs i d)) ∷ []) before
@@ -43,18 +45,24 @@ reverse_map (x ∷ xs) =
     ∙ sym (ap (map high_parent) (reverse-append (x ∷ []) xs) ∙ map-append high_parent (reverse xs) (x ∷ [])))
 
 put_last : (sibling : Bool) (hand newest : Option Parent) (older : List (Option Parent)) → reverse (put_hand sibling hand newest older) ≡ reverse older ++ reverse (put_hand sibling hand newest [])
-put_last true hand newest older = reverse_parents newest (hand ∷ older) ∙ (ap (λ (ps : List (Option Parent)). ps ++ newest ∷ []) (reverse_parents hand older) ∙ append_assoc (reverse older) (hand ∷ []) (newest ∷ []))
-put_last false hand newest older = reverse_parents hand (newest ∷ older) ∙ (ap (λ (ps : List (Option Parent)). ps ++ hand ∷ []) (reverse_parents newest older) ∙ append_assoc (reverse older) (newest ∷ []) (hand ∷ []))
+put_last true hand newest older = reverse_parents newest (hand ∷ older)
+    ∙ (ap (λ (ps : List (Option Parent)). ps ++ newest ∷ []) (reverse_parents hand older) ∙ append_assoc (reverse older) (hand ∷ []) (newest ∷ []))
+put_last false hand newest older = reverse_parents hand (newest ∷ older)
+    ∙ (ap (λ (ps : List (Option Parent)). ps ++ hand ∷ []) (reverse_parents newest older) ∙ append_assoc (reverse older) (newest ∷ []) (hand ∷ []))
 
-lines_last_first : (hand : Option Parent) (highs older : List High) (newest : High) → highs ≡ older ++ newest ∷ [] → map open_line (reverse (last_first hand (reverse highs))) ≡ high_lines older ++ map open_line (reverse (put_hand (is_sibling hand newest) hand (high_parent newest) []))
+lines_last_first : (hand : Option Parent) (highs older : List High) (newest : High) → highs ≡ older ++ newest ∷ [] → map open_line (reverse (last_first hand (reverse highs))) ≡ high_lines older
+    ++ map open_line (reverse (put_hand (is_sibling hand newest) hand (high_parent newest) []))
 lines_last_first hand highs older newest is =
     let sibling = is_sibling hand newest in
     ap (λ (hs : List High). map open_line (reverse (last_first hand hs))) (ap reverse is ∙ reverse-append older (newest ∷ []))
-    ∙ (ap (map open_line) (put_last sibling hand (high_parent newest) (map high_parent (reverse older)) ∙ ap (λ (ps : List (Option Parent)). ps ++ reverse (put_hand sibling hand (high_parent newest) [])) (reverse_map (reverse older) ∙ ap (map high_parent) (reverse-reverse older)))
+    ∙ (ap (map open_line) (put_last sibling hand (high_parent newest) (map high_parent (reverse older))
+    ∙ ap (λ (ps : List (Option Parent)). ps ++ reverse (put_hand sibling hand (high_parent newest) [])) (reverse_map (reverse older) ∙ ap (map high_parent) (reverse-reverse older)))
     ∙ map-append open_line (map high_parent older) (reverse (put_hand sibling hand (high_parent newest) [])))
 
-pub opens_added : {T E : Type 0} (old middle new : List Row) (hand : Option Parent) (highs older : List High) (newest : High) (result : Result T E) → highs ≡ older ++ newest ∷ [] → middle ≡ old ++ high_lines older
-    → OnOk result (new ≡ middle ++ map open_line (reverse (put_hand (is_sibling hand newest) hand (high_parent newest) []))) → OnOk result (new ≡ old ++ map open_line (reverse (last_first hand (reverse highs))))
+pub opens_added : {T E : Type 0} (old middle new : List Row) (hand : Option Parent) (highs older : List High) (newest : High) (result : Result T E) → highs ≡ older ++ newest ∷ [] → middle
+    ≡ old ++ high_lines older
+    → OnOk result (new ≡ middle ++ map open_line (reverse (put_hand (is_sibling hand newest) hand (high_parent newest) [])))
+    → OnOk result (new ≡ old ++ map open_line (reverse (last_first hand (reverse highs))))
 opens_added old middle new hand highs older newest (Ok value) is before last =
     let last_lines = map open_line (reverse (put_hand (is_sibling hand newest) hand (high_parent newest) [])) in
     last

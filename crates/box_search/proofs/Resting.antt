@@ -1,10 +1,10 @@
 -- How a node ends at whose box propagators rest.
 use Rattle.std.proofs.Common.{◌≡◌, ℕ, ◌<◌, ℤ, List, Option, length, arith, sym, subst}
 use Rattle.std.proofs.lemmas.Int.{ints}
-use Rattle.sopl_base.specs.declared.places.Reason.{Reason}
+use Rattle.sopl_base.specs.declared.reason.Reason.{Reason}
 use Rattle.box_problem.specs.Box.{Box, Inside, low, high}
 use Rattle.box_problem.specs.BoxProblem.{BoxProblem}
-use Rattle.sopl_base.specs.declared.places.Step.{Step}
+use Rattle.sopl_base.specs.declared.reason.Step.{Step}
 use Rattle.box_problem.specs.Steps.{after_steps}
 use Rattle.box_problem.specs.Rightness.{Appended, IsConsistent, Quiets}
 use Rattle.box_problem.proofs.Boxes.{parts_of_parts}
@@ -48,7 +48,8 @@ consistent problem reasons v b all rests = record {
   at_high = λ reason cell own exists. rests.at_high reason cell (all.among reason own) exists;
 }
 
-pub ends_at_rest : (problem : BoxProblem) (reasons : List Reason) (v : Option ℤ) (b : Box) (end : NodeEnd) → IsPosed problem → AreAll problem reasons → Inside b problem.root → Quiets problem reasons v b → EndsFirst b end → Ends problem v b end
+pub ends_at_rest : (problem : BoxProblem) (reasons : List Reason) (v : Option ℤ) (b : Box) (end : NodeEnd) → IsPosed problem → AreAll problem reasons → Inside b problem.root
+    → Quiets problem reasons v b → EndsFirst b end → Ends problem v b end
 ends_at_rest problem reasons v b (Refuted reason) posed all inside rests ends = absurd ends
 ends_at_rest problem reasons v b (Split cut) posed all inside rests ends = record {
   consistent = consistent problem reasons v b all rests;
@@ -60,12 +61,14 @@ ends_at_rest problem reasons v b Point posed all inside rests ends = record {
 }
 
 -- so it is where they came to rest
-pub ends_where_calm : (problem : BoxProblem) (reasons : List Reason) (v : Option ℤ) (b : Box) (calm : Calm) (end : NodeEnd) → IsPosed problem → AreAll problem reasons → Inside b problem.root → calm ≡ Quiet → Rests problem reasons v b calm → EndsFirst b end → Ends problem v b end
+pub ends_where_calm : (problem : BoxProblem) (reasons : List Reason) (v : Option ℤ) (b : Box) (calm : Calm) (end : NodeEnd) → IsPosed problem → AreAll problem reasons → Inside b problem.root
+    → calm ≡ Quiet → Rests problem reasons v b calm → EndsFirst b end → Ends problem v b end
 ends_where_calm problem reasons v b calm end posed all inside quiet rests ends =
     ends_at_rest problem reasons v b end posed all inside (subst (λ (c : Calm). Rests problem reasons v b c) quiet rests) ends
 
 -- the first cell that has more than one value
-pub first_cut_at : (b : Box) (cut : Cut) (cell : ℕ) (lo hi : ℤ) → cell < length b.lows → ((k : ℕ) → k < cell → low b k ≡ high b k) → lo ≡ low b cell → hi ≡ high b cell → cut.cell ≡ cell → IsMiddle lo cut.k hi → IsFirstCut b cut.cell cut.k
+pub first_cut_at : (b : Box) (cut : Cut) (cell : ℕ) (lo hi : ℤ) → cell < length b.lows → ((k : ℕ) → k < cell → low b k ≡ high b k) → lo ≡ low b cell → hi ≡ high b cell → cut.cell ≡ cell
+    → IsMiddle lo cut.k hi → IsFirstCut b cut.cell cut.k
 first_cut_at b cut cell lo hi exists fixed lo_is hi_is is middle = record {
   exists = omega (arith, exists, is);
   first = λ k before. fixed k (omega (arith, before, is));

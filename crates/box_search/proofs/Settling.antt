@@ -1,11 +1,12 @@
 -- What the outcome of a search says.
 use Rattle.std.proofs.Common.{◌≡◌, ℕ, ◌<◌, ◌≤◌, ℤ, List, [], ◌∷◌, length, Option, Some, None, Result, Ok, Err, IfOk, IfSome, Any, arith, sym, subst}
-use Rattle.sopl_base.specs.declared.places.Direction.{Direction}
+use Rattle.sopl_base.specs.declared.direction.Direction.{Direction}
 use Rattle.sopl_base.specs.Better.{IsBetter}
 use Rattle.box_problem.specs.Box.{Box, points}
 use Rattle.box_problem.specs.BoxProblem.{BoxProblem}
 use Rattle.box_problem.specs.Covers.{nodes_for}
-use Rattle.open_boxes.specs.Opens.{IsBetterOf, IsBound, IsUnsettled, NoneBetter}
+use Rattle.box_problem.specs.Reached.{NoneBetter}
+use Rattle.open_boxes.specs.Opens.{IsBetterOf, IsBound, IsUnsettled}
 use Rattle.open_boxes.proofs.Bounds.{best_within_bound, bound_at_last, bound_grows, bound_holds, bound_is_hopeful, unsettled_within}
 use Rattle.open_boxes.proofs.Nodes.{best_at_last, none_at_last}
 use Rattle.box_search.specs.declared.outcome.Found.{Found}
@@ -37,20 +38,25 @@ settled_cause problem budget Infeasible is = tt
 settled_cause problem budget (Bounded found bound) is = absurd is
 
 -- with nodes open
-pub settles_true : (problem : BoxProblem) (best : Option Found) (finished : ℕ) (boxes : List Box) (bound : ℤ) (outcome : Outcome) → IsPosed problem → IsSound problem best finished boxes → IsBound problem (value_of best) boxes bound → Settles problem.direction best bound outcome → IsTrueOf problem outcome
+pub settles_true : (problem : BoxProblem) (best : Option Found) (finished : ℕ) (boxes : List Box) (bound : ℤ) (outcome : Outcome) → IsPosed problem → IsSound problem best finished boxes
+    → IsBound problem (value_of best) boxes bound → Settles problem.direction best bound outcome → IsTrueOf problem outcome
 settles_true problem best finished boxes bound (Optimal value cells) posed sound is settles =
     let there : IsSound problem (Some (found_of value cells)) finished boxes = subst (λ (found : Option Found). IsSound problem found finished boxes) settles.0 sound in
     let bounds : IsBound problem (Some value) boxes bound = subst (λ (found : Option Found). IsBound problem (value_of found) boxes bound) settles.0 is in
     (there.good, best_within_bound problem value finished boxes bound posed.lawful there.are_open bounds settles.1)
 settles_true problem best finished boxes bound Infeasible posed sound is settles = absurd settles
-settles_true problem best finished boxes bound (Bounded found x) posed sound is settles =
-    (subst (λ (some : Option Found). IfSome some (IsGood problem)) (sym settles.0) sound.good, subst (NoneBetter problem) (sym settles.1) (bound_holds problem (value_of best) finished boxes bound posed.lawful sound.are_open is))
+settles_true problem best finished boxes bound (Bounded found x) posed sound is settles = (
+  subst (λ (some : Option Found). IfSome some (IsGood problem)) (sym settles.0) sound.good,
+  subst (NoneBetter problem) (sym settles.1) (bound_holds problem (value_of best) finished boxes bound posed.lawful sound.are_open is),
+)
 
-hopeful : (problem : BoxProblem) (best : Option Found) (boxes : List Box) (bound : ℤ) → IsBound problem (value_of best) boxes bound → IfSome best (λ (found : Found). IsBetter problem.direction bound found.value) → IfSome (value_of best) (λ w. Any (λ b. IsBetter problem.direction (problem.end b) w) boxes)
+hopeful : (problem : BoxProblem) (best : Option Found) (boxes : List Box) (bound : ℤ) → IsBound problem (value_of best) boxes bound
+    → IfSome best (λ (found : Found). IsBetter problem.direction bound found.value) → IfSome (value_of best) (λ w. Any (λ b. IsBetter problem.direction (problem.end b) w) boxes)
 hopeful problem None boxes bound is better = tt
 hopeful problem (Some found) boxes bound is better = bound_is_hopeful problem found.value boxes bound is better
 
-pub settles_cause : (problem : BoxProblem) (best : Option Found) (finished : ℕ) (boxes : List Box) (bound : ℤ) (outcome : Outcome) → 0 < length boxes → IsSound problem best finished boxes → IsBound problem (value_of best) boxes bound → Settles problem.direction best bound outcome → HasCause problem finished outcome
+pub settles_cause : (problem : BoxProblem) (best : Option Found) (finished : ℕ) (boxes : List Box) (bound : ℤ) (outcome : Outcome) → 0 < length boxes → IsSound problem best finished boxes
+    → IsBound problem (value_of best) boxes bound → Settles problem.direction best bound outcome → HasCause problem finished outcome
 settles_cause problem best finished boxes bound (Optimal value cells) some sound is settles = tt
 settles_cause problem best finished boxes bound Infeasible some sound is settles = tt
 settles_cause problem best finished boxes bound (Bounded found x) some sound is settles =
@@ -72,7 +78,8 @@ enough_settles problem budget (Bounded found bound) enough cause =
     absurd (omega (arith, enough, unsettled_within problem (value_of found) budget bound cause))
 
 -- one more open box
-pub bound_more : (problem : BoxProblem) (direction : Direction) (v w : Option ℤ) (end best : ℤ) (b : Box) (boxes : List Box) (bound : ℤ) → direction ≡ problem.direction → w ≡ v → end ≡ problem.end b → IsBetterOf direction w end best → IsBound problem (Some best) boxes bound → IsBound problem v (b ∷ boxes) bound
+pub bound_more : (problem : BoxProblem) (direction : Direction) (v w : Option ℤ) (end best : ℤ) (b : Box) (boxes : List Box) (bound : ℤ) → direction ≡ problem.direction → w ≡ v → end
+    ≡ problem.end b → IsBetterOf direction w end best → IsBound problem (Some best) boxes bound → IsBound problem v (b ∷ boxes) bound
 bound_more problem direction v w end best b boxes bound way same is choice later =
     bound_grows problem v b boxes best bound
     (subst (λ (d : Direction). IsBetterOf d v (problem.end b) best) way

@@ -1,8 +1,8 @@
 -- The order in which open nodes are stacked.
 use Rattle.std.proofs.Common.{inl, inr, ℕ, List, [], ◌∷◌, Option, Some, None, Contains, refl}
 use Rattle.std.specs.List.{AllByRecursion}
-use Rattle.sopl_base.specs.declared.places.Side.{Side}
-use Rattle.sopl_base.specs.declared.places.Side.TheVariants.{Le, Ge}
+use Rattle.sopl_base.specs.declared.reason.Side.{Side}
+use Rattle.sopl_base.specs.declared.reason.Side.TheVariants.{Le, Ge}
 use Rattle.box_problem.specs.Box.{Box}
 use Rattle.log_rows.specs.declared.rows.Cut.{Cut}
 use Rattle.log_rows.specs.declared.rows.Parent.{Parent}
@@ -22,7 +22,8 @@ older_than_side n side None (Some q) is within = absurd is
 older_than_side n side (Some p) None is within = absurd is
 older_than_side n side (Some p) (Some q) is within = (is.0, inl within)
 
-all_older : (n : ℕ) (side : Side) (newer : Option Parent) (nodes : List Pending) → AllByRecursion (λ (y : Pending). IsOlder newer y.parent) nodes → ((y : Pending) → Contains nodes y → IsWithin n y.parent)
+all_older : (n : ℕ) (side : Side) (newer : Option Parent) (nodes : List Pending) → AllByRecursion (λ (y : Pending). IsOlder newer y.parent) nodes
+    → ((y : Pending) → Contains nodes y → IsWithin n y.parent)
     → AllByRecursion (λ (y : Pending). IsOlder (side_of n side) y.parent) nodes
 all_older n side newer [] are within = tt
 all_older n side newer (y ∷ nodes) are within = (

@@ -2,7 +2,7 @@
 use Rattle.std.proofs.Common.{◌≡◌, ℕ, ◌^◌, ◌<◌, ◌≤◌, ℤ, List, [], ◌∷◌, ◌++◌, length, map, reverse, Option, All, Contains, arith, sym, subst}
 use Rattle.std.proofs.lemmas.List.{append-nil}
 use Rattle.std.proofs.lemmas.List.Elements.{All-append, All-cons, All-nil}
-use Rattle.sopl_base.specs.declared.places.Direction.{Direction}
+use Rattle.sopl_base.specs.declared.direction.Direction.{Direction}
 use Rattle.box_bits.specs.Bits.{bits_in}
 use Rattle.box_problem.specs.BoxProblem.{BoxProblem}
 use Rattle.box_store.specs.Store.{Mark}
@@ -73,7 +73,8 @@ partial_tree problem rows all finished x highs marks best bound outcome posed so
           (All-append RowFits rows (map open_row listed.opens) kept.fit
           (open_fit (length rows) listed.opens (omega (arith, kept.counted, small)) (λ y has. hangs_within rows (length rows) y.parent (l.logs.placed y has).0)));
       accepted = subst (λ (xs : List Row). Accepted problem xs (footer_of outcome)) (sym l.rows_are)
-          (logs_are_accepted problem bits_in rows listed.opens (value_of best) (footer_of outcome) posed.lawful l.logs kept.are_finished (omega (arith, kept.counted, some)) (not_too_deep rows listed.opens l.shallow) closes);
+          (logs_are_accepted problem bits_in rows listed.opens (value_of best) (footer_of outcome) posed.lawful l.logs kept.are_finished (omega (arith, kept.counted, some))
+          (not_too_deep rows listed.opens l.shallow) closes);
     }
 
 -- with no node open
@@ -82,7 +83,8 @@ never_spends best (Optimal value cells) nodes budget is = tt
 never_spends best Infeasible nodes budget is = tt
 never_spends best (Bounded found bound) nodes budget is = absurd is
 
-pub whole_tree : (problem : BoxProblem) (rows : List Row) (finished budget : ℕ) (best : Option Found) (outcome : Outcome) → IsPosed problem → 0 < finished → finished ≤ budget → AreKept problem rows finished [] (value_of best) → Closes best outcome → IsTree problem budget outcome rows
+pub whole_tree : (problem : BoxProblem) (rows : List Row) (finished budget : ℕ) (best : Option Found) (outcome : Outcome) → IsPosed problem → 0 < finished → finished ≤ budget
+    → AreKept problem rows finished [] (value_of best) → Closes best outcome → IsTree problem budget outcome rows
 whole_tree problem rows finished budget best outcome posed some within kept is = record {
   finished = rows;
   opens = [];
@@ -96,7 +98,8 @@ whole_tree problem rows finished budget best outcome posed some within kept is =
   in_order = λ i j d before exists. absurd (omega arith);
   fit = kept.fit;
   accepted = subst (λ (xs : List Row). Accepted problem xs (footer_of outcome)) (append-nil rows)
-      (logs_are_accepted problem bits_in rows [] (value_of best) (footer_of outcome) posed.lawful kept.logs kept.are_finished (omega (arith, kept.counted, some)) (not_too_deep rows [] kept.shallow) (closed_footer problem best outcome is));
+      (logs_are_accepted problem bits_in rows [] (value_of best) (footer_of outcome) posed.lawful kept.logs kept.are_finished (omega (arith, kept.counted, some)) (not_too_deep rows [] kept.shallow)
+      (closed_footer problem best outcome is));
 }
 
 -- the budget is what was finished
@@ -104,12 +107,14 @@ pub tree_within : (problem : BoxProblem) (finished budget : ℕ) (outcome : Outc
 tree_within problem finished budget outcome rows is tree = subst (λ (n : ℕ). IsTree problem n outcome rows) is tree
 
 -- the same over what the calls of a search give
-pub settles_as : (problem : BoxProblem) (direction : Direction) (best now : Option Found) (bound : ℤ) (outcome : Outcome) → now ≡ best → direction ≡ problem.direction → Settles direction now bound outcome → Settles problem.direction best bound outcome
+pub settles_as : (problem : BoxProblem) (direction : Direction) (best now : Option Found) (bound : ℤ) (outcome : Outcome) → now ≡ best → direction ≡ problem.direction
+    → Settles direction now bound outcome → Settles problem.direction best bound outcome
 settles_as problem direction best now bound outcome same way settles =
     subst (λ (d : Direction). Settles d best bound outcome) way
     (subst (λ (found : Option Found). Settles direction found bound outcome) same settles)
 
-pub bound_before : (problem : BoxProblem) (best now : Option Found) (nodes others : List Pending) (bound : ℤ) → now ≡ best → others ≡ nodes → IsBound problem (value_of now) (boxes others) bound → IsBound problem (value_of best) (boxes nodes) bound
+pub bound_before : (problem : BoxProblem) (best now : Option Found) (nodes others : List Pending) (bound : ℤ) → now ≡ best → others ≡ nodes → IsBound problem (value_of now) (boxes others) bound
+    → IsBound problem (value_of best) (boxes nodes) bound
 bound_before problem best now nodes others bound same_best same is =
     subst (λ (found : Option Found). IsBound problem (value_of found) (boxes nodes) bound) same_best
     (subst (λ (xs : List Pending). IsBound problem (value_of now) (boxes xs) bound) same is)

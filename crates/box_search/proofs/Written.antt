@@ -16,7 +16,8 @@ use Rattle.box_search.specs.Logged.{IsFrontLogged, IsLogged, IsSearchLog, IsTree
 abbrev bytes_of : List Row → Outcome → List ℕ
 bytes_of rows outcome = text_of (log_lines rows (footer_of outcome))
 
-is_search_log : (problem : BoxProblem) (budget : ℕ) (outcome : Outcome) (rows : List Row) → IsTree problem budget outcome rows → FooterFits (footer_of outcome) → IsSearchLog problem budget outcome (bytes_of rows outcome)
+is_search_log : (problem : BoxProblem) (budget : ℕ) (outcome : Outcome) (rows : List Row) → IsTree problem budget outcome rows → FooterFits (footer_of outcome)
+    → IsSearchLog problem budget outcome (bytes_of rows outcome)
 is_search_log problem budget outcome rows tree fits = record {
   rows = rows;
   tree = tree;
@@ -29,14 +30,16 @@ pub so_given : (P : Outcome → Type 0) (outcome : Outcome) (result : Result Out
 so_given P outcome (Ok given) is holds = subst P (sym is) holds
 so_given P outcome (Err stop) is holds = tt
 
-pub all_logged : (problem : BoxProblem) (budget : ℕ) (outcome : Outcome) (rows : List Row) (before now : Option (List ℕ)) (result : Result Outcome SearchStop) → IsTree problem budget outcome rows → FooterFits (footer_of outcome)
+pub all_logged : (problem : BoxProblem) (budget : ℕ) (outcome : Outcome) (rows : List Row) (before now : Option (List ℕ)) (result : Result Outcome SearchStop) → IsTree problem budget outcome rows
+    → FooterFits (footer_of outcome)
     → IfOk result (λ given. given ≡ outcome) → OnOk result (Appends before now (bytes_of rows outcome)) → IfOk result (λ given. IsLogged problem budget given before now)
 all_logged problem budget outcome rows before now (Ok given) tree fits is written =
     subst (λ (x : Outcome). IsLogged problem budget x before now) (sym is)
     (record { bytes = bytes_of rows outcome; is_log = is_search_log problem budget outcome rows tree fits; took = written })
 all_logged problem budget outcome rows before now (Err stop) tree fits is written = tt
 
-pub front_logged : (problem : BoxProblem) (budget : ℕ) (outcome : Outcome) (rows : List Row) (before now : Option (List ℕ)) (result : Result Outcome SearchStop) → IsTree problem budget outcome rows → FooterFits (footer_of outcome)
+pub front_logged : (problem : BoxProblem) (budget : ℕ) (outcome : Outcome) (rows : List Row) (before now : Option (List ℕ)) (result : Result Outcome SearchStop) → IsTree problem budget outcome rows
+    → FooterFits (footer_of outcome)
     → OnErr result (AppendsPrefix before now (bytes_of rows outcome)) → result ≡ Err Write → IsFrontLogged problem budget before now
 front_logged problem budget outcome rows before now (Ok given) tree fits front is = absurd (cc)
 front_logged problem budget outcome rows before now (Err stop) tree fits front is = record {

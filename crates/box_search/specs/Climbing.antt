@@ -1,9 +1,9 @@
 -- A small problem for tests: the value of the first cell is to be at most that of the second one, and as great as possible.
 use Rattle.std.specs.Prelude.{zero, suc, ℤ, pos, int_lt, int_le, Bool, false, List, [], ◌∷◌, Option, Some, None, slice_index_or}
-use Rattle.sopl_base.specs.declared.places.Direction.TheVariants.{Maximize}
-use Rattle.sopl_base.specs.declared.places.Interval.{Interval}
-use Rattle.sopl_base.specs.declared.places.Reason.{Reason}
-use Rattle.sopl_base.specs.declared.places.Reason.TheVariants.{Hard, Chance, Undefined, Bound}
+use Rattle.sopl_base.specs.declared.direction.Direction.TheVariants.{Maximize}
+use Rattle.sopl_base.specs.declared.interval.Interval.{Interval}
+use Rattle.sopl_base.specs.declared.reason.Reason.{Reason}
+use Rattle.sopl_base.specs.declared.reason.Reason.TheVariants.{Hard, Chance, Undefined, Bound}
 use Rattle.box_problem.specs.Box.{Box, box_of, low, high}
 use Rattle.box_problem.specs.BoxProblem.{BoxProblem}
 

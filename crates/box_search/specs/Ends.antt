@@ -1,6 +1,6 @@
 -- How a node of a search ends.
 use Rattle.std.specs.Prelude.{◌≡◌, ◌^◌, ℕ, ◌<◌, ◌≤◌, ℤ, pos, neg_ℤ, ◌+ℤ◌, ◌-ℤ◌, ◌*ℤ◌, ◌≤ℤ◌, ◌<ℤ◌, true, List, length, Option, Contains}
-use Rattle.sopl_base.specs.declared.places.Reason.{Reason}
+use Rattle.sopl_base.specs.declared.reason.Reason.{Reason}
 use Rattle.box_problem.specs.Box.{Box, low, high, IsPoint}
 use Rattle.box_bits.specs.Bits.{bits_in}
 use Rattle.box_problem.specs.BoxProblem.{BoxProblem, Beats, Lawful}

@@ -1,6 +1,6 @@
 -- The rows of nodes, and the order of those that are not finished.
 use Rattle.std.specs.Prelude.{Bool, true, false, eqb, List, [], ◌∷◌, map, Option, Some, None}
-use Rattle.sopl_base.specs.declared.places.Side.TheVariants.{Ge}
+use Rattle.sopl_base.specs.declared.reason.Side.TheVariants.{Ge}
 use Rattle.log_rows.specs.declared.rows.Parent.{Parent}
 use Rattle.log_rows.specs.declared.rows.Row.{Row}
 use Rattle.log_rows.specs.declared.rows.Cut as rows

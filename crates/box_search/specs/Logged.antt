@@ -1,7 +1,7 @@
 -- The log of a search.
 use Rattle.std.specs.Prelude.{◌≡◌, ◌⊎◌, ℕ, ◌<◌, ◌≤◌, ℤ, List, length, Option, None, Some, All, AllPairs}
 use Rattle.std.specs.Io.KnownBytes.{Appends}
-use Rattle.sopl_base.specs.declared.places.Side.TheVariants.{Le, Ge}
+use Rattle.sopl_base.specs.declared.reason.Side.TheVariants.{Le, Ge}
 use Rattle.sopl_io.specs.Transfer.{AppendsPrefix}
 use Rattle.box_problem.specs.Box.{Box}
 use Rattle.box_problem.specs.BoxProblem.{BoxProblem}

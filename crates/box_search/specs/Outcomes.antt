@@ -1,10 +1,11 @@
 -- What the outcome of a search says.
 use Rattle.std.specs.Prelude.{◌≡◌, ℕ, ℤ, List, Option, Some, None, IfSome}
 use Rattle.sopl_base.specs.Better.{IsBetter}
-use Rattle.sopl_base.specs.declared.places.Direction.{Direction}
+use Rattle.sopl_base.specs.declared.direction.Direction.{Direction}
 use Rattle.box_problem.specs.Box.{Box}
 use Rattle.box_problem.specs.BoxProblem.{BoxProblem}
-use Rattle.open_boxes.specs.Opens.{IsReached, IsUnsettled, NoneBetter, NoneSatisfies}
+use Rattle.box_problem.specs.Reached.{IsReached, NoneBetter, NoneSatisfies}
+use Rattle.open_boxes.specs.Opens.{IsUnsettled}
 use Rattle.box_search.specs.declared.outcome.Found.{Found}
 use Rattle.box_search.specs.declared.outcome.Outcome.{Outcome}
 use Rattle.box_search.specs.declared.outcome.Outcome.TheVariants.{Optimal, Infeasible, Bounded}

@@ -1,7 +1,7 @@
 //! What a search has found, and what it has left to do.
 
 ghost use Rattle.std.specs.Prelude.{◌≡◌, ◌∷◌, ◌++◌, [], ◌+◌, ◌<◌, ◌≤◌, ◌^◌, true, length, map, reverse, None, Some, IfOk, OnOk, All};
-ghost use Rattle.sopl_base.specs.declared.places.Side.TheVariants.{Le, Ge};
+ghost use Rattle.sopl_base.specs.declared.reason.Side.TheVariants.{Le, Ge};
 ghost use Rattle.box_problem.specs.Box.{Box, Inside, box_of};
 ghost use Rattle.box_problem.specs.Steps.{IsCut};
 ghost use Rattle.box_problem.specs.Rightness.{Appended};

@@ -1,7 +1,7 @@
 //! The two halves of a cell's interval.
 
 ghost use Rattle.std.specs.Prelude.{◌≡◌, ◌^◌, ◌-◌, ◌≤◌, ◌<ℤ◌, pos};
-ghost use Rattle.sopl_base.specs.declared.places.Side.TheVariants.{Le};
+ghost use Rattle.sopl_base.specs.declared.reason.Side.TheVariants.{Le};
 ghost use Rattle.box_problem.specs.Steps.{IsCut, narrowed, cut_away};
 
 use box_store::BoxStore;

@@ -1,11 +1,11 @@
 -- Changes of a box, and the trail that gives them back.
 use Rattle.std.proofs.Common.{◌≡◌, ℕ, ◌<◌, ◌≤◌, ℤ, pos, List, [], ◌∷◌, ◌++◌, length, get_or, set, reverse, arith, sym, ap, subst, ◌∙◌}
 use Rattle.std.proofs.lemmas.List.{length-set, set-set, set-get_or, reverse-append}
-use Rattle.sopl_base.specs.declared.places.Side.{Side}
-use Rattle.sopl_base.specs.declared.places.Side.TheVariants.{Le, Ge}
+use Rattle.sopl_base.specs.declared.reason.Side.{Side}
+use Rattle.sopl_base.specs.declared.reason.Side.TheVariants.{Le, Ge}
 use Rattle.box_problem.specs.Steps.{IsCut}
 use Rattle.box_problem.proofs.Cuts.{cuts_make_parts}
-use Rattle.sopl_base.specs.declared.places.Interval.{Interval}
+use Rattle.sopl_base.specs.declared.interval.Interval.{Interval}
 use Rattle.box_problem.proofs.Boxes.{intervals_make_a_box}
 use Rattle.box_problem.specs.Box.{Box, box_of, low, high, IsBox, with_low, with_high}
 use Rattle.box_store.specs.declared.trail.Entry.{Entry}
@@ -42,23 +42,27 @@ sound_more few many b (High end ∷ older) more sound =
 sound_more few many b (Marked spare ∷ older) more sound = (omega (arith, sound.0), sound_more few many b older more sound.1)
 
 -- the trail behind an end that was moved
-pub sound_raised : (capacity : ℕ) (b : Box) (cell : ℕ) (k old : ℤ) (items after : List Entry) → old ≡ low b cell → after ≡ items ++ Low (record { cell = cell; k = old }) ∷ [] → cell < length b.lows → IsBox b → AreSound capacity b (reverse items) → AreSound capacity (with_low b cell k) (reverse after)
+pub sound_raised : (capacity : ℕ) (b : Box) (cell : ℕ) (k old : ℤ) (items after : List Entry) → old ≡ low b cell → after ≡ items ++ Low (record { cell = cell; k = old }) ∷ []
+    → cell < length b.lows → IsBox b → AreSound capacity b (reverse items) → AreSound capacity (with_low b cell k) (reverse after)
 sound_raised capacity b cell k old items after is added exists is_box sound =
     let back = sym (low_put_back b cell k old is) in
     subst (AreSound capacity (with_low b cell k)) (sym (newest items after (Low (record { cell = cell; k = old })) added))
     (omega (arith, length-set b.lows cell k), subst IsBox back is_box, subst (λ (box : Box). AreSound capacity box (reverse items)) back sound)
 
-pub sound_lowered : (capacity : ℕ) (b : Box) (cell : ℕ) (k old : ℤ) (items after : List Entry) → old ≡ high b cell → after ≡ items ++ High (record { cell = cell; k = old }) ∷ [] → cell < length b.lows → IsBox b → AreSound capacity b (reverse items) → AreSound capacity (with_high b cell k) (reverse after)
+pub sound_lowered : (capacity : ℕ) (b : Box) (cell : ℕ) (k old : ℤ) (items after : List Entry) → old ≡ high b cell → after ≡ items ++ High (record { cell = cell; k = old }) ∷ []
+    → cell < length b.lows → IsBox b → AreSound capacity b (reverse items) → AreSound capacity (with_high b cell k) (reverse after)
 sound_lowered capacity b cell k old items after is added exists is_box sound =
     let back = sym (high_put_back b cell k old is) in
     subst (AreSound capacity (with_high b cell k)) (sym (newest items after (High (record { cell = cell; k = old })) added))
     (exists, subst IsBox back is_box, subst (λ (box : Box). AreSound capacity box (reverse items)) back sound)
 
-pub marks_raised : (b : Box) (cell : ℕ) (k old : ℤ) (items after : List Entry) → old ≡ low b cell → after ≡ items ++ Low (record { cell = cell; k = old }) ∷ [] → marks_of (with_low b cell k) (reverse after) ≡ marks_of b (reverse items)
+pub marks_raised : (b : Box) (cell : ℕ) (k old : ℤ) (items after : List Entry) → old ≡ low b cell → after ≡ items ++ Low (record { cell = cell; k = old }) ∷ []
+    → marks_of (with_low b cell k) (reverse after) ≡ marks_of b (reverse items)
 marks_raised b cell k old items after is added =
     ap (marks_of (with_low b cell k)) (newest items after (Low (record { cell = cell; k = old })) added) ∙ ap (λ (box : Box). marks_of box (reverse items)) (low_put_back b cell k old is)
 
-pub marks_lowered : (b : Box) (cell : ℕ) (k old : ℤ) (items after : List Entry) → old ≡ high b cell → after ≡ items ++ High (record { cell = cell; k = old }) ∷ [] → marks_of (with_high b cell k) (reverse after) ≡ marks_of b (reverse items)
+pub marks_lowered : (b : Box) (cell : ℕ) (k old : ℤ) (items after : List Entry) → old ≡ high b cell → after ≡ items ++ High (record { cell = cell; k = old }) ∷ []
+    → marks_of (with_high b cell k) (reverse after) ≡ marks_of b (reverse items)
 marks_lowered b cell k old items after is added =
     ap (marks_of (with_high b cell k)) (newest items after (High (record { cell = cell; k = old })) added) ∙ ap (λ (box : Box). marks_of box (reverse items)) (high_put_back b cell k old is)
 

@@ -66,7 +66,8 @@ same_entries : (b c : Box) (es : List Entry) → SameEntries b c es → map (λ 
 same_entries b c [] same = refl
 same_entries b c (e ∷ es) same = ap₂ (λ (x : Ends) (xs : List Ends). x ∷ xs) same.0 (same_entries b c es same.1)
 
-same_elements : (reading : Reading) (b c : Box) (table : Table) (xs ys : List Ends) → Reach (Same b c) (table_mentions table) → xs ≡ ys → element_ends reading b xs table ≡ element_ends reading c ys table
+same_elements : (reading : Reading) (b c : Box) (table : Table) (xs ys : List Ends) → Reach (Same b c) (table_mentions table) → xs ≡ ys → element_ends reading b xs table
+    ≡ element_ends reading c ys table
 same_elements reading b c table xs ys reach same =
     let every = same_paired b c (indices table.sets) table.items reach in
     ap hull_of (same_entries b c (readable reading xs table) (same_readable reading b c xs table every))

@@ -1,16 +1,19 @@
 -- Each term and condition at points that agree on the cells that it mentions.
-use Rattle.std.proofs.Common.{◌≡◌, ℕ, ℤ, ◌+ℤ◌, ◌*ℤ◌, Bool, true, not, ◌&&◌, ◌||◌, List, [], ◌∷◌, ◌++◌, Option, Some, None, option_map, option_and_then, IfSome, if◌then◌else◌, arith, refl, sym, subst, ap, ap₂, ◌∙◌}
+use Rattle.std.proofs.Common.{◌≡◌, ℕ, ℤ, ◌+ℤ◌, ◌*ℤ◌, Bool, true, not, ◌&&◌, ◌||◌, List, [], ◌∷◌, ◌++◌, Option, Some, None, option_map, option_and_then, IfSome, if◌then◌else◌}
+use Rattle.std.proofs.Common.{arith, refl, sym, subst, ap, ap₂, ◌∙◌}
 use Rattle.std.proofs.lemmas.Int.{ints}
 use Rattle.std.specs.List.{fold, flat_map, list_all}
 use Rattle.std.specs.Int.{int_min, int_max}
 use Rattle.std.specs.Int.RustNames.{int_div, int_rem}
 use Rattle.box_problem.specs.Box.{Box, IsBox, InBox}
-use Rattle.box_rules.specs.Terms.{Item, Fixed, Free, Table, Term, Constant, Cell, Sum, Product, Quotient, Remainder, Least, Greatest, Size, Element, Number, Terms, no_term, term, Parts, no_part, part, Cond, Compare, Not, All, Any, Implies, AllDifferent, Cumulative, Conds, no_cond, condition, Tasks, no_task, task}
+use Rattle.box_rules.specs.Terms.{Item, Fixed, Free, Table, Term, Constant, Cell, Sum, Product, Quotient, Remainder, Least, Greatest, Size, Element, Number, Terms, no_term, term}
+use Rattle.box_rules.specs.Terms.{Parts, no_part, part, Cond, Compare, Not, All, Any, Implies, AllDifferent, Cumulative, Conds, no_cond, condition, Tasks, no_task, task}
 use Rattle.box_rules.specs.Arrays.{Entry, indices, paired, entries, same_index, item_in, item_at}
 use Rattle.box_rules.specs.Ends.{size_of}
 use Rattle.box_rules.specs.Forms.{Form, is_constant, sign}
 use Rattle.box_rules.specs.Rules.{Near, forms}
-use Rattle.box_rules.specs.Values.{both_of, one_or_zero, compares, holds_of, cell_value, item_value, all_distinct, TaskValues, task_values, do_fit, value, values, sum_value, holds, all_hold, any_holds, all_task_values}
+use Rattle.box_rules.specs.Values.{both_of, one_or_zero, compares, holds_of, cell_value, item_value, all_distinct, TaskValues, task_values, do_fit, value, values, sum_value, holds}
+use Rattle.box_rules.specs.Values.{all_hold, any_holds, all_task_values}
 use Rattle.box_rules.specs.Laws.{IsProper, AreProper, AreProperParts, IsProperCond, AreProperConds, AreProperTasks}
 use Rattle.box_rules.proofs.FormValues.{by_if, by_bool}
 use Rattle.box_rules.proofs.Lists.{constants}
@@ -50,19 +53,23 @@ like_found p q (e ∷ es) index like =
     (λ same. ap Some like.0) (λ other. like_found p q es index like.1)
 
 -- the element at an index, which is that of the numbers where the indices are numbers
-like_at : (p q : List ℤ) (table : Table) (fs : List Form) (index : List ℤ) → Reach (Like p q) (element_mentions table (named_item table fs)) → (list_all is_constant fs ≡ true → index ≡ constants fs) → option_map (item_value p) (item_at table index) ≡ option_map (item_value q) (item_at table index)
+like_at : (p q : List ℤ) (table : Table) (fs : List Form) (index : List ℤ) → Reach (Like p q) (element_mentions table (named_item table fs)) → (list_all is_constant fs ≡ true → index ≡ constants fs)
+    → option_map (item_value p) (item_at table index) ≡ option_map (item_value q) (item_at table index)
 like_at p q table fs index =
-    by_bool (λ constant. Reach (Like p q) (element_mentions table (if constant then item_at table (constants fs) else None)) → (constant ≡ true → index ≡ constants fs) → option_map (item_value p) (item_at table index) ≡ option_map (item_value q) (item_at table index)) (list_all is_constant fs)
+    by_bool (λ constant. Reach (Like p q) (element_mentions table (if constant then item_at table (constants fs) else None)) → (constant ≡ true → index ≡ constants fs)
+    → option_map (item_value p) (item_at table index) ≡ option_map (item_value q) (item_at table index)) (list_all is_constant fs)
     (λ all reach fixed.
     subst (λ (at : List ℤ). option_map (item_value p) (item_at table at) ≡ option_map (item_value q) (item_at table at)) (sym (fixed refl)) (like_one p q table (item_at table (constants fs)) reach))
     (λ open_index reach fixed. like_found p q (entries table) index (like_paired p q (indices table.sets) table.items reach))
 
-like_here : (p q : List ℤ) (table : Table) (fs : List Form) (vs : Option (List ℤ)) → Reach (Like p q) (element_mentions table (named_item table fs)) → (list_all is_constant fs ≡ true → IfSome vs (λ xs. xs ≡ constants fs))
+like_here : (p q : List ℤ) (table : Table) (fs : List Form) (vs : Option (List ℤ)) → Reach (Like p q) (element_mentions table (named_item table fs))
+    → (list_all is_constant fs ≡ true → IfSome vs (λ xs. xs ≡ constants fs))
     → option_map (item_value p) (option_and_then (item_at table) vs) ≡ option_map (item_value q) (option_and_then (item_at table) vs)
 like_here p q table fs None reach fixed = refl
 like_here p q table fs (Some index) reach fixed = like_at p q table fs index reach fixed
 
-like_element : (p q : List ℤ) (table : Table) (fs : List Form) (vs ws : Option (List ℤ)) → Reach (Like p q) (element_mentions table (named_item table fs)) → (list_all is_constant fs ≡ true → IfSome vs (λ xs. xs ≡ constants fs)) → vs ≡ ws
+like_element : (p q : List ℤ) (table : Table) (fs : List Form) (vs ws : Option (List ℤ)) → Reach (Like p q) (element_mentions table (named_item table fs))
+    → (list_all is_constant fs ≡ true → IfSome vs (λ xs. xs ≡ constants fs)) → vs ≡ ws
     → option_map (item_value p) (option_and_then (item_at table) vs) ≡ option_map (item_value q) (option_and_then (item_at table) ws)
 like_element p q table fs vs ws reach fixed same =
     like_here p q table fs vs reach fixed ∙ ap (λ (us : Option (List ℤ)). option_map (item_value q) (option_and_then (item_at table) us)) same
@@ -71,7 +78,8 @@ like_element p q table fs vs ws reach fixed same =
 abbrev with_task : Option ℤ → Option ℤ → Option ℤ → Option (List TaskValues) → Option (List TaskValues)
 with_task s d m later = both_of (λ t ts. t ∷ ts) (option_and_then (λ start. both_of (task_values start) d m) s) later
 
-like_task : (s d m : Option ℤ) (later : Option (List TaskValues)) (t e n : Option ℤ) (others : Option (List TaskValues)) → s ≡ t → d ≡ e → m ≡ n → later ≡ others → with_task s d m later ≡ with_task t e n others
+like_task : (s d m : Option ℤ) (later : Option (List TaskValues)) (t e n : Option ℤ) (others : Option (List TaskValues)) → s ≡ t → d ≡ e → m ≡ n → later ≡ others → with_task s d m later
+    ≡ with_task t e n others
 like_task s d m later t e n others start duration demand rest =
     ap₂ (λ (x y : Option ℤ). with_task x y m later) start duration ∙ ap₂ (with_task t e) demand rest
 
@@ -94,13 +102,16 @@ mutual
   like_value root p q (Cell cell) proper reach = ap Some (alone (Like p q) cell reach)
   like_value root p q (Sum parts) proper reach = like_sum root p q parts proper reach
   like_value root p q (Product a b) proper reach =
-      ap₂ (λ (v w : Option ℤ). both_of (λ x y. x *ℤ y) v w) (like_value root p q a proper.0 (first (Like p q) (mentions root a) (mentions root b) reach)) (like_value root p q b proper.1 (second (Like p q) (mentions root a) (mentions root b) reach))
+      ap₂ (λ (v w : Option ℤ). both_of (λ x y. x *ℤ y) v w) (like_value root p q a proper.0 (first (Like p q) (mentions root a) (mentions root b) reach))
+      (like_value root p q b proper.1 (second (Like p q) (mentions root a) (mentions root b) reach))
   like_value root p q (Quotient a c) proper reach = ap (λ (v : Option ℤ). option_map (λ x. int_div x c) v) (like_value root p q a proper reach)
   like_value root p q (Remainder a c) proper reach = ap (λ (v : Option ℤ). option_map (λ x. int_rem x c) v) (like_value root p q a proper reach)
   like_value root p q (Least a later) proper reach =
-      ap₂ (λ (v : Option ℤ) (vs : Option (List ℤ)). both_of (λ x xs. fold int_min x xs) v vs) (like_value root p q a proper.0 (first (Like p q) (mentions root a) (terms_mention root later) reach)) (like_values root p q later proper.1 (second (Like p q) (mentions root a) (terms_mention root later) reach))
+      ap₂ (λ (v : Option ℤ) (vs : Option (List ℤ)). both_of (λ x xs. fold int_min x xs) v vs) (like_value root p q a proper.0 (first (Like p q) (mentions root a) (terms_mention root later) reach))
+      (like_values root p q later proper.1 (second (Like p q) (mentions root a) (terms_mention root later) reach))
   like_value root p q (Greatest a later) proper reach =
-      ap₂ (λ (v : Option ℤ) (vs : Option (List ℤ)). both_of (λ x xs. fold int_max x xs) v vs) (like_value root p q a proper.0 (first (Like p q) (mentions root a) (terms_mention root later) reach)) (like_values root p q later proper.1 (second (Like p q) (mentions root a) (terms_mention root later) reach))
+      ap₂ (λ (v : Option ℤ) (vs : Option (List ℤ)). both_of (λ x xs. fold int_max x xs) v vs) (like_value root p q a proper.0 (first (Like p q) (mentions root a) (terms_mention root later) reach))
+      (like_values root p q later proper.1 (second (Like p q) (mentions root a) (terms_mention root later) reach))
   like_value root p q (Size a) proper reach = ap (λ (v : Option ℤ). option_map size_of v) (like_value root p q a proper reach)
   like_value root p q (Element table list) proper reach =
       let item = named_item table (forms root list) in
@@ -111,34 +122,42 @@ mutual
   like_values : (root : Box) (p q : List ℤ) (ts : Terms) → AreProper ts → Reach (Like p q) (terms_mention root ts) → values p ts ≡ values q ts
   like_values root p q no_term proper reach = refl
   like_values root p q (term t later) proper reach =
-      ap₂ (λ (v : Option ℤ) (vs : Option (List ℤ)). both_of (λ x xs. x ∷ xs) v vs) (like_value root p q t proper.0 (first (Like p q) (mentions root t) (terms_mention root later) reach)) (like_values root p q later proper.1 (second (Like p q) (mentions root t) (terms_mention root later) reach))
+      ap₂ (λ (v : Option ℤ) (vs : Option (List ℤ)). both_of (λ x xs. x ∷ xs) v vs) (like_value root p q t proper.0 (first (Like p q) (mentions root t) (terms_mention root later) reach))
+      (like_values root p q later proper.1 (second (Like p q) (mentions root t) (terms_mention root later) reach))
 
   like_sum : (root : Box) (p q : List ℤ) (parts : Parts) → AreProperParts parts → Reach (Like p q) (parts_mention root parts) → sum_value p parts ≡ sum_value q parts
   like_sum root p q no_part proper reach = refl
   like_sum root p q (part subtracted t later) proper reach =
-      ap₂ (λ (v w : Option ℤ). both_of (λ x sum. sign subtracted *ℤ x +ℤ sum) v w) (like_value root p q t proper.0 (first (Like p q) (mentions root t) (parts_mention root later) reach)) (like_sum root p q later proper.1 (second (Like p q) (mentions root t) (parts_mention root later) reach))
+      ap₂ (λ (v w : Option ℤ). both_of (λ x sum. sign subtracted *ℤ x +ℤ sum) v w) (like_value root p q t proper.0 (first (Like p q) (mentions root t) (parts_mention root later) reach))
+      (like_sum root p q later proper.1 (second (Like p q) (mentions root t) (parts_mention root later) reach))
 
   like_holds : (root : Box) (p q : List ℤ) (c : Cond) → IsProperCond c → Reach (Like p q) (cond_mentions root c) → holds p c ≡ holds q c
   like_holds root p q (Compare op a b) proper reach =
-      ap₂ (λ (v w : Option ℤ). holds_of (λ same. same) (both_of (compares op) v w)) (like_value root p q a proper.0 (first (Like p q) (mentions root a) (mentions root b) reach)) (like_value root p q b proper.1 (second (Like p q) (mentions root a) (mentions root b) reach))
+      ap₂ (λ (v w : Option ℤ). holds_of (λ same. same) (both_of (compares op) v w)) (like_value root p q a proper.0 (first (Like p q) (mentions root a) (mentions root b) reach))
+      (like_value root p q b proper.1 (second (Like p q) (mentions root a) (mentions root b) reach))
   like_holds root p q (Not c) proper reach = ap not (like_holds root p q c proper reach)
   like_holds root p q (All conds) proper reach = like_all root p q conds proper reach
   like_holds root p q (Any conds) proper reach = like_any root p q conds proper reach
   like_holds root p q (Implies a c) proper reach =
-      ap₂ (λ (s t : Bool). not s || t) (like_holds root p q a proper.0 (first (Like p q) (cond_mentions root a) (cond_mentions root c) reach)) (like_holds root p q c proper.1 (second (Like p q) (cond_mentions root a) (cond_mentions root c) reach))
+      ap₂ (λ (s t : Bool). not s || t) (like_holds root p q a proper.0 (first (Like p q) (cond_mentions root a) (cond_mentions root c) reach))
+      (like_holds root p q c proper.1 (second (Like p q) (cond_mentions root a) (cond_mentions root c) reach))
   like_holds root p q (AllDifferent terms) proper reach = ap (λ (vs : Option (List ℤ)). holds_of all_distinct vs) (like_values root p q terms proper reach)
   like_holds root p q (Cumulative tasks capacity) proper reach =
-      ap₂ (λ (ts : Option (List TaskValues)) (v : Option ℤ). holds_of (λ fit. fit) (both_of do_fit ts v)) (like_tasks root p q tasks proper.0 (first (Like p q) (tasks_mention root tasks) (mentions root capacity) reach)) (like_value root p q capacity proper.1 (second (Like p q) (tasks_mention root tasks) (mentions root capacity) reach))
+      ap₂ (λ (ts : Option (List TaskValues)) (v : Option ℤ). holds_of (λ fit. fit) (both_of do_fit ts v))
+      (like_tasks root p q tasks proper.0 (first (Like p q) (tasks_mention root tasks) (mentions root capacity) reach))
+      (like_value root p q capacity proper.1 (second (Like p q) (tasks_mention root tasks) (mentions root capacity) reach))
 
   like_all : (root : Box) (p q : List ℤ) (conds : Conds) → AreProperConds conds → Reach (Like p q) (conds_mention root conds) → all_hold p conds ≡ all_hold q conds
   like_all root p q no_cond proper reach = refl
   like_all root p q (condition c later) proper reach =
-      ap₂ (λ (s t : Bool). s && t) (like_holds root p q c proper.0 (first (Like p q) (cond_mentions root c) (conds_mention root later) reach)) (like_all root p q later proper.1 (second (Like p q) (cond_mentions root c) (conds_mention root later) reach))
+      ap₂ (λ (s t : Bool). s && t) (like_holds root p q c proper.0 (first (Like p q) (cond_mentions root c) (conds_mention root later) reach))
+      (like_all root p q later proper.1 (second (Like p q) (cond_mentions root c) (conds_mention root later) reach))
 
   like_any : (root : Box) (p q : List ℤ) (conds : Conds) → AreProperConds conds → Reach (Like p q) (conds_mention root conds) → any_holds p conds ≡ any_holds q conds
   like_any root p q no_cond proper reach = refl
   like_any root p q (condition c later) proper reach =
-      ap₂ (λ (s t : Bool). s || t) (like_holds root p q c proper.0 (first (Like p q) (cond_mentions root c) (conds_mention root later) reach)) (like_any root p q later proper.1 (second (Like p q) (cond_mentions root c) (conds_mention root later) reach))
+      ap₂ (λ (s t : Bool). s || t) (like_holds root p q c proper.0 (first (Like p q) (cond_mentions root c) (conds_mention root later) reach))
+      (like_any root p q later proper.1 (second (Like p q) (cond_mentions root c) (conds_mention root later) reach))
 
   like_tasks : (root : Box) (p q : List ℤ) (tasks : Tasks) → AreProperTasks tasks → Reach (Like p q) (tasks_mention root tasks) → all_task_values p tasks ≡ all_task_values q tasks
   like_tasks root p q no_task proper reach = refl

@@ -1,6 +1,7 @@
 //! Which cells a term or a condition mentions, and that nothing else decides what it is over a box or at a point. All of it is
 //! definitions, worked values and laws over them: the functions are empty and state what was proved, so that no body here could be
 //! wrong; hence the crate has no must-fail edits.
+//! There is nothing to test.
 #![tactic(auto)]
 
 mod laws;

@@ -1,9 +1,9 @@
 //! What a few terms and conditions mention.
 
 ghost use Rattle.std.specs.Prelude.{◌≡◌, pos, [], ◌∷◌, map};
-ghost use Rattle.sopl_base.specs.declared.places.CmpOp.TheVariants.{Lt};
+ghost use Rattle.sopl_base.specs.declared.comparison.CmpOp.TheVariants.{Lt};
 ghost use Rattle.box_rules.specs.Terms.{AllDifferent, Any, Compare, Cumulative, Element, Implies, Least, Not, Number, Product, condition, no_cond};
-ghost use Rattle.box_rules.specs.Worked.{box, cells, difference, number, one, price_at, sum, three, two, two_tasks, x, y, z};
+ghost use Rattle.box_rules.specs.WorkedIntervals.{box, cells, difference, number, one, price_at, sum, three, two, two_tasks, x, y, z};
 ghost use Rattle.cell_mentions.specs.Mentions.{cond_mentions, mentions};
 
 /// x, y and z are the cells 0, 1 and 2, each from 0 to 9. What cancels and what is multiplied by 0 is mentioned. Of an array of x and y at

@@ -2,9 +2,9 @@
 use Rattle.std.proofs.Common.{◌≡◌, inl, inr, ℕ, ◌<◌, ℤ, List, [], ◌∷◌, length, Option, Some, None, IfSome, Bool, true, false, get_or, arith, ap, refl, sym, subst, ◌∙◌}
 use Rattle.std.specs.List.{Contains}
 use Rattle.std.proofs.lemmas.List.Elements.{All-contains}
-use Rattle.sopl_base.specs.declared.places.Reason.{Reason}
-use Rattle.sopl_base.specs.declared.places.Reason.TheVariants.{Bound, Chance}
-use Rattle.sopl_base.specs.declared.places.Step.{Step}
+use Rattle.sopl_base.specs.declared.reason.Reason.{Reason}
+use Rattle.sopl_base.specs.declared.reason.Reason.TheVariants.{Bound, Chance}
+use Rattle.sopl_base.specs.declared.reason.Step.{Step}
 use Rattle.box_problem.specs.Box.{Box, Inside, high, low, with_high, with_low}
 use Rattle.box_problem.specs.Rightness.{IsRight, Quiets}
 use Rattle.chance_sums.specs.declared.sums.Weighed.{Weighed}
@@ -39,7 +39,8 @@ pub found_dead : (q : Question) → closes q q.store.now.box ≡ true → Closes
 unfolding box_problem_of
 found_dead q closed = record { own = itself q.reason; closed = closed }
 
-pub found_cut : (q : Question) (step : Step) → IsWhole q → step.reason ≡ q.reason → IsRight (box_problem_of q.program.now) q.best q.store.now.box step → Narrows (box_problem_of q.program.now) (q.reason ∷ []) q.best q.store.now.box step
+pub found_cut : (q : Question) (step : Step) → IsWhole q → step.reason ≡ q.reason → IsRight (box_problem_of q.program.now) q.best q.store.now.box step
+    → Narrows (box_problem_of q.program.now) (q.reason ∷ []) q.best q.store.now.box step
 unfolding box_problem_of
 found_cut q step whole same right = record {
   own = subst (Contains (q.reason ∷ [])) (sym same) (itself q.reason);
@@ -48,14 +49,18 @@ found_cut q step whole same right = record {
 }
 
 -- what the weight at hand tells
-pub told_is : (q : Question) (w : Weighed) (cell : ℕ) (lo hi : ℤ) (answer : Option Bool) → q.reason ≡ Chance w.instance → w.cell ≡ cell → IfSome answer (λ closed. closed ≡ refutes (root_in q.program.now) (problem_in q.program.now) (Chance w.instance) (with_interval q.store.now.box w.cell lo hi) None) → IfSome answer (λ closed. closed ≡ closes q (with_interval q.store.now.box cell lo hi))
+pub told_is : (q : Question) (w : Weighed) (cell : ℕ) (lo hi : ℤ) (answer : Option Bool) → q.reason ≡ Chance w.instance → w.cell ≡ cell
+    → IfSome answer (λ closed. closed ≡ refutes (root_in q.program.now) (problem_in q.program.now) (Chance w.instance) (with_interval q.store.now.box w.cell lo hi) None)
+    → IfSome answer (λ closed. closed ≡ closes q (with_interval q.store.now.box cell lo hi))
 told_is q w cell lo hi None reason same told = tt
 told_is q w cell lo hi (Some closed) reason same told =
     told
     ∙ ap (λ (n : ℕ). refutes (root_in q.program.now) (problem_in q.program.now) (Chance w.instance) (with_interval q.store.now.box n lo hi) q.best) same
     ∙ sym (ap (λ (r : Reason). refutes (root_in q.program.now) (problem_in q.program.now) r (with_interval q.store.now.box cell lo hi) q.best) reason)
 
-pub counted_is : (q : Question) (c : Counted) (cell : ℕ) (lo hi v : ℤ) (answer : Option Bool) → q.reason ≡ Bound → q.best ≡ Some v → c.cell ≡ cell → IfSome answer (λ closed. closed ≡ refutes (root_in q.program.now) (problem_in q.program.now) Bound (with_interval q.store.now.box c.cell lo hi) (Some v)) → IfSome answer (λ closed. closed ≡ closes q (with_interval q.store.now.box cell lo hi))
+pub counted_is : (q : Question) (c : Counted) (cell : ℕ) (lo hi v : ℤ) (answer : Option Bool) → q.reason ≡ Bound → q.best ≡ Some v → c.cell ≡ cell
+    → IfSome answer (λ closed. closed ≡ refutes (root_in q.program.now) (problem_in q.program.now) Bound (with_interval q.store.now.box c.cell lo hi) (Some v))
+    → IfSome answer (λ closed. closed ≡ closes q (with_interval q.store.now.box cell lo hi))
 counted_is q c cell lo hi v None reason best same told = tt
 counted_is q c cell lo hi v (Some closed) reason best same told =
     told
@@ -64,7 +69,8 @@ counted_is q c cell lo hi v (Some closed) reason best same told =
     ∙ sym (ap (λ (r : Reason). refutes (root_in q.program.now) (problem_in q.program.now) r (with_interval q.store.now.box cell lo hi) q.best) reason)
 
 -- a cell at its lower end, and at its upper end: it was tried, or it is not mentioned and changes nothing
-open_low : (q : Question) (cells : List ℕ) (cell : ℕ) → HasAll cells (reason_mentions (root_in q.program.now) (problem_in q.program.now) q.reason) → IsWhole q → AreOpen q cells → cell < length q.store.now.box.lows → closes q (with_high q.store.now.box cell (low q.store.now.box cell)) ≡ false
+open_low : (q : Question) (cells : List ℕ) (cell : ℕ) → HasAll cells (reason_mentions (root_in q.program.now) (problem_in q.program.now) q.reason) → IsWhole q → AreOpen q cells
+    → cell < length q.store.now.box.lows → closes q (with_high q.store.now.box cell (low q.store.now.box cell)) ≡ false
 open_low q cells cell all whole opened exists =
     let b = q.store.now.box in
     let mentioned = reason_mentions (root_in q.program.now) (problem_in q.program.now) q.reason in
@@ -76,7 +82,8 @@ open_low q cells cell all whole opened exists =
           ∙ whole
     ]
 
-open_high : (q : Question) (cells : List ℕ) (cell : ℕ) → HasAll cells (reason_mentions (root_in q.program.now) (problem_in q.program.now) q.reason) → IsWhole q → AreOpen q cells → cell < length q.store.now.box.lows → closes q (with_low q.store.now.box cell (high q.store.now.box cell)) ≡ false
+open_high : (q : Question) (cells : List ℕ) (cell : ℕ) → HasAll cells (reason_mentions (root_in q.program.now) (problem_in q.program.now) q.reason) → IsWhole q → AreOpen q cells
+    → cell < length q.store.now.box.lows → closes q (with_low q.store.now.box cell (high q.store.now.box cell)) ≡ false
 open_high q cells cell all whole opened exists =
     let b = q.store.now.box in
     let mentioned = reason_mentions (root_in q.program.now) (problem_in q.program.now) q.reason in
@@ -88,7 +95,8 @@ open_high q cells cell all whole opened exists =
           ∙ whole
     ]
 
-pub found_quiet : (q : Question) (cells : List ℕ) → HasAll cells (reason_mentions (root_in q.program.now) (problem_in q.program.now) q.reason) → IsWhole q → AreOpen q cells → Quiets (box_problem_of q.program.now) (q.reason ∷ []) q.best q.store.now.box
+pub found_quiet : (q : Question) (cells : List ℕ) → HasAll cells (reason_mentions (root_in q.program.now) (problem_in q.program.now) q.reason) → IsWhole q → AreOpen q cells
+    → Quiets (box_problem_of q.program.now) (q.reason ∷ []) q.best q.store.now.box
 unfolding box_problem_of
 found_quiet q cells all whole opened =
     let b = q.store.now.box in

@@ -5,10 +5,10 @@ use Rattle.std.specs.List.{All}
 use Rattle.std.proofs.lemmas.List.{take_all, take_more}
 use Rattle.std.proofs.lemmas.List.Elements.{All-append, All-cons, All-nil}
 use Rattle.std.proofs.lemmas.Int.{ints}
-use Rattle.sopl_base.specs.declared.places.Step.{Step}
+use Rattle.sopl_base.specs.declared.reason.Step.{Step}
 use Rattle.box_problem.proofs.Counts.{gap_leads}
-use Rattle.sopl_base.specs.declared.places.Side.{Side}
-use Rattle.sopl_base.specs.declared.places.Side.TheVariants.{Le, Ge}
+use Rattle.sopl_base.specs.declared.reason.Side.{Side}
+use Rattle.sopl_base.specs.declared.reason.Side.TheVariants.{Le, Ge}
 use Rattle.box_problem.specs.Box.{high, low, with_high, with_low}
 use Rattle.box_problem.specs.Rightness.{IsRight}
 use Rattle.term_program.specs.Programs.{root_in, with_interval}
@@ -22,20 +22,21 @@ use Rattle.program_laws.specs.Stated.{box_problem_of}
 use Rattle.end_values.proofs.Removing as removing
 
 -- the outermost value at the lower end, and at the upper one
-low_stays : (q : Question) (cell : ℕ) (side : Side) (lo hi : ℤ) → side ≡ Ge → lo ≡ low q.store.now.box cell → closes q (with_interval q.store.now.box cell (lowest_at side lo hi (pos 1)) (highest_at side lo hi (pos 1))) ≡ closes q (with_high q.store.now.box cell (low q.store.now.box cell))
+low_stays : (q : Question) (cell : ℕ) (side : Side) (lo hi : ℤ) → side ≡ Ge → lo ≡ low q.store.now.box cell
+    → closes q (with_interval q.store.now.box cell (lowest_at side lo hi (pos 1)) (highest_at side lo hi (pos 1))) ≡ closes q (with_high q.store.now.box cell (low q.store.now.box cell))
 low_stays q cell side lo hi lower is = removing.low_stays (closes q) q.store.now.box cell side lo hi lower is
 
-high_stays : (q : Question) (cell : ℕ) (side : Side) (lo hi : ℤ) → side ≡ Le → hi ≡ high q.store.now.box cell → closes q (with_interval q.store.now.box cell (lowest_at side lo hi (pos 1)) (highest_at side lo hi (pos 1))) ≡ closes q (with_low q.store.now.box cell (high q.store.now.box cell))
+high_stays : (q : Question) (cell : ℕ) (side : Side) (lo hi : ℤ) → side ≡ Le → hi ≡ high q.store.now.box cell
+    → closes q (with_interval q.store.now.box cell (lowest_at side lo hi (pos 1)) (highest_at side lo hi (pos 1))) ≡ closes q (with_low q.store.now.box cell (high q.store.now.box cell))
 high_stays q cell side lo hi upper is = removing.high_stays (closes q) q.store.now.box cell side lo hi upper is
 
 -- a cell with one value is open where the box is not closed
 pub fixed_open : (q : Question) (cell : ℕ) → IsWhole q → IsFixed q cell → IsOpen q cell
-fixed_open q cell whole fixed =
-    let opened = removing.fixed_open (closes q) q.store.now.box cell whole fixed in
-    record { at_low = opened.at_low; at_high = opened.at_high }
+fixed_open q cell whole fixed = removing.fixed_open (closes q) q.store.now.box cell whole fixed
 
 -- a cell is open where neither end's outermost value may be removed
-pub both_open : (q : Question) (cell : ℕ) (lower : End) → IsEndOf q lower → lower.cell ≡ cell → lower.side ≡ Ge → closes_part q lower (pos 1) ≡ false → closes_part q (upper_of lower) (pos 1) ≡ false → IsOpen q cell
+pub both_open : (q : Question) (cell : ℕ) (lower : End) → IsEndOf q lower → lower.cell ≡ cell → lower.side ≡ Ge → closes_part q lower (pos 1) ≡ false → closes_part q (upper_of lower) (pos 1)
+    ≡ false → IsOpen q cell
 both_open q cell lower is same side low_open high_open =
     subst (IsOpen q) same
     (record {
@@ -47,7 +48,8 @@ pub upper_end : (q : Question) (lower upper : End) → IsEndOf q lower → upper
 upper_end q lower upper is same =
     subst (IsEndOf q) (sym same) (record { exists = is.exists; low = is.low; high = is.high; wide = is.wide })
 
-pub lower_is : (q : Question) (cell : ℕ) (end : End) → cell < length q.store.now.box.lows → end.cell ≡ cell → end.lo ≡ low q.store.now.box cell → end.hi ≡ high q.store.now.box cell → end.lo <ℤ end.hi → IsEndOf q end
+pub lower_is : (q : Question) (cell : ℕ) (end : End) → cell < length q.store.now.box.lows → end.cell ≡ cell → end.lo ≡ low q.store.now.box cell → end.hi ≡ high q.store.now.box cell
+    → end.lo <ℤ end.hi → IsEndOf q end
 lower_is q cell end exists same is_low is_high wide = record {
   exists = subst (λ (n : ℕ). n < length q.store.now.box.lows) (sym same) exists;
   low = is_low ∙ ap (low q.store.now.box) (sym same);
@@ -79,7 +81,8 @@ part_to q end count x asked is some fewer same =
     to_at Le lo hi count root above fewer = above
 
 -- more values that may be removed
-pub removal_grown : (q : Question) (end : End) (known next : Removal) → IsRemoval q end known → next.count ≡ known.count +ℤ known.by → next.by ≡ known.count +ℤ known.by → next.count ≤ℤ (end.hi -ℤ end.lo) → closes_part q end next.count ≡ true → IsRemoval q end next
+pub removal_grown : (q : Question) (end : End) (known next : Removal) → IsRemoval q end known → next.count ≡ known.count +ℤ known.by → next.by ≡ known.count +ℤ known.by
+    → next.count ≤ℤ (end.hi -ℤ end.lo) → closes_part q end next.count ≡ true → IsRemoval q end next
 removal_grown q end known next is count by fewer closed = record {
   some = omega (arith, ints, count, is.some, is.more);
   fewer = fewer;
@@ -105,13 +108,16 @@ gap_below lo k hi above below =
     omega (arith, ints, gap_leads k hi below, gap_leads lo hi (omega (arith, ints)))
 
 -- values that may be removed are removed by a right step
-right_at : (q : Question) (cell : ℕ) (side : Side) (lo hi count : ℤ) → cell < length q.store.now.box.lows → lo ≡ low q.store.now.box cell → hi ≡ high q.store.now.box cell → pos 1 ≤ℤ count → count ≤ℤ (hi -ℤ lo) → closes q (with_interval q.store.now.box cell (lowest_at side lo hi count) (highest_at side lo hi count)) ≡ true → IsRight (box_problem_of q.program.now) q.best q.store.now.box (record { reason = q.reason; cell = cell; side = side; k = left_at side lo hi count })
+right_at : (q : Question) (cell : ℕ) (side : Side) (lo hi count : ℤ) → cell < length q.store.now.box.lows → lo ≡ low q.store.now.box cell → hi ≡ high q.store.now.box cell → pos 1 ≤ℤ count
+    → count ≤ℤ (hi -ℤ lo) → closes q (with_interval q.store.now.box cell (lowest_at side lo hi count) (highest_at side lo hi count)) ≡ true
+    → IsRight (box_problem_of q.program.now) q.best q.store.now.box (record { reason = q.reason; cell = cell; side = side; k = left_at side lo hi count })
 unfolding box_problem_of
 right_at q cell side lo hi count exists is_low is_high some fewer closed =
     let removes = removing.removes_at (closes q) q.store.now.box q.reason cell side lo hi count exists is_low is_high some fewer closed in
     record { cut = removes.cut; refuted = removes.closed }
 
-pub removal_right : (q : Question) (end : End) (removal : Removal) (step : Step) → IsEndOf q end → IsRemoval q end removal → step ≡ step_at end q.reason removal.count → IsRight (box_problem_of q.program.now) q.best q.store.now.box step
+pub removal_right : (q : Question) (end : End) (removal : Removal) (step : Step) → IsEndOf q end → IsRemoval q end removal → step ≡ step_at end q.reason removal.count
+    → IsRight (box_problem_of q.program.now) q.best q.store.now.box step
 removal_right q end removal step is known same =
     subst (IsRight (box_problem_of q.program.now) q.best q.store.now.box) (sym same)
     (right_at q end.cell end.side end.lo end.hi removal.count is.exists is.low is.high known.some known.fewer known.closed)

@@ -1,6 +1,6 @@
 -- Whether a reason closes a box or parts of it.
 use Rattle.std.specs.Prelude.{◌≡◌, ℕ, ◌<◌, pos, ℤ, ◌≤ℤ◌, ◌-ℤ◌, Bool, true, List, length, Contains, IfSome}
-use Rattle.sopl_base.specs.declared.places.Reason.TheVariants.{Bound, Chance}
+use Rattle.sopl_base.specs.declared.reason.Reason.TheVariants.{Bound, Chance}
 use Rattle.box_problem.specs.Box.{Box, Inside, high, low}
 use Rattle.chance_sums.specs.Known.{IsWeighed}
 use Rattle.chance_sums.specs.declared.sums.Weighed.{Weighed}

@@ -1,7 +1,7 @@
 //! How many values at an end may be removed.
 
 ghost use Rattle.std.specs.Prelude.{◌≡◌, ◌<◌, pos, ◌<ℤ◌, ◌∷◌, [], false, length, IfNone, IfSome};
-ghost use Rattle.sopl_base.specs.declared.places.Side.TheVariants.{Ge};
+ghost use Rattle.sopl_base.specs.declared.reason.Side.TheVariants.{Ge};
 ghost use Rattle.box_problem.specs.Box.{high, low};
 ghost use Rattle.box_problem.specs.Rightness.{IsRight, Quiets};
 ghost use Rattle.cell_questions.specs.Opened.{IsFixed, IsOpen, IsWhole};

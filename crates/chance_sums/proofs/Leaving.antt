@@ -1,18 +1,15 @@
 -- The weight that is left over a box, and over a part in which one cell has another interval.
-use Rattle.std.proofs.Common.{◌≡◌, ◌∙◌, ℕ, zero, suc, ◌+◌, ◌<◌, ℤ, pos, ◌+ℤ◌, ◌*ℤ◌, ◌≤ℤ◌, int_lt, Bool, true, false, List, [], ◌∷◌, Option, Some, None, IfSome, if◌then◌else◌, slice_get, unwrap_or, length, get_or, arith, refl, ap, ap₂, subst, sym}
-use Rattle.std.specs.List.{AllByRecursion, Contains, range_with_len}
+use Rattle.std.proofs.Common.{◌≡◌, ◌∙◌, ℕ, zero, suc, ◌+◌, ◌<◌, ℤ, pos, ◌+ℤ◌, ◌*ℤ◌, ◌≤ℤ◌, int_lt, Bool, false, List, [], ◌∷◌, Option, Some, None, if◌then◌else◌}
+use Rattle.std.proofs.Common.{slice_get, unwrap_or, length, arith, refl, ap, subst, sym}
+use Rattle.std.specs.List.{AllByRecursion, range_with_len}
 use Rattle.std.specs.Option.{option_and_then, option_map_or}
 use Rattle.std.proofs.lemmas.Int.{ints}
-use Rattle.std.proofs.lemmas.List.{get_or_default, get_or-set_other}
-use Rattle.sopl_base.specs.declared.places.Reason.TheVariants.{Chance}
-use Rattle.box_problem.specs.Box.{Box, high, low, with_high, with_low}
+use Rattle.sopl_base.specs.declared.reason.Reason.TheVariants.{Chance}
+use Rattle.box_problem.specs.Box.{Box}
 use Rattle.box_rules.specs.declared.answers.Truth.{Truth}
-use Rattle.box_rules.specs.Ends.{cell_ends, ends}
-use Rattle.box_rules.specs.Globals.{total}
 use Rattle.box_rules.specs.Rules.{Near, truth}
 use Rattle.box_rules.specs.Terms.{Cond}
 use Rattle.box_rules.proofs.FormValues.{by_bool}
-use Rattle.cell_mentions.specs.Laws.{BoxesAgree}
 use Rattle.cell_mentions.specs.Mentions.{cond_mentions}
 use Rattle.cell_mentions.proofs.Agreement.{truths_agree}
 use Rattle.program_rules.specs.Problems.{ChanceTerms, IsChance, IsProblem, ProblemTerms}
@@ -20,9 +17,10 @@ use Rattle.program_rules.specs.Refuted.{is_false, refutes, weight_left}
 use Rattle.program_rules.specs.Search.{numbers_to}
 use Rattle.term_program.specs.Programs.{kept, with_interval}
 use Rattle.term_program.proofs.Weighing.{left_up, left_whole}
-use Rattle.chance_sums.specs.Sums.{condition_in, is_touched, left_over, sum_over, touched_by, weight_at, weight_over}
-use Rattle.chance_sums.proofs.Adding.{differs_there, turn_of}
-use Rattle.chance_sums.proofs.Mentioned.{untouched}
+use Rattle.part_sums.proofs.Adding.{differs_there, turn_of}
+use Rattle.part_sums.proofs.Mentioned.{untouched, with_agrees}
+use Rattle.part_sums.specs.Sums.{has_cell, sum_over}
+use Rattle.chance_sums.specs.Sums.{condition_in, is_touched, left_over, touched_by, weight_at, weight_over}
 
 -- the weight that is left is that of the definitions
 abbrev item : Box → Box → List ℤ → List Cond → ℕ → ℤ
@@ -34,7 +32,8 @@ left_step root b w ws c cs =
     by_bool (λ t. (if t then weight_left root b ws cs else w +ℤ weight_left root b ws cs) ≡ kept t w +ℤ weight_left root b ws cs) (is_false (truth Near root b c))
     (λ met. omega (arith, ints)) (λ unmet. refl)
 
-by_items : (root b : Box) (weights : List ℤ) (conditions : List Cond) (f : ℕ → ℤ) (start : ℕ) → length conditions ≡ length weights → ((i : ℕ) → f (start + i) ≡ item root b weights conditions i) → weight_left root b weights conditions ≡ sum_over f (range_with_len start (length weights))
+by_items : (root b : Box) (weights : List ℤ) (conditions : List Cond) (f : ℕ → ℤ) (start : ℕ) → length conditions ≡ length weights → ((i : ℕ) → f (start + i) ≡ item root b weights conditions i)
+    → weight_left root b weights conditions ≡ sum_over f (range_with_len start (length weights))
 by_items root b [] conditions f start each same = refl
 by_items root b (weight ∷ weights) [] f start each same = absurd (omega (arith, each))
 by_items root b (weight ∷ weights) (cond ∷ conditions) f start each same =
@@ -46,13 +45,15 @@ by_items root b (weight ∷ weights) (cond ∷ conditions) f start each same =
     let step = left_step root b weight weights cond conditions in
     omega (arith, ints, rest, first, step)
 
-left_is : (root b : Box) (terms : ProblemTerms) (instance : ℕ) (chance : ChanceTerms) → slice_get terms.chances instance ≡ Some chance → length chance.conditions ≡ length terms.weights → left_over root terms instance b ≡ weight_left root b terms.weights chance.conditions
+left_is : (root b : Box) (terms : ProblemTerms) (instance : ℕ) (chance : ChanceTerms) → slice_get terms.chances instance ≡ Some chance → length chance.conditions ≡ length terms.weights
+    → left_over root terms instance b ≡ weight_left root b terms.weights chance.conditions
 left_is root b terms instance chance at each =
     sym
     (by_items root b terms.weights chance.conditions (weight_over root terms instance b) 0 each
     (λ i.
     ap (weight_over root terms instance b) (let same : 0 + i ≡ i = omega arith in same)
-    ∙ ap (λ (found : Option ChanceTerms). option_map_or (λ cond. kept (is_false (truth Near root b cond)) (weight_at terms i)) (option_and_then (λ (c : ChanceTerms). slice_get c.conditions i) found) (pos 0)) at))
+    ∙ ap (λ (found : Option ChanceTerms). option_map_or (λ cond. kept (is_false (truth Near root b cond)) (weight_at terms i)) (option_and_then (λ (c : ChanceTerms). slice_get c.conditions i) found)
+    (pos 0)) at))
 
 -- what holds of all holds at a place
 at_place : {A : Type 0} (P : A → Type 0) (xs : List A) (i : ℕ) (x : A) → AllByRecursion P xs → slice_get xs i ≡ Some x → P x
@@ -84,7 +85,9 @@ left_to_whole root b terms instance left problem exists is =
     (left_whole root b terms.weights chance.0.conditions terms.whole problem.weighs problem.whole)
 
 -- and tells whether the constraint closes the box
-pub closes_by : (root b : Box) (terms : ProblemTerms) (instance : ℕ) (left : ℤ) (closed : Bool) → IsProblem terms → instance < length terms.chances → left ≡ left_over root terms instance b → closed ≡ option_map_or (λ (chance : ChanceTerms). int_lt (chance.q *ℤ left) (chance.p *ℤ terms.whole)) (slice_get terms.chances instance) false → closed ≡ refutes root terms (Chance instance) b None
+pub closes_by : (root b : Box) (terms : ProblemTerms) (instance : ℕ) (left : ℤ) (closed : Bool) → IsProblem terms → instance < length terms.chances → left ≡ left_over root terms instance b
+    → closed ≡ option_map_or (λ (chance : ChanceTerms). int_lt (chance.q *ℤ left) (chance.p *ℤ terms.whole)) (slice_get terms.chances instance) false → closed
+    ≡ refutes root terms (Chance instance) b None
 closes_by root b terms instance left closed problem exists is told =
     let chance = some_there terms.chances instance exists in
     let each = (at_place (IsChance terms) terms.chances instance chance.0 problem.chances chance.1).each in
@@ -94,16 +97,9 @@ closes_by root b terms instance left closed problem exists is told =
     ∙ ap (λ (sum : ℤ). int_lt (chance.0.q *ℤ sum) (chance.0.p *ℤ terms.whole)) (is ∙ left_is root b terms instance chance.0 chance.1 each)
     ∙ sym (ap (λ (found : Option ChanceTerms). option_map_or (λ (c : ChanceTerms). int_lt (c.q *ℤ weight_left root b terms.weights c.conditions) (c.p *ℤ terms.whole)) found false) chance.1)
 
--- a box with another interval for one cell gives all other cells the same
-with_agrees : (cells : List ℕ) (b : Box) (cell : ℕ) (lo hi : ℤ) → ¬ Contains cells cell → BoxesAgree cells (with_interval b cell lo hi) b
-with_agrees cells b cell lo hi nowhere = λ k d exists. each (get_or cells k d) (k, exists, get_or_default cells k (get_or cells k d) d exists)
-  where
-    each : (n : ℕ) → Contains cells n → cell_ends (with_interval b cell lo hi) n ≡ cell_ends b n
-    each n there =
-        let other : ¬ n ≡ cell = λ same. nowhere (subst (Contains cells) same there) in
-        ap₂ ends (get_or-set_other b.lows cell n lo (pos 0) other) (get_or-set_other b.highs cell n hi (pos 0) other)
-
-same_weight : (root b : Box) (terms : ProblemTerms) (instance cell scenario : ℕ) (lo hi : ℤ) (found : Option Cond) → condition_in terms instance scenario ≡ found → is_touched root terms instance cell scenario ≡ false → weight_over root terms instance (with_interval b cell lo hi) scenario ≡ weight_over root terms instance b scenario
+-- where the condition does not mention the cell, the weight is the same
+same_weight : (root b : Box) (terms : ProblemTerms) (instance cell scenario : ℕ) (lo hi : ℤ) (found : Option Cond) → condition_in terms instance scenario ≡ found
+    → is_touched root terms instance cell scenario ≡ false → weight_over root terms instance (with_interval b cell lo hi) scenario ≡ weight_over root terms instance b scenario
 same_weight root b terms instance cell scenario lo hi None at apart =
     let over : Box → Option Cond → ℤ = λ box o. option_map_or (λ cond. kept (is_false (truth Near root box cond)) (weight_at terms scenario)) o (pos 0) in
     ap (over (with_interval b cell lo hi)) at ∙ sym (ap (over b) at)
@@ -111,11 +107,14 @@ same_weight root b terms instance cell scenario lo hi (Some cond) at apart =
     let over : Box → Option Cond → ℤ = λ box o. option_map_or (λ c. kept (is_false (truth Near root box c)) (weight_at terms scenario)) o (pos 0) in
     ap (over (with_interval b cell lo hi)) at
     ∙ ap (λ (t : Truth). kept (is_false t) (weight_at terms scenario))
-    (truths_agree Near root (with_interval b cell lo hi) b cond (with_agrees (cond_mentions root cond) b cell lo hi (untouched root terms instance scenario cell cond at apart)))
+    (truths_agree Near root (with_interval b cell lo hi) b cond (with_agrees (cond_mentions root cond) b cell lo hi
+    (untouched cell (cond_mentions root cond) (sym (ap (λ (o : Option Cond). has_cell cell (option_map_or (cond_mentions root) o [])) at) ∙ apart))))
     ∙ sym (ap (over b) at)
 
 -- so only the scenarios count in which the condition mentions the cell
-pub left_with : (root b : Box) (terms : ProblemTerms) (instance cell : ℕ) (lo hi : ℤ) (list : List ℕ) (left now : ℤ) → left ≡ left_over root terms instance b → list ≡ touched_by root terms instance cell → now ≡ (left +ℤ sum_over (turn_of (weight_over root terms instance b) (weight_over root terms instance (with_interval b cell lo hi))) list) → now ≡ left_over root terms instance (with_interval b cell lo hi)
+pub left_with : (root b : Box) (terms : ProblemTerms) (instance cell : ℕ) (lo hi : ℤ) (list : List ℕ) (left now : ℤ) → left ≡ left_over root terms instance b → list
+    ≡ touched_by root terms instance cell → now ≡ (left +ℤ sum_over (turn_of (weight_over root terms instance b) (weight_over root terms instance (with_interval b cell lo hi))) list)
+    → now ≡ left_over root terms instance (with_interval b cell lo hi)
 left_with root b terms instance cell lo hi list left now is touched turned =
     let f = weight_over root terms instance b in
     let g = weight_over root terms instance (with_interval b cell lo hi) in

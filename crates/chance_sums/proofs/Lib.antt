@@ -1,4 +1,3 @@
 pub mod Fractions
 pub mod Mentioned
-pub mod Adding
 pub mod Leaving

@@ -1,6 +1,6 @@
 -- The weight that is left to a chance constraint, scenario by scenario.
-use Rattle.std.specs.Prelude.{ℕ, ℤ, pos, ◌+ℤ◌, nat_eq, Bool, List, [], ◌∷◌, Option, slice_get, unwrap_or, length}
-use Rattle.std.specs.List.{filter, list_any}
+use Rattle.std.specs.Prelude.{ℕ, ℤ, pos, Bool, List, [], Option, slice_get, unwrap_or, length}
+use Rattle.std.specs.List.{filter}
 use Rattle.std.specs.Option.{option_and_then, option_map_or}
 use Rattle.box_problem.specs.Box.{Box}
 use Rattle.box_rules.specs.Rules.{Near, truth}
@@ -10,6 +10,7 @@ use Rattle.program_rules.specs.Problems.{ChanceTerms, ProblemTerms}
 use Rattle.program_rules.specs.Refuted.{is_false}
 use Rattle.program_rules.specs.Search.{numbers_to}
 use Rattle.term_program.specs.Programs.{kept}
+use Rattle.part_sums.specs.Sums.{has_cell, sum_over}
 
 -- the condition of a chance constraint in a scenario, and the weight of a scenario
 abbrev pub condition_in : ProblemTerms → ℕ → ℕ → Option Cond
@@ -24,11 +25,6 @@ abbrev pub weight_over : Box → ProblemTerms → ℕ → Box → ℕ → ℤ
 weight_over root terms instance b scenario =
     option_map_or (λ cond. kept (is_false (truth Near root b cond)) (weight_at terms scenario)) (condition_in terms instance scenario) (pos 0)
 
--- the sum of a number for each of several scenarios
-abbrev pub sum_over : (ℕ → ℤ) → List ℕ → ℤ
-sum_over f [] = pos 0
-sum_over f (scenario ∷ later) = f scenario +ℤ sum_over f later
-
 -- the weight of all scenarios in which the condition is not False over a box
 abbrev pub left_over : Box → ProblemTerms → ℕ → Box → ℤ
 left_over root terms instance b = sum_over (weight_over root terms instance b) (numbers_to (length terms.weights))
@@ -36,7 +32,7 @@ left_over root terms instance b = sum_over (weight_over root terms instance b) (
 -- whether the condition mentions a cell in a scenario, and the scenarios in which it does
 abbrev pub is_touched : Box → ProblemTerms → ℕ → ℕ → ℕ → Bool
 is_touched root terms instance cell scenario =
-    list_any (λ n. nat_eq n cell) (option_map_or (cond_mentions root) (condition_in terms instance scenario) [])
+    has_cell cell (option_map_or (cond_mentions root) (condition_in terms instance scenario) [])
 
 abbrev pub touched_by : Box → ProblemTerms → ℕ → ℕ → List ℕ
 touched_by root terms instance cell = filter (is_touched root terms instance cell) (numbers_to (length terms.weights))

@@ -1,5 +1,6 @@
 //! The weight of the scenarios in which a chance constraint's condition is not False over a box, and what it becomes where one cell has another
 //! interval: only the scenarios in which the condition mentions the cell are weighed anew.
+//! Its tests stand in `program_tests`.
 #![tactic(auto)]
 
 mod listing;

@@ -1,10 +1,10 @@
 //! The scenarios in which a chance constraint's condition mentions a cell.
 
-ghost use Rattle.std.specs.Prelude.{◌≡◌, ◌<◌, ◌∷◌, ◌++◌, [], length, nat_eq, if◌then◌else◌, IfOk, OnOk};
-ghost use Rattle.std.specs.List.{list_any};
+ghost use Rattle.std.specs.Prelude.{◌≡◌, ◌<◌, length, IfOk};
 ghost use Rattle.term_program.specs.Programs.{IsMade, problem_in, root_in};
 ghost use Rattle.chance_sums.specs.Sums.{is_touched, touched_by};
 
+use part_sums::{has, put_if};
 use std::alloc::{AllocError, Global};
 use term_program::Program;
 
@@ -12,13 +12,6 @@ use term_program::Program;
 #[derive(Drop)]
 pub struct Scenarios {
     pub numbers: Vec<u32>,
-}
-
-/// Whether a list has a cell.
-fn has(cells: &[u32], cell: u32) -> bool
-    ensures { result ≡ list_any (λ n. nat_eq n cell) cells.now }
-{
-    cells.contains(&cell)
 }
 
 /// Whether a chance constraint's condition mentions a cell in a scenario.
@@ -29,17 +22,6 @@ fn touches(program: &Program, instance: u32, scenario: u32, cell: u32) -> bool
     ensures { result ≡ is_touched (root_in program.now) (problem_in program.now) instance cell scenario }
 {
     has(program.cells_of(program.chance(instance, scenario)), cell)
-}
-
-/// Adds a number to a list, or nothing.
-fn put_if(list: &mut Vec<u32>, number: u32, wanted: bool) -> Result<(), AllocError>
-    ensures { OnOk result (list.new.items ≡ list.old.items ++ (if wanted then number ∷ [] else [])) }
-{
-    if wanted {
-        list.push(number)?;
-        return Ok(());
-    }
-    Ok(())
 }
 
 /// The scenarios in which a chance constraint's condition mentions a cell.

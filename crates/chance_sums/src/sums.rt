@@ -1,7 +1,7 @@
 //! The weight that is left to a chance constraint.
 
 ghost use Rattle.std.specs.Prelude.{◌≡◌, ◌<◌, ◌≤ℤ◌, length, None, IfSome};
-ghost use Rattle.sopl_base.specs.declared.places.Reason.TheVariants.{Chance};
+ghost use Rattle.sopl_base.specs.declared.reason.Reason.TheVariants.{Chance};
 ghost use Rattle.box_problem.specs.Box.{Inside, high, low};
 ghost use Rattle.program_rules.specs.Refuted.{refutes};
 ghost use Rattle.term_program.specs.Programs.{IsMade, problem_in, root_in, with_interval};
@@ -51,7 +51,7 @@ fn weight_with(
 }
 
 /// The weight of the scenarios in which a chance constraint's condition is not False over the box of a store; none where it has no room.
-#[tactic(auto, using(crate::proofs::Adding::sum_more))]
+#[tactic(auto, using(part_sums::proofs::Adding::sum_more))]
 pub fn weight_left(program: &Program, instance: u32, store: &BoxStore) -> Option<Weight>
     requires made { IsMade program.now }
     requires inside { Inside store.now.box (root_in program.now) }
@@ -101,7 +101,8 @@ impl Weighed<'_> {
         requires known { IsWeighed (root_in program.now) (problem_in program.now) store.now.box self.now }
         requires from_low { low (root_in program.now) self.now.cell ≤ℤ part.lo }
         requires to_high { part.hi ≤ℤ high (root_in program.now) self.now.cell }
-        ensures closed { IfSome result (λ closed. closed ≡ refutes (root_in program.now) (problem_in program.now) (Chance self.now.instance) (with_interval store.now.box self.now.cell part.lo part.hi) None) }
+        ensures closed { IfSome result (λ closed. closed ≡ refutes (root_in program.now) (problem_in program.now) (Chance self.now.instance)
+            (with_interval store.now.box self.now.cell part.lo part.hi) None) }
     {
         let left = self.left_with(program, store, part)?;
         Some(is_too_little(program, self.instance, &left))

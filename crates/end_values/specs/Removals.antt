@@ -1,6 +1,6 @@
 -- When values at an end of a cell's interval may be removed, whatever closes a box.
 use Rattle.std.specs.Prelude.{◌≡◌, ℕ, ◌<◌, Bool, true, false, length}
-use Rattle.sopl_base.specs.declared.places.Step.{Step}
+use Rattle.sopl_base.specs.declared.reason.Step.{Step}
 use Rattle.box_problem.specs.Box.{Box, high, low, with_high, with_low}
 use Rattle.box_problem.specs.Steps.{IsCut, removed}
 

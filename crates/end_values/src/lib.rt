@@ -1,4 +1,5 @@
 //! The outermost values at an end of a cell's interval, and the step that removes them.
+//! Its tests stand in `prop_tests`.
 #![tactic(auto)]
 
 mod ends;

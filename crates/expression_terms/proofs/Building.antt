@@ -7,10 +7,11 @@ use Rattle.sopl_ast.specs.Known.{Known}
 use Rattle.sopl_ast.specs.Occurrences.{divisor_occurrences, expression_occurrences, expressions_occurrences, factors_occurrences, parts_occurrences, terms_occurrences}
 use Rattle.sopl_ast.specs.Tree as t
 use Rattle.sopl_ast.specs.Tree.{Tree, Shape, Trees, Terms, Factors, Node, no_tree, tree, no_term, term, no_factor, factor, place_of}
-use Rattle.binder_places.proofs.Binding.{each_of, ranges_pass}
+use Rattle.binder_places.proofs.Binding.{ranges_pass}
 use Rattle.binder_places.proofs.Passed.{divisor_nonzero, divisor_part}
 use Rattle.unfold_laws.specs.Passing.{Passes}
 use Rattle.unfold_laws.proofs.Bindings.{all_given}
+use Rattle.unfold_laws.proofs.Declared.{each_of}
 use Rattle.unfold_laws.proofs.Passing.{parts_pass, value_given}
 use Rattle.unsupported_forms.specs.Forms.{all_places, factor_places, is_unsupported, part_places, places, term_places}
 use Rattle.expression_terms.specs.Buildable.{AreBuildable, Divides, FactorsAreBuildable, IsBuildable, ShapeIsBuildable, TermsAreBuildable}

@@ -1,14 +1,14 @@
 -- What loops keep that add one term or condition after the other.
-use Rattle.std.proofs.Common.{◌≡◌, ◌∙◌, refl, ap, ap₂, sym, subst, arith, ℕ, ◌+◌, ◌<◌, ◌≤◌, Bool, List, [], ◌∷◌, ◌++◌, length, map, get_or, drop}
+use Rattle.std.proofs.Common.{◌≡◌, ◌∙◌, refl, ap, ap₂, sym, subst, ℕ, ◌+◌, ◌<◌, ◌≤◌, Bool, List, [], ◌∷◌, ◌++◌, length, map, get_or, drop}
 use Rattle.std.proofs.lemmas.List.{append_assoc, append-nil, at_drop_all, at_drop_more, map-append}
 use Rattle.std.specs.List.{AllByRecursion, flat_map}
-use Rattle.sopl_base.specs.declared.places.Fault.{Fault}
+use Rattle.sopl_base.specs.declared.fault.Fault.{Fault}
 use Rattle.box_rules.specs.Terms as c
 use Rattle.box_rules.specs.Terms.{Term, Cond}
 use Rattle.place_names.specs.declared.setting.Setting.{Setting}
 use Rattle.program_sizes.specs.Measured.{IsSizeFault, first_large}
 use Rattle.program_sizes.specs.Subterms.{all_condition_subterms, all_subterms, condition_subterms, part_subterms, subterms}
-use Rattle.program_sizes.proofs.Measuring.{faults_end}
+use Rattle.program_sizes.proofs.Measuring.{faults_end, same_fault}
 use Rattle.scene_terms.specs.Scenes.{root_in}
 use Rattle.scene_terms.specs.Works.{Extends, IsReady, things_of}
 use Rattle.scene_terms.specs.declared.work.Work.{Work}
@@ -19,7 +19,8 @@ use Rattle.term_nodes.specs.Things.{Thing, cond_in, conds_at, parts_at, term_in,
 use Rattle.term_program.specs.declared.ids.CondId.{CondId}
 use Rattle.term_program.specs.declared.ids.TermId.{TermId}
 use Rattle.expression_terms.specs.Made.{AreConds, AreParts, AreTerms}
-use Rattle.expression_terms.proofs.Sizes.{AreSmall, large_behind, same_fault}
+use Rattle.expression_terms.proofs.Steps.{later_below}
+use Rattle.expression_terms.proofs.Sizes.{AreSmall, large_behind}
 
 -- Terms, conditions, and terms with a sign: which number they have, what a thing with that number makes of them, and the terms in them.
 pub record Sort (I B : Type 0) : Type 0 where
@@ -47,10 +48,6 @@ pub record IsLeft {A I B : Type 0} (sort : Sort I B) (P : A → Type 0) (f : A �
   pub are : map (seen sort (things_of now)) ids ++ map f left ≡ map f all
   pub large : first_large (root_in setting) (flat_map sort.sizes (map f left)) ≡ first_large (root_in setting) (flat_map sort.sizes (map f all))
   pub holds : AllByRecursion P left
-
-all_below : (n m : ℕ) (ids : List ℕ) → n ≤ m → AllBelow n ids → AllBelow m ids
-all_below n m [] more below = tt
-all_below n m (id ∷ ids) more below = (omega (arith, below.0, more), all_below n m ids more below.1)
 
 below_append : (n : ℕ) (xs ys : List ℕ) → AllBelow n xs → AllBelow n ys → AllBelow n (xs ++ ys)
 below_append n [] ys first second = second
@@ -83,7 +80,7 @@ module _ {A I B : Type 0} (sort : Sort I B) (P : A → Type 0) (f : A → B) (se
     exist = subst (λ xs. AllBelow (length (things_of after)) (map sort.number xs)) (sym added)
         (subst (AllBelow (length (things_of after))) (sym (map-append sort.number ids (id ∷ [])))
         (below_append (length (things_of after)) (map sort.number ids) (sort.number id ∷ [])
-        (all_below (length (things_of now)) (length (things_of after)) (map sort.number ids) extends.grows.more l.exist) (exists, tt)));
+        (later_below (length (things_of now)) (length (things_of after)) (map sort.number ids) extends.grows.more l.exist) (exists, tt)));
     are = ap (λ xs. map (seen sort (things_of after)) xs ++ map f later) added
         ∙ (ap (λ xs. xs ++ map f later) (map-append (seen sort (things_of after)) ids (id ∷ []))
         ∙ (append_assoc (map (seen sort (things_of after)) ids) (seen sort (things_of after) id ∷ []) (map f later)

@@ -1,7 +1,7 @@
 -- Products, factor by factor.
 use Rattle.std.proofs.Common.{◌≡◌, ◌∙◌, refl, ap, sym, subst, ℕ, ℤ, pos, false, if◌then◌else◌, List, [], ◌∷◌, Option, Some, Result, Ok, Err}
 use Rattle.std.specs.Ordering.{int_eq}
-use Rattle.sopl_base.specs.declared.places.Fault.{Fault}
+use Rattle.sopl_base.specs.declared.fault.Fault.{Fault}
 use Rattle.box_problem.specs.Box.{Box}
 use Rattle.box_rules.specs.Terms as c
 use Rattle.box_rules.specs.Terms.{Term}
@@ -93,7 +93,8 @@ module _ (place : Place) (setting : Setting) (before now : Work) (first id : ℕ
       (subst (λ fs. FactorsAreBuildable place.known (factors fs)) is l.holds).1 large)
 
   pub factored_none : left ≡ [] → IsFactored place setting before now first id left all
-      → IsMade setting before now id (a_term (product_instance place (term_at (things_of before) first) (factors all))) (subterms (product_instance place (term_at (things_of before) first) (factors all)))
+      → IsMade setting before now id (a_term (product_instance place (term_at (things_of before) first) (factors all)))
+      (subterms (product_instance place (term_at (things_of before) first) (factors all)))
   factored_none is l =
       let same : term_at (things_of now) id ≡ product_instance place (term_at (things_of before) first) (factors all) =
       ap (λ fs. product_instance place (term_at (things_of now) id) (factors fs)) (sym is) ∙ l.is in

@@ -1,14 +1,11 @@
 -- Which of several terms is too large first.
-use Rattle.std.proofs.Common.{◌≡◌, ◌∙◌, refl, ap, sym, subst, inl, inr, List, [], ◌∷◌, ◌++◌, map, Option, None, option_map}
-use Rattle.std.proofs.lemmas.List.{append_assoc, append-nil}
-use Rattle.std.specs.List.{flat_map}
-use Rattle.sopl_base.specs.declared.places.Fault.{Fault}
-use Rattle.sopl_base.specs.declared.places.Fault.TheVariants.{Limit}
+use Rattle.std.proofs.Common.{◌≡◌, ◌∙◌, ap, subst, List, ◌++◌, None}
+use Rattle.sopl_base.specs.declared.fault.Fault.{Fault}
 use Rattle.sopl_ast.specs.Numbers.{or_else}
 use Rattle.box_problem.specs.Box.{Box}
 use Rattle.box_rules.specs.Terms.{Term}
-use Rattle.program_sizes.specs.Measured.{IsSizeFault, first_large, large_excess}
-use Rattle.program_sizes.proofs.Measuring.{faults_end, faults_in_turn, large_in_turn}
+use Rattle.program_sizes.specs.Measured.{IsSizeFault, first_large}
+use Rattle.program_sizes.proofs.Measuring.{large_in_turn}
 
 -- none of these
 abbrev pub AreSmall : Box → List Term → Type 0
@@ -20,11 +17,6 @@ large_behind root xs ys small = large_in_turn root xs ys ∙ ap (λ o. or_else o
 
 pub both_small : (root : Box) (xs ys : List Term) → AreSmall root xs → AreSmall root ys → AreSmall root (xs ++ ys)
 both_small root xs ys small more = large_behind root xs ys small ∙ more
-
--- faults where the same is too large
-pub same_fault : (root : Box) (xs ys : List Term) (fault : Fault) → first_large root xs ≡ first_large root ys → IsSizeFault root xs fault → IsSizeFault root ys fault
-same_fault root xs ys fault same (inl memory) = inl memory
-same_fault root xs ys fault same (inr is) = inr (ap (option_map (λ n. Limit (large_excess n))) (sym same) ∙ is)
 
 -- those of the same terms
 pub listed_fault : (root : Box) (xs ys : List Term) (fault : Fault) → xs ≡ ys → IsSizeFault root xs fault → IsSizeFault root ys fault

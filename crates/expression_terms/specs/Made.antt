@@ -2,7 +2,7 @@
 use Rattle.std.specs.Prelude.{◌≡◌, ◌<◌, ℕ, Bool, List, None, length, Result, Ok, Err}
 use Rattle.std.specs.declared.alloc.Global.{Global}
 use Rattle.std.specs.declared.vec.Vec.{Vec}
-use Rattle.sopl_base.specs.declared.places.Fault.{Fault}
+use Rattle.sopl_base.specs.declared.fault.Fault.{Fault}
 use Rattle.box_rules.specs.Terms.{Term, Terms, Parts, Cond, Conds}
 use Rattle.place_names.specs.declared.setting.Setting.{Setting}
 use Rattle.program_sizes.specs.Measured.{IsSizeFault, first_large}

@@ -1,4 +1,5 @@
 //! An expression at a place in a scenario becomes the term or the condition that it is instantiated to there, or a number expression in it is too large.
+//! Its tests stand in `program_tests`.
 #![tactic(auto)]
 
 mod chains;

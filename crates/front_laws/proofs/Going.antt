@@ -7,9 +7,13 @@ use Rattle.sopl_ast.specs.declared.token.TokenKind.TheVariants as k
 use Rattle.sopl_ast.specs.Lists.{BinderTree, trees, terms, factors, binders}
 use Rattle.sopl_ast.specs.Tree as t
 use Rattle.sopl_ast.specs.Tree.{Tree, Range, Node, Named, Ends, place_of, shape_of}
-use Rattle.sopl_ast.specs.Whole.{DimTree, InitTree, One, Many, inits, Declaration, IntDecl, RangeDecl, SetDecl, DvarDecl, StochDecl, ConsTree, ForallTree, BlockTree, HardTree, ChanceTree, conses, GoalTree, ModelTree}
+use Rattle.sopl_ast.specs.Whole.{DimTree, InitTree, One, Many, inits, Declaration, IntDecl, RangeDecl, SetDecl, DvarDecl, StochDecl, ConsTree, ForallTree, BlockTree, HardTree}
+use Rattle.sopl_ast.specs.Whole.{ChanceTree, conses, GoalTree, ModelTree}
 use Rattle.sopl_ast.specs.Grammar as g
-use Rattle.sopl_ast.specs.Grammar.{extreme_of, range_place, Is, Opens, IsName, IsMeasure, IsPrimary, MoreIndices, AreArguments, MoreArguments, IsAll, IsTask, AreBinders, MoreBinders, IsBinder, IsRange, IsOperand, MoreFactors, IsProduct, MoreTerms, IsSum, IsComparison, IsNegation, MoreConjuncts, IsConjunction, MoreDisjuncts, IsDisjunction, IsExpression, IsStage, IsDim, AreDims, IsInit, AreInits, MoreInits, MoreElements, AreElements, IsOutcome, MoreOutcomes, IsDistribution, IsVariable, IsDeclaration, AreDeclarations, MayBeGoal, IsConstraint, AreConstraints, IsModel}
+use Rattle.sopl_ast.specs.Grammar.{extreme_of, range_place, Is, Opens, IsName, IsMeasure, IsPrimary, MoreIndices, AreArguments, MoreArguments, IsAll, IsTask, AreBinders}
+use Rattle.sopl_ast.specs.Grammar.{MoreBinders, IsBinder, IsRange, IsOperand, MoreFactors, IsProduct, MoreTerms, IsSum, IsComparison, IsNegation, MoreConjuncts, IsConjunction}
+use Rattle.sopl_ast.specs.Grammar.{MoreDisjuncts, IsDisjunction, IsExpression, IsStage, IsDim, AreDims, IsInit, AreInits, MoreInits, MoreElements, AreElements, IsOutcome}
+use Rattle.sopl_ast.specs.Grammar.{MoreOutcomes, IsDistribution, IsVariable, IsDeclaration, AreDeclarations, MayBeGoal, IsConstraint, AreConstraints, IsModel}
 
 -- a token of a kind
 abbrev token_of : TokenKind → Token
@@ -89,7 +93,9 @@ mutual
         others = λ s. x3.others (x4.others (x5.others s));
         value = Node u.span.start (t.Index bytes (trees (x3.value ∷ x5.value)));
         nesting = suc (x3.nesting + x5.nesting);
-        is = λ m le s. above (λ j. IsPrimary false j ((u ∷ (u1 ∷ us1)) ++ x3.others (x4.others (x5.others s))) (Node u.span.start (t.Index bytes (trees (x3.value ∷ x5.value)))) (r ++ s)) (x3.nesting + x5.nesting) m le (λ l low. g.element (suc l) u _ bytes x3.value x5.value _ i1 (g.more_index l u1 _ x3.value _ _ x5.value _ i2 (x3.is l (omega (arith, low)) (x4.others (x5.others s))) (x4.is (x5.others s)) (x5.is (suc l) (omega (arith, low)) s)));
+        is = λ m le s. above (λ j. IsPrimary false j ((u ∷ (u1 ∷ us1)) ++ x3.others (x4.others (x5.others s))) (Node u.span.start (t.Index bytes (trees (x3.value ∷ x5.value)))) (r ++ s))
+            (x3.nesting + x5.nesting) m le (λ l low. g.element (suc l) u _ bytes x3.value x5.value _ i1
+            (g.more_index l u1 _ x3.value _ _ x5.value _ i2 (x3.is l (omega (arith, low)) (x4.others (x5.others s))) (x4.is (x5.others s)) (x5.is (suc l) (omega (arith, low)) s)));
       }
   goes_primary _ _ _ _ (g.parentheses n u us e vs r i1 i2 i3) =
       let x2 = goes_expression n us e vs i2 in
@@ -98,7 +104,8 @@ mutual
         others = λ s. x2.others (x3.others s);
         value = Node u.span.start (shape_of x2.value);
         nesting = suc x2.nesting;
-        is = λ m le s. above (λ j. IsPrimary false j ((u ∷ us) ++ x2.others (x3.others s)) (Node u.span.start (shape_of x2.value)) (r ++ s)) x2.nesting m le (λ l low. g.parentheses l u _ x2.value _ _ i1 (x2.is l low (x3.others s)) (x3.is s));
+        is = λ m le s. above (λ j. IsPrimary false j ((u ∷ us) ++ x2.others (x3.others s)) (Node u.span.start (shape_of x2.value)) (r ++ s)) x2.nesting m le
+            (λ l low. g.parentheses l u _ x2.value _ _ i1 (x2.is l low (x3.others s)) (x3.is s));
       }
   goes_primary _ _ _ _ (g.absolute n u us m vs e ws r i1 i2 i3 i4) =
       let x2 = goes_opening k.ParenOpen n us m vs i2 in
@@ -108,7 +115,8 @@ mutual
         others = λ s. x2.others (x3.others (x4.others s));
         value = Node u.span.start (t.Abs x3.value);
         nesting = suc x3.nesting;
-        is = λ m le s. above (λ j. IsPrimary false j ((u ∷ us) ++ x2.others (x3.others (x4.others s))) (Node u.span.start (t.Abs x3.value)) (r ++ s)) x3.nesting m le (λ l low. g.absolute (suc l) u _ l _ x3.value _ _ i1 (x2.is l (x3.others (x4.others s))) (x3.is l low (x4.others s)) (x4.is s));
+        is = λ m le s. above (λ j. IsPrimary false j ((u ∷ us) ++ x2.others (x3.others (x4.others s))) (Node u.span.start (t.Abs x3.value)) (r ++ s)) x3.nesting m le
+            (λ l low. g.absolute (suc l) u _ l _ x3.value _ _ i1 (x2.is l (x3.others (x4.others s))) (x3.is l low (x4.others s)) (x4.is s));
       }
   goes_primary _ _ _ _ (g.extreme n u us greatest m vs es ws r i1 i2 i3 i4) =
       let x2 = goes_opening k.ParenOpen n us m vs i2 in
@@ -118,7 +126,8 @@ mutual
         others = λ s. x2.others (x3.others (x4.others s));
         value = Node u.span.start (extreme_of greatest (trees x3.value));
         nesting = suc x3.nesting;
-        is = λ m le s. above (λ j. IsPrimary false j ((u ∷ us) ++ x2.others (x3.others (x4.others s))) (Node u.span.start (extreme_of greatest (trees x3.value))) (r ++ s)) x3.nesting m le (λ l low. g.extreme (suc l) u _ greatest l _ x3.value _ _ i1 (x2.is l (x3.others (x4.others s))) (x3.is l low (x4.others s)) (x4.is s));
+        is = λ m le s. above (λ j. IsPrimary false j ((u ∷ us) ++ x2.others (x3.others (x4.others s))) (Node u.span.start (extreme_of greatest (trees x3.value))) (r ++ s)) x3.nesting
+            m le (λ l low. g.extreme (suc l) u _ greatest l _ x3.value _ _ i1 (x2.is l (x3.others (x4.others s))) (x3.is l low (x4.others s)) (x4.is s));
       }
   goes_primary _ _ _ _ (g.all_different n u us m vs bs ws e xs r i1 i2 i3 i4 i5) =
       let x2 = goes_opening k.ParenOpen n us m vs i2 in
@@ -129,7 +138,9 @@ mutual
         others = λ s. x2.others (x3.others (x4.others (x5.others s)));
         value = Node u.span.start (t.AllDifferent (binders x3.value) x4.value);
         nesting = suc (x3.nesting + x4.nesting);
-        is = λ m le s. above (λ j. IsPrimary false j ((u ∷ us) ++ x2.others (x3.others (x4.others (x5.others s)))) (Node u.span.start (t.AllDifferent (binders x3.value) x4.value)) (r ++ s)) (x3.nesting + x4.nesting) m le (λ l low. g.all_different (suc l) u _ l _ x3.value _ x4.value _ _ i1 (x2.is l (x3.others (x4.others (x5.others s)))) (x3.is l (omega (arith, low)) (x4.others (x5.others s))) (x4.is l (omega (arith, low)) (x5.others s)) (x5.is s));
+        is = λ m le s. above (λ j. IsPrimary false j ((u ∷ us) ++ x2.others (x3.others (x4.others (x5.others s)))) (Node u.span.start (t.AllDifferent (binders x3.value) x4.value)) (r ++ s))
+            (x3.nesting + x4.nesting) m le (λ l low. g.all_different (suc l) u _ l _ x3.value _ x4.value _ _ i1 (x2.is l (x3.others (x4.others (x5.others s))))
+            (x3.is l (omega (arith, low)) (x4.others (x5.others s))) (x4.is l (omega (arith, low)) (x5.others s)) (x5.is s));
       }
   goes_primary _ _ _ _ (g.cumulative n u us m vs bs ws l xs start length demand ys zs ps capacity cs r i1 i2 i3 i4 i5 i6 i7 i8 i9) =
       let x2 = goes_opening k.ParenOpen n us m vs i2 in
@@ -144,7 +155,15 @@ mutual
         others = λ s. x2.others (x3.others (x4.others (x5.others (x6.others (x7.others (x8.others (x9.others s)))))));
         value = Node u.span.start (t.Cumulative (binders x3.value) x5.value.0 x5.value.1.0 x5.value.1.1 x8.value);
         nesting = suc (suc (x3.nesting + (x5.nesting + x8.nesting)));
-        is = λ m le s. above (λ j. IsPrimary false j ((u ∷ us) ++ x2.others (x3.others (x4.others (x5.others (x6.others (x7.others (x8.others (x9.others s)))))))) (Node u.span.start (t.Cumulative (binders x3.value) x5.value.0 x5.value.1.0 x5.value.1.1 x8.value)) (r ++ s)) (suc (x3.nesting + (x5.nesting + x8.nesting))) m le (λ i mid. above (λ j. IsPrimary false (suc j) ((u ∷ us) ++ x2.others (x3.others (x4.others (x5.others (x6.others (x7.others (x8.others (x9.others s)))))))) (Node u.span.start (t.Cumulative (binders x3.value) x5.value.0 x5.value.1.0 x5.value.1.1 x8.value)) (r ++ s)) (x3.nesting + (x5.nesting + x8.nesting)) i mid (λ l low. g.cumulative (suc (suc l)) u _ (suc l) _ x3.value _ l _ x5.value.0 x5.value.1.0 x5.value.1.1 _ _ _ x8.value _ _ i1 (x2.is (suc l) (x3.others (x4.others (x5.others (x6.others (x7.others (x8.others (x9.others s)))))))) (x3.is (suc l) (omega (arith, low)) (x4.others (x5.others (x6.others (x7.others (x8.others (x9.others s))))))) (x4.is l (x5.others (x6.others (x7.others (x8.others (x9.others s)))))) (x5.is l (omega (arith, low)) (x6.others (x7.others (x8.others (x9.others s))))) (x6.is (x7.others (x8.others (x9.others s)))) (x7.is (x8.others (x9.others s))) (x8.is (suc l) (omega (arith, low)) (x9.others s)) (x9.is s)));
+        is = λ m le s. above (λ j. IsPrimary false j ((u ∷ us) ++ x2.others (x3.others (x4.others (x5.others (x6.others (x7.others (x8.others (x9.others s))))))))
+            (Node u.span.start (t.Cumulative (binders x3.value) x5.value.0 x5.value.1.0 x5.value.1.1 x8.value)) (r ++ s)) (suc (x3.nesting + (x5.nesting + x8.nesting))) m le
+            (λ i mid. above (λ j. IsPrimary false (suc j) ((u ∷ us) ++ x2.others (x3.others (x4.others (x5.others (x6.others (x7.others (x8.others (x9.others s))))))))
+            (Node u.span.start (t.Cumulative (binders x3.value) x5.value.0 x5.value.1.0 x5.value.1.1 x8.value)) (r ++ s)) (x3.nesting + (x5.nesting + x8.nesting)) i mid
+            (λ l low. g.cumulative (suc (suc l)) u _ (suc l) _ x3.value _ l _ x5.value.0 x5.value.1.0 x5.value.1.1 _ _ _ x8.value _ _ i1
+            (x2.is (suc l) (x3.others (x4.others (x5.others (x6.others (x7.others (x8.others (x9.others s))))))))
+            (x3.is (suc l) (omega (arith, low)) (x4.others (x5.others (x6.others (x7.others (x8.others (x9.others s))))))) (x4.is l (x5.others (x6.others (x7.others (x8.others (x9.others s))))))
+            (x5.is l (omega (arith, low)) (x6.others (x7.others (x8.others (x9.others s))))) (x6.is (x7.others (x8.others (x9.others s)))) (x7.is (x8.others (x9.others s)))
+            (x8.is (suc l) (omega (arith, low)) (x9.others s)) (x9.is s)));
       }
 
   -- indices
@@ -159,7 +178,8 @@ mutual
         others = λ s. x2.others (x3.others (x4.others s));
         value = x2.value ∷ x4.value;
         nesting = suc (x2.nesting + x4.nesting);
-        is = λ m le s. above (λ j. MoreIndices false j ((u ∷ us) ++ x2.others (x3.others (x4.others s))) (x2.value ∷ x4.value) (r ++ s)) (x2.nesting + x4.nesting) m le (λ l low. g.more_index l u _ x2.value _ _ x4.value _ i1 (x2.is l (omega (arith, low)) (x3.others (x4.others s))) (x3.is (x4.others s)) (x4.is (suc l) (omega (arith, low)) s));
+        is = λ m le s. above (λ j. MoreIndices false j ((u ∷ us) ++ x2.others (x3.others (x4.others s))) (x2.value ∷ x4.value) (r ++ s)) (x2.nesting + x4.nesting) m le
+            (λ l low. g.more_index l u _ x2.value _ _ x4.value _ i1 (x2.is l (omega (arith, low)) (x3.others (x4.others s))) (x3.is (x4.others s)) (x4.is (suc l) (omega (arith, low)) s));
       }
 
   -- arguments
@@ -173,7 +193,8 @@ mutual
         others = λ s. x1.others (x2.others (x3.others (x4.others s)));
         value = x1.value ∷ x3.value ∷ x4.value;
         nesting = x1.nesting + (x3.nesting + x4.nesting);
-        is = λ m le s. g.arguments m _ x1.value _ _ x3.value _ x4.value _ (x1.is m (omega (arith, le)) (x2.others (x3.others (x4.others s)))) (x2.is (x3.others (x4.others s))) (x3.is m (omega (arith, le)) (x4.others s)) (x4.is m (omega (arith, le)) s);
+        is = λ m le s. g.arguments m _ x1.value _ _ x3.value _ x4.value _ (x1.is m (omega (arith, le)) (x2.others (x3.others (x4.others s)))) (x2.is (x3.others (x4.others s)))
+            (x3.is m (omega (arith, le)) (x4.others s)) (x4.is m (omega (arith, le)) s);
       }
 
   -- arguments behind the second one
@@ -203,7 +224,8 @@ mutual
       }
 
   -- a task
-  goes_task : (n : ℕ) (ts : List Token) (x : Tree) (y : Tree) (z : Tree) (r : List Token) → IsTask true n ts x y z r → Goes {A = Tree × (Tree × Tree)} (λ m ts x r. IsTask false m ts x.0 x.1.0 x.1.1 r) ts r
+  goes_task : (n : ℕ) (ts : List Token) (x : Tree) (y : Tree) (z : Tree) (r : List Token) → IsTask true n ts x y z r
+      → Goes {A = Tree × (Tree × Tree)} (λ m ts x r. IsTask false m ts x.0 x.1.0 x.1.1 r) ts r
   goes_task _ _ _ _ _ _ (g.task n ts start us vs length ws xs demand r i1 i2 i3 i4 i5) =
       let x1 = goes_expression n ts start us i1 in
       let x2 = goes_mark k.Comma us vs i2 in
@@ -214,7 +236,8 @@ mutual
         others = λ s. x1.others (x2.others (x3.others (x4.others (x5.others s))));
         value = (x1.value, (x3.value, x5.value));
         nesting = x1.nesting + (x3.nesting + x5.nesting);
-        is = λ m le s. g.task m _ x1.value _ _ x3.value _ _ x5.value _ (x1.is m (omega (arith, le)) (x2.others (x3.others (x4.others (x5.others s))))) (x2.is (x3.others (x4.others (x5.others s)))) (x3.is m (omega (arith, le)) (x4.others (x5.others s))) (x4.is (x5.others s)) (x5.is m (omega (arith, le)) s);
+        is = λ m le s. g.task m _ x1.value _ _ x3.value _ _ x5.value _ (x1.is m (omega (arith, le)) (x2.others (x3.others (x4.others (x5.others s))))) (x2.is (x3.others (x4.others (x5.others s))))
+            (x3.is m (omega (arith, le)) (x4.others (x5.others s))) (x4.is (x5.others s)) (x5.is m (omega (arith, le)) s);
       }
 
   -- binders in parentheses
@@ -228,7 +251,9 @@ mutual
         others = λ s. x1.others (x2.others (x3.others (x4.others s)));
         value = x2.value ∷ x3.value;
         nesting = suc (x2.nesting + x3.nesting);
-        is = λ m le s. above (λ j. AreBinders false j (ts ++ x1.others (x2.others (x3.others (x4.others s)))) (x2.value ∷ x3.value) (r ++ s)) (x2.nesting + x3.nesting) m le (λ l low. g.bound (suc l) _ l _ x2.value _ x3.value _ _ (x1.is l (x2.others (x3.others (x4.others s)))) (x2.is l (omega (arith, low)) (x3.others (x4.others s))) (x3.is l (omega (arith, low)) (x4.others s)) (x4.is s));
+        is = λ m le s. above (λ j. AreBinders false j (ts ++ x1.others (x2.others (x3.others (x4.others s)))) (x2.value ∷ x3.value) (r ++ s)) (x2.nesting + x3.nesting) m le
+            (λ l low. g.bound (suc l) _ l _ x2.value _ x3.value _ _ (x1.is l (x2.others (x3.others (x4.others s)))) (x2.is l (omega (arith, low)) (x3.others (x4.others s)))
+            (x3.is l (omega (arith, low)) (x4.others s)) (x4.is s));
       }
 
   -- binders behind the first one
@@ -289,7 +314,8 @@ mutual
         others = λ s. x2.others s;
         value = Node u.span.start (t.Neg x2.value);
         nesting = suc x2.nesting;
-        is = λ m le s. above (λ j. IsOperand false j ((u ∷ us) ++ x2.others s) (Node u.span.start (t.Neg x2.value)) tail (r ++ s)) x2.nesting m le (λ l low. g.negative l u _ x2.value tail _ i1 (x2.is l low s));
+        is = λ m le s. above (λ j. IsOperand false j ((u ∷ us) ++ x2.others s) (Node u.span.start (t.Neg x2.value)) tail (r ++ s)) x2.nesting m le
+            (λ l low. g.negative l u _ x2.value tail _ i1 (x2.is l low s));
       }
   goes_operand _ _ _ _ _ (g.total n u us bs vs e r i1 i2 i3) =
       let x2 = goes_bindings n us bs vs i2 in
@@ -298,7 +324,8 @@ mutual
         others = λ s. x2.others (x3.others s);
         value = Node u.span.start (t.Sum (binders x2.value) x3.value);
         nesting = suc (x2.nesting + x3.nesting);
-        is = λ m le s. above (λ j. IsOperand false j ((u ∷ us) ++ x2.others (x3.others s)) (Node u.span.start (t.Sum (binders x2.value) x3.value)) true (r ++ s)) (x2.nesting + x3.nesting) m le (λ l low. g.total l u _ x2.value _ x3.value _ i1 (x2.is l (omega (arith, low)) (x3.others s)) (x3.is l (omega (arith, low)) s));
+        is = λ m le s. above (λ j. IsOperand false j ((u ∷ us) ++ x2.others (x3.others s)) (Node u.span.start (t.Sum (binders x2.value) x3.value)) true (r ++ s)) (x2.nesting + x3.nesting)
+            m le (λ l low. g.total l u _ x2.value _ x3.value _ i1 (x2.is l (omega (arith, low)) (x3.others s)) (x3.is l (omega (arith, low)) s));
       }
 
   -- factors
@@ -333,7 +360,8 @@ mutual
         others = λ s. x1.others (x3.others (x4.others s));
         value = (Node (place_of x1.value) (t.Mul x1.value (factors ((op, x3.value) ∷ x4.value))));
         nesting = x1.nesting + (x3.nesting + x4.nesting);
-        is = λ m le s. g.product m _ x1.value false _ (op, x3.value) x4.value _ (x1.is m (omega (arith, le)) (x3.others (x4.others s))) (g.more_factor m u _ op x3.value tail1 _ x4.value _ i2 (x3.is m (omega (arith, le)) (x4.others s)) (x4.is m (omega (arith, le)) s));
+        is = λ m le s. g.product m _ x1.value false _ (op, x3.value) x4.value _ (x1.is m (omega (arith, le)) (x3.others (x4.others s)))
+            (g.more_factor m u _ op x3.value tail1 _ x4.value _ i2 (x3.is m (omega (arith, le)) (x4.others s)) (x4.is m (omega (arith, le)) s));
       }
 
   -- terms
@@ -368,7 +396,8 @@ mutual
         others = λ s. x1.others (x3.others (x4.others s));
         value = (Node (place_of x1.value) (t.Add (terms ((false, x1.value) ∷ (minus, x3.value) ∷ x4.value))));
         nesting = x1.nesting + (x3.nesting + x4.nesting);
-        is = λ m le s. g.parts m _ x1.value _ (minus, x3.value) x4.value _ (x1.is m (omega (arith, le)) (x3.others (x4.others s))) (g.more_term m u _ minus x3.value _ x4.value _ i2 (x3.is m (omega (arith, le)) (x4.others s)) (x4.is m (omega (arith, le)) s));
+        is = λ m le s. g.parts m _ x1.value _ (minus, x3.value) x4.value _ (x1.is m (omega (arith, le)) (x3.others (x4.others s)))
+            (g.more_term m u _ minus x3.value _ x4.value _ i2 (x3.is m (omega (arith, le)) (x4.others s)) (x4.is m (omega (arith, le)) s));
       }
 
   -- a comparison
@@ -442,7 +471,8 @@ mutual
         others = λ s. x1.others (x3.others (x4.others s));
         value = Node (place_of x1.value) (t.And (trees (x1.value ∷ x3.value ∷ x4.value)));
         nesting = x1.nesting + (x3.nesting + x4.nesting);
-        is = λ m le s. g.conjunction m _ x1.value _ x3.value x4.value _ (x1.is m (omega (arith, le)) (x3.others (x4.others s))) (g.more_conjunct m u _ x3.value _ x4.value _ i2 (x3.is m (omega (arith, le)) (x4.others s)) (x4.is m (omega (arith, le)) s));
+        is = λ m le s. g.conjunction m _ x1.value _ x3.value x4.value _ (x1.is m (omega (arith, le)) (x3.others (x4.others s)))
+            (g.more_conjunct m u _ x3.value _ x4.value _ i2 (x3.is m (omega (arith, le)) (x4.others s)) (x4.is m (omega (arith, le)) s));
       }
 
   -- parts of a chain of `||`
@@ -477,7 +507,8 @@ mutual
         others = λ s. x1.others (x3.others (x4.others s));
         value = Node (place_of x1.value) (t.Or (trees (x1.value ∷ x3.value ∷ x4.value)));
         nesting = x1.nesting + (x3.nesting + x4.nesting);
-        is = λ m le s. g.disjunction m _ x1.value _ x3.value x4.value _ (x1.is m (omega (arith, le)) (x3.others (x4.others s))) (g.more_disjunct m u _ x3.value _ x4.value _ i2 (x3.is m (omega (arith, le)) (x4.others s)) (x4.is m (omega (arith, le)) s));
+        is = λ m le s. g.disjunction m _ x1.value _ x3.value x4.value _ (x1.is m (omega (arith, le)) (x3.others (x4.others s)))
+            (g.more_disjunct m u _ x3.value _ x4.value _ i2 (x3.is m (omega (arith, le)) (x4.others s)) (x4.is m (omega (arith, le)) s));
       }
 
   -- an expression
@@ -497,7 +528,8 @@ mutual
         others = λ s. x1.others (x3.others s);
         value = Node (place_of x1.value) (t.Implies x1.value x3.value);
         nesting = suc (x1.nesting + x3.nesting);
-        is = λ m le s. above (λ j. IsExpression false j (ts ++ x1.others (x3.others s)) (Node (place_of x1.value) (t.Implies x1.value x3.value)) (r ++ s)) (x1.nesting + x3.nesting) m le (λ l low. g.implication l _ x1.value u _ x3.value _ (x1.is (suc l) (omega (arith, low)) (x3.others s)) i2 (x3.is l (omega (arith, low)) s));
+        is = λ m le s. above (λ j. IsExpression false j (ts ++ x1.others (x3.others s)) (Node (place_of x1.value) (t.Implies x1.value x3.value)) (r ++ s)) (x1.nesting + x3.nesting) m
+            le (λ l low. g.implication l _ x1.value u _ x3.value _ (x1.is (suc l) (omega (arith, low)) (x3.others s)) i2 (x3.is l (omega (arith, low)) s));
       }
 
 -- a stage
@@ -544,7 +576,8 @@ goes_dims _ _ _ _ (g.dim n u us d vs ws more r i1 i2 i3 i4) =
       others = λ s. x2.others (x3.others (x4.others s));
       value = x2.value ∷ x4.value;
       nesting = suc (x2.nesting + x4.nesting);
-      is = λ m le s. above (λ j. AreDims false j ((u ∷ us) ++ x2.others (x3.others (x4.others s))) (x2.value ∷ x4.value) (r ++ s)) (x2.nesting + x4.nesting) m le (λ l low. g.dim l u _ x2.value _ _ x4.value _ i1 (x2.is l (omega (arith, low)) (x3.others (x4.others s))) (x3.is (x4.others s)) (x4.is (suc l) (omega (arith, low)) s));
+      is = λ m le s. above (λ j. AreDims false j ((u ∷ us) ++ x2.others (x3.others (x4.others s))) (x2.value ∷ x4.value) (r ++ s)) (x2.nesting + x4.nesting) m le
+          (λ l low. g.dim l u _ x2.value _ _ x4.value _ i1 (x2.is l (omega (arith, low)) (x3.others (x4.others s))) (x3.is (x4.others s)) (x4.is (suc l) (omega (arith, low)) s));
     }
 
 mutual
@@ -565,7 +598,8 @@ mutual
         others = λ s. x2.others (x3.others s);
         value = Many u.span.start (inits x2.value);
         nesting = suc x2.nesting;
-        is = λ m le s. above (λ j. IsInit false j ((u ∷ us) ++ x2.others (x3.others s)) (Many u.span.start (inits x2.value)) (r ++ s)) x2.nesting m le (λ l low. g.many l u _ x2.value _ _ i1 (x2.is l low (x3.others s)) (x3.is s));
+        is = λ m le s. above (λ j. IsInit false j ((u ∷ us) ++ x2.others (x3.others s)) (Many u.span.start (inits x2.value)) (r ++ s)) x2.nesting m le
+            (λ l low. g.many l u _ x2.value _ _ i1 (x2.is l low (x3.others s)) (x3.is s));
       }
 
   -- initial values
@@ -662,11 +696,14 @@ goes_distribution _ _ _ _ (g.distribution n ts m us o vs more ws r i1 i2 i3 i4) 
       others = λ s. x1.others (x2.others (x3.others (x4.others s)));
       value = x2.value ∷ x3.value;
       nesting = suc (x2.nesting + x3.nesting);
-      is = λ m le s. above (λ j. IsDistribution false j (ts ++ x1.others (x2.others (x3.others (x4.others s)))) (x2.value ∷ x3.value) (r ++ s)) (x2.nesting + x3.nesting) m le (λ l low. g.distribution (suc l) _ l _ x2.value _ x3.value _ _ (x1.is l (x2.others (x3.others (x4.others s)))) (x2.is l (omega (arith, low)) (x3.others (x4.others s))) (x3.is l (omega (arith, low)) (x4.others s)) (x4.is s));
+      is = λ m le s. above (λ j. IsDistribution false j (ts ++ x1.others (x2.others (x3.others (x4.others s)))) (x2.value ∷ x3.value) (r ++ s)) (x2.nesting + x3.nesting) m le
+          (λ l low. g.distribution (suc l) _ l _ x2.value _ x3.value _ _ (x1.is l (x2.others (x3.others (x4.others s)))) (x2.is l (omega (arith, low)) (x3.others (x4.others s)))
+          (x3.is l (omega (arith, low)) (x4.others s)) (x4.is s));
     }
 
 -- a variable
-goes_variable : (n : ℕ) (ts : List Token) (x : List ℕ) (y : ℕ) (z : List DimTree) (r : List Token) → IsVariable true n ts x y z r → Goes {A = (List ℕ) × (ℕ × (List DimTree))} (λ m ts x r. IsVariable false m ts x.0 x.1.0 x.1.1 r) ts r
+goes_variable : (n : ℕ) (ts : List Token) (x : List ℕ) (y : ℕ) (z : List DimTree) (r : List Token) → IsVariable true n ts x y z r
+    → Goes {A = (List ℕ) × (ℕ × (List DimTree))} (λ m ts x r. IsVariable false m ts x.0 x.1.0 x.1.1 r) ts r
 goes_variable _ _ _ _ _ _ (g.variable n ts us bytes at vs dims ws r i1 i2 i3 i4) =
     let x1 = goes_mark k.Int ts us i1 in
     let x2 = goes_name us bytes at vs i2 in
@@ -691,7 +728,8 @@ goes_declaration _ _ _ _ (g.integer n u us bytes at vs dims ws xs value ys r i1 
       others = λ s. x2.others (x3.others (x4.others (x5.others (x6.others s))));
       value = IntDecl x2.bytes x2.spot x3.value x5.value;
       nesting = x3.nesting + x5.nesting;
-      is = λ m le s. g.integer m u _ x2.bytes x2.spot _ x3.value _ _ x5.value _ _ i1 (x2.is (x3.others (x4.others (x5.others (x6.others s))))) (x3.is m (omega (arith, le)) (x4.others (x5.others (x6.others s)))) (x4.is (x5.others (x6.others s))) (x5.is m (omega (arith, le)) (x6.others s)) (x6.is s);
+      is = λ m le s. g.integer m u _ x2.bytes x2.spot _ x3.value _ _ x5.value _ _ i1 (x2.is (x3.others (x4.others (x5.others (x6.others s)))))
+          (x3.is m (omega (arith, le)) (x4.others (x5.others (x6.others s)))) (x4.is (x5.others (x6.others s))) (x5.is m (omega (arith, le)) (x6.others s)) (x6.is s);
     }
 goes_declaration _ _ _ _ (g.range n u us bytes at vs ws lo xs ys hi zs r i1 i2 i3 i4 i5 i6 i7) =
     let x2 = goes_name us bytes at vs i2 in
@@ -704,7 +742,9 @@ goes_declaration _ _ _ _ (g.range n u us bytes at vs ws lo xs ys hi zs r i1 i2 i
       others = λ s. x2.others (x3.others (x4.others (x5.others (x6.others (x7.others s)))));
       value = RangeDecl x2.bytes x2.spot x4.value x6.value;
       nesting = x4.nesting + x6.nesting;
-      is = λ m le s. g.range m u _ x2.bytes x2.spot _ _ x4.value _ _ x6.value _ _ i1 (x2.is (x3.others (x4.others (x5.others (x6.others (x7.others s)))))) (x3.is (x4.others (x5.others (x6.others (x7.others s))))) (x4.is m (omega (arith, le)) (x5.others (x6.others (x7.others s)))) (x5.is (x6.others (x7.others s))) (x6.is m (omega (arith, le)) (x7.others s)) (x7.is s);
+      is = λ m le s. g.range m u _ x2.bytes x2.spot _ _ x4.value _ _ x6.value _ _ i1 (x2.is (x3.others (x4.others (x5.others (x6.others (x7.others s))))))
+          (x3.is (x4.others (x5.others (x6.others (x7.others s))))) (x4.is m (omega (arith, le)) (x5.others (x6.others (x7.others s)))) (x5.is (x6.others (x7.others s)))
+          (x6.is m (omega (arith, le)) (x7.others s)) (x7.is s);
     }
 goes_declaration _ _ _ _ (g.set n u us vs ws bytes at xs ys m zs elements ps qs r i1 i2 i3 i4 i5 i6 i7 i8 i9) =
     let x2 = goes_mark k.Int us vs i2 in
@@ -719,7 +759,11 @@ goes_declaration _ _ _ _ (g.set n u us vs ws bytes at xs ys m zs elements ps qs 
       others = λ s. x2.others (x3.others (x4.others (x5.others (x6.others (x7.others (x8.others (x9.others s)))))));
       value = SetDecl x4.bytes x4.spot (trees x7.value);
       nesting = suc x7.nesting;
-      is = λ m le s. above (λ j. IsDeclaration false j ((u ∷ us) ++ x2.others (x3.others (x4.others (x5.others (x6.others (x7.others (x8.others (x9.others s)))))))) (SetDecl x4.bytes x4.spot (trees x7.value)) (r ++ s)) x7.nesting m le (λ l low. g.set l u _ _ _ x4.bytes x4.spot _ _ l _ x7.value _ _ _ i1 (x2.is (x3.others (x4.others (x5.others (x6.others (x7.others (x8.others (x9.others s)))))))) (x3.is (x4.others (x5.others (x6.others (x7.others (x8.others (x9.others s))))))) (x4.is (x5.others (x6.others (x7.others (x8.others (x9.others s)))))) (x5.is (x6.others (x7.others (x8.others (x9.others s))))) (x6.is l (x7.others (x8.others (x9.others s)))) (x7.is l low (x8.others (x9.others s))) (x8.is (x9.others s)) (x9.is s));
+      is = λ m le s. above (λ j. IsDeclaration false j ((u ∷ us) ++ x2.others (x3.others (x4.others (x5.others (x6.others (x7.others (x8.others (x9.others s))))))))
+          (SetDecl x4.bytes x4.spot (trees x7.value)) (r ++ s)) x7.nesting m le
+          (λ l low. g.set l u _ _ _ x4.bytes x4.spot _ _ l _ x7.value _ _ _ i1 (x2.is (x3.others (x4.others (x5.others (x6.others (x7.others (x8.others (x9.others s))))))))
+          (x3.is (x4.others (x5.others (x6.others (x7.others (x8.others (x9.others s))))))) (x4.is (x5.others (x6.others (x7.others (x8.others (x9.others s))))))
+          (x5.is (x6.others (x7.others (x8.others (x9.others s))))) (x6.is l (x7.others (x8.others (x9.others s)))) (x7.is l low (x8.others (x9.others s))) (x8.is (x9.others s)) (x9.is s));
     }
 goes_declaration _ _ _ _ (g.decision n u us bytes at dims vs over ws stage xs r i1 i2 i3 i4 i5) =
     let x2 = goes_variable n us bytes at dims vs i2 in
@@ -730,7 +774,8 @@ goes_declaration _ _ _ _ (g.decision n u us bytes at dims vs over ws stage xs r 
       others = λ s. x2.others (x3.others (x4.others (x5.others s)));
       value = DvarDecl x2.value.0 x2.value.1.0 x2.value.1.1 x3.value x4.value;
       nesting = x2.nesting + (x3.nesting + x4.nesting);
-      is = λ m le s. g.decision m u _ x2.value.0 x2.value.1.0 x2.value.1.1 _ x3.value _ x4.value _ _ i1 (x2.is m (omega (arith, le)) (x3.others (x4.others (x5.others s)))) (x3.is m (omega (arith, le)) (x4.others (x5.others s))) (x4.is m (omega (arith, le)) (x5.others s)) (x5.is s);
+      is = λ m le s. g.decision m u _ x2.value.0 x2.value.1.0 x2.value.1.1 _ x3.value _ x4.value _ _ i1 (x2.is m (omega (arith, le)) (x3.others (x4.others (x5.others s))))
+          (x3.is m (omega (arith, le)) (x4.others (x5.others s))) (x4.is m (omega (arith, le)) (x5.others s)) (x5.is s);
     }
 goes_declaration _ _ _ _ (g.stochastic n u us bytes at dims vs dist ws stage xs r i1 i2 i3 i4 i5) =
     let x2 = goes_variable n us bytes at dims vs i2 in
@@ -741,7 +786,8 @@ goes_declaration _ _ _ _ (g.stochastic n u us bytes at dims vs dist ws stage xs 
       others = λ s. x2.others (x3.others (x4.others (x5.others s)));
       value = StochDecl x2.value.0 x2.value.1.0 x2.value.1.1 x3.value x4.value;
       nesting = x2.nesting + (x3.nesting + x4.nesting);
-      is = λ m le s. g.stochastic m u _ x2.value.0 x2.value.1.0 x2.value.1.1 _ x3.value _ x4.value _ _ i1 (x2.is m (omega (arith, le)) (x3.others (x4.others (x5.others s)))) (x3.is m (omega (arith, le)) (x4.others (x5.others s))) (x4.is m (omega (arith, le)) (x5.others s)) (x5.is s);
+      is = λ m le s. g.stochastic m u _ x2.value.0 x2.value.1.0 x2.value.1.1 _ x3.value _ x4.value _ _ i1 (x2.is m (omega (arith, le)) (x3.others (x4.others (x5.others s))))
+          (x3.is m (omega (arith, le)) (x4.others (x5.others s))) (x4.is m (omega (arith, le)) (x5.others s)) (x5.is s);
     }
 
 -- declarations
@@ -772,7 +818,10 @@ goes_goal _ _ _ _ (g.goal n u us direction worst vs m ws e xs ys r i1 i2 i3 i4 i
       others = λ s. x2.others (x3.others (x4.others (x5.others (x6.others s))));
       value = Some (record { direction = direction; worst = x2.worst; expr = x4.value });
       nesting = suc x4.nesting;
-      is = λ m le s. above (λ j. MayBeGoal false j ((u ∷ us) ++ x2.others (x3.others (x4.others (x5.others (x6.others s))))) (Some (record { direction = direction; worst = x2.worst; expr = x4.value })) (r ++ s)) x4.nesting m le (λ l low. g.goal (suc l) u _ direction x2.worst _ l _ x4.value _ _ _ i1 (x2.is (x3.others (x4.others (x5.others (x6.others s))))) (x3.is l (x4.others (x5.others (x6.others s)))) (x4.is l low (x5.others (x6.others s))) (x5.is (x6.others s)) (x6.is s));
+      is = λ m le s. above (λ j. MayBeGoal false j ((u ∷ us) ++ x2.others (x3.others (x4.others (x5.others (x6.others s)))))
+          (Some (record { direction = direction; worst = x2.worst; expr = x4.value })) (r ++ s)) x4.nesting m le
+          (λ l low. g.goal (suc l) u _ direction x2.worst _ l _ x4.value _ _ _ i1 (x2.is (x3.others (x4.others (x5.others (x6.others s))))) (x3.is l (x4.others (x5.others (x6.others s))))
+          (x4.is l low (x5.others (x6.others s))) (x5.is (x6.others s)) (x6.is s));
     }
 
 mutual
@@ -785,7 +834,8 @@ mutual
         others = λ s. x2.others (x3.others s);
         value = ForallTree (binders x2.value) x3.value;
         nesting = suc (x2.nesting + x3.nesting);
-        is = λ m le s. above (λ j. IsConstraint false j ((u ∷ us) ++ x2.others (x3.others s)) (ForallTree (binders x2.value) x3.value) (r ++ s)) (x2.nesting + x3.nesting) m le (λ l low. g.forall_values l u _ x2.value _ x3.value _ i1 (x2.is l (omega (arith, low)) (x3.others s)) (x3.is l (omega (arith, low)) s));
+        is = λ m le s. above (λ j. IsConstraint false j ((u ∷ us) ++ x2.others (x3.others s)) (ForallTree (binders x2.value) x3.value) (r ++ s)) (x2.nesting + x3.nesting) m le
+            (λ l low. g.forall_values l u _ x2.value _ x3.value _ i1 (x2.is l (omega (arith, low)) (x3.others s)) (x3.is l (omega (arith, low)) s));
       }
   goes_constraint _ _ _ _ (g.block n u us cs vs r i1 i2 i3) =
       let x2 = goes_constraints n us cs vs i2 in
@@ -794,7 +844,8 @@ mutual
         others = λ s. x2.others (x3.others s);
         value = BlockTree (conses x2.value);
         nesting = suc x2.nesting;
-        is = λ m le s. above (λ j. IsConstraint false j ((u ∷ us) ++ x2.others (x3.others s)) (BlockTree (conses x2.value)) (r ++ s)) x2.nesting m le (λ l low. g.block l u _ x2.value _ _ i1 (x2.is l low (x3.others s)) (x3.is s));
+        is = λ m le s. above (λ j. IsConstraint false j ((u ∷ us) ++ x2.others (x3.others s)) (BlockTree (conses x2.value)) (r ++ s)) x2.nesting m le
+            (λ l low. g.block l u _ x2.value _ _ i1 (x2.is l low (x3.others s)) (x3.is s));
       }
   goes_constraint _ _ _ _ (g.chance n u us m vs e ws xs ys p zs ps q qs r i1 i2 i3 i4 i5 i6 i7 i8 i9) =
       let x2 = goes_opening k.ParenOpen n us m vs i2 in
@@ -809,7 +860,12 @@ mutual
         others = λ s. x2.others (x3.others (x4.others (x5.others (x6.others (x7.others (x8.others (x9.others s)))))));
         value = ChanceTree x3.value x6.value x8.value;
         nesting = suc (x3.nesting + (x6.nesting + x8.nesting));
-        is = λ m le s. above (λ j. IsConstraint false j ((u ∷ us) ++ x2.others (x3.others (x4.others (x5.others (x6.others (x7.others (x8.others (x9.others s)))))))) (ChanceTree x3.value x6.value x8.value) (r ++ s)) (x3.nesting + (x6.nesting + x8.nesting)) m le (λ l low. g.chance (suc l) u _ l _ x3.value _ _ _ x6.value _ _ x8.value _ _ i1 (x2.is l (x3.others (x4.others (x5.others (x6.others (x7.others (x8.others (x9.others s)))))))) (x3.is l (omega (arith, low)) (x4.others (x5.others (x6.others (x7.others (x8.others (x9.others s))))))) (x4.is (x5.others (x6.others (x7.others (x8.others (x9.others s)))))) (x5.is (x6.others (x7.others (x8.others (x9.others s))))) (x6.is (suc l) (omega (arith, low)) (x7.others (x8.others (x9.others s)))) (x7.is (x8.others (x9.others s))) (x8.is (suc l) (omega (arith, low)) (x9.others s)) (x9.is s));
+        is = λ m le s. above (λ j. IsConstraint false j ((u ∷ us) ++ x2.others (x3.others (x4.others (x5.others (x6.others (x7.others (x8.others (x9.others s))))))))
+            (ChanceTree x3.value x6.value x8.value) (r ++ s)) (x3.nesting + (x6.nesting + x8.nesting)) m le
+            (λ l low. g.chance (suc l) u _ l _ x3.value _ _ _ x6.value _ _ x8.value _ _ i1 (x2.is l (x3.others (x4.others (x5.others (x6.others (x7.others (x8.others (x9.others s))))))))
+            (x3.is l (omega (arith, low)) (x4.others (x5.others (x6.others (x7.others (x8.others (x9.others s))))))) (x4.is (x5.others (x6.others (x7.others (x8.others (x9.others s))))))
+            (x5.is (x6.others (x7.others (x8.others (x9.others s))))) (x6.is (suc l) (omega (arith, low)) (x7.others (x8.others (x9.others s)))) (x7.is (x8.others (x9.others s)))
+            (x8.is (suc l) (omega (arith, low)) (x9.others s)) (x9.is s));
       }
   goes_constraint _ _ _ _ (g.hard n ts e us r i1 i2) =
       let x1 = goes_expression n ts e us i1 in
@@ -849,5 +905,9 @@ goes_model _ _ _ _ (g.model n ts decls us objective vs ws xs m ys body zs r i1 i
       others = λ s. x1.others (x2.others (x3.others (x4.others (x5.others (x6.others (x7.others s))))));
       value = record { decls = x1.value; goal = x2.value; body = x6.value };
       nesting = suc (x1.nesting + (x2.nesting + x6.nesting));
-      is = λ m le s. above (λ j. IsModel false j (ts ++ x1.others (x2.others (x3.others (x4.others (x5.others (x6.others (x7.others s))))))) (record { decls = x1.value; goal = x2.value; body = x6.value }) (r ++ s)) (x1.nesting + (x2.nesting + x6.nesting)) m le (λ l low. g.model (suc l) _ x1.value _ x2.value _ _ _ l _ x6.value _ _ (x1.is (suc l) (omega (arith, low)) (x2.others (x3.others (x4.others (x5.others (x6.others (x7.others s))))))) (x2.is (suc l) (omega (arith, low)) (x3.others (x4.others (x5.others (x6.others (x7.others s)))))) (x3.is (x4.others (x5.others (x6.others (x7.others s))))) (x4.is (x5.others (x6.others (x7.others s)))) (x5.is l (x6.others (x7.others s))) (x6.is l (omega (arith, low)) (x7.others s)) (x7.is s));
+      is = λ m le s. above (λ j. IsModel false j (ts ++ x1.others (x2.others (x3.others (x4.others (x5.others (x6.others (x7.others s)))))))
+          (record { decls = x1.value; goal = x2.value; body = x6.value }) (r ++ s)) (x1.nesting + (x2.nesting + x6.nesting)) m le
+          (λ l low. g.model (suc l) _ x1.value _ x2.value _ _ _ l _ x6.value _ _ (x1.is (suc l) (omega (arith, low)) (x2.others (x3.others (x4.others (x5.others (x6.others (x7.others s)))))))
+          (x2.is (suc l) (omega (arith, low)) (x3.others (x4.others (x5.others (x6.others (x7.others s)))))) (x3.is (x4.others (x5.others (x6.others (x7.others s)))))
+          (x4.is (x5.others (x6.others (x7.others s)))) (x5.is l (x6.others (x7.others s))) (x6.is l (omega (arith, low)) (x7.others s)) (x7.is s));
     }

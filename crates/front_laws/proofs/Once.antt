@@ -1,6 +1,6 @@
 -- Tokens are misspelled by one code at one place.
 use Rattle.std.proofs.Common.{◌≡◌, ◌∙◌, refl, sym, ap, subst, ℕ, List, [], ◌∷◌, ◌++◌, append_assoc}
-use Rattle.sopl_base.specs.declared.places.Refusal.{Refusal}
+use Rattle.sopl_base.specs.declared.fault.Refusal.{Refusal}
 use Rattle.sopl_ast.specs.declared.token.Token.{Token}
 use Rattle.sopl_ast.specs.Grammar.{Spells, IsFront}
 use Rattle.sopl_ast.specs.Misspelled.{place_in, NoneGoesOn, IsMisplaced, IsTooDeep, misplaced, too_deep}

@@ -1,70 +1,27 @@
 -- The parts that mention a cell.
-use Rattle.std.proofs.Common.{◌≡◌, ◌∙◌, inl, inr, ℕ, zero, suc, ◌+◌, ◌<◌, ◌≤◌, nat_eq, Bool, true, false, ◌||◌, List, [], ◌∷◌, ◌++◌, if◌then◌else◌, length, get_or, take, arith, refl, ap, subst, sym}
-use Rattle.std.specs.List.{AllByRecursion, Contains, filter, list_any}
-use Rattle.std.proofs.lemmas.Bool.{eq-eqb}
+use Rattle.std.proofs.Common.{◌≡◌, ◌∙◌, ℕ, zero, suc, ◌+◌, ◌<◌, ◌≤◌, Bool, List, [], ◌∷◌, ◌++◌, if◌then◌else◌, length, get_or, take, arith, ap, subst, sym}
+use Rattle.std.specs.List.{AllByRecursion, filter}
 use Rattle.std.proofs.lemmas.List.{take_all, take_more}
-use Rattle.std.proofs.lemmas.List.Elements.{Contains-append_cases, Contains-append_right, filter-append}
-use Rattle.std.proofs.lemmas.Map.Views.{exact_unsigned_eq}
+use Rattle.std.proofs.lemmas.List.Elements.{filter-append}
 use Rattle.box_problem.specs.Box.{Box}
 use Rattle.box_rules.proofs.FormValues.{by_bool}
 use Rattle.cell_mentions.specs.Mentions.{mentions}
 use Rattle.term_goals.specs.declared.sums.Atom.{Atom}
 use Rattle.term_nodes.specs.Things.{Thing, term_at}
 use Rattle.term_program.specs.Mentions.{IsListOf, atom_ids}
+use Rattle.part_sums.proofs.Mentioned.{listed_is}
+use Rattle.part_sums.specs.Sums.{has_cell}
 use Rattle.goal_sums.specs.Sums.{is_touched}
 
-abbrev has_cell : ℕ → List ℕ → Bool
-has_cell cell cells = list_any (λ n. nat_eq n cell) cells
-
--- a test that finds a cell where it is (as in chance_sums, and to be told once for both)
-only_one : (x cell : ℕ) → Contains (x ∷ []) cell → x ≡ cell
-only_one x cell here =
-    let first : here.0 ≡ 0 = omega (arith, here.1) in
-    sym (ap (λ n. get_or (x ∷ []) n cell) first) ∙ here.2
-
-any_or : (a b : Bool) → b ≡ true → (a || b) ≡ true
-any_or true b is = refl
-any_or false b is = is
-
-finds : (cell : ℕ) (cells : List ℕ) → Contains cells cell → has_cell cell cells ≡ true
-finds cell [] here = absurd (omega (arith, here.1))
-finds cell (x ∷ cells) here =
-    elim (Contains-append_cases (x ∷ []) cells cell here) [
-      | inl first ↦ ap (λ (b : Bool). b || has_cell cell cells) (eq-eqb x cell (only_one x cell first))
-      | inr later ↦ any_or (nat_eq x cell) (has_cell cell cells) (finds cell cells later)
-    ]
-
-found : (cell : ℕ) (cells : List ℕ) → has_cell cell cells ≡ true → Contains cells cell
-found cell [] is = absurd (cc)
-found cell (x ∷ cells) is =
-    by_bool (λ t. nat_eq x cell ≡ t → (t || has_cell cell cells) ≡ true → Contains (x ∷ cells) cell) (nat_eq x cell)
-    (λ met same there. (0, omega arith, exact_unsigned_eq x cell same))
-    (λ unmet other there. Contains-append_right (x ∷ []) cells cell (found cell cells there)) refl is
-
-same_test : (a b : Bool) → (a ≡ true → b ≡ true) → (b ≡ true → a ≡ true) → a ≡ b
-same_test true b first second = sym (first refl)
-same_test false true first second = second refl
-same_test false false first second = refl
-
 -- a part whose term's cells are listed
-pub touched_is : (root : Box) (all : List Thing) (cell : ℕ) (a : Atom) (cells : List ℕ) (answer : Bool) → IsListOf (mentions root (term_at all a.term)) cells → answer ≡ has_cell cell cells → answer ≡ is_touched root all cell a
+pub touched_is : (root : Box) (all : List Thing) (cell : ℕ) (a : Atom) (cells : List ℕ) (answer : Bool) → IsListOf (mentions root (term_at all a.term)) cells → answer ≡ has_cell cell cells
+    → answer ≡ is_touched root all cell a
 touched_is root all cell a cells answer listed is =
-    let mentioned = mentions root (term_at all a.term) in
-    is
-    ∙ same_test (has_cell cell cells) (has_cell cell mentioned)
-    (λ there. finds cell mentioned ((listed.mentions cell).0 (found cell cells there))) (λ there. finds cell cells ((listed.mentions cell).1 (found cell mentioned there)))
-
--- where it is not so, the term does not mention the cell
-pub untouched : (root : Box) (all : List Thing) (cell : ℕ) (a : Atom) → is_touched root all cell a ≡ false → ¬ Contains (mentions root (term_at all a.term)) cell
-untouched root all cell a is here =
-    no_both (is_touched root all cell a) is (finds cell (mentions root (term_at all a.term)) here)
-  where
-    no_both : (b : Bool) → b ≡ false → b ≡ true → ⊥
-    no_both true is isnt = absurd (cc)
-    no_both false is isnt = absurd (cc)
+    is ∙ listed_is cell (mentions root (term_at all a.term)) cells listed
 
 -- one part more, and all
-pub touched_more : (test : Atom → Bool) (atoms : List Atom) (i : ℕ) (d : Atom) (old new : List Atom) (wanted : Bool) → i < length atoms → old ≡ filter test (take i atoms) → wanted ≡ test (get_or atoms i d) → new ≡ old ++ (if wanted then get_or atoms i d ∷ [] else []) → new ≡ filter test (take (i + 1) atoms)
+pub touched_more : (test : Atom → Bool) (atoms : List Atom) (i : ℕ) (d : Atom) (old new : List Atom) (wanted : Bool) → i < length atoms → old ≡ filter test (take i atoms) → wanted
+    ≡ test (get_or atoms i d) → new ≡ old ++ (if wanted then get_or atoms i d ∷ [] else []) → new ≡ filter test (take (i + 1) atoms)
 touched_more test atoms i d old new wanted below so_far is put =
     put
     ∙ ap (λ (list : List Atom). list ++ (if wanted then get_or atoms i d ∷ [] else [])) so_far

@@ -1,8 +1,8 @@
 -- The better end of an expected objective over a box, part by part.
-use Rattle.std.specs.Prelude.{◌≡◌, ℕ, ℤ, pos, ◌+ℤ◌, int_le, nat_eq, Bool, true, List, [], ◌∷◌, length}
-use Rattle.std.specs.List.{AllByRecursion, filter, list_any}
-use Rattle.sopl_base.specs.declared.places.Direction.{Direction}
-use Rattle.sopl_base.specs.declared.places.Direction.TheVariants.{Minimize, Maximize, Nothing}
+use Rattle.std.specs.Prelude.{◌≡◌, ℕ, ℤ, int_le, Bool, true, List, length}
+use Rattle.std.specs.List.{AllByRecursion, filter}
+use Rattle.sopl_base.specs.declared.direction.Direction.{Direction}
+use Rattle.sopl_base.specs.declared.direction.Direction.TheVariants.{Minimize, Maximize, Nothing}
 use Rattle.box_problem.specs.Box.{Box, Inside}
 use Rattle.box_rules.specs.Ends.{exactly, plus, scaled}
 use Rattle.box_rules.specs.Rules.{Near, interval}
@@ -14,15 +14,11 @@ use Rattle.term_nodes.specs.Things.{Thing, term_at}
 use Rattle.term_program.specs.declared.program.Program.{Program}
 use Rattle.term_program.specs.Mentions.{atom_ids}
 use Rattle.term_program.specs.Programs.{IsListedTerm, problem_in, root_in, summed_form, things_in}
+use Rattle.part_sums.specs.Sums.{has_cell}
 
 -- the better end of so many times a term over a box
 abbrev pub part_over : Direction → Box → List Thing → Box → Atom → ℤ
 part_over direction root all b a = better_end direction (scaled a.k (interval Near root b (term_at all a.term)))
-
--- the sum of a number for each of several parts
-abbrev pub sum_over : {A : Type 0} → (A → ℤ) → List A → ℤ
-sum_over f [] = pos 0
-sum_over f (x ∷ later) = f x +ℤ sum_over f later
 
 -- the better end of an interval is not better than a value
 abbrev pub no_better : Direction → ℤ → ℤ → Bool
@@ -32,7 +28,7 @@ no_better Nothing end v = true
 
 -- whether a part mentions a cell, and the parts that do
 abbrev pub is_touched : Box → List Thing → ℕ → Atom → Bool
-is_touched root all cell a = list_any (λ n. nat_eq n cell) (mentions root (term_at all a.term))
+is_touched root all cell a = has_cell cell (mentions root (term_at all a.term))
 
 abbrev pub touched_by : Box → List Thing → List Atom → ℕ → List Atom
 touched_by root all atoms cell = filter (is_touched root all cell) atoms

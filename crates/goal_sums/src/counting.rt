@@ -1,7 +1,7 @@
 //! The better end of an objective over a box, and over a part in which one cell has another interval.
 
 ghost use Rattle.std.specs.Prelude.{◌≡◌, ◌<◌, ◌≤ℤ◌, length, IfSome, Some};
-ghost use Rattle.sopl_base.specs.declared.places.Reason.TheVariants.{Bound};
+ghost use Rattle.sopl_base.specs.declared.reason.Reason.TheVariants.{Bound};
 ghost use Rattle.box_problem.specs.Box.{Inside, high, low};
 ghost use Rattle.box_rules.specs.Ends.{ends};
 ghost use Rattle.program_rules.specs.Objective as objective;
@@ -41,7 +41,8 @@ fn part_with(
     requires exists { atom.now.term < length (things_in program.now) }
     requires from_low { low (root_in program.now) cell ≤ℤ part.lo }
     requires to_high { part.hi ≤ℤ high (root_in program.now) cell }
-    ensures { IfSome result (λ end. end.number ≡ part_over (direction_in (problem_in program.now)) (root_in program.now) (things_in program.now) (with_interval store.now.box cell part.lo part.hi) atom.now) }
+    ensures { IfSome result (λ end. end.number ≡ part_over (direction_in (problem_in program.now)) (root_in program.now) (things_in program.now)
+        (with_interval store.now.box cell part.lo part.hi) atom.now) }
 {
     let range = range_in(program, TermId(atom.term), store, cell, part);
     end_of_part(program.direction(), atom, &range.interval)
@@ -84,7 +85,8 @@ impl Counted<'_> {
         requires known { IsCounted program.now store.now.box self.now }
         requires from_low { low (root_in program.now) self.now.cell ≤ℤ part.lo }
         requires to_high { part.hi ≤ℤ high (root_in program.now) self.now.cell }
-        ensures { IfSome result (λ end. end.number ≡ objective.better_end (direction_in (problem_in program.now)) (objective.goal_ends (root_in program.now) (with_interval store.now.box self.now.cell part.lo part.hi) (problem_in program.now))) }
+        ensures { IfSome result (λ end. end.number ≡ objective.better_end (direction_in (problem_in program.now))
+            (objective.goal_ends (root_in program.now) (with_interval store.now.box self.now.cell part.lo part.hi) (problem_in program.now))) }
     {
         let mut end = self.end;
         'parts: for atom in self.parts {
@@ -108,7 +110,8 @@ impl Counted<'_> {
         requires known { IsCounted program.now store.now.box self.now }
         requires from_low { low (root_in program.now) self.now.cell ≤ℤ part.lo }
         requires to_high { part.hi ≤ℤ high (root_in program.now) self.now.cell }
-        ensures closed { IfSome result (λ closed. closed ≡ refutes (root_in program.now) (problem_in program.now) Bound (with_interval store.now.box self.now.cell part.lo part.hi) (Some best.now.number)) }
+        ensures closed { IfSome result (λ closed. closed ≡ refutes (root_in program.now) (problem_in program.now) Bound (with_interval store.now.box self.now.cell part.lo part.hi)
+            (Some best.now.number)) }
     {
         let end = self.end_with(program, store, part)?;
         Some(is_no_better(program.direction(), &end, best))

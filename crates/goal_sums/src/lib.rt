@@ -1,5 +1,6 @@
 //! The better end of an expected objective over a box, and what it becomes where one cell has another interval: only the parts of the objective's sum
 //! that mention the cell are seen anew.
+//! Its tests stand in `program_tests`.
 #![tactic(auto)]
 
 mod counting;

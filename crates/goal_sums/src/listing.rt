@@ -1,11 +1,12 @@
 //! The parts of an objective's sum that mention a cell.
 
-ghost use Rattle.std.specs.Prelude.{◌≡◌, ◌∷◌, ◌++◌, [], nat_eq, if◌then◌else◌, IfOk, OnOk};
-ghost use Rattle.std.specs.List.{AllByRecursion, list_any};
+ghost use Rattle.std.specs.Prelude.{◌≡◌, IfOk};
+ghost use Rattle.std.specs.List.{AllByRecursion};
 ghost use Rattle.term_program.specs.Mentions.{atom_ids};
 ghost use Rattle.term_program.specs.Programs.{IsListedTerm, IsMade, root_in, things_in};
 ghost use Rattle.goal_sums.specs.Sums.{is_touched, touched_by};
 
+use part_sums::{has, put_if};
 use std::alloc::{AllocError, Global};
 use term_goals::Atom;
 use term_program::{Program, TermId};
@@ -16,13 +17,6 @@ pub struct Parts {
     pub atoms: Vec<Atom>,
 }
 
-/// Whether a list has a cell.
-fn has(cells: &[u32], cell: u32) -> bool
-    ensures { result ≡ list_any (λ n. nat_eq n cell) cells.now }
-{
-    cells.contains(&cell)
-}
-
 /// Whether a part mentions a cell.
 fn touches(program: &Program, atom: &Atom, cell: u32) -> bool
     requires made { IsMade program.now }
@@ -30,17 +24,6 @@ fn touches(program: &Program, atom: &Atom, cell: u32) -> bool
     ensures { result ≡ is_touched (root_in program.now) (things_in program.now) cell atom.now }
 {
     has(program.term_cells(TermId(atom.term)), cell)
-}
-
-/// Adds a part to a list, or nothing.
-fn put_if(list: &mut Vec<Atom>, atom: &Atom, wanted: bool) -> Result<(), AllocError>
-    ensures { OnOk result (list.new.items ≡ list.old.items ++ (if wanted then atom.now ∷ [] else [])) }
-{
-    if wanted {
-        list.push(*atom)?;
-        return Ok(());
-    }
-    Ok(())
 }
 
 /// The parts that mention a cell, in the same order.
@@ -57,7 +40,7 @@ pub fn touching(
     let mut list = Vec::new(alloc);
     'atoms: for atom in atoms {
         let wanted = touches(program, atom, cell);
-        put_if(&mut list, atom, wanted)?;
+        put_if(&mut list, *atom, wanted)?;
     }
     Ok(Parts { atoms: list })
 }

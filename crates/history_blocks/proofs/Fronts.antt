@@ -1,5 +1,6 @@
 -- The variables of a stage stand behind those of the earlier stages.
-use Rattle.std.proofs.Common.{◌≡◌, ◌+◌, ◌≤◌, ◌<◌, ◌++◌, ◌⊎◌, inl, inr, ℕ, suc, nat_lt, nat_eq, Bool, true, false, cond, List, [], ◌∷◌, length, get_or, take, drop, arith, refl, sym, ap, ◌∙◌, length-append}
+use Rattle.std.proofs.Common.{◌≡◌, ◌+◌, ◌≤◌, ◌<◌, ◌++◌, ◌⊎◌, inl, inr, ℕ, suc, nat_lt, nat_eq, Bool, true, false, cond, List, [], ◌∷◌, length, get_or, take, drop, arith, refl, sym}
+use Rattle.std.proofs.Common.{ap, ◌∙◌, length-append}
 use Rattle.std.proofs.lemmas.Bool.{cases_order}
 use Rattle.std.proofs.lemmas.Bool.Decides.{nat_tests}
 use Rattle.std.proofs.lemmas.List.{append_assoc, append_cancel_left, get_or-append-add, get_or-take, length-take-le, take-append-drop}
@@ -8,16 +9,16 @@ use Rattle.scenario_laws.specs.Laws.{IsByStage, seen_before}
 use Rattle.scenario_laws.proofs.Stages.{AllFrom, from_later}
 use Rattle.history_blocks.specs.Laws.{of_stage}
 
-below : (a b : ℕ) → a < b → nat_lt a b ≡ true
+pub below : (a b : ℕ) → a < b → nat_lt a b ≡ true
 below a b h = grind (arith, nat_tests)
 
-not_below : (a b : ℕ) → b ≤ a → nat_lt a b ≡ false
+pub not_below : (a b : ℕ) → b ≤ a → nat_lt a b ≡ false
 not_below a b h = grind (arith, nat_tests)
 
-same : (a b : ℕ) → a ≡ b → nat_eq a b ≡ true
+pub same : (a b : ℕ) → a ≡ b → nat_eq a b ≡ true
 same a b h = grind (arith, nat_tests)
 
-differ : (a b : ℕ) → (a < b) ⊎ (b < a) → nat_eq a b ≡ false
+pub differ : (a b : ℕ) → (a < b) ⊎ (b < a) → nat_eq a b ≡ false
 differ a b (inl h) = grind (arith, nat_tests)
 differ a b (inr h) = grind (arith, nat_tests)
 

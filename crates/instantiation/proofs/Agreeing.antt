@@ -3,8 +3,8 @@ use Rattle.std.proofs.Common.{◌≡◌, ◌∙◌, refl, ap, arith, ℤ, pos, n
 use Rattle.std.proofs.lemmas.Int.{ints}
 use Rattle.std.specs.List.{list_all, list_any}
 use Rattle.std.specs.Ordering.{int_eq}
-use Rattle.sopl_base.specs.declared.places.CmpOp.{CmpOp}
-use Rattle.sopl_base.specs.declared.places.CmpOp.TheVariants.{Eq, Ne, Lt, Le, Gt, Ge}
+use Rattle.sopl_base.specs.declared.comparison.CmpOp.{CmpOp}
+use Rattle.sopl_base.specs.declared.comparison.CmpOp.TheVariants.{Eq, Ne, Lt, Le, Gt, Ge}
 use Rattle.sopl_ast.specs.Numbers as ast
 use Rattle.sopl_ast.specs.Numbers.{Task}
 use Rattle.sopl_ast.specs.Meanings.{compared, are_different, fit}

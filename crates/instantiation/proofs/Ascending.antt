@@ -1,39 +1,8 @@
--- Numbers that ascend: those that are put in their places do, and two such lists of the same numbers are one.
+-- Numbers that ascend: two such lists of the same numbers are one.
 use Rattle.std.proofs.Common.{◌≡◌, refl, sym, subst, arith, ℤ, ◌<ℤ◌, List, [], ◌∷◌, inl, inr}
 use Rattle.std.proofs.lemmas.Int.{ints}
-use Rattle.std.specs.BTreeSet.{insert_key}
-use Rattle.std.specs.Cmp.{int_ranks}
-use Rattle.std.specs.List.{fold}
-use Rattle.std.specs.Ordering.{int_cmp, match_ordering, MatchOrdering}
-use Rattle.std.specs.declared.cmp.Ordering.{Ordering}
-use Rattle.std.specs.declared.cmp.Ordering.TheVariants.{Less, Equal, Greater}
 use Rattle.policy_tree.proofs.Members.{In}
-use Rattle.instantiation.specs.Tables.{Ascends}
-
--- a number that is put in its place, behind a lesser one
-inserted_behind : (b k : ℤ) (xs : List ℤ) → b <ℤ k → Ascends (b ∷ xs) → Ascends (b ∷ insert_key int_cmp xs k)
-inserted_behind b k [] less up = (less, tt)
-inserted_behind b k (x ∷ xs) less up = placed (int_cmp k x) (int_ranks k x) (λ is. inserted_behind x k xs is up.1)
-  where
-    placed : (o : Ordering) → MatchOrdering o (k <ℤ x) (k ≡ x) (x <ℤ k) → (x <ℤ k → Ascends (x ∷ insert_key int_cmp xs k))
-        → Ascends (b ∷ match_ordering o (k ∷ x ∷ xs) (x ∷ xs) (x ∷ insert_key int_cmp xs k))
-    placed Less is behind = (less, (is, up.1))
-    placed Equal is behind = up
-    placed Greater is behind = (up.0, behind is)
-
--- a number that is put in its place
-inserted : (k : ℤ) (xs : List ℤ) → Ascends xs → Ascends (insert_key int_cmp xs k)
-inserted k [] up = tt
-inserted k (x ∷ xs) up = put_first (int_cmp k x) (int_ranks k x)
-  where
-    put_first : (o : Ordering) → MatchOrdering o (k <ℤ x) (k ≡ x) (x <ℤ k) → Ascends (match_ordering o (k ∷ x ∷ xs) (x ∷ xs) (x ∷ insert_key int_cmp xs k))
-    put_first Less is = (is, up)
-    put_first Equal is = up
-    put_first Greater is = inserted_behind x k xs is up
-
-pub all_inserted : (ks xs : List ℤ) → Ascends xs → Ascends (fold (insert_key int_cmp) xs ks)
-all_inserted [] xs up = up
-all_inserted (k ∷ ks) xs up = all_inserted ks (insert_key int_cmp xs k) (inserted k xs up)
+use Rattle.sopl_meaning.specs.Laws.{Ascends}
 
 -- what stands behind a number is greater
 pub above : (x : ℤ) (xs : List ℤ) → Ascends (x ∷ xs) → (y : ℤ) → In y xs → x <ℤ y

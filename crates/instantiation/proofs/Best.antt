@@ -2,7 +2,7 @@
 use Rattle.std.proofs.Common.{◌≡◌, ◌∙◌, refl, sym, subst, ◌≤◌, pos, [], length, Option, Some, None, IfSome, option_map, if◌then◌else◌}
 use Rattle.std.proofs.lemmas.List.{length-map}
 use Rattle.std.specs.Option.{option_map_or}
-use Rattle.sopl_base.specs.declared.places.Direction.TheVariants.{Nothing}
+use Rattle.sopl_base.specs.declared.direction.Direction.TheVariants.{Nothing}
 use Rattle.sopl_base.specs.Better.{IsBetter}
 use Rattle.sopl_ast.specs.Instances.{Objective, Problem}
 use Rattle.sopl_ast.specs.Scenarios.{Scenario, scenarios, total_weight}

@@ -8,11 +8,13 @@ use Rattle.std.specs.Str.{bytes_eq}
 use Rattle.sopl_ast.specs.Whole.{DimTree, Declaration, IntDecl, RangeDecl, SetDecl, DvarDecl, StochDecl}
 use Rattle.sopl_ast.specs.Known.{Constant}
 use Rattle.sopl_ast.specs.Mistakes as mistake
-use Rattle.sopl_ast.specs.Mistakes.{Entity, Variable, RangeName, SetName, Scope, entity_of, known_name, wrong_depths, first_of, bind_dims, of_dims, of_init, of_declaration, declare, of_declarations, declare_all}
+use Rattle.sopl_ast.specs.Mistakes.{Entity, Variable, RangeName, SetName, Scope, entity_of, known_name, wrong_depths, first_of, bind_dims, of_dims, of_init, of_declaration}
+use Rattle.sopl_ast.specs.Mistakes.{declare, of_declarations, declare_all}
 use Rattle.sopl_ast.specs.Instances.{Decision, Stochastic}
 use Rattle.sopl_ast.specs.Arrays as ast
 use Rattle.sopl_ast.specs.Arrays.{Dimension, dimensions_of, dimension_occurrences, with_index}
-use Rattle.sopl_ast.specs.Declarations.{Declared, nothing_declared, values_from, init_occurrences, constants_of, decisions_of, stochastics_of, domain_of, stage_of, outcome_of, behind, behind_all, declaration_occurrences, declarations_occurrences}
+use Rattle.sopl_ast.specs.Declarations.{Declared, nothing_declared, values_from, init_occurrences, constants_of, decisions_of, stochastics_of, domain_of, stage_of, outcome_of}
+use Rattle.sopl_ast.specs.Declarations.{behind, behind_all, declaration_occurrences, declarations_occurrences}
 use Rattle.unfold_laws.specs.Passing.{Passes}
 use Rattle.unfold_laws.proofs.Passing.{parts_pass}
 use Rattle.box_rules.specs.Arrays.{indices}
@@ -123,7 +125,14 @@ owned_behind (DvarDecl own at dims range stage) scope found name right passes ow
     longer : of_decisions name (found.decisions ++ decisions_of found.known own dims range stage) ≡ of_decisions name found.decisions ++ more
     longer =
         grown (λ (d : Decision). d.name) (λ (d : Decision). d.index) own name found.decisions
-        (λ index. record { name = own; index = index; lo = (domain_of (with_index ds index found.known) range).0; hi = (domain_of (with_index ds index found.known) range).1; stage = stage_of (with_index ds index found.known) stage })
+        (λ index. record {
+          name = own;
+          index = index;
+          lo = (domain_of (with_index ds index found.known) range).0;
+          hi = (domain_of (with_index ds index found.known) range).1;
+          stage =
+              stage_of (with_index ds index found.known) stage;
+        })
         (λ index. refl) (ast.indices ds)
 owned_behind (StochDecl own at dims dist stage) scope found name right passes owned =
     owned_more (bytes_eq own name) (Variable (length dims)) (entity_of scope name) (all_named name found) (map (λ index. index) (ast.indices ds))

@@ -1,5 +1,6 @@
 -- What a term is worth at a point is what the policy makes of the expression.
-use Rattle.std.proofs.Common.{◌≡◌, ◌∙◌, refl, sym, ap, subst, ℕ, ℤ, pos, ◌+ℤ◌, ◌*ℤ◌, Bool, true, false, not, ◌&&◌, ◌||◌, List, [], ◌∷◌, ◌++◌, map, Option, Some, None, option_map, option_and_then, if◌then◌else◌}
+use Rattle.std.proofs.Common.{◌≡◌, ◌∙◌, refl, sym, ap, subst, ℕ, ℤ, pos, ◌+ℤ◌, ◌*ℤ◌, Bool, true, false, not, ◌&&◌, ◌||◌, List, [], ◌∷◌, ◌++◌, map, Option, Some, None, option_map}
+use Rattle.std.proofs.Common.{option_and_then, if◌then◌else◌}
 use Rattle.std.specs.List.{AllByRecursion, fold}
 use Rattle.std.specs.Int.{int_min, int_max}
 use Rattle.std.specs.Int.RustNames.{int_div, int_rem}
@@ -19,7 +20,9 @@ use Rattle.box_rules.specs.Arrays.{Entry, item_in, item_at}
 use Rattle.box_rules.specs.Ends.{size_of}
 use Rattle.box_rules.specs.Forms.{sign}
 use Rattle.box_rules.specs.Values.{TaskValues, all_distinct, compares, do_fit, holds_of, value, values, sum_value, holds, all_hold, any_holds, all_task_values, item_value, both_of}
-use Rattle.instantiation.specs.Instances.{Place, TaskTerms, knowing, places, bound_elements, constant_elements, seen_elements, decided_elements, elements, table_of, undefined, item_term, named_term, terms_of, sum_of, tasks_of, extreme_of, divided, instance, shape_instance, instances, conditions, chain_instance, product_instance}
+use Rattle.instantiation.specs.Instances.{Place, TaskTerms, knowing, places, bound_elements, constant_elements, seen_elements, decided_elements, elements, table_of, undefined}
+use Rattle.instantiation.specs.Instances.{item_term, named_term, terms_of, sum_of, tasks_of, extreme_of, divided, instance, shape_instance, instances, conditions, chain_instance}
+use Rattle.instantiation.specs.Instances.{product_instance}
 use Rattle.instantiation.specs.Laws.{IsArray, AreArrays, Agrees, Means, InstancesMean}
 use Rattle.instantiation.proofs.Agreeing.{truth_number, compared_so, part_so, negated_so, added_so, different_so, task_values, fit_so}
 use Rattle.instantiation.proofs.Lookups.{bound_is, constant_is, seen_is, item_append, bound_none}
@@ -227,13 +230,15 @@ tasks_over : (point : List ℤ) (place : Place) (other : meant.Place) (start dur
 tasks_over point place other start duration demand [] all = refl
 tasks_over point place other start duration demand (k ∷ ks) all =
     (λ i. both_of (λ x xs. x ∷ xs) (three (all.0.starts i) (all.0.lasts i) (all.0.asks i)) (tasks_over point place other start duration demand ks all.1 i))
-    ∙ (ap (λ o. both_of (λ x xs. x ∷ xs) o (option_map (map task_values) rest)) (three_so (meaning (meant.knowing other k) start).value (meaning (meant.knowing other k) duration).value (meaning (meant.knowing other k) demand).value)
+    ∙ (ap (λ o. both_of (λ x xs. x ∷ xs) o (option_map (map task_values) rest))
+    (three_so (meaning (meant.knowing other k) start).value (meaning (meant.knowing other k) duration).value (meaning (meant.knowing other k) demand).value)
     ∙ by_options (task_meant start duration demand (meant.knowing other k)) rest)
   where
     rest : Option (List Task)
     rest = all_of (task_meant start duration demand) (map (meant.knowing other) ks)
 
-    by_options : (a : Option Task) (b : Option (List Task)) → both_of (λ x xs. x ∷ xs) (option_map task_values a) (option_map (map task_values) b) ≡ option_map (map task_values) (ast.both_of (λ x xs. x ∷ xs) a b)
+    by_options : (a : Option Task) (b : Option (List Task)) → both_of (λ x xs. x ∷ xs) (option_map task_values a) (option_map (map task_values) b)
+        ≡ option_map (map task_values) (ast.both_of (λ x xs. x ∷ xs) a b)
     by_options None b = refl
     by_options (Some x) None = refl
     by_options (Some x) (Some xs) = refl
@@ -332,11 +337,13 @@ mutual
   all_true_means place other point a arrays no_tree = refl
   all_true_means place other point a arrays (tree e es) = λ i. (means place other point a arrays e).truth i && all_true_means place other point a arrays es i
 
-  some_true_means : (place : Place) (other : meant.Place) (point : List ℤ) → Agrees place other point → AreArrays place → (es : Trees) → any_holds point (conditions place es) ≡ meant.some_true other es
+  some_true_means : (place : Place) (other : meant.Place) (point : List ℤ) → Agrees place other point → AreArrays place → (es : Trees) → any_holds point (conditions place es)
+      ≡ meant.some_true other es
   some_true_means place other point a arrays no_tree = refl
   some_true_means place other point a arrays (tree e es) = λ i. (means place other point a arrays e).truth i || some_true_means place other point a arrays es i
 
-  chain_means : (place : Place) (other : meant.Place) (point : List ℤ) → Agrees place other point → AreArrays place → (parts : t.Terms) → sum_value point (chain_instance place parts) ≡ meant.sum_value other parts
+  chain_means : (place : Place) (other : meant.Place) (point : List ℤ) → Agrees place other point → AreArrays place → (parts : t.Terms) → sum_value point (chain_instance place parts)
+      ≡ meant.sum_value other parts
   chain_means place other point a arrays t.no_term = refl
   chain_means place other point a arrays (t.term minus e later) =
       (λ i. both_of (λ x y. sign minus *ℤ x +ℤ y) ((means place other point a arrays e).value i) (chain_means place other point a arrays later i))

@@ -1,5 +1,6 @@
 -- The numbers of the decisions' cells in a scenario.
-use Rattle.std.proofs.Common.{◌≡◌, ◌∙◌, refl, sym, ap, subst, arith, ℕ, zero, suc, ◌+◌, ◌<◌, nat_lt, ℤ, Bool, true, false, true≢false, not, cond, List, [], ◌∷◌, ◌++◌, length, inl, inr, Some, None, Contains, slice_get}
+use Rattle.std.proofs.Common.{◌≡◌, ◌∙◌, refl, sym, ap, subst, arith, ℕ, zero, suc, ◌+◌, ◌<◌, nat_lt, ℤ, Bool, true, false, true≢false, not, cond, List, [], ◌∷◌, ◌++◌, length, inl}
+use Rattle.std.proofs.Common.{inr, Some, None, Contains, slice_get}
 use Rattle.std.proofs.lemmas.Bool.{lt-ltb}
 use Rattle.std.proofs.lemmas.List.{append_assoc, length-map, length-append}
 use Rattle.std.proofs.lemmas.Option.{slice_get-map}
@@ -12,7 +13,7 @@ use Rattle.sopl_ast.specs.Histories.{history, histories, number_of}
 use Rattle.sopl_ast.specs.Cells.{Cell, cells_of, cells}
 use Rattle.policy_tree.proofs.Members.{In}
 use Rattle.policy_tree.proofs.Once.{Once, same_is}
-use Rattle.policy_tree.proofs.CellsOf.{keys_of, history_in, Once-cells}
+use Rattle.policy_tree.proofs.CellsOf.{keys_of, history_in, made, Once-cells}
 use Rattle.instantiation.specs.Whole.{numbers_from}
 use Rattle.instantiation.specs.WholeLaws.{CellsAreNumbered, NumbersAreOne}
 
@@ -58,9 +59,6 @@ numbered_history stage ss seen h =
     ap (slice_get (histories stage ss)) (found_number (nat_lt n (length (histories stage ss))) n (lt-ltb n (length (histories stage ss)) found.0)) ∙ found.1
 
 -- Cells.
-
-abbrev made : ℕ → Decision → List ℤ → Cell
-made number d seen = record { key = (number, seen); lo = d.lo; hi = d.hi }
 
 pub some_same : {A : Type 0} (x y : A) → Some x ≡ Some y → x ≡ y
 some_same x y is = ap (λ o. unwrap_or o x) is

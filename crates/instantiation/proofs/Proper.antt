@@ -13,7 +13,8 @@ use Rattle.sopl_ast.specs.Scenarios.{Scenario, scenarios}
 use Rattle.box_rules.specs.Terms as c
 use Rattle.box_rules.specs.Arrays.{item_in}
 use Rattle.box_rules.specs.Laws.{IsProper, AreProper, AreProperParts, AreProperTasks, AreProperConds, IsProperCond}
-use Rattle.instantiation.specs.Instances.{Place, TaskTerms, places, bound_elements, elements, undefined, item_term, named_term, terms_of, sum_of, tasks_of, extreme_of, divided, number, condition, instance, shape_instance, instances, conditions, chain_instance, product_instance}
+use Rattle.instantiation.specs.Instances.{Place, TaskTerms, places, bound_elements, elements, undefined, item_term, named_term, terms_of, sum_of, tasks_of, extreme_of, divided}
+use Rattle.instantiation.specs.Instances.{number, condition, instance, shape_instance, instances, conditions, chain_instance, product_instance}
 use Rattle.program_rules.specs.Problems.{ChanceTerms, GoalTerms}
 use Rattle.instantiation.specs.Whole.{place_at, condition_at, hard_terms, chance_terms, goal_terms}
 use Rattle.instantiation.specs.Tables.{IsProperInstance, InstancesAreProper, ProblemsAreProper}

@@ -1,5 +1,6 @@
 -- The elements of each name of a text are those of an array.
-use Rattle.std.proofs.Common.{◌≡◌, ◌∙◌, refl, sym, ap, subst, arith, ℕ, zero, suc, ◌+◌, ◌<◌, nat_eq, ℤ, Bool, true, false, true≢false, List, [], ◌∷◌, ◌++◌, length, map, filter, ◌⊎◌, inl, inr, Option, Some, if◌then◌else◌}
+use Rattle.std.proofs.Common.{◌≡◌, ◌∙◌, refl, sym, ap, subst, arith, ℕ, zero, suc, ◌+◌, ◌<◌, nat_eq, ℤ, Bool, true, false, true≢false, List, [], ◌∷◌, ◌++◌, length, map, filter}
+use Rattle.std.proofs.Common.{◌⊎◌, inl, inr, Option, Some, if◌then◌else◌}
 use Rattle.std.proofs.lemmas.Bool.{eq-eqb}
 use Rattle.std.proofs.lemmas.List.{map-append}
 use Rattle.std.specs.List.{AllByRecursion, range_with_len}
@@ -137,7 +138,8 @@ array_of_name : (found : Declared) (name : List ℕ) (known : Option Entity) →
 array_of_name found name known owned bounded values numbers valued numbered =
     full_array owned.sets es
     (record {
-      there = λ index h. found_back es index (subst (In index) (sym same) (swapped constants seen by_stages decided index (named_in_stages name found.stochastics bounded index) (owned.exact.all index h)));
+      there = λ index h. found_back es index (subst (In index) (sym same)
+          (swapped constants seen by_stages decided index (named_in_stages name found.stochastics bounded index) (owned.exact.all index h)));
       only = λ index h. owned.exact.only index (swapped constants by_stages seen decided index (named_from_stages name found.stochastics index) (subst (In index) same h));
     })
   where

@@ -9,9 +9,11 @@ use Rattle.policy_tree.proofs.Once.{Once, Once-map, Once-append}
 use Rattle.box_rules.specs.Terms.{Fixed}
 use Rattle.box_rules.specs.Arrays.{Entry, indices, item_in}
 use Rattle.instantiation.specs.Instances.{sets_of, table_over}
-use Rattle.instantiation.specs.Tables.{Ascends, TablesAreSound, TablesHaveSets}
+use Rattle.instantiation.specs.Tables.{TablesAreSound, TablesHaveSets}
+use Rattle.sopl_meaning.specs.Laws.{Ascends}
 use Rattle.instantiation.proofs.Arrays.{AreIn, in_indices, from_indices, column, columns, in_column, from_column, at_places, long}
-use Rattle.instantiation.proofs.Ascending.{all_inserted, above, later_ascends, not_less, same_numbers}
+use Rattle.instantiation.proofs.Ascending.{above, later_ascends, not_less, same_numbers}
+use Rattle.sopl_meaning.proofs.Ascending.{all_inserted}
 
 abbrev index_in : Entry → List ℤ
 index_in e = e.index

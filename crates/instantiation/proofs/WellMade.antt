@@ -4,8 +4,8 @@ use Rattle.std.proofs.Math.Seq.{take-length}
 use Rattle.std.proofs.lemmas.List.{length-map}
 use Rattle.std.proofs.lemmas.Simd.{map-map}
 use Rattle.std.specs.List.{AllByRecursion}
-use Rattle.sopl_base.specs.declared.places.Direction.{Direction}
-use Rattle.sopl_base.specs.declared.places.Direction.TheVariants.{Nothing}
+use Rattle.sopl_base.specs.declared.direction.Direction.{Direction}
+use Rattle.sopl_base.specs.declared.direction.Direction.TheVariants.{Nothing}
 use Rattle.sopl_ast.specs.declared.token.Token.{Token}
 use Rattle.sopl_ast.specs.declared.token.TokenKind.{TokenKind}
 use Rattle.sopl_ast.specs.declared.token.TokenKind.TheVariants as k
@@ -50,10 +50,10 @@ IsDirected objective = ¬ objective.direction ≡ Nothing
 
 goal_directed : {cut : Bool} {n : ℕ} {ts : List Token} {objective : Option GoalTree} {r : List Token} → MayBeGoal cut n ts objective r → IfSome objective IsDirected
 goal_directed (no_goal _ _) = tt
-goal_directed (goal _ u _ direction _ _ _ _ _ _ _ _ is _ _ _ _ _) = directed u.kind direction is
+goal_directed (goal n u us direction worst vs m ws e xs ys r is measured opens weighed shut closes) = directed u.kind direction is
 
 model_directed : {n : ℕ} {ts : List Token} {whole : ModelTree} {r : List Token} → IsModel false n ts whole r → IfSome whole.goal IsDirected
-model_directed (model _ _ _ _ _ _ _ _ _ _ _ _ _ _ asked _ _ _ _ _) = goal_directed asked
+model_directed (model n ts decls us objective vs ws xs m ys body zs r declared asked subject to opens constraints closes) = goal_directed asked
 
 -- Weights.
 
@@ -113,7 +113,8 @@ problems_are_well_made whole from passes =
       hards = hards_are problem problem.hards;
       chances = chances_are problem problem.chances (chances_are_met whole passes);
       goal =
-          subst (λ (objective : Option Objective). IfSome (option_map (goal_terms problem) objective) (λ (g : GoalTerms). (length g.terms ≡ length (problem_terms problem).weights) × (¬ g.direction ≡ Nothing)))
+          subst (λ (objective : Option Objective). IfSome (option_map (goal_terms problem) objective)
+          (λ (g : GoalTerms). (length g.terms ≡ length (problem_terms problem).weights) × (¬ g.direction ≡ Nothing)))
           (sym (objective_is whole)) (goal_is problem whole.goal (model_directed from.spelled.spelled));
       proper = problems_are_proper problem;
     }

@@ -1,8 +1,9 @@
 -- A whole problem in terms says at a point what the problem says of the point's policy.
-use Rattle.std.proofs.Common.{◌≡◌, ◌∙◌, refl, sym, ap, subst, arith, ℕ, zero, suc, ℤ, pos, ◌+ℤ◌, ◌*ℤ◌, ◌≤ℤ◌, Bool, true, false, List, [], ◌∷◌, map, filter, inl, inr, All, Option, Some, None, IsSome, IfSome, IsTrue, option_map, slice_get, if◌then◌else◌}
+use Rattle.std.proofs.Common.{◌≡◌, ◌∙◌, refl, sym, ap, subst, arith, ℕ, zero, suc, ℤ, pos, ◌+ℤ◌, ◌*ℤ◌, ◌≤ℤ◌, Bool, true, false, List, [], ◌∷◌, map, filter, inl, inr, All, Option}
+use Rattle.std.proofs.Common.{Some, None, IsSome, IfSome, IsTrue, option_map, slice_get, if◌then◌else◌}
 use Rattle.std.specs.Option.{option_map_or}
-use Rattle.sopl_base.specs.declared.places.Direction.{Direction}
-use Rattle.sopl_base.specs.declared.places.Direction.TheVariants.{Minimize, Maximize, Nothing}
+use Rattle.sopl_base.specs.declared.direction.Direction.{Direction}
+use Rattle.sopl_base.specs.declared.direction.Direction.TheVariants.{Minimize, Maximize, Nothing}
 use Rattle.sopl_ast.specs.Tree.{Tree}
 use Rattle.sopl_ast.specs.Known.{Binding}
 use Rattle.sopl_ast.specs.Numbers.{both_of, total}
@@ -113,8 +114,10 @@ module _ (problem : Problem) (arrays : AreArraysIn problem) (point : List ℤ) (
   goal_worth objective = by_worst objective.worst
     where
       by_worst : (b : Bool)
-          → (if b then worst (worse objective.direction) (value_in problem policy objective) (scenarios problem.stochastics) else expected (value_in problem policy objective) (scenarios problem.stochastics))
-          ≡ (if b then worst_value (rules.worse objective.direction) point (goal_terms problem objective).terms else expected_value point (problem_terms problem).weights (goal_terms problem objective).terms)
+          → (if b then worst (worse objective.direction) (value_in problem policy objective) (scenarios problem.stochastics) else expected (value_in problem policy objective)
+          (scenarios problem.stochastics))
+          ≡ (if b then worst_value (rules.worse objective.direction) point (goal_terms problem objective).terms else expected_value point (problem_terms problem).weights
+          (goal_terms problem objective).terms)
       by_worst true =
           worst_same (worse objective.direction) (value_in problem policy objective) (λ s. (instance (place_at problem [] s) objective.value).term) (scenarios problem.stochastics)
           (value_is objective)

@@ -1,9 +1,9 @@
 pub mod Instances
 pub mod Laws
+pub mod Root
 pub mod Stands
+pub mod Tables
+pub mod WellMade
 pub mod Whole
 pub mod WholeLaws
-pub mod Worked
-pub mod Tables
-pub mod Root
-pub mod WellMade
+pub mod WorkedInstances

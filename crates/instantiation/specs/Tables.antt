@@ -1,19 +1,14 @@
 -- The arrays of elements, and that all arrays in instances are as rules on boxes ask for.
-use Rattle.std.specs.Prelude.{◌≡◌, ◌↔◌, ℤ, ◌<ℤ◌, List, [], ◌∷◌, map}
+use Rattle.std.specs.Prelude.{◌≡◌, ◌↔◌, ℤ, List, ◌∷◌, map}
 use Rattle.std.specs.List.{AllByRecursion, Contains}
 use Rattle.sopl_ast.specs.Tree.{Tree}
 use Rattle.sopl_ast.specs.Instances.{Problem}
+use Rattle.sopl_meaning.specs.Laws.{Ascends}
 use Rattle.box_rules.specs.Arrays.{Entry, indices}
 use Rattle.box_rules.specs.Laws.{IsTable, IsProper, IsProperCond}
 use Rattle.instantiation.specs.Instances.{Place, Instance, table_of, table_over, instance}
 use Rattle.program_rules.specs.Problems.{AreProperTerms}
 use Rattle.instantiation.specs.Whole.{problem_terms}
-
--- numbers ascend: each is less than the next
-abbrev pub Ascends : List ℤ → Type 0
-Ascends [] = Unit {0}
-Ascends (x ∷ []) = Unit {0}
-Ascends (x ∷ y ∷ more) = (x <ℤ y) × Ascends (y ∷ more)
 
 -- the array of whatever elements has index sets of which the numbers ascend, an item for each index, and no index twice
 abbrev pub TablesAreSound : Type 0

@@ -1,5 +1,6 @@
 //! What an expression of a text is as a term over cells, and that this term is worth what the expression is; and so for whole
 //! problems. No code is here. There are no must-fail edits, since no body could be wrong: the laws are over definitions alone.
+//! There is nothing to test.
 #![tactic(auto)]
 
 mod laws;

@@ -1,10 +1,10 @@
 ghost use Rattle.std.specs.Prelude.{◌≡◌, ℕ, pos, false, List, [], ◌∷◌, Some};
-ghost use Rattle.sopl_base.specs.declared.places.CmpOp.TheVariants.{Le};
+ghost use Rattle.sopl_base.specs.declared.comparison.CmpOp.TheVariants.{Le};
 ghost use Rattle.box_rules.specs.Terms as c;
 ghost use Rattle.instantiation.specs.Instances.{instance, undefined};
 ghost use Rattle.instantiation.specs.Whole.{cell_numbers, place_at, condition_at, problem_terms};
 ghost use Rattle.program_rules.specs.Points.{worth};
-ghost use Rattle.instantiation.specs.Worked.{array, at, c_array, divided_by, drawing, first_scenario, given, second_scenario, summed, x_array};
+ghost use Rattle.instantiation.specs.WorkedInstances.{array, at, c_array, divided_by, drawing, first_scenario, given, second_scenario, summed, x_array};
 
 /// The terms of a small problem: numbers of cells, elements inside and outside their arrays, divisors that are there and that are
 /// not, and a sum; and what one point of its cells is worth.

@@ -3,8 +3,8 @@ use Rattle.std.proofs.Common.{◌≡◌, inl, inr, ℕ, zero, suc, ◌+◌, ◌-
 use Rattle.std.proofs.lemmas.List.{length-append, length-map, get_or-append-add, get_or-map}
 use Rattle.std.proofs.lemmas.List.Elements.{Contains-get_or}
 use Rattle.std.proofs.lemmas.Bool.{cases_eq}
-use Rattle.sopl_base.specs.declared.places.Side.{Side}
-use Rattle.sopl_base.specs.declared.places.Side.TheVariants.{Le, Ge}
+use Rattle.sopl_base.specs.declared.reason.Side.{Side}
+use Rattle.sopl_base.specs.declared.reason.Side.TheVariants.{Le, Ge}
 use Rattle.sopl_base.specs.Better.{IsBetter}
 use Rattle.log_rows.specs.declared.rows.Row.{Row}
 use Rattle.log_rows.specs.declared.rows.EndLine.{EndLine}
@@ -74,11 +74,14 @@ right_row : (problem : BoxProblem) (rows : List Row) (best : Option ℤ) (footer
     → ((row_at rows i).end ≡ Unfinished → RightOpen problem footer (final_of problem.root rows i)) → RightRow problem footer rows i
 right_row problem rows best footer i lawful logs same exists opens =
     let made = logs.made i exists in
-    let before : Follows problem.direction (claimed footer) (best_at problem rows i) = subst (λ (v : Option ℤ). Follows problem.direction v (best_at problem rows i)) (sym same) (best_follows problem rows best i logs (omega arith)) in
-    let behind : Follows problem.direction (claimed footer) (best_at problem rows (suc i)) = subst (λ (v : Option ℤ). Follows problem.direction v (best_at problem rows (suc i))) (sym same) (best_follows problem rows best (suc i) logs (omega arith)) in
+    let before : Follows problem.direction (claimed footer) (best_at problem rows i) = subst (λ (v : Option ℤ). Follows problem.direction v (best_at problem rows i)) (sym same)
+    (best_follows problem rows best i logs (omega arith)) in
+    let behind : Follows problem.direction (claimed footer) (best_at problem rows (suc i)) = subst (λ (v : Option ℤ). Follows problem.direction v (best_at problem rows (suc i))) (sym same)
+    (best_follows problem rows best (suc i) logs (omega arith)) in
     record {
       steps = right_later problem (claimed footer) (best_at problem rows i) (start_of problem.root rows i) (row_at rows i).steps lawful before made.steps;
-      end = right_end problem rows footer i (best_at problem rows i) (final_of problem.root rows i) (row_at rows i).end lawful before behind made.end (λ split side. both_sides problem rows best i side logs exists split) opens;
+      end = right_end problem rows footer i (best_at problem rows i) (final_of problem.root rows i) (row_at rows i).end lawful before behind made.end
+          (λ split side. both_sides problem rows best i side logs exists split) opens;
     }
 
 -- a best value was found at some row
@@ -161,13 +164,15 @@ unfinished_is_open problem rows opens best i logs finished exists is =
     })
 
 -- bounds over the open nodes are bounds over their rows
-bounds_rows : (problem : BoxProblem) (rows : List Row) (opens : List Pending) (best : Option ℤ) (bound : ℤ) → Logs problem rows opens best → AreFinished rows → BoundsPending problem opens bound → BoundsOpen problem (with_open rows opens) bound
+bounds_rows : (problem : BoxProblem) (rows : List Row) (opens : List Pending) (best : Option ℤ) (bound : ℤ) → Logs problem rows opens best → AreFinished rows → BoundsPending problem opens bound
+    → BoundsOpen problem (with_open rows opens) bound
 bounds_rows problem rows opens best bound logs finished bounds =
     λ i exists is.
     let row = unfinished_is_open problem rows opens best i logs finished exists is in
     subst (λ (b : Box). ¬ IsBetter problem.direction (problem.end b) bound) (sym row.final) (bounds row.node row.is_open)
 
-end_of_row : (problem : BoxProblem) (rows : List Row) (opens : List Pending) (best : Option ℤ) (bound : ℤ) → Logs problem rows opens best → IsPendingEnd problem opens bound → IsOpenEnd problem (with_open rows opens) bound
+end_of_row : (problem : BoxProblem) (rows : List Row) (opens : List Pending) (best : Option ℤ) (bound : ℤ) → Logs problem rows opens best → IsPendingEnd problem opens bound
+    → IsOpenEnd problem (with_open rows opens) bound
 end_of_row problem rows opens best bound logs pending =
     let k = pending.is_open.0 in
     let there = pending.is_open.1 in
@@ -194,7 +199,8 @@ open_is_right problem rows opens best (Optimal v) x lawful closes has inside = l
 open_is_right problem rows opens best Infeasible x lawful closes has inside = none_has x (subst (λ (ys : List Pending). Contains ys x) closes.none has)
 open_is_right problem rows opens best (Bounded found bound) x lawful closes has inside = tt
 
-footer_is_right : (problem : BoxProblem) (rows : List Row) (opens : List Pending) (best : Option ℤ) (footer : Footer) → Logs problem rows opens best → AreFinished rows → Closes problem opens best footer
+footer_is_right : (problem : BoxProblem) (rows : List Row) (opens : List Pending) (best : Option ℤ) (footer : Footer) → Logs problem rows opens best → AreFinished rows
+    → Closes problem opens best footer
     → RightFooter problem (with_open rows opens) footer
 footer_is_right problem rows opens best (Optimal v) logs finished closes = found problem (with_open rows opens) best v (logs_with_open problem rows opens best logs) closes.best_is
 footer_is_right problem rows opens best Infeasible logs finished closes = tt
@@ -227,13 +233,15 @@ logs_sound problem rows opens best lawful logs = record {
   cuts = λ i exists. made_cuts problem (best_at problem rows i) (final_of problem.root rows i) (row_at rows i).end (logs.made i exists).end;
 }
 
-pub opens_inside : (problem : BoxProblem) (rows : List Row) (opens : List Pending) (best : Option ℤ) (x : Pending) → Lawful problem → Logs problem rows opens best → Contains opens x → Inside x.at problem.root
+pub opens_inside : (problem : BoxProblem) (rows : List Row) (opens : List Pending) (best : Option ℤ) (x : Pending) → Lawful problem → Logs problem rows opens best → Contains opens x
+    → Inside x.at problem.root
 opens_inside problem rows opens best x lawful logs has =
     let here = logs.placed x has in
     subst (λ (b : Box). Inside b problem.root) (sym (ap (λ (y : Pending). y.at) here.1))
     (begins_inside problem (best_at problem rows) rows (length rows) x.parent (logs_sound problem rows opens best lawful logs) here.0 (omega arith))
 
-unfinished_right : (problem : BoxProblem) (rows : List Row) (opens : List Pending) (best : Option ℤ) (footer : Footer) (i : ℕ) → Lawful problem → Logs problem rows opens best → AreFinished rows → Closes problem opens best footer
+unfinished_right : (problem : BoxProblem) (rows : List Row) (opens : List Pending) (best : Option ℤ) (footer : Footer) (i : ℕ) → Lawful problem → Logs problem rows opens best → AreFinished rows
+    → Closes problem opens best footer
     → i < length (with_open rows opens) → (row_at (with_open rows opens) i).end ≡ Unfinished → RightOpen problem footer (final_of problem.root (with_open rows opens) i)
 unfinished_right problem rows opens best footer i lawful logs finished closes exists is =
     let row = unfinished_is_open problem rows opens best i logs finished exists is in
@@ -250,6 +258,7 @@ logs_are_accepted problem measure rows opens best footer lawful logs finished so
       ordered = over.hangs;
       some = omega (arith, some, all_length rows opens);
       shallow = (depths_with_open problem measure greatest_depth rows opens best logs shallow).rows_are;
-      right = λ i exists. right_row problem all best footer i lawful over (claimed_is problem opens best footer closes) exists (unfinished_right problem rows opens best footer i lawful logs finished closes exists);
+      right = λ i exists. right_row problem all best footer i lawful over (claimed_is problem opens best footer closes) exists
+          (unfinished_right problem rows opens best footer i lawful logs finished closes exists);
       footer_right = footer_is_right problem rows opens best footer logs finished closes;
     }

@@ -1,8 +1,8 @@
 -- What hangs behind one row more.
 use Rattle.std.proofs.Common.{◌≡◌, ◌⊎◌, inl, inr, ℕ, zero, suc, ◌<◌, List, Option, Some, None, arith, refl, ap, subst, ◌∙◌}
 use Rattle.std.proofs.lemmas.Bool.{cases_eq}
-use Rattle.sopl_base.specs.declared.places.Side.{Side}
-use Rattle.sopl_base.specs.declared.places.Side.TheVariants.{Le, Ge}
+use Rattle.sopl_base.specs.declared.reason.Side.{Side}
+use Rattle.sopl_base.specs.declared.reason.Side.TheVariants.{Le, Ge}
 use Rattle.log_rows.specs.declared.rows.Row.{Row}
 use Rattle.log_rows.specs.declared.rows.Parent.{Parent}
 use Rattle.log_rows.specs.Rows.{row_at, IsSplit, Hangs}
@@ -48,7 +48,8 @@ root_taken : (rows : List Row) (n : ℕ) (parent : Option Parent) → n ≡ 0 �
 root_taken rows n None first hangs = refl
 root_taken rows n (Some parent) first hangs = absurd (omega (arith, hangs.earlier))
 
-untaken_more : (rows : List Row) (n : ℕ) (parent : Parent) (k : ℕ) → k < suc n → ((j : ℕ) → j < n → ¬ (row_at rows j).parent ≡ Some parent) → ¬ (row_at rows n).parent ≡ Some parent → ¬ (row_at rows k).parent ≡ Some parent
+untaken_more : (rows : List Row) (n : ℕ) (parent : Parent) (k : ℕ) → k < suc n → ((j : ℕ) → j < n → ¬ (row_at rows j).parent ≡ Some parent) → ¬ (row_at rows n).parent ≡ Some parent
+    → ¬ (row_at rows k).parent ≡ Some parent
 untaken_more rows n parent k before untaken differs same =
     elim (cases_eq k n) [
       | inl last ↦ differs (subst (λ (j : ℕ). (row_at rows j).parent ≡ Some parent) last same)

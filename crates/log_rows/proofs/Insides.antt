@@ -1,7 +1,7 @@
 -- The boxes of nodes lie inside the root.
 use Rattle.std.proofs.Common.{ℕ, zero, suc, ◌<◌, ◌≤◌, ℤ, List, length, Option, Some, None, arith, sym, subst}
-use Rattle.sopl_base.specs.declared.places.Side.{Side}
-use Rattle.sopl_base.specs.declared.places.Side.TheVariants.{Le, Ge}
+use Rattle.sopl_base.specs.declared.reason.Side.{Side}
+use Rattle.sopl_base.specs.declared.reason.Side.TheVariants.{Le, Ge}
 use Rattle.log_rows.specs.declared.rows.Row.{Row}
 use Rattle.log_rows.specs.declared.rows.Parent.{Parent}
 use Rattle.log_rows.specs.declared.rows.EndLine.{EndLine}
@@ -56,7 +56,8 @@ final_inside problem value_at rows i sound exists inside =
     subst (λ (b : Box). Inside b problem.root) (sym (final_is problem.root rows i exists (sound.ordered i exists)))
     (parts_of_parts (after_steps start steps) start problem.root (steps_lead_inside problem (value_at i) start steps inside.is_box (sound.steps i exists)) inside)
 
-finals_inside : (problem : BoxProblem) (value_at : ℕ → Option ℤ) (rows : List Row) (n i : ℕ) → AreSound problem value_at rows → i < n → n ≤ length rows → Inside (final_of problem.root rows i) problem.root
+finals_inside : (problem : BoxProblem) (value_at : ℕ → Option ℤ) (rows : List Row) (n i : ℕ) → AreSound problem value_at rows → i < n → n ≤ length rows
+    → Inside (final_of problem.root rows i) problem.root
 finals_inside problem value_at rows zero i sound before fits = absurd (omega arith)
 finals_inside problem value_at rows (suc n) i sound before fits =
     let exists : i < length rows = omega arith in
@@ -68,7 +69,8 @@ finals_inside problem value_at rows (suc n) i sound before fits =
 pub is_inside : (problem : BoxProblem) (value_at : ℕ → Option ℤ) (rows : List Row) (i : ℕ) → AreSound problem value_at rows → i < length rows → Inside (final_of problem.root rows i) problem.root
 is_inside problem value_at rows i sound exists = finals_inside problem value_at rows (length rows) i sound exists (omega arith)
 
-pub begins_inside : (problem : BoxProblem) (value_at : ℕ → Option ℤ) (rows : List Row) (n : ℕ) (parent : Option Parent) → AreSound problem value_at rows → Hangs rows n parent → n ≤ length rows → Inside (box_at problem.root rows parent) problem.root
+pub begins_inside : (problem : BoxProblem) (value_at : ℕ → Option ℤ) (rows : List Row) (n : ℕ) (parent : Option Parent) → AreSound problem value_at rows → Hangs rows n parent → n ≤ length rows
+    → Inside (box_at problem.root rows parent) problem.root
 begins_inside problem value_at rows n parent sound hangs fits =
     place_inside problem value_at rows n parent sound (hangs_within rows n parent hangs) fits (λ k before. is_inside problem value_at rows k sound (omega arith))
 

@@ -1,8 +1,8 @@
 -- The boxes of two nodes that are not split have no point in common.
 use Rattle.std.proofs.Common.{◌≡◌, inl, inr, ℕ, zero, suc, ◌<◌, ◌≤◌, ℤ, List, length, Option, Some, None, arith, refl, sym, ap, subst, ◌∙◌}
 use Rattle.std.proofs.lemmas.Bool.{cases_eq}
-use Rattle.sopl_base.specs.declared.places.Side.{Side}
-use Rattle.sopl_base.specs.declared.places.Side.TheVariants.{Le, Ge}
+use Rattle.sopl_base.specs.declared.reason.Side.{Side}
+use Rattle.sopl_base.specs.declared.reason.Side.TheVariants.{Le, Ge}
 use Rattle.log_rows.specs.declared.rows.Row.{Row}
 use Rattle.log_rows.specs.declared.rows.Parent.{Parent}
 use Rattle.log_rows.specs.declared.rows.EndLine.{EndLine}
@@ -54,7 +54,8 @@ record IsRow (problem : BoxProblem) (rows : List Row) (n : ℕ) : Type 0 where
   cuts : Cuts (final_of problem.root rows n) (row_at rows n).end
 
 -- the box of a new side lies inside the row's last one, and so inside its first one
-side_inside : (problem : BoxProblem) (rows : List Row) (n : ℕ) (p : Option Parent) → IsRow problem rows n → IsNewSide rows n p → Inside (box_at problem.root rows p) (box_at problem.root rows (row_at rows n).parent)
+side_inside : (problem : BoxProblem) (rows : List Row) (n : ℕ) (p : Option Parent) → IsRow problem rows n → IsNewSide rows n p
+    → Inside (box_at problem.root rows p) (box_at problem.root rows (row_at rows n).parent)
 side_inside problem rows n p row new =
     let b = final_of problem.root rows n in
     let end = (row_at rows n).end in
@@ -71,7 +72,8 @@ halves_apart b (Split cut) Ge Ge is_box cuts split differs = absurd (differs ref
 halves_apart b Point s t is_box cuts split differs = absurd split
 halves_apart b Unfinished s t is_box cuts split differs = absurd split
 
-new_sides : (problem : BoxProblem) (rows : List Row) (n : ℕ) (p q : Option Parent) → IsRow problem rows n → IsNewSide rows n p → IsNewSide rows n q → ¬ p ≡ q → Apart (box_at problem.root rows p) (box_at problem.root rows q)
+new_sides : (problem : BoxProblem) (rows : List Row) (n : ℕ) (p q : Option Parent) → IsRow problem rows n → IsNewSide rows n p → IsNewSide rows n q → ¬ p ≡ q
+    → Apart (box_at problem.root rows p) (box_at problem.root rows q)
 new_sides problem rows n p q row first second differs =
     let b = final_of problem.root rows n in
     let end = (row_at rows n).end in
@@ -80,7 +82,8 @@ new_sides problem rows n p q row first second differs =
     (subst (λ (r : Option Parent). Apart (handed b end first.side) (box_at problem.root rows r)) (sym second.is) apart)
 
 -- one row more
-leaves_more : (problem : BoxProblem) (rows : List Row) (n i j : ℕ) → AreParted problem rows n → IsRow problem rows n → i < suc n → j < suc n → ¬ i ≡ j → ¬ IsSplit (row_at rows i).end → ¬ IsSplit (row_at rows j).end
+leaves_more : (problem : BoxProblem) (rows : List Row) (n i j : ℕ) → AreParted problem rows n → IsRow problem rows n → i < suc n → j < suc n → ¬ i ≡ j → ¬ IsSplit (row_at rows i).end
+    → ¬ IsSplit (row_at rows j).end
     → Apart (final_of problem.root rows i) (final_of problem.root rows j)
 leaves_more problem rows n i j parted row first second differs leaf other =
     let P = (row_at rows n).parent in

@@ -1,10 +1,11 @@
 -- The rows of a search, one row more.
-use Rattle.std.proofs.Common.{◌≡◌, ◌⊎◌, ◌↔◌, inl, inr, ℕ, zero, suc, ◌+◌, ◌<◌, ◌≤◌, ℤ, List, [], ◌∷◌, ◌++◌, length, map, Option, Some, None, AllPairs, Contains, arith, refl, sym, ap, subst, ◌∙◌, append_assoc}
+use Rattle.std.proofs.Common.{◌≡◌, ◌⊎◌, ◌↔◌, inl, inr, ℕ, zero, suc, ◌+◌, ◌<◌, ◌≤◌, ℤ, List, [], ◌∷◌, ◌++◌, length, map, Option, Some, None, AllPairs, Contains, arith, refl, sym}
+use Rattle.std.proofs.Common.{ap, subst, ◌∙◌, append_assoc}
 use Rattle.std.proofs.lemmas.List.{append-nil, length-append}
 use Rattle.std.proofs.lemmas.Bool.{cases_eq}
-use Rattle.sopl_base.specs.declared.places.Side.{Side}
-use Rattle.sopl_base.specs.declared.places.Side.TheVariants.{Le, Ge}
-use Rattle.sopl_base.specs.declared.places.Step.{Step}
+use Rattle.sopl_base.specs.declared.reason.Side.{Side}
+use Rattle.sopl_base.specs.declared.reason.Side.TheVariants.{Le, Ge}
+use Rattle.sopl_base.specs.declared.reason.Step.{Step}
 use Rattle.log_rows.specs.declared.rows.Row.{Row}
 use Rattle.log_rows.specs.declared.rows.Cut.{Cut}
 use Rattle.log_rows.specs.declared.rows.Parent.{Parent}
@@ -78,7 +79,8 @@ made_as problem rows i row = Made problem (best_at problem rows i) (box_at probl
 made_stays : (problem : BoxProblem) (xs ys : List Row) (i : ℕ) (row : Row) → i < length xs → Hangs xs i row.parent → made_as problem xs i row → made_as problem (xs ++ ys) i row
 made_stays problem xs ys i row exists hangs made =
     subst (λ (v : Option ℤ). Made problem v (box_at problem.root (xs ++ ys) row.parent) row (final_of problem.root (xs ++ ys) i)) (sym (best_stays problem xs ys i (omega arith)))
-    (subst (λ (b : Box). Made problem (best_at problem xs i) b row (final_of problem.root (xs ++ ys) i)) (sym (box_stays problem.root xs ys row.parent (within_more xs i row.parent exists (hangs_within xs i row.parent hangs))))
+    (subst (λ (b : Box). Made problem (best_at problem xs i) b row (final_of problem.root (xs ++ ys) i))
+    (sym (box_stays problem.root xs ys row.parent (within_more xs i row.parent exists (hangs_within xs i row.parent hangs))))
     (subst (λ (b : Box). Made problem (best_at problem xs i) (box_at problem.root xs row.parent) row b) (sym (final_stays problem.root xs ys i exists)) made))
 
 -- one row more, for an open node x that hangs behind the rows
@@ -99,7 +101,8 @@ next_final : (problem : BoxProblem) (rows : List Row) (best : Option ℤ) (x : P
 next_final problem rows best x steps end next =
     final_last problem.root rows (row_of x steps end) ∙ ap (λ (b : Box). after_steps b steps) (sym next.placed)
 
-next_ordered : (problem : BoxProblem) (rows : List Row) (best : Option ℤ) (x : Pending) (steps : List Step) (end : EndLine) → IsNext problem rows best x steps end → AreOrdered (rows_with rows x steps end)
+next_ordered : (problem : BoxProblem) (rows : List Row) (best : Option ℤ) (x : Pending) (steps : List Step) (end : EndLine) → IsNext problem rows best x steps end
+    → AreOrdered (rows_with rows x steps end)
 next_ordered problem rows best x steps end next =
     each_row (λ i row. Hangs (rows_with rows x steps end) i row.parent) rows (row_of x steps end)
     (λ i exists. hangs_stays rows (row_of x steps end ∷ []) i (row_at rows i).parent (omega arith) (next.ordered i exists))
@@ -110,8 +113,10 @@ new_made : (problem : BoxProblem) (rows : List Row) (best : Option ℤ) (x : Pen
 new_made problem rows best x steps end next =
     let all = rows_with rows x steps end in
     let at_once : Made problem best x.at (row_of x steps end) (after_steps x.at steps) = record { steps = next.steps_are; end = next.end_is } in
-    subst (λ (v : Option ℤ). Made problem v (box_at problem.root all x.parent) (row_of x steps end) (final_of problem.root all (length rows))) (next.best_is ∙ sym (best_stays problem rows (row_of x steps end ∷ []) (length rows) (omega arith)))
-    (subst (λ (b : Box). Made problem best b (row_of x steps end) (final_of problem.root all (length rows))) (next.placed ∙ sym (box_stays problem.root rows (row_of x steps end ∷ []) x.parent (hangs_within rows (length rows) x.parent next.hangs)))
+    subst (λ (v : Option ℤ). Made problem v (box_at problem.root all x.parent) (row_of x steps end) (final_of problem.root all (length rows))) (next.best_is
+    ∙ sym (best_stays problem rows (row_of x steps end ∷ []) (length rows) (omega arith)))
+    (subst (λ (b : Box). Made problem best b (row_of x steps end) (final_of problem.root all (length rows))) (next.placed
+    ∙ sym (box_stays problem.root rows (row_of x steps end ∷ []) x.parent (hangs_within rows (length rows) x.parent next.hangs)))
     (subst (λ (b : Box). Made problem best x.at (row_of x steps end) b) (sym (next_final problem rows best x steps end next)) at_once))
 
 next_made : (problem : BoxProblem) (rows : List Row) (best : Option ℤ) (x : Pending) (steps : List Step) (end : EndLine) → IsNext problem rows best x steps end
@@ -342,7 +347,8 @@ depths_after_end problem measure most rows x front back best steps end logs shal
   opens_are = λ y has. other_depth problem measure most rows (front ++ x ∷ back) best (row_of x steps end) y logs shallow (others_have front back x y has);
 }
 
-side_depth : (measure : Box → ℕ) (most : ℕ) (rows : List Row) (x : Pending) (opens : List Pending) (row : Row) (b : Box) (cut : Cut) (side : Side) → row.parent ≡ x.parent → Contains opens x → AreShallow measure most rows opens
+side_depth : (measure : Box → ℕ) (most : ℕ) (rows : List Row) (x : Pending) (opens : List Pending) (row : Row) (b : Box) (cut : Cut) (side : Side) → row.parent ≡ x.parent → Contains opens x
+    → AreShallow measure most rows opens
     → measure (handed b (Split cut) side) < measure x.at → depth_at (rows ++ row ∷ []) (some_side (length rows) side) + measure (handed b (Split cut) side) ≤ most
 side_depth measure most rows x opens row b cut side same has shallow less =
     omega (arith, depth_last rows row, ap (depth_at rows) same, shallow.opens_are x has, less)
@@ -364,7 +370,8 @@ depths_after_split problem measure most rows x front back left right best steps 
       opens_are = λ y has. elim (sides_have n b cut left right y has) [
         | inl is ↦ subst (λ (z : Pending). depth_at (rows ++ row ∷ []) z.parent + measure z.at ≤ most) is (side_depth measure most rows x opens row b cut Ge refl (middle_is front back x) shallow high)
         | inr others ↦ elim others [
-          | inl is ↦ subst (λ (z : Pending). depth_at (rows ++ row ∷ []) z.parent + measure z.at ≤ most) is (side_depth measure most rows x opens row b cut Le refl (middle_is front back x) shallow low)
+          | inl is ↦ subst (λ (z : Pending). depth_at (rows ++ row ∷ []) z.parent + measure z.at ≤ most) is
+              (side_depth measure most rows x opens row b cut Le refl (middle_is front back x) shallow low)
           | inr other ↦ other_depth problem measure most rows opens best row y logs shallow (others_have front back x y (subst (λ (ys : List Pending). Contains ys y) same other))
         ]
       ];

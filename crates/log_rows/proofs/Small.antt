@@ -1,8 +1,8 @@
 -- How many nodes an accepted log has.
 use Rattle.std.proofs.Common.{◌≡◌, inl, inr, ℕ, zero, suc, ◌+◌, ◌<◌, ◌≤◌, ℤ, List, [], ◌∷◌, ◌++◌, length, map, Option, Some, None, Contains, arith, refl, sym, ap, subst}
 use Rattle.std.proofs.lemmas.List.{map-append}
-use Rattle.sopl_base.specs.declared.places.Side.{Side}
-use Rattle.sopl_base.specs.declared.places.Side.TheVariants.{Le, Ge}
+use Rattle.sopl_base.specs.declared.reason.Side.{Side}
+use Rattle.sopl_base.specs.declared.reason.Side.TheVariants.{Le, Ge}
 use Rattle.log_rows.specs.declared.rows.Row.{Row}
 use Rattle.log_rows.specs.declared.rows.Cut.{Cut}
 use Rattle.log_rows.specs.declared.rows.Parent.{Parent}
@@ -80,7 +80,8 @@ grown_ended problem rows n front back isnt listed counts = record {
     | inl before ↦ taken_out rows n front back parent listed before.0 before.1
     | inr new ↦ absurd (isnt new.split)
   ];
-  counts = subst (λ (k : ℕ). Counts problem k (boxes_of problem.root rows (front ++ back))) (omega arith) (counts_after_end problem n (final_of problem.root rows n) (boxes_of problem.root rows (front ++ back)) counts);
+  counts = subst (λ (k : ℕ). Counts problem k (boxes_of problem.root rows (front ++ back))) (omega arith)
+      (counts_after_end problem n (final_of problem.root rows n) (boxes_of problem.root rows (front ++ back)) counts);
 }
 
 grown_split : (problem : BoxProblem) (rows : List Row) (n : ℕ) (front back : List (Option Parent)) (cut : Cut) (bs : List Box) → (row_at rows n).end ≡ Split cut
@@ -118,7 +119,8 @@ grown_more problem value_at rows n sound exists grown =
     let cut = cut_at grown.parents parent (grown.listed parent hangs) in
     let begins = begins_inside problem value_at rows n parent sound hangs (omega arith) in
     let opens = boxes_of problem.root rows (cut.front ++ cut.back) in
-    let before : Counts problem n (boxes_of problem.root rows (cut.front ++ parent ∷ cut.back)) = subst (λ (ps : List (Option Parent)). Counts problem n (boxes_of problem.root rows ps)) cut.is grown.counts in
+    let before : Counts problem n (boxes_of problem.root rows (cut.front ++ parent ∷ cut.back)) = subst (λ (ps : List (Option Parent)). Counts problem n (boxes_of problem.root rows ps))
+    cut.is grown.counts in
     grown_by problem rows n cut.front cut.back (row_at rows n).end refl (sound.cuts n exists) (is_inside problem value_at rows n sound exists).is_box
     (λ p there. subst (λ (ps : List (Option Parent)). Contains ps p) cut.is (grown.listed p there))
     (subst (λ (b : Box). Counts problem n (b ∷ opens)) (sym (final_is problem.root rows n exists hangs))
@@ -134,6 +136,7 @@ logs_are_small problem rows footer lawful accepted =
     omega (arith, (grown problem (λ i. claimed footer) rows (length rows) (accepted_sound problem rows footer lawful accepted) (omega arith)).counts.count)
 
 -- no box is without points
-pub leaves_have_points : (problem : BoxProblem) (rows : List Row) (footer : Footer) (i : ℕ) → Lawful problem → Accepted problem rows footer → i < length rows → 0 < points (final_of problem.root rows i)
+pub leaves_have_points : (problem : BoxProblem) (rows : List Row) (footer : Footer) (i : ℕ) → Lawful problem → Accepted problem rows footer → i < length rows
+    → 0 < points (final_of problem.root rows i)
 leaves_have_points problem rows footer i lawful accepted exists =
     points_alive (final_of problem.root rows i).lows (final_of problem.root rows i).highs

@@ -1,8 +1,8 @@
 -- What an accepted log claims is true.
 use Rattle.std.proofs.Common.{◌≡◌, inl, inr, ℕ, zero, suc, ◌+◌, ◌<◌, ◌≤◌, ℤ, true, List, length, Option, Some, None, IfSome, arith, refl, sym, subst}
-use Rattle.sopl_base.specs.declared.places.Side.{Side}
-use Rattle.sopl_base.specs.declared.places.Side.TheVariants.{Le, Ge}
-use Rattle.sopl_base.specs.declared.places.Reason.TheVariants.{Bound}
+use Rattle.sopl_base.specs.declared.reason.Side.{Side}
+use Rattle.sopl_base.specs.declared.reason.Side.TheVariants.{Le, Ge}
+use Rattle.sopl_base.specs.declared.reason.Reason.TheVariants.{Bound}
 use Rattle.sopl_base.specs.Better.{IsBetter}
 use Rattle.log_rows.specs.declared.rows.Row.{Row}
 use Rattle.log_rows.specs.declared.rows.Parent.{Parent}
@@ -12,11 +12,12 @@ use Rattle.log_rows.specs.declared.rows.Footer.{Footer}
 use Rattle.log_rows.specs.declared.rows.Footer.TheVariants.{Optimal, Infeasible, Bounded}
 use Rattle.box_problem.specs.Box.{Box, Inside, InBox}
 use Rattle.box_problem.specs.BoxProblem.{BoxProblem, Beats, Lawful}
+use Rattle.box_problem.specs.Reached.{Reaches}
 use Rattle.box_problem.proofs.Boxes.{points_of_parts, point_in_box, only_point}
 use Rattle.box_problem.proofs.Cuts.{cuts_cover}
 use Rattle.box_problem.proofs.Steps.{steps_keep}
 use Rattle.log_rows.specs.Rows.{row_at, handed, final_of, start_of, box_at, Hangs, AreOrdered}
-use Rattle.log_rows.specs.Accepted.{claimed, HasSide, RightEnd, IsFound, BoundsOpen, Accepted, Reaches, Holds}
+use Rattle.log_rows.specs.Accepted.{claimed, HasSide, RightEnd, IsFound, BoundsOpen, Accepted, Holds}
 use Rattle.log_rows.proofs.Values.{still_not_better, not_beaten}
 use Rattle.log_rows.proofs.Places.{final_is}
 use Rattle.log_rows.proofs.Insides.{is_inside, begins_inside, accepted_sound}
@@ -78,17 +79,20 @@ hangs_first : (rows : List Row) (parent : Option Parent) → Hangs rows 0 parent
 hangs_first rows None hangs = refl
 hangs_first rows (Some parent) hangs = absurd (omega (arith, hangs.earlier))
 
-left_open : (problem : BoxProblem) (rows : List Row) (footer : Footer) (point : List ℤ) → Lawful problem → Accepted problem rows footer → InBox problem.root point → Beats problem (claimed footer) point → IsLeft problem rows point
+left_open : (problem : BoxProblem) (rows : List Row) (footer : Footer) (point : List ℤ) → Lawful problem → Accepted problem rows footer → InBox problem.root point
+    → Beats problem (claimed footer) point → IsLeft problem rows point
 left_open problem rows footer point lawful accepted q beats =
     left_below problem rows footer (length rows) 0 point lawful accepted (omega arith) accepted.some
     (subst (λ (p : Option Parent). InBox (box_at problem.root rows p) point) (sym (hangs_first rows (row_at rows 0).parent (accepted.ordered 0 accepted.some))) q) beats
 
 -- what the end of the row that is left open says
-open_end : (problem : BoxProblem) (rows : List Row) (footer : Footer) (point : List ℤ) → Accepted problem rows footer → (left : IsLeft problem rows point) → RightEnd problem footer (final_of problem.root rows left.row) rows left.row Unfinished
+open_end : (problem : BoxProblem) (rows : List Row) (footer : Footer) (point : List ℤ) → Accepted problem rows footer → (left : IsLeft problem rows point)
+    → RightEnd problem footer (final_of problem.root rows left.row) rows left.row Unfinished
 open_end problem rows footer point accepted left =
     subst (λ (e : EndLine). RightEnd problem footer (final_of problem.root rows left.row) rows left.row e) left.is_open (accepted.right left.row left.exists).end
 
-left_inside : (problem : BoxProblem) (rows : List Row) (footer : Footer) (point : List ℤ) → Lawful problem → Accepted problem rows footer → (left : IsLeft problem rows point) → Inside (final_of problem.root rows left.row) problem.root
+left_inside : (problem : BoxProblem) (rows : List Row) (footer : Footer) (point : List ℤ) → Lawful problem → Accepted problem rows footer → (left : IsLeft problem rows point)
+    → Inside (final_of problem.root rows left.row) problem.root
 left_inside problem rows footer point lawful accepted left =
     is_inside problem (λ k. claimed footer) rows left.row (accepted_sound problem rows footer lawful accepted) left.exists
 
@@ -97,13 +101,14 @@ reaches : (problem : BoxProblem) (rows : List Row) (footer : Footer) (v : ℤ) �
 reaches problem rows footer v lawful accepted found =
     let b = final_of problem.root rows found.row in
     let inside = is_inside problem (λ k. claimed footer) rows found.row (accepted_sound problem rows footer lawful accepted) found.exists in
-    let right : RightEnd problem footer b rows found.row Point = subst (λ (e : EndLine). RightEnd problem footer b rows found.row e) found.is_point (accepted.right found.row found.exists).end in
-    record {
-      point = b.lows;
-      within = points_of_parts b problem.root b.lows inside (point_in_box b inside.is_box right.one);
-      satisfies = right.satisfies;
-      value = found.value;
-    }
+    let right : RightEnd problem footer b rows found.row Point = subst (λ (e : EndLine). RightEnd problem footer b rows found.row e) found.is_point (accepted.right found.row found.exists).end in (
+      b.lows,
+      record {
+        inside = points_of_parts b problem.root b.lows inside (point_in_box b inside.is_box right.one);
+        satisfies = right.satisfies;
+        valued = sym found.value;
+      },
+    )
 
 -- no point is better than a bound over what is left open, and over a value that is reached
 not_better_than_open : (problem : BoxProblem) (rows : List Row) (footer : Footer) (bound : ℤ) (point : List ℤ) → Lawful problem → Accepted problem rows footer → BoundsOpen problem rows bound
@@ -120,7 +125,8 @@ logs_are_true problem rows (Optimal v) lawful accepted = (
   λ point q satisfies better.
       let beats : Beats problem (Some v) point = record { satisfies = satisfies; better = better } in
       let left = left_open problem rows (Optimal v) point lawful accepted q beats in
-      lawful.sound Bound (final_of problem.root rows left.row) (Some v) point (left_inside problem rows (Optimal v) point lawful accepted left) (open_end problem rows (Optimal v) point accepted left) left.has beats,
+      lawful.sound Bound (final_of problem.root rows left.row) (Some v) point (left_inside problem rows (Optimal v) point lawful accepted left) (open_end problem rows (Optimal v) point accepted left)
+      left.has beats,
 )
 logs_are_true problem rows Infeasible lawful accepted =
     λ point q satisfies.

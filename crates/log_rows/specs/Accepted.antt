@@ -1,8 +1,8 @@
 -- Which logs are accepted, and what they claim.
 use Rattle.std.specs.Prelude.{◌≡◌, ◌⊎◌, ℕ, ◌<◌, ◌≤◌, ℤ, true, List, [], length, Option, None, Some, Contains}
-use Rattle.sopl_base.specs.declared.places.Side.{Side}
-use Rattle.sopl_base.specs.declared.places.Side.TheVariants.{Le, Ge}
-use Rattle.sopl_base.specs.declared.places.Reason.TheVariants.{Bound}
+use Rattle.sopl_base.specs.declared.reason.Side.{Side}
+use Rattle.sopl_base.specs.declared.reason.Side.TheVariants.{Le, Ge}
+use Rattle.sopl_base.specs.declared.reason.Reason.TheVariants.{Bound}
 use Rattle.sopl_base.specs.Better.{IsBetter}
 use Rattle.log_rows.specs.declared.rows.Cut.{Cut}
 use Rattle.log_rows.specs.declared.rows.Row.{Row}
@@ -10,10 +10,11 @@ use Rattle.log_rows.specs.declared.rows.EndLine.{EndLine}
 use Rattle.log_rows.specs.declared.rows.EndLine.TheVariants.{Refuted, Split, Point, Unfinished}
 use Rattle.log_rows.specs.declared.rows.Footer.{Footer}
 use Rattle.log_rows.specs.declared.rows.Footer.TheVariants.{Optimal, Infeasible, Bounded}
-use Rattle.box_problem.specs.Box.{Box, InBox, IsPoint}
+use Rattle.box_problem.specs.Box.{Box, IsPoint}
 use Rattle.box_problem.specs.Steps.{IsCut}
 use Rattle.box_problem.specs.BoxProblem.{BoxProblem}
 use Rattle.box_problem.specs.Rightness.{AllRight}
+use Rattle.box_problem.specs.Reached.{NoneBetter, NoneSatisfies, Reaches}
 use Rattle.log_rows.specs.Rows.{row_at, final_of, start_of, depth_of, AreOrdered}
 use Rattle.log_rows.specs.Made.{Pending}
 
@@ -114,21 +115,6 @@ pub record Accepted (problem : BoxProblem) (rows : List Row) (footer : Footer) :
   pub shallow : (i : ℕ) → i < length rows → depth_of rows i ≤ greatest_depth
   pub right : (i : ℕ) → i < length rows → RightRow problem footer rows i
   pub footer_right : RightFooter problem rows footer
-
--- some point of the root satisfies and has this value
-pub record Reaches (problem : BoxProblem) (v : ℤ) : Type 0 where
-  pub point : List ℤ
-  pub within : InBox problem.root point
-  pub satisfies : problem.satisfies point ≡ true
-  pub value : problem.value point ≡ v
-
--- no point of the root that satisfies is better than this value; or none satisfies
-abbrev pub NoneBetter : BoxProblem → ℤ → Type 0
-NoneBetter problem v =
-    (point : List ℤ) → InBox problem.root point → problem.satisfies point ≡ true → ¬ IsBetter problem.direction (problem.value point) v
-
-abbrev pub NoneSatisfies : BoxProblem → Type 0
-NoneSatisfies problem = (point : List ℤ) → InBox problem.root point → ¬ problem.satisfies point ≡ true
 
 -- what a log claims is true of all points of the root
 abbrev pub Holds : BoxProblem → Footer → Type 0

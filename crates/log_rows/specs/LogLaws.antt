@@ -1,8 +1,8 @@
 -- What holds of the rows of a search, and of logs that are accepted.
 use Rattle.std.specs.Prelude.{◌≡◌, ◌↔◌, ℕ, ◌<◌, ◌≤◌, ℤ, List, [], ◌∷◌, ◌++◌, length, Option, None, Some, AllPairs, Contains}
-use Rattle.sopl_base.specs.declared.places.Side.{Side}
-use Rattle.sopl_base.specs.declared.places.Side.TheVariants.{Le, Ge}
-use Rattle.sopl_base.specs.declared.places.Step.{Step}
+use Rattle.sopl_base.specs.declared.reason.Side.{Side}
+use Rattle.sopl_base.specs.declared.reason.Side.TheVariants.{Le, Ge}
+use Rattle.sopl_base.specs.declared.reason.Step.{Step}
 use Rattle.log_rows.specs.declared.rows.Cut.{Cut}
 use Rattle.log_rows.specs.declared.rows.Row.{Row}
 use Rattle.log_rows.specs.declared.rows.EndLine.{EndLine}

@@ -1,6 +1,6 @@
 -- What the rows of a search say: each step and each end is right against the best value of its moment.
 use Rattle.std.specs.Prelude.{◌≡◌, ℕ, zero, suc, ◌+◌, ◌<◌, ◌≤◌, ℤ, true, List, [], ◌++◌, length, map, Option, None, Some, AllPairs, Contains}
-use Rattle.sopl_base.specs.declared.places.Side.TheVariants.{Le}
+use Rattle.sopl_base.specs.declared.reason.Side.TheVariants.{Le}
 use Rattle.log_rows.specs.declared.rows.Parent.{Parent}
 use Rattle.log_rows.specs.declared.rows.Cut.{Cut}
 use Rattle.log_rows.specs.declared.rows.Row.{Row}

@@ -1,7 +1,7 @@
 -- The rows of a log as a table: the box with which each node begins and ends, and its depth.
 use Rattle.std.specs.Prelude.{◌≡◌, ℕ, ◌+◌, ◌<◌, List, [], ◌∷◌, ◌++◌, length, Option, None, Some, slice_index_or}
-use Rattle.sopl_base.specs.declared.places.Side.{Side}
-use Rattle.sopl_base.specs.declared.places.Side.TheVariants.{Le, Ge}
+use Rattle.sopl_base.specs.declared.reason.Side.{Side}
+use Rattle.sopl_base.specs.declared.reason.Side.TheVariants.{Le, Ge}
 use Rattle.log_rows.specs.declared.rows.Parent.{Parent}
 use Rattle.log_rows.specs.declared.rows.Row.{Row}
 use Rattle.log_rows.specs.declared.rows.EndLine.{EndLine}

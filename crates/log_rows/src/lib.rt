@@ -1,5 +1,6 @@
 //! The rows of a log: the tree of a search as a table, a row for each node. The functions are empty and state what was proved
 //! of the definitions, so that no body here could be wrong; hence the crate has no must-fail edits.
+//! There is nothing to test.
 #![tactic(auto)]
 
 mod log_laws;

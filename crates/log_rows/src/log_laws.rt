@@ -1,4 +1,5 @@
-ghost use Rattle.log_rows.specs.LogLaws.{DepthsAfterEnd, DepthsAfterSplit, DepthsAtFirst, DepthsInAnyOrder, LeavesAreApart, LeavesHavePoints, LogsAfterEnd, LogsAfterSplit, LogsAreAccepted, LogsAreSmall, LogsAreTrue, LogsAtFirst, LogsInAnyOrder, LogsWithOpen};
+ghost use Rattle.log_rows.specs.LogLaws.{DepthsAfterEnd, DepthsAfterSplit, DepthsAtFirst, DepthsInAnyOrder, LeavesAreApart, LeavesHavePoints, LogsAfterEnd, LogsAfterSplit};
+ghost use Rattle.log_rows.specs.LogLaws.{LogsAreAccepted, LogsAreSmall, LogsAreTrue, LogsAtFirst, LogsInAnyOrder, LogsWithOpen};
 
 /// A search begins with no row, and the root open.
 pub fn logs_at_first()

@@ -1,12 +1,13 @@
 -- The numbers of nodes and of their rows fit.
-use Rattle.std.proofs.Common.{◌≡◌, ◌∙◌, sym, subst, arith, ℕ, ◌+◌, ◌<◌, ◌≤◌, ◌^◌, ℤ, Bool, true, false, List, [], ◌∷◌, ◌++◌, length, get_or, take, All, Option, None, Some, option_map, if◌then◌else◌, Box, Global}
+use Rattle.std.proofs.Common.{◌≡◌, ◌∙◌, sym, subst, arith, ℕ, ◌+◌, ◌<◌, ◌≤◌, ◌^◌, ℤ, Bool, true, false, List, [], ◌∷◌, ◌++◌, length, get_or, take, All, Option, None, Some}
+use Rattle.std.proofs.Common.{option_map, if◌then◌else◌, Box, Global}
 use Rattle.std.proofs.lemmas.List.{take_all}
 use Rattle.std.proofs.lemmas.List.Elements.{All-cons, All-more, All-nil}
 use Rattle.std.specs.List.{AllByRecursion}
-use Rattle.sopl_base.specs.declared.places.Reason.{Reason}
-use Rattle.sopl_base.specs.declared.places.Side.{Side}
-use Rattle.sopl_base.specs.declared.places.Side.TheVariants.{Le, Ge}
-use Rattle.sopl_base.specs.declared.places.Step.{Step}
+use Rattle.sopl_base.specs.declared.reason.Reason.{Reason}
+use Rattle.sopl_base.specs.declared.reason.Side.{Side}
+use Rattle.sopl_base.specs.declared.reason.Side.TheVariants.{Le, Ge}
+use Rattle.sopl_base.specs.declared.reason.Step.{Step}
 use Rattle.log_rows.specs.declared.rows.Footer.{Footer}
 use Rattle.log_rows.specs.declared.rows.Parent.{Parent}
 use Rattle.log_rows.specs.declared.rows.Row.{Row}
@@ -77,8 +78,10 @@ open_fits b number steps found e view is small same all =
     (subst (λ (x : End). NodeFits (branch_with number steps x)) (sym is)
     (record { number_fits = small; steps_fit = subst (All StepFits) same all; end_fits = tt; below_fit = tt; opens_fit = tt }))
 
-pub split_fits : (b : Branch) (number : ℕ) (steps found : List Step) (e : End) (cell : ℕ) (cut : ℤ) (low high : Option (Box Node Global)) → branch_with number steps e ≡ b → e ≡ end.Split cell cut low high
-    → number < 2 ^ 64 → found ≡ steps → All StepFits found → CutFits (record { cell = cell; k = cut }) → SideFits (option_map (λ x. x.value) low) → SideFits (option_map (λ x. x.value) high) → NodeFits b
+pub split_fits : (b : Branch) (number : ℕ) (steps found : List Step) (e : End) (cell : ℕ) (cut : ℤ) (low high : Option (Box Node Global)) → branch_with number steps e ≡ b → e
+    ≡ end.Split cell cut low high
+    → number < 2 ^ 64 → found ≡ steps → All StepFits found → CutFits (record { cell = cell; k = cut }) → SideFits (option_map (λ x. x.value) low)
+    → SideFits (option_map (λ x. x.value) high) → NodeFits b
 split_fits b number steps found e cell cut low high view is small same all own low_fits high_fits =
     let l : Option Branch = option_map (λ x. x.value) low in
     let h : Option Branch = option_map (λ x. x.value) high in
@@ -93,7 +96,8 @@ split_fits b number steps found e cell cut low high view is small same all own l
           (finished_fit number Ge h small high_fits);
       opens_fit =
           all_append EntryFits (unfinished_side (side_of number Le) l ++ unfinished_side (side_of number Ge) h) (in_turn (is_high_first l h) (opens_below l) (opens_below h))
-          (all_append EntryFits (unfinished_side (side_of number Le) l) (unfinished_side (side_of number Ge) h) (unfinished_fit number Le l small low_fits) (unfinished_fit number Ge h small high_fits))
+          (all_append EntryFits (unfinished_side (side_of number Le) l) (unfinished_side (side_of number Ge) h) (unfinished_fit number Le l small low_fits)
+          (unfinished_fit number Ge h small high_fits))
           (all_turn EntryFits (is_high_first l h) (opens_below l) (opens_below h) (later_fit l low_fits) (later_fit h high_fits));
     }))
 

@@ -1,7 +1,7 @@
 -- A node is one of a tree, by how it ends.
 use Rattle.std.proofs.Common.{◌≡◌, sym, subst, ℕ, ◌+◌, ℤ, List, Option, None, Some, option_map, Box, Global}
-use Rattle.sopl_base.specs.declared.places.Reason.{Reason}
-use Rattle.sopl_base.specs.declared.places.Step.{Step}
+use Rattle.sopl_base.specs.declared.reason.Reason.{Reason}
+use Rattle.sopl_base.specs.declared.reason.Step.{Step}
 use Rattle.log_rows.specs.declared.rows.EndLine.TheVariants as line
 use Rattle.log_text.specs.Branch.{Branch}
 use Rattle.log_text.specs.Grown.{Grown, GrownSide, absent, bare, parted, present}

@@ -4,7 +4,7 @@ use Rattle.std.specs.Prelude.{Result, Ok, Err}
 use Rattle.std.proofs.lemmas.List.{append-nil}
 use Rattle.std.specs.Io.KnownBytes.{Appends}
 use Rattle.sopl_io.specs.Transfer.{AppendsPrefix}
-use Rattle.sopl_base.specs.declared.places.Step.{Step}
+use Rattle.sopl_base.specs.declared.reason.Step.{Step}
 use Rattle.log_rows.specs.declared.rows.EndLine.{EndLine}
 use Rattle.log_rows.specs.declared.rows.Footer.{Footer}
 use Rattle.log_rows.specs.declared.rows.Parent.{Parent}
@@ -40,11 +40,13 @@ first_fails a b xs ys whole (Ok value) is front = tt
 first_fails a b xs ys whole (Err error) is front = subst (AppendsPrefix a b) (sym is) (front_of_first a b xs ys front)
 
 -- the second one ends it
-pub second_all : {T E : Type 0} (a b c : Option (List ℕ)) (xs ys whole : List ℕ) (result : Result T E) → whole ≡ xs ++ ys → Appends a b xs → OnOk result (Appends b c ys) → OnOk result (Appends a c whole)
+pub second_all : {T E : Type 0} (a b c : Option (List ℕ)) (xs ys whole : List ℕ) (result : Result T E) → whole ≡ xs ++ ys → Appends a b xs → OnOk result (Appends b c ys)
+    → OnOk result (Appends a c whole)
 second_all a b c xs ys whole (Ok value) is first second = subst (Appends a c) (sym is) (two_written a b c xs ys first second)
 second_all a b c xs ys whole (Err error) is first second = tt
 
-pub second_front : {T E : Type 0} (a b c : Option (List ℕ)) (xs ys whole : List ℕ) (result : Result T E) → whole ≡ xs ++ ys → Appends a b xs → OnErr result (AppendsPrefix b c ys) → OnErr result (AppendsPrefix a c whole)
+pub second_front : {T E : Type 0} (a b c : Option (List ℕ)) (xs ys whole : List ℕ) (result : Result T E) → whole ≡ xs ++ ys → Appends a b xs → OnErr result (AppendsPrefix b c ys)
+    → OnErr result (AppendsPrefix a c whole)
 second_front a b c xs ys whole (Ok value) is first second = tt
 second_front a b c xs ys whole (Err error) is first second = subst (AppendsPrefix a c) (sym is) (front_of_second a b c xs ys first second)
 
@@ -71,10 +73,12 @@ same_lines : (parent : Option Parent) (x : Branch) (number : ℕ) (steps : List 
     → text_of (row_lines number (record { parent = parent; steps = steps; end = end })) ≡ text_of (row_lines x.number (own_row parent x).row)
 same_lines parent x number steps end number_is steps_is end_is = λ i. text_of (row_lines (number_is i) (record { parent = parent; steps = steps_is i; end = end_is i }))
 
-pub own_fails_first : {T E : Type 0} (a b : Option (List ℕ)) (parent : Option Parent) (x : Branch) (number : ℕ) (result : Result T E) → number ≡ x.number → AppendsPrefix a b (ended (node_line number parent))
+pub own_fails_first : {T E : Type 0} (a b : Option (List ℕ)) (parent : Option Parent) (x : Branch) (number : ℕ) (result : Result T E) → number ≡ x.number
+    → AppendsPrefix a b (ended (node_line number parent))
     → OnErr result (AppendsPrefix a b (text_of (row_lines x.number (own_row parent x).row)))
 own_fails_first a b parent x number result number_is front =
-    on_err result (subst (AppendsPrefix a b) (same_lines parent x number x.steps x.end number_is refl refl) (row_fails_first a b number (record { parent = parent; steps = x.steps; end = x.end }) front))
+    on_err result (subst (AppendsPrefix a b) (same_lines parent x number x.steps x.end number_is refl refl)
+    (row_fails_first a b number (record { parent = parent; steps = x.steps; end = x.end }) front))
 
 pub own_fails_second : {T E : Type 0} (a b c : Option (List ℕ)) (parent : Option Parent) (x : Branch) (number : ℕ) (steps : List Step) (result : Result T E) → number ≡ x.number → steps ≡ x.steps
     → Appends a b (ended (node_line number parent)) → AppendsPrefix b c (text_of (map step_line steps)) → OnErr result (AppendsPrefix a c (text_of (row_lines x.number (own_row parent x).row)))
@@ -83,7 +87,8 @@ own_fails_second a b c parent x number steps result number_is steps_is done fron
     (subst (AppendsPrefix a c) (same_lines parent x number steps x.end number_is steps_is refl)
     (row_fails_second a b c number (record { parent = parent; steps = steps; end = x.end }) steps refl done front))
 
-pub own_ends : {T E : Type 0} (a b c d : Option (List ℕ)) (parent : Option Parent) (x : Branch) (number : ℕ) (steps : List Step) (end : EndLine) (result : Result T E) → number ≡ x.number → steps ≡ x.steps → end ≡ x.end
+pub own_ends : {T E : Type 0} (a b c d : Option (List ℕ)) (parent : Option Parent) (x : Branch) (number : ℕ) (steps : List Step) (end : EndLine) (result : Result T E) → number ≡ x.number
+    → steps ≡ x.steps → end ≡ x.end
     → Appends a b (ended (node_line number parent)) → Appends b c (text_of (map step_line steps)) → OnErr result (AppendsPrefix c d (ended (end_line end)))
     → OnErr result (AppendsPrefix a d (text_of (row_lines x.number (own_row parent x).row)))
 own_ends a b c d parent x number steps end result number_is steps_is end_is done more last =

@@ -1,6 +1,6 @@
 -- That the rows of a node are those of a tree, and what follows for the rows of a log.
 use Rattle.std.specs.Prelude.{ℕ, ◌+◌, List, [], Option, None, Some}
-use Rattle.sopl_base.specs.declared.places.Step.{Step}
+use Rattle.sopl_base.specs.declared.reason.Step.{Step}
 use Rattle.log_rows.specs.declared.rows.Cut.{Cut}
 use Rattle.log_rows.specs.declared.rows.EndLine.{EndLine}
 use Rattle.log_rows.specs.declared.rows.EndLine.TheVariants.{Split}

@@ -87,38 +87,37 @@ fn put_sides<K: Sink>(
     low: &Option<Box<Node>>,
     high: &Option<Box<Node>>,
 ) -> Result<(), Failed>
-    ensures all { OnOk result (Appends (K.taken sink.old) (K.taken sink.new) (branch.numbered_text (branch.below_split node (option_map (λ b. b.value) low.now) (option_map (λ b. b.value) high.now)))) }
-    ensures prefix { OnErr result (AppendsPrefix (K.taken sink.old) (K.taken sink.new) (branch.numbered_text (branch.below_split node (option_map (λ b. b.value) low.now) (option_map (λ b. b.value) high.now)))) }
+    ensures all { OnOk result (Appends (K.taken sink.old) (K.taken sink.new)
+        (branch.numbered_text (branch.below_split node (option_map (λ b. b.value) low.now) (option_map (λ b. b.value) high.now)))) }
+    ensures prefix { OnErr result (AppendsPrefix (K.taken sink.old) (K.taken sink.new)
+        (branch.numbered_text (branch.below_split node (option_map (λ b. b.value) low.now) (option_map (λ b. b.value) high.now)))) }
     ensures names { K.names sink.new ≡ K.names sink.old }
     ensures cause { HasCause (K.faults sink.old) (K.faults sink.new) result }
 {
-    let low_side = Parent {
-        node,
-        side: Side::Le,
-    };
-    let high_side = Parent {
-        node,
-        side: Side::Ge,
-    };
     if is_high_first(low, high) {
-        put_side(sink, high_side, high)?;
-        return put_side(sink, low_side, low);
+        put_side(sink, node, Side::Ge, high)?;
+        return put_side(sink, node, Side::Le, low);
     }
-    put_side(sink, low_side, low)?;
-    put_side(sink, high_side, high)
+    put_side(sink, node, Side::Le, low)?;
+    put_side(sink, node, Side::Ge, high)
 }
 
 /// Writes the finished nodes of a side.
 #[cycle(branch)]
-fn put_side<K: Sink>(sink: &mut K, parent: Parent, side: &Option<Box<Node>>) -> Result<(), Failed>
-    ensures all { OnOk result (Appends (K.taken sink.old) (K.taken sink.new) (branch.numbered_text (branch.finished_side (Some parent) (option_map (λ b. b.value) side.now)))) }
-    ensures prefix { OnErr result (AppendsPrefix (K.taken sink.old) (K.taken sink.new) (branch.numbered_text (branch.finished_side (Some parent) (option_map (λ b. b.value) side.now)))) }
+fn put_side<K: Sink>(
+    sink: &mut K,
+    node: u64,
+    side: Side,
+    child: &Option<Box<Node>>,
+) -> Result<(), Failed>
+    ensures all { OnOk result (Appends (K.taken sink.old) (K.taken sink.new) (branch.numbered_text (branch.finished_side (branch.side_of node side) (option_map (λ b. b.value) child.now)))) }
+    ensures prefix { OnErr result (AppendsPrefix (K.taken sink.old) (K.taken sink.new) (branch.numbered_text (branch.finished_side (branch.side_of node side) (option_map (λ b. b.value) child.now)))) }
     ensures names { K.names sink.new ≡ K.names sink.old }
     ensures cause { HasCause (K.faults sink.old) (K.faults sink.new) result }
 {
-    match side {
+    match child {
         None => Ok(()),
-        Some(node) => put_finished(sink, parent, node),
+        Some(child) => put_finished(sink, Parent { node, side }, child),
     }
 }
 
@@ -180,8 +179,10 @@ fn put_opens<K: Sink>(
     low: &Option<Box<Node>>,
     high: &Option<Box<Node>>,
 ) -> Result<(), Failed>
-    ensures all { OnOk result (Appends (K.taken sink.old) (K.taken sink.new) (branch.numbered_text (branch.opens_split node (option_map (λ b. b.value) low.now) (option_map (λ b. b.value) high.now)))) }
-    ensures prefix { OnErr result (AppendsPrefix (K.taken sink.old) (K.taken sink.new) (branch.numbered_text (branch.opens_split node (option_map (λ b. b.value) low.now) (option_map (λ b. b.value) high.now)))) }
+    ensures all { OnOk result (Appends (K.taken sink.old) (K.taken sink.new)
+        (branch.numbered_text (branch.opens_split node (option_map (λ b. b.value) low.now) (option_map (λ b. b.value) high.now)))) }
+    ensures prefix { OnErr result (AppendsPrefix (K.taken sink.old) (K.taken sink.new)
+        (branch.numbered_text (branch.opens_split node (option_map (λ b. b.value) low.now) (option_map (λ b. b.value) high.now)))) }
     ensures names { K.names sink.new ≡ K.names sink.old }
     ensures cause { HasCause (K.faults sink.old) (K.faults sink.new) result }
 {
@@ -197,7 +198,8 @@ fn put_later_opens<K: Sink>(
     high: &Option<Box<Node>>,
 ) -> Result<(), Failed>
     ensures all { OnOk result (Appends (K.taken sink.old) (K.taken sink.new) (branch.numbered_text (branch.later_opens (option_map (λ b. b.value) low.now) (option_map (λ b. b.value) high.now)))) }
-    ensures prefix { OnErr result (AppendsPrefix (K.taken sink.old) (K.taken sink.new) (branch.numbered_text (branch.later_opens (option_map (λ b. b.value) low.now) (option_map (λ b. b.value) high.now)))) }
+    ensures prefix { OnErr result (AppendsPrefix (K.taken sink.old) (K.taken sink.new)
+        (branch.numbered_text (branch.later_opens (option_map (λ b. b.value) low.now) (option_map (λ b. b.value) high.now)))) }
     ensures names { K.names sink.new ≡ K.names sink.old }
     ensures cause { HasCause (K.faults sink.old) (K.faults sink.new) result }
 {
@@ -231,36 +233,30 @@ fn put_own_opens<K: Sink>(
     high: &Option<Box<Node>>,
 ) -> Result<(), Failed>
     ensures all { OnOk result (Appends (K.taken sink.old) (K.taken sink.new) (branch.numbered_text (branch.own_opens node (option_map (λ b. b.value) low.now) (option_map (λ b. b.value) high.now)))) }
-    ensures prefix { OnErr result (AppendsPrefix (K.taken sink.old) (K.taken sink.new) (branch.numbered_text (branch.own_opens node (option_map (λ b. b.value) low.now) (option_map (λ b. b.value) high.now)))) }
+    ensures prefix { OnErr result (AppendsPrefix (K.taken sink.old) (K.taken sink.new)
+        (branch.numbered_text (branch.own_opens node (option_map (λ b. b.value) low.now) (option_map (λ b. b.value) high.now)))) }
     ensures names { K.names sink.new ≡ K.names sink.old }
     ensures cause { HasCause (K.faults sink.old) (K.faults sink.new) result }
 {
-    let low_side = Parent {
-        node,
-        side: Side::Le,
-    };
-    let high_side = Parent {
-        node,
-        side: Side::Ge,
-    };
-    put_open_side(sink, low_side, low)?;
-    put_open_side(sink, high_side, high)
+    put_open_side(sink, node, Side::Le, low)?;
+    put_open_side(sink, node, Side::Ge, high)
 }
 
 /// Writes a side that is not finished.
 fn put_open_side<K: Sink>(
     sink: &mut K,
-    parent: Parent,
-    side: &Option<Box<Node>>,
+    node: u64,
+    side: Side,
+    child: &Option<Box<Node>>,
 ) -> Result<(), Failed>
-    ensures all { OnOk result (Appends (K.taken sink.old) (K.taken sink.new) (branch.numbered_text (branch.unfinished_side (Some parent) (option_map (λ b. b.value) side.now)))) }
-    ensures prefix { OnErr result (AppendsPrefix (K.taken sink.old) (K.taken sink.new) (branch.numbered_text (branch.unfinished_side (Some parent) (option_map (λ b. b.value) side.now)))) }
+    ensures all { OnOk result (Appends (K.taken sink.old) (K.taken sink.new) (branch.numbered_text (branch.unfinished_side (branch.side_of node side) (option_map (λ b. b.value) child.now)))) }
+    ensures prefix { OnErr result (AppendsPrefix (K.taken sink.old) (K.taken sink.new) (branch.numbered_text (branch.unfinished_side (branch.side_of node side) (option_map (λ b. b.value) child.now)))) }
     ensures names { K.names sink.new ≡ K.names sink.old }
     ensures cause { HasCause (K.faults sink.old) (K.faults sink.new) result }
 {
-    match side {
+    match child {
         None => Ok(()),
-        Some(node) => put_open(sink, parent, node),
+        Some(child) => put_open(sink, Parent { node, side }, child),
     }
 }
 

@@ -4,7 +4,7 @@ use Rattle.std.proofs.lemmas.List.{append-nil, take_all, take_more, take-append-
 use Rattle.std.proofs.lemmas.Grind.{flat_map-append}
 use Rattle.std.specs.Prelude.{Result, Ok, Err, OnOk, OnErr}
 use Rattle.std.specs.Io.KnownBytes.{Appends}
-use Rattle.sopl_base.specs.declared.places.Step.{Step}
+use Rattle.sopl_base.specs.declared.reason.Step.{Step}
 use Rattle.log_rows.specs.declared.rows.Row.{Row}
 use Rattle.log_rows.specs.declared.rows.Footer.{Footer}
 use Rattle.sopl_io.specs.Transfer.{AppendsPrefix}
@@ -59,7 +59,8 @@ steps_front first now next steps i d exists before more =
     (front_of_second first now next (steps_text (take i steps)) (ended (step_line step) ++ steps_text (drop (i + 1) steps)) before
     (front_of_first now next (ended (step_line step)) (steps_text (drop (i + 1) steps)) more))
 
-pub steps_all : (first now : Option (List ℕ)) (steps : List Step) (i : ℕ) → length steps ≤ i → Appends first now (text_of (map step_line (take i steps))) → Appends first now (text_of (map step_line steps))
+pub steps_all : (first now : Option (List ℕ)) (steps : List Step) (i : ℕ) → length steps ≤ i → Appends first now (text_of (map step_line (take i steps)))
+    → Appends first now (text_of (map step_line steps))
 steps_all first now steps i all before = subst (λ (xs : List Step). Appends first now (steps_text xs)) (take_all i steps all) before
 
 -- rows, one by one
@@ -80,7 +81,8 @@ rows_first rows i more fits = rows_append 0 (take i rows) more ∙ ap (λ (n : �
 one_row : (number : ℕ) (row : Row) → rows_text number (row ∷ []) ≡ text_of (row_lines number row)
 one_row number row = ap text_of (append-nil (row_lines number row))
 
-rows_cut : (rows : List Row) (i : ℕ) (row : Row) → i < length rows → row ≡ get_or rows i row → rows_text 0 rows ≡ rows_text 0 (take i rows) ++ (text_of (row_lines i row) ++ rows_text (suc i) (drop (i + 1) rows))
+rows_cut : (rows : List Row) (i : ℕ) (row : Row) → i < length rows → row ≡ get_or rows i row → rows_text 0 rows ≡ rows_text 0 (take i rows)
+    ++ (text_of (row_lines i row) ++ rows_text (suc i) (drop (i + 1) rows))
 rows_cut rows i row exists is =
     ap (rows_text 0) (sym (take-append-drop i rows))
     ∙ (rows_first rows i (drop i rows) (omega arith)
@@ -112,7 +114,8 @@ middle_fails : (a b c : Option (List ℕ)) (first second rest whole : List ℕ) 
 middle_fails a b c first second rest whole is done front =
     subst (AppendsPrefix a c) (sym is) (front_of_second a b c first (second ++ rest) done (front_of_first b c second rest front))
 
-last_fails : (a b c d : Option (List ℕ)) (first second third whole : List ℕ) → whole ≡ first ++ (second ++ third) → Appends a b first → Appends b c second → AppendsPrefix c d third → AppendsPrefix a d whole
+last_fails : (a b c d : Option (List ℕ)) (first second third whole : List ℕ) → whole ≡ first ++ (second ++ third) → Appends a b first → Appends b c second → AppendsPrefix c d third
+    → AppendsPrefix a d whole
 last_fails a b c d first second third whole is done more front =
     subst (AppendsPrefix a d) (sym is) (front_of_second a b d first (second ++ third) done (front_of_second b c d second third more front))
 
@@ -124,17 +127,20 @@ pub row_fails_first : (a b : Option (List ℕ)) (number : ℕ) (row : Row) → A
 row_fails_first a b number row front =
     node_fails a b (ended (node_line number row.parent)) (text_of (map step_line row.steps) ++ ended (end_line row.end)) (text_of (row_lines number row)) (row_text number row) front
 
-pub row_fails_second : (a b c : Option (List ℕ)) (number : ℕ) (row : Row) (steps : List Step) → steps ≡ row.steps → Appends a b (ended (node_line number row.parent)) → AppendsPrefix b c (text_of (map step_line steps)) → AppendsPrefix a c (text_of (row_lines number row))
+pub row_fails_second : (a b c : Option (List ℕ)) (number : ℕ) (row : Row) (steps : List Step) → steps ≡ row.steps → Appends a b (ended (node_line number row.parent))
+    → AppendsPrefix b c (text_of (map step_line steps)) → AppendsPrefix a c (text_of (row_lines number row))
 row_fails_second a b c number row steps same done front =
     middle_fails a b c (ended (node_line number row.parent)) (text_of (map step_line row.steps)) (ended (end_line row.end)) (text_of (row_lines number row)) (row_text number row) done
     (subst (λ (xs : List Step). AppendsPrefix b c (text_of (map step_line xs))) same front)
 
-pub row_fails_third : (a b c d : Option (List ℕ)) (number : ℕ) (row : Row) (steps : List Step) → steps ≡ row.steps → Appends a b (ended (node_line number row.parent)) → Appends b c (text_of (map step_line steps)) → AppendsPrefix c d (ended (end_line row.end)) → AppendsPrefix a d (text_of (row_lines number row))
+pub row_fails_third : (a b c d : Option (List ℕ)) (number : ℕ) (row : Row) (steps : List Step) → steps ≡ row.steps → Appends a b (ended (node_line number row.parent))
+    → Appends b c (text_of (map step_line steps)) → AppendsPrefix c d (ended (end_line row.end)) → AppendsPrefix a d (text_of (row_lines number row))
 row_fails_third a b c d number row steps same done more front =
     last_fails a b c d (ended (node_line number row.parent)) (text_of (map step_line row.steps)) (ended (end_line row.end)) (text_of (row_lines number row)) (row_text number row) done
     (subst (λ (xs : List Step). Appends b c (text_of (map step_line xs))) same more) front
 
-pub row_written : (a b c d : Option (List ℕ)) (number : ℕ) (row : Row) (steps : List Step) → steps ≡ row.steps → Appends a b (ended (node_line number row.parent)) → Appends b c (text_of (map step_line steps)) → Appends c d (ended (end_line row.end)) → Appends a d (text_of (row_lines number row))
+pub row_written : (a b c d : Option (List ℕ)) (number : ℕ) (row : Row) (steps : List Step) → steps ≡ row.steps → Appends a b (ended (node_line number row.parent))
+    → Appends b c (text_of (map step_line steps)) → Appends c d (ended (end_line row.end)) → Appends a d (text_of (row_lines number row))
 row_written a b c d number row steps same done more last =
     all_three a b c d (ended (node_line number row.parent)) (text_of (map step_line row.steps)) (ended (end_line row.end)) (text_of (row_lines number row)) (row_text number row) done
     (subst (λ (xs : List Step). Appends b c (text_of (map step_line xs))) same more) last
@@ -143,20 +149,24 @@ pub log_fails_first : (a b : Option (List ℕ)) (rows : List Row) (footer : Foot
 log_fails_first a b rows footer front =
     node_fails a b (ended head_line) (text_of (rows_lines 0 rows) ++ ended (footer_line footer)) (text_of (log_lines rows footer)) (log_text rows footer) front
 
-pub log_fails_second : (a b c : Option (List ℕ)) (rows : List Row) (footer : Footer) → Appends a b (ended head_line) → AppendsPrefix b c (text_of (rows_lines 0 rows)) → AppendsPrefix a c (text_of (log_lines rows footer))
+pub log_fails_second : (a b c : Option (List ℕ)) (rows : List Row) (footer : Footer) → Appends a b (ended head_line) → AppendsPrefix b c (text_of (rows_lines 0 rows))
+    → AppendsPrefix a c (text_of (log_lines rows footer))
 log_fails_second a b c rows footer done front =
     middle_fails a b c (ended head_line) (text_of (rows_lines 0 rows)) (ended (footer_line footer)) (text_of (log_lines rows footer)) (log_text rows footer) done front
 
-pub log_fails_third : (a b c d : Option (List ℕ)) (rows : List Row) (footer : Footer) → Appends a b (ended head_line) → Appends b c (text_of (rows_lines 0 rows)) → AppendsPrefix c d (ended (footer_line footer)) → AppendsPrefix a d (text_of (log_lines rows footer))
+pub log_fails_third : (a b c d : Option (List ℕ)) (rows : List Row) (footer : Footer) → Appends a b (ended head_line) → Appends b c (text_of (rows_lines 0 rows))
+    → AppendsPrefix c d (ended (footer_line footer)) → AppendsPrefix a d (text_of (log_lines rows footer))
 log_fails_third a b c d rows footer done more front =
     last_fails a b c d (ended head_line) (text_of (rows_lines 0 rows)) (ended (footer_line footer)) (text_of (log_lines rows footer)) (log_text rows footer) done more front
 
-pub log_written : (a b c d : Option (List ℕ)) (rows : List Row) (footer : Footer) → Appends a b (ended head_line) → Appends b c (text_of (rows_lines 0 rows)) → Appends c d (ended (footer_line footer)) → Appends a d (text_of (log_lines rows footer))
+pub log_written : (a b c d : Option (List ℕ)) (rows : List Row) (footer : Footer) → Appends a b (ended head_line) → Appends b c (text_of (rows_lines 0 rows)) → Appends c d (ended (footer_line footer))
+    → Appends a d (text_of (log_lines rows footer))
 log_written a b c d rows footer done more last =
     all_three a b c d (ended head_line) (text_of (rows_lines 0 rows)) (ended (footer_line footer)) (text_of (log_lines rows footer)) (log_text rows footer) done more last
 
 -- the last piece is a call whose outcome is handed on
-pub row_ends : {T E : Type 0} (a b c d : Option (List ℕ)) (number : ℕ) (row : Row) (steps : List Step) (result : Result T E) → steps ≡ row.steps → Appends a b (ended (node_line number row.parent)) → Appends b c (text_of (map step_line steps))
+pub row_ends : {T E : Type 0} (a b c d : Option (List ℕ)) (number : ℕ) (row : Row) (steps : List Step) (result : Result T E) → steps ≡ row.steps → Appends a b (ended (node_line number row.parent))
+    → Appends b c (text_of (map step_line steps))
     → OnErr result (AppendsPrefix c d (ended (end_line row.end))) → OnErr result (AppendsPrefix a d (text_of (row_lines number row)))
 row_ends a b c d number row steps (Ok value) same done more last = tt
 row_ends a b c d number row steps (Err error) same done more last = row_fails_third a b c d number row steps same done more last

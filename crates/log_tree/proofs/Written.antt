@@ -53,17 +53,20 @@ cause_later before middle now result later cause = record {
 }
 
 -- a line that is written with its end
-pub ended_all : {T E : Type 0} (a b : Option (List ℕ)) (line bytes : List ℕ) (result : Result T E) → bytes ≡ line ++ codes "\n" → OnOk result (Appends a b bytes) → OnOk result (Appends a b (ended line))
+pub ended_all : {T E : Type 0} (a b : Option (List ℕ)) (line bytes : List ℕ) (result : Result T E) → bytes ≡ line ++ codes "\n" → OnOk result (Appends a b bytes)
+    → OnOk result (Appends a b (ended line))
 ended_all a b line bytes result is written = subst (λ (l : List ℕ). OnOk result (Appends a b l)) is written
 
-pub ended_front : {T E : Type 0} (a b : Option (List ℕ)) (line bytes : List ℕ) (result : Result T E) → bytes ≡ line ++ codes "\n" → OnErr result (AppendsPrefix a b bytes) → OnErr result (AppendsPrefix a b (ended line))
+pub ended_front : {T E : Type 0} (a b : Option (List ℕ)) (line bytes : List ℕ) (result : Result T E) → bytes ≡ line ++ codes "\n" → OnErr result (AppendsPrefix a b bytes)
+    → OnErr result (AppendsPrefix a b (ended line))
 ended_front a b line bytes result is written = subst (λ (l : List ℕ). OnErr result (AppendsPrefix a b l)) is written
 
 -- a line that is the one to be written
 pub same_all : {T E : Type 0} (a b : Option (List ℕ)) (line other : List ℕ) (result : Result T E) → line ≡ other → OnOk result (Appends a b (ended line)) → OnOk result (Appends a b (ended other))
 same_all a b line other result is written = subst (λ (l : List ℕ). OnOk result (Appends a b (ended l))) is written
 
-pub same_front : {T E : Type 0} (a b : Option (List ℕ)) (line other : List ℕ) (result : Result T E) → line ≡ other → OnErr result (AppendsPrefix a b (ended line)) → OnErr result (AppendsPrefix a b (ended other))
+pub same_front : {T E : Type 0} (a b : Option (List ℕ)) (line other : List ℕ) (result : Result T E) → line ≡ other → OnErr result (AppendsPrefix a b (ended line))
+    → OnErr result (AppendsPrefix a b (ended other))
 same_front a b line other result is written = subst (λ (l : List ℕ). OnErr result (AppendsPrefix a b (ended l))) is written
 
 -- what holds of an outcome

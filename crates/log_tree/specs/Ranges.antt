@@ -1,9 +1,9 @@
 -- Which numbers the lines of a log may have.
 use Rattle.std.specs.Prelude.{◌<◌, ◌^◌, ℤ, Option, None, Some, All, FitsSigned}
 use Rattle.std.specs.Int.{w64, w128}
-use Rattle.sopl_base.specs.declared.places.Reason.{Reason}
-use Rattle.sopl_base.specs.declared.places.Reason.TheVariants.{Hard, Chance, Undefined, Bound}
-use Rattle.sopl_base.specs.declared.places.Step.{Step}
+use Rattle.sopl_base.specs.declared.reason.Reason.{Reason}
+use Rattle.sopl_base.specs.declared.reason.Reason.TheVariants.{Hard, Chance, Undefined, Bound}
+use Rattle.sopl_base.specs.declared.reason.Step.{Step}
 use Rattle.log_rows.specs.declared.rows.Parent.{Parent}
 use Rattle.log_rows.specs.declared.rows.Cut.{Cut}
 use Rattle.log_rows.specs.declared.rows.Row.{Row}

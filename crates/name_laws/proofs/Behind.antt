@@ -10,7 +10,10 @@ use Rattle.sopl_ast.specs.Origin.{HasForm}
 use Rattle.sopl_ast.specs.Tree.{Tree, Range}
 use Rattle.sopl_ast.specs.Whole.{DimTree, InitTree, Declaration}
 use Rattle.sopl_ast.specs.Grammar as g
-use Rattle.sopl_ast.specs.Grammar.{Is, Opens, IsName, IsPrimary, MoreIndices, AreArguments, MoreArguments, IsAll, IsTask, AreBinders, MoreBinders, IsBinder, IsRange, IsOperand, MoreFactors, IsProduct, MoreTerms, IsSum, IsComparison, IsNegation, MoreConjuncts, IsConjunction, MoreDisjuncts, IsDisjunction, IsExpression, IsStage, IsDim, AreDims, IsInit, AreInits, MoreInits, MoreElements, AreElements, IsOutcome, MoreOutcomes, IsDistribution, IsVariable, IsDeclaration}
+use Rattle.sopl_ast.specs.Grammar.{Is, Opens, IsName, IsPrimary, MoreIndices, AreArguments, MoreArguments, IsAll, IsTask, AreBinders, MoreBinders, IsBinder, IsRange, IsOperand}
+use Rattle.sopl_ast.specs.Grammar.{MoreFactors, IsProduct, MoreTerms, IsSum, IsComparison, IsNegation, MoreConjuncts, IsConjunction, MoreDisjuncts, IsDisjunction, IsExpression}
+use Rattle.sopl_ast.specs.Grammar.{IsStage, IsDim, AreDims, IsInit, AreInits, MoreInits, MoreElements, AreElements, IsOutcome, MoreOutcomes, IsDistribution, IsVariable}
+use Rattle.sopl_ast.specs.Grammar.{IsDeclaration}
 
 -- each name among the tokens has the form of a name
 abbrev pub Formed : List Token → Type 0
@@ -42,8 +45,12 @@ mutual
   formed_primary _ _ _ _ (g.parentheses n u us e vs r i1 i2 i3) held = formed_mark k.ParenClose vs r i3 (formed_expression n us e vs i2 held.1)
   formed_primary _ _ _ _ (g.absolute n u us j vs e ws r i1 i2 i3 i4) held = formed_mark k.ParenClose ws r i4 (formed_expression j vs e ws i3 (formed_opening k.ParenOpen n us j vs i2 held.1))
   formed_primary _ _ _ _ (g.extreme n u us greatest j vs es ws r i1 i2 i3 i4) held = formed_mark k.ParenClose ws r i4 (formed_arguments j vs es ws i3 (formed_opening k.ParenOpen n us j vs i2 held.1))
-  formed_primary _ _ _ _ (g.all_different n u us j vs bs ws e xs r i1 i2 i3 i4 i5) held = formed_mark k.ParenClose xs r i5 (formed_expression j ws e xs i4 (formed_all j vs bs ws i3 (formed_opening k.ParenOpen n us j vs i2 held.1)))
-  formed_primary _ _ _ _ (g.cumulative n u us j vs bs ws i xs start duration demand ys zs ps capacity cs r i1 i2 i3 i4 i5 i6 i7 i8 i9) held = formed_mark k.ParenClose cs r i9 (formed_expression j ps capacity cs i8 (formed_mark k.Comma zs ps i7 (formed_mark k.ParenClose ys zs i6 (formed_task i xs start duration demand ys i5 (formed_opening k.ParenOpen j ws i xs i4 (formed_all j vs bs ws i3 (formed_opening k.ParenOpen n us j vs i2 held.1)))))))
+  formed_primary _ _ _ _ (g.all_different n u us j vs bs ws e xs r i1 i2 i3 i4 i5) held =
+      formed_mark k.ParenClose xs r i5 (formed_expression j ws e xs i4 (formed_all j vs bs ws i3 (formed_opening k.ParenOpen n us j vs i2 held.1)))
+  formed_primary _ _ _ _ (g.cumulative n u us j vs bs ws i xs start duration demand ys zs ps capacity cs r i1 i2 i3 i4 i5 i6 i7 i8 i9) held =
+      formed_mark k.ParenClose cs r i9 (formed_expression j ps capacity cs i8
+      (formed_mark k.Comma zs ps i7 (formed_mark k.ParenClose ys zs i6
+      (formed_task i xs start duration demand ys i5 (formed_opening k.ParenOpen j ws i xs i4 (formed_all j vs bs ws i3 (formed_opening k.ParenOpen n us j vs i2 held.1)))))))
 
   -- indices
   formed_indices : (n : ℕ) (ts : List Token) (es : List Tree) (r : List Token) → MoreIndices false n ts es r → Formed ts → Formed r
@@ -52,7 +59,8 @@ mutual
 
   -- arguments
   formed_arguments : (n : ℕ) (ts : List Token) (es : List Tree) (r : List Token) → AreArguments false n ts es r → Formed ts → Formed r
-  formed_arguments _ _ _ _ (g.arguments n ts a us vs b ws more r i1 i2 i3 i4) held = formed_more_arguments n ws more r i4 (formed_expression n vs b ws i3 (formed_mark k.Comma us vs i2 (formed_expression n ts a us i1 held)))
+  formed_arguments _ _ _ _ (g.arguments n ts a us vs b ws more r i1 i2 i3 i4) held =
+      formed_more_arguments n ws more r i4 (formed_expression n vs b ws i3 (formed_mark k.Comma us vs i2 (formed_expression n ts a us i1 held)))
 
   -- more arguments
   formed_more_arguments : (n : ℕ) (ts : List Token) (es : List Tree) (r : List Token) → MoreArguments false n ts es r → Formed ts → Formed r
@@ -65,11 +73,13 @@ mutual
 
   -- task
   formed_task : (n : ℕ) (ts : List Token) (start : Tree) (duration : Tree) (demand : Tree) (r : List Token) → IsTask false n ts start duration demand r → Formed ts → Formed r
-  formed_task _ _ _ _ _ _ (g.task n ts start us vs duration ws xs demand r i1 i2 i3 i4 i5) held = formed_expression n xs demand r i5 (formed_mark k.Comma ws xs i4 (formed_expression n vs duration ws i3 (formed_mark k.Comma us vs i2 (formed_expression n ts start us i1 held))))
+  formed_task _ _ _ _ _ _ (g.task n ts start us vs duration ws xs demand r i1 i2 i3 i4 i5) held =
+      formed_expression n xs demand r i5 (formed_mark k.Comma ws xs i4 (formed_expression n vs duration ws i3 (formed_mark k.Comma us vs i2 (formed_expression n ts start us i1 held))))
 
   -- binders
   formed_binders : (n : ℕ) (ts : List Token) (bs : List BinderTree) (r : List Token) → AreBinders false n ts bs r → Formed ts → Formed r
-  formed_binders _ _ _ _ (g.bound n ts j us b vs more ws r i1 i2 i3 i4) held = formed_mark k.ParenClose ws r i4 (formed_more_binders j vs more ws i3 (formed_binder j us b vs i2 (formed_opening k.ParenOpen n ts j us i1 held)))
+  formed_binders _ _ _ _ (g.bound n ts j us b vs more ws r i1 i2 i3 i4) held =
+      formed_mark k.ParenClose ws r i4 (formed_more_binders j vs more ws i3 (formed_binder j us b vs i2 (formed_opening k.ParenOpen n ts j us i1 held)))
 
   -- more binders
   formed_more_binders : (n : ℕ) (ts : List Token) (bs : List BinderTree) (r : List Token) → MoreBinders false n ts bs r → Formed ts → Formed r
@@ -199,16 +209,25 @@ formed_more_outcomes _ _ _ _ (g.more_outcome n u us o vs more r i1 i2 i3) held =
 
 -- distribution
 formed_distribution : (n : ℕ) (ts : List Token) (os : List (Tree × Tree)) (r : List Token) → IsDistribution false n ts os r → Formed ts → Formed r
-formed_distribution _ _ _ _ (g.distribution n ts j us o vs more ws r i1 i2 i3 i4) held = formed_mark k.BraceClose ws r i4 (formed_more_outcomes j vs more ws i3 (formed_outcome j us o vs i2 (formed_opening k.BraceOpen n ts j us i1 held)))
+formed_distribution _ _ _ _ (g.distribution n ts j us o vs more ws r i1 i2 i3 i4) held =
+    formed_mark k.BraceClose ws r i4 (formed_more_outcomes j vs more ws i3 (formed_outcome j us o vs i2 (formed_opening k.BraceOpen n ts j us i1 held)))
 
 -- variable
 formed_variable : (n : ℕ) (ts : List Token) (bytes : List ℕ) (spot : ℕ) (ds : List DimTree) (r : List Token) → IsVariable false n ts bytes spot ds r → Formed ts → Formed r
-formed_variable _ _ _ _ _ _ (g.variable n ts us bytes spot vs dims ws r i1 i2 i3 i4) held = formed_mark k.Inside ws r i4 (formed_dims n vs dims ws i3 (formed_name us bytes spot vs i2 (formed_mark k.Int ts us i1 held)))
+formed_variable _ _ _ _ _ _ (g.variable n ts us bytes spot vs dims ws r i1 i2 i3 i4) held =
+    formed_mark k.Inside ws r i4 (formed_dims n vs dims ws i3 (formed_name us bytes spot vs i2 (formed_mark k.Int ts us i1 held)))
 
 -- declaration
 pub formed_declaration : (n : ℕ) (ts : List Token) (d : Declaration) (r : List Token) → IsDeclaration false n ts d r → Formed ts → Formed r
-formed_declaration _ _ _ _ (g.integer n u us bytes spot vs dims ws xs value ys r i1 i2 i3 i4 i5 i6) held = formed_mark k.Semi ys r i6 (formed_init n xs value ys i5 (formed_mark k.Assign ws xs i4 (formed_dims n vs dims ws i3 (formed_name us bytes spot vs i2 held.1))))
-formed_declaration _ _ _ _ (g.range n u us bytes spot vs ws lo xs ys hi zs r i1 i2 i3 i4 i5 i6 i7) held = formed_mark k.Semi zs r i7 (formed_sum n ys hi zs i6 (formed_mark k.DotDot xs ys i5 (formed_sum n ws lo xs i4 (formed_mark k.Assign vs ws i3 (formed_name us bytes spot vs i2 held.1)))))
-formed_declaration _ _ _ _ (g.set n u us vs ws bytes spot xs ys j zs elements ps qs r i1 i2 i3 i4 i5 i6 i7 i8 i9) held = formed_mark k.Semi qs r i9 (formed_mark k.BraceClose ps qs i8 (formed_elements j zs elements ps i7 (formed_opening k.BraceOpen (suc n) ys j zs i6 (formed_mark k.Assign xs ys i5 (formed_name ws bytes spot xs i4 (formed_mark k.BraceClose vs ws i3 (formed_mark k.Int us vs i2 held.1)))))))
-formed_declaration _ _ _ _ (g.decision n u us bytes spot dims vs domain ws seen xs r i1 i2 i3 i4 i5) held = formed_mark k.Semi xs r i5 (formed_stage n ws seen xs i4 (formed_range n vs domain ws i3 (formed_variable n us bytes spot dims vs i2 held.1)))
-formed_declaration _ _ _ _ (g.stochastic n u us bytes spot dims vs dist ws seen xs r i1 i2 i3 i4 i5) held = formed_mark k.Semi xs r i5 (formed_stage n ws seen xs i4 (formed_distribution n vs dist ws i3 (formed_variable n us bytes spot dims vs i2 held.1)))
+formed_declaration _ _ _ _ (g.integer n u us bytes spot vs dims ws xs value ys r i1 i2 i3 i4 i5 i6) held =
+    formed_mark k.Semi ys r i6 (formed_init n xs value ys i5 (formed_mark k.Assign ws xs i4 (formed_dims n vs dims ws i3 (formed_name us bytes spot vs i2 held.1))))
+formed_declaration _ _ _ _ (g.range n u us bytes spot vs ws lo xs ys hi zs r i1 i2 i3 i4 i5 i6 i7) held =
+    formed_mark k.Semi zs r i7 (formed_sum n ys hi zs i6 (formed_mark k.DotDot xs ys i5 (formed_sum n ws lo xs i4 (formed_mark k.Assign vs ws i3 (formed_name us bytes spot vs i2 held.1)))))
+formed_declaration _ _ _ _ (g.set n u us vs ws bytes spot xs ys j zs elements ps qs r i1 i2 i3 i4 i5 i6 i7 i8 i9) held =
+    formed_mark k.Semi qs r i9 (formed_mark k.BraceClose ps qs i8
+    (formed_elements j zs elements ps i7 (formed_opening k.BraceOpen (suc n) ys j zs i6
+    (formed_mark k.Assign xs ys i5 (formed_name ws bytes spot xs i4 (formed_mark k.BraceClose vs ws i3 (formed_mark k.Int us vs i2 held.1)))))))
+formed_declaration _ _ _ _ (g.decision n u us bytes spot dims vs domain ws seen xs r i1 i2 i3 i4 i5) held =
+    formed_mark k.Semi xs r i5 (formed_stage n ws seen xs i4 (formed_range n vs domain ws i3 (formed_variable n us bytes spot dims vs i2 held.1)))
+formed_declaration _ _ _ _ (g.stochastic n u us bytes spot dims vs dist ws seen xs r i1 i2 i3 i4 i5) held =
+    formed_mark k.Semi xs r i5 (formed_stage n ws seen xs i4 (formed_distribution n vs dist ws i3 (formed_variable n us bytes spot dims vs i2 held.1)))

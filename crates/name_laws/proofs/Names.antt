@@ -8,7 +8,8 @@ use Rattle.sopl_ast.specs.Whole.{DimTree, Declaration, IntDecl, RangeDecl, SetDe
 use Rattle.sopl_ast.specs.Known.{Known}
 use Rattle.sopl_ast.specs.Pieces.{is_word}
 use Rattle.sopl_ast.specs.Origin.{HasForm, IsFromTokens}
-use Rattle.sopl_ast.specs.Grammar.{IsName, name_token, name_missing, IsVariable, variable, IsDeclaration, integer, range, set, decision, stochastic, AreDeclarations, no_declaration, declaration, IsModel, model}
+use Rattle.sopl_ast.specs.Grammar.{IsName, name_token, name_missing, IsVariable, variable, IsDeclaration, decision, stochastic, AreDeclarations}
+use Rattle.sopl_ast.specs.Grammar.{no_declaration, declaration, IsModel, model}
 use Rattle.sopl_ast.specs.Instances.{Decision, Stochastic, Problem, names_in}
 use Rattle.sopl_ast.specs.Arrays.{dimensions_of, indices, with_index}
 use Rattle.sopl_ast.specs.Declarations.{Declared, nothing_declared, domain_of, outcome_of, stage_of, decisions_of, stochastics_of, behind, behind_all}
@@ -32,11 +33,9 @@ variable_word : (n : ℕ) (ts : List Token) (bytes : List ℕ) (at : ℕ) (dims 
 variable_word _ _ _ _ _ _ (variable n ts us bytes at vs dims ws r i1 i2 i3 i4) f = name_word us bytes at vs i2 (formed_mark k.Int ts us i1 f)
 
 declaration_named : (n : ℕ) (ts : List Token) (d : Declaration) (r : List Token) → IsDeclaration false n ts d r → Formed ts → IsNamed d
-declaration_named _ _ _ _ (integer _ _ _ _ _ _ _ _ _ _ _ _ _ _ _ _ _ _) f = tt
-declaration_named _ _ _ _ (range _ _ _ _ _ _ _ _ _ _ _ _ _ _ _ _ _ _ _ _) f = tt
-declaration_named _ _ _ _ (set _ _ _ _ _ _ _ _ _ _ _ _ _ _ _ _ _ _ _ _ _ _ _ _) f = tt
 declaration_named _ _ _ _ (decision n u us bytes at dims vs over ws stage xs r i1 i2 i3 i4 i5) f = variable_word n us bytes at dims vs i2 f.1
 declaration_named _ _ _ _ (stochastic n u us bytes at dims vs dist ws stage xs r i1 i2 i3 i4 i5) f = variable_word n us bytes at dims vs i2 f.1
+declaration_named _ _ _ _ _ f = tt
 
 declarations_named : (n : ℕ) (ts : List Token) (ds : List Declaration) (r : List Token) → AreDeclarations false n ts ds r → Formed ts → AllByRecursion IsNamed ds
 declarations_named _ _ _ _ (no_declaration n r) f = tt
@@ -44,17 +43,30 @@ declarations_named _ _ _ _ (declaration n ts d us more r first others) f =
     (declaration_named n ts d us first f, declarations_named n us more r others (formed_declaration n ts d us first f))
 
 model_named : (n : ℕ) (ts : List Token) (whole : ModelTree) (r : List Token) → IsModel false n ts whole r → Formed ts → AllByRecursion IsNamed whole.decls
-model_named _ _ _ _ (model n ts decls us _ _ _ _ _ _ _ _ _ declared _ _ _ _ _ _) f = declarations_named n ts decls us declared f
+model_named _ _ _ _ (model n ts decls us objective vs ws xs m ys body zs r declared asked subject to opens constraints closes) f = declarations_named n ts decls us declared f
 
 decisions_made : (known : Known) (name : List ℕ) (dims : List DimTree) (over : Range) (stage : Option Tree) → IsWord name → (is : List (List ℤ))
     → AllByRecursion (λ (d : Decision). IsWord d.name)
-    (map (λ index. record { name = name; index = index; lo = (domain_of (with_index (dimensions_of known dims) index known) over).0; hi = (domain_of (with_index (dimensions_of known dims) index known) over).1; stage = stage_of (with_index (dimensions_of known dims) index known) stage }) is)
+    (map (λ index. record {
+      name = name;
+      index = index;
+      lo = (domain_of (with_index (dimensions_of known dims) index known) over).0;
+      hi =
+          (domain_of (with_index (dimensions_of known dims) index known) over).1;
+      stage = stage_of (with_index (dimensions_of known dims) index known) stage;
+    }) is)
 decisions_made known name dims over stage word [] = tt
 decisions_made known name dims over stage word (index ∷ is) = (word, decisions_made known name dims over stage word is)
 
 stochastics_made : (known : Known) (name : List ℕ) (dims : List DimTree) (dist : List (Tree × Tree)) (stage : Option Tree) → IsWord name → (is : List (List ℤ))
     → AllByRecursion HasWord
-    (map (λ index. record { name = name; index = index; outcomes = map (outcome_of (with_index (dimensions_of known dims) index known)) dist; stage = stage_of (with_index (dimensions_of known dims) index known) stage }) is)
+    (map (λ index. record {
+      name = name;
+      index = index;
+      outcomes = map (outcome_of (with_index (dimensions_of known dims) index known)) dist;
+      stage =
+          stage_of (with_index (dimensions_of known dims) index known) stage;
+    }) is)
 stochastics_made known name dims dist stage word [] = tt
 stochastics_made known name dims dist stage word (index ∷ is) = (word, stochastics_made known name dims dist stage word is)
 

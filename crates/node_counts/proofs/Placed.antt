@@ -10,13 +10,13 @@ use Rattle.sopl_ast.specs.Tree.{Tree}
 use Rattle.sopl_ast.specs.Known.{Binding, Known}
 use Rattle.sopl_ast.specs.Instances.{Hard, Chance, Objective, Problem}
 use Rattle.sopl_ast.specs.Occurrences.{expression_occurrences}
+use Rattle.sopl_ast.specs.References.{now_of}
 use Rattle.sopl_ast.specs.TermNodes.{nodes, objective_nodes, scenario_nodes}
 use Rattle.sopl_ast.specs.Unfolding.{objective_of, problem_of, text_occurrences}
 use Rattle.sopl_ast.specs.Whole.{GoalTree, ModelTree}
 use Rattle.unfold_laws.specs.Conditions.{placed, IsMet, IsThreshold}
 use Rattle.unfold_laws.specs.Passing.{Passes}
 use Rattle.unfold_laws.proofs.Conditions.{hards_are_met, chances_are_met, objective_is_met}
-use Rattle.unfold_tables.specs.Tables.{now_of}
 use Rattle.binder_places.specs.Walked.{IsWalked}
 use Rattle.binder_places.proofs.Walking.{expressions_are_walked}
 use Rattle.node_counts.specs.Counted.{capped, nodes_at}

@@ -4,12 +4,7 @@ ghost use Rattle.std.specs.Prelude.{◌≡◌, ◌+◌, ◌*◌, ℕ, pos, [], �
 ghost use Rattle.sopl_ast.specs.Limits.{first_above};
 ghost use Rattle.node_counts.specs.Counted.{capped};
 
-use sopl_base::Excess;
-
-/// The code of too many term nodes, and how many there may be.
-const CODE: u16 = 206;
-
-const MOST: i128 = 4194304;
+use sopl_base::{Excess, codes, limits};
 
 /// A number of term nodes; past 2^127 - 1 it is that.
 #[derive(Clone, Copy)]
@@ -61,13 +56,13 @@ impl Nodes {
     pub(crate) fn excess(self) -> Option<Excess>
         ensures excess { (a : ℕ) → self.count ≡ capped a → result ≡ first_above 206 4194304 (pos a ∷ []) }
     {
-        if self.count <= MOST {
+        if self.count <= limits::TERM_NODES {
             return None;
         }
         Some(Excess {
-            code: CODE,
+            code: codes::TERM_NODES,
             counted: self.count,
-            limit: MOST,
+            limit: limits::TERM_NODES,
         })
     }
 }

@@ -4,12 +4,13 @@ ghost use Rattle.std.specs.Prelude.{◌≡◌, ◌<◌, IfOk, Some, length, map,
 ghost use Rattle.std.specs.List.{AllByRecursion, sum_by};
 ghost use Rattle.node_counts.specs.Counted.{capped, nodes_at};
 ghost use Rattle.sopl_ast.specs.Instances.{Hard, Chance};
+ghost use Rattle.sopl_ast.specs.References.{now_of};
 ghost use Rattle.sopl_ast.specs.TermNodes.{objective_nodes, scenario_nodes};
 ghost use Rattle.sopl_ast.specs.Unfolding.{problem_of, text_occurrences};
 ghost use Rattle.sopl_ast.specs.WholeModel.{whole};
 ghost use Rattle.unfold_laws.specs.Conditions.{IsMet};
 ghost use Rattle.unfold_laws.specs.Passing.{Passes};
-ghost use Rattle.unfold_tables.specs.Tables.{now_of, table_known};
+ghost use Rattle.unfold_tables.specs.Tables.{table_known};
 
 use crate::counts::Nodes;
 use crate::expressions::nodes_of;

@@ -5,11 +5,13 @@ use Rattle.sopl_base.specs.Better.{IsBetter}
 use Rattle.box_problem.specs.Box.{Box, points}
 use Rattle.box_problem.specs.BoxProblem.{BoxProblem, Lawful}
 use Rattle.box_problem.specs.Covers.{nodes_for}
+use Rattle.box_problem.specs.Reached.{NoneBetter}
 use Rattle.box_problem.proofs.Opens.{counts_leave, covers_bound}
-use Rattle.open_boxes.specs.Opens.{AreOpen, IsBetterOf, IsBound, IsUnsettled, NoneBetter}
+use Rattle.open_boxes.specs.Opens.{AreOpen, IsBetterOf, IsBound, IsUnsettled}
 use Rattle.open_boxes.proofs.Values.{any_here, any_later, better_twice, not_better_than_itself, not_better_twice, same_value}
 
-pub bound_holds : (problem : BoxProblem) (v : Option ℤ) (finished : ℕ) (opens : List Box) (bound : ℤ) → Lawful problem → AreOpen problem v finished opens → IsBound problem v opens bound → NoneBetter problem bound
+pub bound_holds : (problem : BoxProblem) (v : Option ℤ) (finished : ℕ) (opens : List Box) (bound : ℤ) → Lawful problem → AreOpen problem v finished opens → IsBound problem v opens bound
+    → NoneBetter problem bound
 bound_holds problem v finished opens bound lawful all is point q satisfies =
     covers_bound problem v opens bound point lawful all.covers is.reached is.ends q satisfies
 
@@ -32,7 +34,8 @@ first_bound problem b opens bound is = record {
 }
 
 -- a box whose better end is not better than what was found
-kept_bound : (problem : BoxProblem) (w : ℤ) (b : Box) (opens : List Box) (bound : ℤ) → ¬ IsBetter problem.direction (problem.end b) w → IsBound problem (Some w) opens bound → IsBound problem (Some w) (b ∷ opens) bound
+kept_bound : (problem : BoxProblem) (w : ℤ) (b : Box) (opens : List Box) (bound : ℤ) → ¬ IsBetter problem.direction (problem.end b) w → IsBound problem (Some w) opens bound
+    → IsBound problem (Some w) (b ∷ opens) bound
 kept_bound problem w b opens bound worse is = record {
   reached = is.reached;
   ends = All-cons (λ p. ¬ IsBetter problem.direction (problem.end p) bound) b opens (not_better_twice problem.direction (problem.end b) w bound worse is.reached) is.ends;
@@ -43,7 +46,8 @@ kept_bound problem w b opens bound worse is = record {
 }
 
 -- a box whose better end is better
-new_bound : (problem : BoxProblem) (w : ℤ) (b : Box) (opens : List Box) (bound : ℤ) → IsBetter problem.direction (problem.end b) w → IsBound problem (Some (problem.end b)) opens bound → IsBound problem (Some w) (b ∷ opens) bound
+new_bound : (problem : BoxProblem) (w : ℤ) (b : Box) (opens : List Box) (bound : ℤ) → IsBetter problem.direction (problem.end b) w → IsBound problem (Some (problem.end b)) opens bound
+    → IsBound problem (Some w) (b ∷ opens) bound
 new_bound problem w b opens bound better is = record {
   reached = λ above. is.reached (better_twice problem.direction (problem.end b) w bound better above);
   ends = All-cons (λ p. ¬ IsBetter problem.direction (problem.end p) bound) b opens is.reached is.ends;
@@ -53,7 +57,8 @@ new_bound problem w b opens bound better is = record {
   ];
 }
 
-pub bound_grows : (problem : BoxProblem) (v : Option ℤ) (b : Box) (opens : List Box) (best bound : ℤ) → IsBetterOf problem.direction v (problem.end b) best → IsBound problem (Some best) opens bound → IsBound problem v (b ∷ opens) bound
+pub bound_grows : (problem : BoxProblem) (v : Option ℤ) (b : Box) (opens : List Box) (best bound : ℤ) → IsBetterOf problem.direction v (problem.end b) best → IsBound problem (Some best) opens bound
+    → IsBound problem v (b ∷ opens) bound
 bound_grows problem None b opens best bound same is =
     first_bound problem b opens bound (subst (λ (x : ℤ). IsBound problem (Some x) opens bound) same is)
 bound_grows problem (Some w) b opens best bound choice is = elim choice [
@@ -61,11 +66,13 @@ bound_grows problem (Some w) b opens best bound choice is = elim choice [
   | inr new ↦ new_bound problem w b opens bound new.1 (subst (λ (x : ℤ). IsBound problem (Some x) opens bound) new.0 is)
 ]
 
-pub best_within_bound : (problem : BoxProblem) (v : ℤ) (finished : ℕ) (opens : List Box) (bound : ℤ) → Lawful problem → AreOpen problem (Some v) finished opens → IsBound problem (Some v) opens bound → ¬ IsBetter problem.direction bound v → NoneBetter problem v
+pub best_within_bound : (problem : BoxProblem) (v : ℤ) (finished : ℕ) (opens : List Box) (bound : ℤ) → Lawful problem → AreOpen problem (Some v) finished opens → IsBound problem (Some v) opens bound
+    → ¬ IsBetter problem.direction bound v → NoneBetter problem v
 best_within_bound problem v finished opens bound lawful all is within point q satisfies =
     not_better_twice problem.direction (problem.value point) bound v (bound_holds problem (Some v) finished opens bound lawful all is point q satisfies) within
 
-pub bound_is_hopeful : (problem : BoxProblem) (v : ℤ) (opens : List Box) (bound : ℤ) → IsBound problem (Some v) opens bound → IsBetter problem.direction bound v → Any (λ b. IsBetter problem.direction (problem.end b) v) opens
+pub bound_is_hopeful : (problem : BoxProblem) (v : ℤ) (opens : List Box) (bound : ℤ) → IsBound problem (Some v) opens bound → IsBetter problem.direction bound v
+    → Any (λ b. IsBetter problem.direction (problem.end b) v) opens
 bound_is_hopeful problem v opens bound is better = elim is.one_of_them [
   | inl same ↦ absurd (not_better_than_itself problem.direction v (subst (λ (x : ℤ). IsBetter problem.direction x v) (same_value v bound same) better))
   | inr some ↦ (some.0, some.1, some.2, some.3, subst (λ (x : ℤ). IsBetter problem.direction x v) some.4 better)

@@ -1,8 +1,8 @@
 -- Better and worse values, and lists of which one element has a property.
 use Rattle.std.proofs.Common.{◌≡◌, suc, ℤ, List, ◌∷◌, Some, Any, arith, refl}
 use Rattle.std.proofs.lemmas.Int.{ints, by_lt_z}
-use Rattle.sopl_base.specs.declared.places.Direction.{Direction}
-use Rattle.sopl_base.specs.declared.places.Direction.TheVariants.{Minimize, Maximize, Nothing}
+use Rattle.sopl_base.specs.declared.direction.Direction.{Direction}
+use Rattle.sopl_base.specs.declared.direction.Direction.TheVariants.{Minimize, Maximize, Nothing}
 use Rattle.sopl_base.specs.Better.{IsBetter}
 
 pub not_better_than_itself : (direction : Direction) (x : ℤ) → ¬ IsBetter direction x x

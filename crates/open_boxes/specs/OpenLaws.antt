@@ -1,15 +1,16 @@
 -- What holds of the open boxes of a search from one node to the next.
 use Rattle.std.specs.Prelude.{◌≡◌, ◌↔◌, ℕ, ◌+◌, ◌<◌, ℤ, true, List, [], ◌∷◌, ◌++◌, Option, Some, None, Any}
-use Rattle.sopl_base.specs.declared.places.Side.{Side}
-use Rattle.sopl_base.specs.declared.places.Reason.{Reason}
-use Rattle.sopl_base.specs.declared.places.Step.{Step}
+use Rattle.sopl_base.specs.declared.reason.Side.{Side}
+use Rattle.sopl_base.specs.declared.reason.Reason.{Reason}
+use Rattle.sopl_base.specs.declared.reason.Step.{Step}
 use Rattle.sopl_base.specs.Better.{IsBetter}
 use Rattle.box_problem.specs.Box.{Box, Inside, IsPoint, points}
 use Rattle.box_problem.specs.Steps.{IsCut, narrowed, cut_away, after_steps}
 use Rattle.box_problem.specs.BoxProblem.{BoxProblem, Beats, Lawful}
 use Rattle.box_problem.specs.Rightness.{AllRight}
 use Rattle.box_problem.specs.Covers.{nodes_for}
-use Rattle.open_boxes.specs.Opens.{AreOpen, IsBetterOf, IsBound, IsReached, IsUnsettled, NoneBetter, NoneSatisfies}
+use Rattle.box_problem.specs.Reached.{IsReached, NoneBetter, NoneSatisfies}
+use Rattle.open_boxes.specs.Opens.{AreOpen, IsBetterOf, IsBound, IsUnsettled}
 
 -- a search begins with the root alone, and with nothing found
 abbrev pub OpenAtFirst : Type 0

@@ -1,26 +1,10 @@
--- What a search knows while boxes are open, and what it may tell of all points in the end.
-use Rattle.std.specs.Prelude.{◌≡◌, ◌⊎◌, ℕ, ◌<◌, ℤ, true, List, Option, Some, None, IfSome, All, Any, length}
-use Rattle.sopl_base.specs.declared.places.Direction.{Direction}
+-- What a search knows while boxes are open.
+use Rattle.std.specs.Prelude.{◌≡◌, ◌⊎◌, ℕ, ◌<◌, ℤ, List, Option, Some, None, IfSome, All, Any, length}
+use Rattle.sopl_base.specs.declared.direction.Direction.{Direction}
 use Rattle.sopl_base.specs.Better.{IsBetter}
-use Rattle.box_problem.specs.Box.{Box, InBox}
+use Rattle.box_problem.specs.Box.{Box}
 use Rattle.box_problem.specs.BoxProblem.{BoxProblem}
 use Rattle.box_problem.specs.Covers.{Covers, Counts}
-
--- a point of the root that satisfies, and its value
-pub record IsReached (problem : BoxProblem) (v : ℤ) (point : List ℤ) : Type 0 where
-  pub inside : InBox problem.root point
-  pub satisfies : problem.satisfies point ≡ true
-  pub valued : v ≡ problem.value point
-
--- no point of the root satisfies
-abbrev pub NoneSatisfies : BoxProblem → Type 0
-NoneSatisfies problem = (point : List ℤ) → InBox problem.root point → ¬ problem.satisfies point ≡ true
-
--- no point of the root that satisfies is better than a value
-abbrev pub NoneBetter : BoxProblem → ℤ → Type 0
-NoneBetter problem v =
-    (point : List ℤ) → InBox problem.root point → problem.satisfies point ≡ true
-    → ¬ IsBetter problem.direction (problem.value point) v
 
 -- these boxes are open where v is the best value that was found and so many nodes are finished
 pub record AreOpen (problem : BoxProblem) (v : Option ℤ) (finished : ℕ) (opens : List Box) : Type 0 where

@@ -1,5 +1,6 @@
 //! The open boxes of a search, from one node to the next. The functions are empty and state what was proved of the definitions,
 //! so that no body here could be wrong; hence the crate has no must-fail edits.
+//! There is nothing to test.
 #![tactic(auto)]
 
 mod bound_laws;

@@ -138,7 +138,7 @@ fn put_init(out: &mut String, init: &Init) -> Result<(), AllocError> {
 }
 
 #[cycle(init)]
-#[tactic(auto, using(crate::proofs::Walked::lighter_inits))]
+#[tactic(auto, using(sopl_ast::proofs::Lighter::lighter_init))]
 fn put_inits(out: &mut String, parts: &[Init]) -> Result<(), AllocError> {
     'parts: for part in parts {
         out.push(' ')?;
@@ -182,7 +182,7 @@ fn put_body(out: &mut String, body: &[Cons]) -> Result<(), AllocError> {
 }
 
 #[cycle(cons)]
-#[tactic(auto, using(crate::proofs::Walked::lighter_conses))]
+#[tactic(auto, using(sopl_ast::proofs::Lighter::lighter_constraints))]
 fn put_conses(out: &mut String, conses: &[Cons]) -> Result<(), AllocError> {
     'conses: for cons in conses {
         out.push(' ')?;
@@ -192,7 +192,7 @@ fn put_conses(out: &mut String, conses: &[Cons]) -> Result<(), AllocError> {
 }
 
 #[cycle(cons)]
-#[tactic(auto, using(crate::proofs::Walked::lighter_conses))]
+#[tactic(auto, using(sopl_ast::proofs::Lighter::lighter_constraints))]
 fn put_cons(out: &mut String, cons: &Cons) -> Result<(), AllocError> {
     match cons {
         Cons::Forall(over, inner) => {

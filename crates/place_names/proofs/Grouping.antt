@@ -1,5 +1,6 @@
 -- The numbers of a name, added one by one.
-use Rattle.std.proofs.Common.{arith, ◌≡◌, refl, sym, ap, subst, ◌∙◌, ℕ, zero, suc, ◌+◌, ◌<◌, ◌≤◌, nat_lt, nat_eq, Bool, true, false, true≢false, not, cond, List, [], ◌∷◌, ◌++◌, length, map, get_or, drop, slice_get, Option, Some, None, is_some, option_map, Result, Ok, Err, OnOk, Bor}
+use Rattle.std.proofs.Common.{arith, ◌≡◌, refl, sym, ap, subst, ◌∙◌, ℕ, zero, suc, ◌+◌, ◌<◌, ◌≤◌, nat_lt, nat_eq, Bool, true, false, true≢false, not, cond, List, [], ◌∷◌, ◌++◌}
+use Rattle.std.proofs.Common.{length, map, get_or, drop, slice_get, Option, Some, None, is_some, option_map, Result, Ok, Err, OnOk, Bor}
 use Rattle.std.proofs.lemmas.Bool.{ltb-true}
 use Rattle.std.proofs.lemmas.Bool.Decides.{same_from_decides}
 use Rattle.std.proofs.lemmas.List.{at_drop_more, at_drop_all, append-nil, append_assoc, map-append}
@@ -11,9 +12,10 @@ use Rattle.std.specs.Option.{unwrap_or}
 use Rattle.std.specs.Str.{bytes_eq}
 use Rattle.std.specs.declared.alloc.Global.{Global}
 use Rattle.std.specs.declared.vec.Vec.{Vec}
+use Rattle.sopl_ast.specs.References.{now_of}
 use Rattle.indexmap.specs.IndexMap.{insert_entry, set_value_at}
 use Rattle.place_names.specs.declared.names.Names.{Names}
-use Rattle.place_names.specs.Grouped.{Group, group_of, now_of, numbers_in, numbers_of, with_number}
+use Rattle.place_names.specs.Grouped.{Group, group_of, numbers_in, numbers_of, with_number}
 
 abbrev Entry : Type 0
 Entry = Vec ℕ Global × Vec ℕ Global
@@ -73,7 +75,7 @@ first_at name es place at =
 abbrev behind : List ℕ → ℕ → List ℕ → List ℕ
 behind name number other = cond (bytes_eq other name) (number ∷ []) []
 
-same_name : (name other : List ℕ) → bytes_eq name other ≡ true → name ≡ other
+pub same_name : (name other : List ℕ) → bytes_eq name other ≡ true → name ≡ other
 same_name name other is = (bytes_eq-Decides name other).0 is
 
 bytes_sym : (xs ys : List ℕ) → bytes_eq xs ys ≡ bytes_eq ys xs

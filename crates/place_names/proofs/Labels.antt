@@ -2,8 +2,9 @@
 use Rattle.std.proofs.Common.{◌≡◌, sym, ap, ◌∙◌, ℕ, ◌+◌, ◌<◌, ◌≤◌, List, [], ◌∷◌, ◌++◌, length, map, get_or, drop, subst, Result, IfOk, Bor}
 use Rattle.std.proofs.lemmas.List.{at_drop_more, at_drop_all, append_assoc, append-nil, map-append}
 use Rattle.sopl_ast.specs.Instances.{Decision, Stochastic}
+use Rattle.sopl_ast.specs.References.{now_of}
 use Rattle.place_names.specs.declared.names.Names.{Names}
-use Rattle.place_names.specs.Grouped.{IsGrouped, now_of}
+use Rattle.place_names.specs.Grouped.{IsGrouped}
 use Rattle.place_names.specs.Variables.{decided_name, drawn_name}
 
 module _ {A : Type 0} (label : A → List ℕ) (xs : List A) (k : ℕ) where
@@ -34,5 +35,6 @@ pub decided_labels : (ds : List Decision) (k : ℕ) (names : List (Bor (List ℕ
 decided_labels = labels_end decided_name
 
 -- the same names
-pub grouped_either : {E : Type 0} (result : Result Names E) (names others : List (List ℕ)) → names ≡ others → IfOk result (λ grouped. IsGrouped grouped names) → IfOk result (λ grouped. IsGrouped grouped others)
+pub grouped_either : {E : Type 0} (result : Result Names E) (names others : List (List ℕ)) → names ≡ others → IfOk result (λ grouped. IsGrouped grouped names)
+    → IfOk result (λ grouped. IsGrouped grouped others)
 grouped_either result names others same grouped = subst (λ l. IfOk result (λ g. IsGrouped g l)) same grouped

@@ -1,4 +1,4 @@
-mod Grouping
+pub mod Grouping
 pub mod TreePlaces
 mod Listing
 mod Labels

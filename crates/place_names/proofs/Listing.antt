@@ -1,5 +1,6 @@
 -- The elements of a name, by where they come from.
-use Rattle.std.proofs.Common.{arith, ◌≡◌, refl, sym, ap, ◌∙◌, ℕ, zero, suc, ◌+◌, ◌<◌, ◌≤◌, ℤ, Bool, true, false, cond, List, [], ◌∷◌, ◌++◌, length, map, get_or, slice_index_or, drop, subst, Result, Ok, Err, OnOk}
+use Rattle.std.proofs.Common.{arith, ◌≡◌, refl, sym, ap, ◌∙◌, ℕ, zero, suc, ◌+◌, ◌<◌, ◌≤◌, ℤ, Bool, true, false, cond, List, [], ◌∷◌, ◌++◌, length, map, get_or, slice_index_or}
+use Rattle.std.proofs.Common.{drop, subst, Result, Ok, Err, OnOk}
 use Rattle.std.proofs.lemmas.List.{at_drop_more, at_drop_all, append_assoc, append-nil, map-append, length-map}
 use Rattle.std.specs.List.{filter, range_with_len}
 use Rattle.std.specs.Str.{bytes_eq}
@@ -180,7 +181,8 @@ fixed_at xs k d z old new below same is =
     (is ∙ ap (λ y. old ++ (record { index = (get_or xs k d).index; origin = Fixed y }) ∷ []) same)
 
 -- constants, whatever comes
-pub constants_either : {A B : Type 0} (result : Result A B) (old new : List Source) (name : List ℕ) (ks : List Constant) (elements : List ConstantElement) → map element_shown elements ≡ elements_named name ks
+pub constants_either : {A B : Type 0} (result : Result A B) (old new : List Source) (name : List ℕ) (ks : List Constant) (elements : List ConstantElement) → map element_shown elements
+    ≡ elements_named name ks
     → OnOk result ((tree : Layout) (i : ℕ) → map (entry_from tree i) new ≡ map (entry_from tree i) old ++ map constant_entry (map element_shown elements))
     → OnOk result ((tree : Layout) (i : ℕ) → map (entry_from tree i) new ≡ map (entry_from tree i) old ++ constant_elements name ks)
 constants_either (Ok x) old new name ks elements are listed =
@@ -194,5 +196,6 @@ pub sources_are : (a b d : List Source) (name : List ℕ) (known : Known) (ds : 
     → map (entry_from tree i) d ≡ elements (place_in ds ss tree i known) name
 sources_are a b d name known ds ss tree i ks same first second third =
     third
-    ∙ ap (λ l. l ++ decided_elements name ds (cells_at tree (length ds) i)) (second ∙ ap (λ l. l ++ seen_elements name ss (values_at tree (length ss) i)) (first ∙ ap (constant_elements name) (sym same)))
+    ∙ ap (λ l. l ++ decided_elements name ds (cells_at tree (length ds) i)) (second
+    ∙ ap (λ l. l ++ seen_elements name ss (values_at tree (length ss) i)) (first ∙ ap (constant_elements name) (sym same)))
     ∙ append_assoc (constant_elements name known.constants) (seen_elements name ss (values_at tree (length ss) i)) (decided_elements name ds (cells_at tree (length ds) i))

@@ -9,6 +9,7 @@ use Rattle.std.specs.declared.vec.Vec.{Vec}
 use Rattle.scenario_tree.specs.Layout.{Layout}
 use Rattle.sopl_ast.specs.Instances.{Decision, Stochastic}
 use Rattle.sopl_ast.specs.Known.{Constant, Known}
+use Rattle.sopl_ast.specs.References.{now_of}
 use Rattle.box_rules.specs.Terms.{Fixed}
 use Rattle.box_rules.specs.Arrays.{Entry}
 use Rattle.instantiation.specs.Instances.{elements, sets_of, table_of}
@@ -18,7 +19,6 @@ use Rattle.place_names.specs.declared.arrays.Array.{Array}
 use Rattle.place_names.specs.declared.origins.Origin.{Origin}
 use Rattle.place_names.specs.declared.origins.Source.{Source}
 use Rattle.place_names.specs.Tables.{index_shown, items_in, table_in}
-use Rattle.place_names.specs.Grouped.{now_of}
 use Rattle.place_names.specs.Places.{place_in}
 use Rattle.place_names.specs.Variables.{entry_from, item_from}
 

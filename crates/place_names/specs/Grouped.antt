@@ -1,6 +1,5 @@
 -- The numbers of what has a name.
 use Rattle.std.specs.Prelude.{ℕ, zero, suc, ◌+◌, ◌≡◌, List, [], ◌∷◌, ◌++◌, map, if◌then◌else◌}
-use Rattle.std.specs.Borrow.{Bor}
 use Rattle.std.specs.Map.{lookup}
 use Rattle.std.specs.Option.{unwrap_or}
 use Rattle.std.specs.Str.{bytes_eq}
@@ -13,10 +12,6 @@ abbrev pub numbers_of : List ℕ → ℕ → List (List ℕ) → List ℕ
 numbers_of name before [] = []
 numbers_of name before (other ∷ later) =
     if bytes_eq name other then before ∷ numbers_of name (before + 1) later else numbers_of name (before + 1) later
-
--- what a reference shows
-abbrev pub now_of : {A : Type 0} → Bor A → A
-now_of reference = reference.now
 
 -- a name and its numbers
 abbrev pub Group : Type 0

@@ -3,7 +3,8 @@
 ghost use Rattle.std.specs.Prelude.{◌≡◌, ◌≤◌, ◌^◌, ◌++◌, ◌∷◌, [], ℕ, List, None, length, map, IfOk, OnOk, if◌then◌else◌};
 ghost use Rattle.std.specs.Map.{lookup};
 ghost use Rattle.std.specs.Str.{bytes_eq};
-ghost use Rattle.place_names.specs.Grouped.{groups_in, IsGrouped, now_of, numbers_in, numbers_of, with_number};
+ghost use Rattle.sopl_ast.specs.References.{now_of};
+ghost use Rattle.place_names.specs.Grouped.{groups_in, IsGrouped, numbers_in, numbers_of, with_number};
 
 use indexmap::IndexMap;
 use sopl_ast::Name;

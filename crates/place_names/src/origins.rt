@@ -64,7 +64,8 @@ impl<'a> Setting<'a> {
     fn list_drawn(&self, name: &Name, found: &mut Vec<Source<'a>>) -> Result<(), AllocError>
         ensures elements { OnOk result ((tree : Layout) (i : ℕ) → map (entry_from tree i) found.new.items
             ≡ map (entry_from tree i) found.old.items ++ seen_elements name.now self.now.stochs.now (values_at tree (length self.now.stochs.now) i)) }
-        ensures there { OnOk result (AreThere (length self.now.stochs.now) (length self.now.decisions.now) found.old.items → AreThere (length self.now.stochs.now) (length self.now.decisions.now) found.new.items) }
+        ensures there { OnOk result (AreThere (length self.now.stochs.now) (length self.now.decisions.now) found.old.items
+            → AreThere (length self.now.stochs.now) (length self.now.decisions.now) found.new.items) }
     {
         let numbers = self.drawn.numbers(name);
         'numbers: for number in numbers {
@@ -78,7 +79,8 @@ impl<'a> Setting<'a> {
     fn list_decided(&self, name: &Name, found: &mut Vec<Source<'a>>) -> Result<(), AllocError>
         ensures elements { OnOk result ((tree : Layout) (i : ℕ) → map (entry_from tree i) found.new.items
             ≡ map (entry_from tree i) found.old.items ++ decided_elements name.now self.now.decisions.now (cells_at tree (length self.now.decisions.now) i)) }
-        ensures there { OnOk result (AreThere (length self.now.stochs.now) (length self.now.decisions.now) found.old.items → AreThere (length self.now.stochs.now) (length self.now.decisions.now) found.new.items) }
+        ensures there { OnOk result (AreThere (length self.now.stochs.now) (length self.now.decisions.now) found.old.items
+            → AreThere (length self.now.stochs.now) (length self.now.decisions.now) found.new.items) }
     {
         let numbers = self.decided.numbers(name);
         'numbers: for number in numbers {

@@ -1,7 +1,7 @@
 //! What stands in all scenarios of a problem.
 
 ghost use Rattle.std.specs.Prelude.{◌≡◌, ◌≤◌, ◌^◌, length, map, IfOk};
-ghost use Rattle.place_names.specs.Grouped.{IsGrouped, now_of};
+ghost use Rattle.place_names.specs.Grouped.{IsGrouped};
 ghost use Rattle.place_names.specs.Variables.{decided_name, drawn_name};
 
 use crate::names::Names;

@@ -1,7 +1,7 @@
 -- From points to policies.
 use Rattle.std.proofs.Common.{◌≡◌, ◌∙◌, sym, ap, subst, ℤ, pos, List, Some, unwrap_or}
 use Rattle.sopl_base.specs.Better.{IsBetter}
-use Rattle.sopl_base.specs.declared.places.Direction.{Direction}
+use Rattle.sopl_base.specs.declared.direction.Direction.{Direction}
 use Rattle.sopl_ast.specs.Cells.{cells, IsPoint, policy_at}
 use Rattle.sopl_ast.specs.Optimal.{Satisfies, numerator}
 use Rattle.sopl_ast.specs.Policies.{Policy}

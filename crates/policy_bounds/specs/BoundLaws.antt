@@ -4,7 +4,7 @@ use Rattle.sopl_ast.specs.Cells.{cells, policy_at}
 use Rattle.sopl_ast.specs.Optimal.{IsOptimal, IsInfeasible}
 use Rattle.sopl_ast.specs.Unfolding.{problem_of}
 use Rattle.sopl_ast.specs.Whole.{ModelTree}
-use Rattle.open_boxes.specs.Opens.{IsReached, NoneBetter, NoneSatisfies}
+use Rattle.box_problem.specs.Reached.{IsReached, NoneBetter, NoneSatisfies}
 use Rattle.instantiation.specs.WellMade.{IsUnfolded, searched}
 use Rattle.policy_bounds.specs.Bounds.{IsWorth, IsBoundOf}
 

@@ -1,5 +1,6 @@
 //! What a search knows of the points of a text is so of its policies: what is reached, and a bound. The functions are empty and state what was
 //! proved of the definitions, so that no body here could be wrong; hence the crate has no must-fail edits.
+//! There is nothing to test.
 #![tactic(auto)]
 
 ghost use Rattle.policy_bounds.specs.BoundLaws.{BoundsHold, ReachedIsWorth, UnbeatenIsBest, UnreachedIsNone};

@@ -1,28 +1,10 @@
--- The stages of decisions, and what is seen after a stage.
-use Rattle.std.proofs.Common.{◌≡◌, ◌+◌, ◌≤◌, ◌<◌, ◌++◌, ℕ, ℤ, List, [], ◌∷◌, length, max, get_or, take, arith, sym, ap, ◌∙◌}
-use Rattle.std.proofs.lemmas.List.{take_more}
-use Rattle.std.specs.List.{AllByRecursion}
+-- What is seen after a stage.
+use Rattle.std.proofs.Common.{◌+◌, ◌++◌, ℕ, ℤ, List}
 use Rattle.serde_json.specs.Data.{Data}
 use Rattle.sopl_ast.specs.Instances.{Decision, Stochastic}
 use Rattle.sopl_ast.specs.Policies.{Policy}
-use Rattle.unfold_laws.specs.Bounds.{IsBoundedDecision}
-use Rattle.policy_json.specs.Nodes.{branch_at, last_stage, node_at}
-
-last_stage_more : (ds : List Decision) (d : Decision) → last_stage (ds ++ d ∷ []) ≡ max (last_stage ds) d.stage
-last_stage_more [] d = omega arith
-last_stage_more (e ∷ ds) d = omega (arith, last_stage_more ds d)
-
--- the greatest stage of one more decision
-pub last_step : (ds : List Decision) (i : ℕ) (d : Decision) (last n : ℕ) → i < length ds → d ≡ get_or ds i d → n ≡ d.stage → last ≡ last_stage (take i ds) → max last n ≡ last_stage (take (i + 1) ds)
-last_step ds i d last n within is at so_far =
-    ap (λ m. max m n) so_far ∙ (ap (λ m. max (last_stage (take i ds)) m) at
-    ∙ (sym (last_stage_more (take i ds) d) ∙ sym (ap last_stage (take_more ds i d within ∙ ap (λ x. take i ds ++ x ∷ []) (sym is)))))
+use Rattle.policy_json.specs.Nodes.{branch_at, node_at}
 
 -- what is seen after a stage, where so many stages come after the next one
 abbrev pub branch_after : List Decision → List Stochastic → Policy → ℕ → ℕ → List ℤ → List ℤ → Data
 branch_after ds ss policy later stage seen values = branch_at stage ss values (node_at ds ss policy later (stage + 1) (seen ++ values))
-
--- a decision is of one of the 24 stages
-pub last_stage_few : (ds : List Decision) → AllByRecursion IsBoundedDecision ds → last_stage ds ≤ 24
-last_stage_few [] all = omega arith
-last_stage_few (d ∷ ds) all = omega (arith, all.0.stage.1, last_stage_few ds all.1)

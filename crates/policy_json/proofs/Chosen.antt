@@ -1,11 +1,11 @@
 -- The values that stochastic variables can have together, and what has been seen of them, stage by stage.
-use Rattle.std.proofs.Common.{◌≡◌, ◌≤◌, ◌<◌, ◌+◌, ◌++◌, ℕ, ℤ, pos, true, false, cond, nat_lt, nat_eq, List, [], ◌∷◌, length, map, All, ◌⊎◌, inl, inr, arith, refl, sym, ap, subst, ◌∙◌}
+use Rattle.std.proofs.Common.{◌≡◌, ◌≤◌, ◌<◌, ◌+◌, ◌++◌, ℕ, ℤ, pos, true, false, cond, nat_lt, List, [], ◌∷◌, length, map, All, ◌⊎◌, inl, inr, arith, refl, sym, ap, subst, ◌∙◌}
 use Rattle.std.proofs.lemmas.Bool.{cases_order}
-use Rattle.std.proofs.lemmas.Bool.Decides.{nat_tests}
 use Rattle.std.proofs.lemmas.List.Elements.{All-head, All-tail}
 use Rattle.sopl_ast.specs.Instances.{Outcome, Stochastic}
 use Rattle.sopl_ast.specs.Scenarios.{Scenario, preceded_by, scenarios}
 use Rattle.sopl_ast.specs.Histories.{history}
+use Rattle.history_blocks.proofs.Fronts.{below, differ, not_below, same}
 use Rattle.policy_tree.proofs.Members.{In, In-flat_map, In-map, from_flat_map, from_map}
 use Rattle.policy_json.specs.Nodes.{outcomes_after, seen_after}
 use Rattle.policy_json.specs.Staged.{Ascend}
@@ -75,19 +75,6 @@ history_seen stage s ss v vs h = ap (λ b. cond b (v ∷ history stage ss vs) (h
 history_unseen : (stage : ℕ) (s : Stochastic) (ss : List Stochastic) (v : ℤ) (vs : List ℤ) → nat_lt s.stage stage ≡ false → history stage (s ∷ ss) (v ∷ vs) ≡ history stage ss vs
 history_unseen stage s ss v vs h = ap (λ b. cond b (v ∷ history stage ss vs) (history stage ss vs)) h
 
-below : (a b : ℕ) → a < b → nat_lt a b ≡ true
-below a b h = grind (arith, nat_tests)
-
-not_below : (a b : ℕ) → b ≤ a → nat_lt a b ≡ false
-not_below a b h = grind (arith, nat_tests)
-
-same : (a b : ℕ) → a ≡ b → nat_eq a b ≡ true
-same a b h = grind (arith, nat_tests)
-
-differ : (a b : ℕ) → (a < b) ⊎ (b < a) → nat_eq a b ≡ false
-differ a b (inl h) = grind (arith, nat_tests)
-differ a b (inr h) = grind (arith, nat_tests)
-
 -- before the first stage nothing has been seen
 pub none_seen : (stage from : ℕ) (ss : List Stochastic) (vs : List ℤ) → Ascend from ss → stage ≤ from → history stage ss vs ≡ []
 none_seen stage from [] vs a h = refl
@@ -108,7 +95,8 @@ next_chosen stage from [] (v ∷ vs) ws a c d = absurd c
 next_chosen stage from (s ∷ ss) [] ws a c d = absurd c
 next_chosen stage from (s ∷ ss) (v ∷ vs) ws a c d =
     elim (cases_order s.stage stage) [
-      | inl here ↦ seen_now here ws (subst (λ b. AreChosen (cond b (s ∷ seen_after stage ss) (seen_after stage ss)) ws) (same s.stage stage here) d) (λ zs e. next_chosen stage s.stage ss vs zs a.1 c.1 e)
+      | inl here ↦ seen_now here ws (subst (λ b. AreChosen (cond b (s ∷ seen_after stage ss) (seen_after stage ss)) ws) (same s.stage stage here) d)
+          (λ zs e. next_chosen stage s.stage ss vs zs a.1 c.1 e)
       | inr (inl earlier) ↦ seen_before earlier (next_chosen stage s.stage ss vs ws a.1 c.1 (passed (inl earlier)))
       | inr (inr later) ↦ seen_later later (next_chosen stage s.stage ss vs ws a.1 c.1 (passed (inr later)))
     ]

@@ -1,5 +1,6 @@
 -- The JSON of a policy has the values that the policy holds.
-use Rattle.std.proofs.Common.{◌≡◌, ◌+◌, ◌-◌, ◌++◌, ℕ, zero, suc, arith, nat_eq, ℤ, pos, true, List, [], ◌∷◌, map, slice_get, Option, Some, None, IfSome, is_some, unwrap_or, option_map, inl, inr, refl, sym, ap, subst, ◌∙◌}
+use Rattle.std.proofs.Common.{◌≡◌, ◌+◌, ◌-◌, ◌++◌, ℕ, zero, suc, arith, nat_eq, ℤ, pos, true, List, [], ◌∷◌, map, slice_get, Option, Some, None, IfSome, is_some, unwrap_or}
+use Rattle.std.proofs.Common.{option_map, inl, inr, refl, sym, ap, subst, ◌∙◌}
 use Rattle.std.specs.List.{enumerate_from}
 use Rattle.std.specs.FinMap.{get}
 use Rattle.std.proofs.Math.Nat.{zero-add}
@@ -12,7 +13,8 @@ use Rattle.sopl_ast.specs.Policies.{Policy, IsKey, IsPolicy}
 use Rattle.sopl_ast.specs.Numbers.{all_of, both_of}
 use Rattle.policy_tree.proofs.Members.{In, Contains-In, from_enumerate, from_filter}
 use Rattle.entry_json.specs.Entries.{entry_of}
-use Rattle.policy_json.specs.Nodes.{branch_at, decide_of, decision_entry, last_stage, node_at, node_of, numbered_in_stage, outcomes_after, outermost_node, policy_data}
+use Rattle.entry_json.specs.Stages.{last_stage}
+use Rattle.policy_json.specs.Nodes.{branch_at, decide_of, decision_entry, node_at, node_of, numbered_in_stage, outcomes_after, outermost_node, policy_data}
 use Rattle.policy_json.specs.Held.{held_data, held_decide, held_entry, held_node_at, held_outermost}
 use Rattle.policy_json.specs.Staged.{IsStaged}
 use Rattle.policy_json.proofs.Chosen.{AreChosen, Next, any_chosen, next_chosen, none_seen, outcome_chosen, scenario_of}
@@ -46,20 +48,23 @@ decide_same ds policy stage seen =
     (λ (nd : ℕ × Decision). read_same (entry_of nd.1.name nd.1.index) (get policy (nd.0, seen)))
 
 -- a node is that of the values that the policy holds, where it holds all of them
-node_same : (ds : List Decision) (ss : List Stochastic) (policy : Policy) (later stage : ℕ) (seen : List ℤ) → IfSome (held_node_at ds ss policy later stage seen) (λ node. node_at ds ss policy later stage seen ≡ node)
+node_same : (ds : List Decision) (ss : List Stochastic) (policy : Policy) (later stage : ℕ) (seen : List ℤ)
+    → IfSome (held_node_at ds ss policy later stage seen) (λ node. node_at ds ss policy later stage seen ≡ node)
 node_same ds ss policy zero stage seen =
     map_same (λ decide. node_of decide []) (held_decide ds policy stage seen) (decide_of ds policy stage seen) (decide_same ds policy stage seen)
 node_same ds ss policy (suc later) stage seen =
     both_same node_of (held_decide ds policy stage seen) (all_of (held_branch later) (outcomes_after stage ss))
     (decide_of ds policy stage seen) (map (branch_after ds ss policy later stage seen) (outcomes_after stage ss)) (decide_same ds policy stage seen)
     (all_same (held_branch later) (branch_after ds ss policy later stage seen) (outcomes_after stage ss)
-    (λ values. map_same (branch_at stage ss values) (held_node_at ds ss policy later (stage + 1) (seen ++ values)) (node_at ds ss policy later (stage + 1) (seen ++ values)) (node_same ds ss policy later (stage + 1) (seen ++ values))))
+    (λ values. map_same (branch_at stage ss values) (held_node_at ds ss policy later (stage + 1) (seen ++ values)) (node_at ds ss policy later (stage + 1) (seen ++ values))
+    (node_same ds ss policy later (stage + 1) (seen ++ values))))
   where
     held_branch : ℕ → List ℤ → Option Data
     held_branch later values = option_map (branch_at stage ss values) (held_node_at ds ss policy later (stage + 1) (seen ++ values))
 
 -- data that are a node's are those of the values that the policy holds, where it holds all of them
-shown_same : (ds : List Decision) (ss : List Stochastic) (policy : Policy) (later stage : ℕ) (seen : List ℤ) (shown : Data) → shown ≡ node_at ds ss policy later stage seen → IfSome (held_node_at ds ss policy later stage seen) (λ node. shown ≡ node)
+shown_same : (ds : List Decision) (ss : List Stochastic) (policy : Policy) (later stage : ℕ) (seen : List ℤ) (shown : Data) → shown ≡ node_at ds ss policy later stage seen
+    → IfSome (held_node_at ds ss policy later stage seen) (λ node. shown ≡ node)
 shown_same ds ss policy later stage seen shown is =
     let P : Data → Type 0 = λ d. IfSome (held_node_at ds ss policy later stage seen) (λ node. d ≡ node) in
     subst P (sym is) (node_same ds ss policy later stage seen)
@@ -85,7 +90,8 @@ abbrev IsSeen : Problem → ℕ → List ℤ → Type 0
 IsSeen problem stage seen = (vs : List ℤ) × AreChosen problem.stochastics vs × (history stage problem.stochastics vs ≡ seen)
 
 -- a decision of the stage with such a history is a key
-is_key : (problem : Problem) (number stage : ℕ) (d : Decision) (seen : List ℤ) → slice_get problem.decisions number ≡ Some d → d.stage ≡ stage → IsSeen problem stage seen → IsKey problem (number, seen)
+is_key : (problem : Problem) (number stage : ℕ) (d : Decision) (seen : List ℤ) → slice_get problem.decisions number ≡ Some d → d.stage ≡ stage → IsSeen problem stage seen
+    → IsKey problem (number, seen)
 is_key problem number stage d seen decided here (vs, chosen, is) =
     let from : (x : Scenario) × In x (scenarios problem.stochastics) × (x.values ≡ vs) = scenario_of problem.stochastics vs chosen in
     record {
@@ -112,7 +118,8 @@ decide_there problem policy stage seen is possible =
         ((is.keys (number, seen)).1 (is_key problem number stage d seen decided (eqb-true d.stage stage kept.1) possible))
 
 -- what may be seen next, at such a history of a stage, makes one of the next stage
-next_seen : (problem : Problem) (stage : ℕ) (seen values : List ℤ) → IsStaged problem → IsSeen problem stage seen → In values (outcomes_after stage problem.stochastics) → IsSeen problem (stage + 1) (seen ++ values)
+next_seen : (problem : Problem) (stage : ℕ) (seen values : List ℤ) → IsStaged problem → IsSeen problem stage seen → In values (outcomes_after stage problem.stochastics)
+    → IsSeen problem (stage + 1) (seen ++ values)
 next_seen problem stage seen values staged (vs, chosen, is) within =
     let next : Next stage problem.stochastics vs values =
     next_chosen stage 1 problem.stochastics vs values staged.ascending chosen (outcome_chosen stage problem.stochastics values within) in

@@ -1,5 +1,6 @@
 -- The nodes that the program makes are those of the policy.
-use Rattle.std.proofs.Common.{◌≡◌, ◌+◌, ◌-◌, ◌*◌, ◌≤◌, ◌<◌, ◌++◌, ℕ, zero, suc, ℤ, pos, nat_lt, false, cond, List, [], ◌∷◌, length, map, get_or, slice_get, Some, unwrap_or, inl, inr, arith, refl, sym, ap, subst, ◌∙◌}
+use Rattle.std.proofs.Common.{◌≡◌, ◌+◌, ◌-◌, ◌*◌, ◌≤◌, ◌<◌, ◌++◌, ℕ, zero, suc, ℤ, pos, nat_lt, false, cond, List, [], ◌∷◌, length, map, get_or, slice_get, Some, unwrap_or, inl}
+use Rattle.std.proofs.Common.{inr, arith, refl, sym, ap, subst, ◌∙◌}
 use Rattle.std.specs.List.{AllByRecursion, enumerate_from, range_with_len}
 use Rattle.std.specs.FinMap.{get}
 use Rattle.std.proofs.lemmas.Bool.{eqb-true}
@@ -25,11 +26,13 @@ use Rattle.history_blocks.proofs.Rows.{row_long}
 use Rattle.history_blocks.proofs.Fronts.{of_stage_at, seen_next, seen_within}
 use Rattle.history_blocks.proofs.Blocks.{block_history, block_values, block_within, blocks_divide, blocks_fill, history_long, history_next, next_within, rows_long, some_histories}
 use Rattle.history_blocks.proofs.Histories.{row_is}
-use Rattle.entry_json.specs.Entries.{entry_of}
-use Rattle.policy_json.specs.Nodes.{branch_of, decide_of, decided_at, decision_entry, last_stage, node_at, node_of, numbered_in_stage, outcomes_after, seen_after, seen_entries}
+use Rattle.entry_json.specs.Entries.{entry_of, seen_entries}
+use Rattle.policy_json.specs.Nodes.{branch_of, decide_of, decided_at, decision_entry, node_at, node_of, numbered_in_stage, outcomes_after, seen_after}
 use Rattle.policy_json.specs.Stages.{number_in, numbers_of}
 use Rattle.policy_json.specs.Steps.{Parts, IsReady, block_in, branch_in, branches_in, decide_in, decided_in, drawn_in, first_in, no_decision, no_variable, node_in, seen_in, shown_in}
-use Rattle.policy_json.proofs.Branches.{branch_after, last_stage_few}
+use Rattle.entry_json.proofs.LastStages.{last_stage_few}
+use Rattle.entry_json.specs.Stages.{last_stage}
+use Rattle.policy_json.proofs.Branches.{branch_after}
 use Rattle.policy_json.proofs.Numbers.{IsNumbered, from_numbered}
 use Rattle.policy_json.proofs.Ready.{block_same, bounded, branches_same, no_scenario, orderly, tree_of, values_many}
 

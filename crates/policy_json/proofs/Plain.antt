@@ -1,5 +1,5 @@
 -- No float stands in a policy.
-use Rattle.std.proofs.Common.{◌≡◌, ◌+◌, ◌-◌, ◌++◌, ap, ◌∙◌, ℕ, zero, suc, ℤ, pos, negsuc, List, [], ◌∷◌, map, false, refl}
+use Rattle.std.proofs.Common.{◌≡◌, ◌+◌, ◌-◌, ◌++◌, ap, ◌∙◌, ℕ, zero, suc, ℤ, List, [], map, false, refl}
 use Rattle.std.specs.List.{zip, enumerate_from}
 use Rattle.std.proofs.lemmas.Bool.{or_from}
 use Rattle.serde_json.specs.Data.{Data}
@@ -7,23 +7,11 @@ use Rattle.serde_json.specs.View.{items_of}
 use Rattle.serde_json.specs.Written.{has_float, items_have_float}
 use Rattle.sopl_ast.specs.Instances.{Decision, Stochastic}
 use Rattle.sopl_ast.specs.Policies.{Policy}
-use Rattle.entry_json.specs.Entries.{entry_of, whole_number}
-use Rattle.policy_json.specs.Nodes.{decide_of, decided_at, decision_entry, last_stage, node_at, node_of, numbered_in_stage, outcomes_after, outermost_node, seen_after, seen_entries}
+use Rattle.entry_json.proofs.Plain.{entry_plain, map_plain}
+use Rattle.entry_json.specs.Entries.{entry_of, seen_entries}
+use Rattle.entry_json.specs.Stages.{last_stage}
+use Rattle.policy_json.specs.Nodes.{decide_of, decided_at, decision_entry, node_at, node_of, numbered_in_stage, outcomes_after, outermost_node, seen_after}
 use Rattle.policy_json.proofs.Branches.{branch_after}
-
--- a whole number is no float
-number_plain : (z : ℤ) → has_float (whole_number z) ≡ false
-number_plain (pos n) = refl
-number_plain (negsuc n) = refl
-
--- a list of data without floats
-map_plain : {X : Type 0} (f : X → Data) → ((x : X) → has_float (f x) ≡ false) → (xs : List X) → items_have_float (items_of (map f xs)) ≡ false
-map_plain f plain [] = refl
-map_plain f plain (x ∷ xs) = or_from _ _ (plain x) (map_plain f plain xs)
-
--- an entry
-entry_plain : (name : List ℕ) (index : List ℤ) (value : ℤ) → has_float (entry_of name index value) ≡ false
-entry_plain name index value = or_from _ _ (map_plain whole_number number_plain index) (or_from _ _ (number_plain value) refl)
 
 -- the decisions of a node
 decide_plain : (ds : List Decision) (policy : Policy) (stage : ℕ) (seen : List ℤ) → items_have_float (items_of (decide_of ds policy stage seen)) ≡ false
@@ -45,7 +33,8 @@ node_plain ds ss policy zero stage seen =
     members_plain (decide_of ds policy stage seen) [] (decide_plain ds policy stage seen) refl
 node_plain ds ss policy (suc later) stage seen =
     members_plain (decide_of ds policy stage seen) (map (branch_after ds ss policy later stage seen) (outcomes_after stage ss)) (decide_plain ds policy stage seen)
-    (map_plain (branch_after ds ss policy later stage seen) (λ values. or_from _ _ (seen_plain (seen_after stage ss) values) (or_from _ _ (node_plain ds ss policy later (stage + 1) (seen ++ values)) refl)) (outcomes_after stage ss))
+    (map_plain (branch_after ds ss policy later stage seen) (λ values.
+    or_from _ _ (seen_plain (seen_after stage ss) values) (or_from _ _ (node_plain ds ss policy later (stage + 1) (seen ++ values)) refl)) (outcomes_after stage ss))
 
 -- the outermost node
 pub outermost_plain : (ds : List Decision) (ss : List Stochastic) (policy : Policy) (shown : Data) → shown ≡ outermost_node ds ss policy → has_float shown ≡ false

@@ -7,7 +7,8 @@ use Rattle.sopl_ast.specs.Instances.{Decision, Stochastic, Problem}
 use Rattle.sopl_ast.specs.Policies.{Policy}
 use Rattle.sopl_ast.specs.Numbers.{all_of, both_of}
 use Rattle.entry_json.specs.Entries.{entry_of}
-use Rattle.policy_json.specs.Nodes.{branch_at, last_stage, node_of, numbered_in_stage, outcomes_after}
+use Rattle.entry_json.specs.Stages.{last_stage}
+use Rattle.policy_json.specs.Nodes.{branch_at, node_of, numbered_in_stage, outcomes_after}
 
 -- the entry of a decision, with its number, at a history, where the policy holds a value for it
 abbrev pub held_entry : Policy → List ℤ → ℕ × Decision → Option Data

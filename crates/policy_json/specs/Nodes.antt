@@ -1,12 +1,13 @@
 -- A policy as nested JSON: a node for each stage and history, with what is decided there and what may be seen next.
-use Rattle.std.specs.Prelude.{ℕ, ◌+◌, ◌-◌, zero, suc, ℤ, pos, List, [], ◌∷◌, ◌++◌, map, filter, codes, max, nat_eq, unwrap_or}
-use Rattle.std.specs.List.{zip, enumerate_from}
+use Rattle.std.specs.Prelude.{ℕ, ◌+◌, ◌-◌, zero, suc, ℤ, pos, List, [], ◌++◌, map, filter, codes, nat_eq, unwrap_or}
+use Rattle.std.specs.List.{enumerate_from}
 use Rattle.std.specs.FinMap.{get}
 use Rattle.serde_json.specs.Data.{Data, object, no_members, member}
 use Rattle.sopl_ast.specs.Instances.{Decision, Stochastic, Problem}
 use Rattle.sopl_ast.specs.Scenarios.{Scenario, scenarios}
 use Rattle.sopl_ast.specs.Policies.{Policy}
-use Rattle.entry_json.specs.Entries.{entry_of, list_of}
+use Rattle.entry_json.specs.Entries.{entry_of, list_of, seen_entries}
+use Rattle.entry_json.specs.Stages.{last_stage}
 
 -- what a policy decides for the decision with this number, counted from 0, at a history; 0 where it decides nothing. No node of a policy
 -- of a problem that comes by stage shows that 0: this is the law `held_throughout`
@@ -34,10 +35,6 @@ seen_after stage stochastics = filter (λ (s : Stochastic). nat_eq s.stage stage
 abbrev pub outcomes_after : ℕ → List Stochastic → List (List ℤ)
 outcomes_after stage stochastics = map (λ (s : Scenario). s.values) (scenarios (seen_after stage stochastics))
 
--- an entry for each stochastic variable, with its value
-abbrev pub seen_entries : List Stochastic → List ℤ → List Data
-seen_entries stochastics values = map (λ (s : Stochastic × ℤ). entry_of s.0.name s.0.index s.1) (zip stochastics values)
-
 -- a node: what is decided, and what may be seen next
 abbrev pub node_of : List Data → List Data → Data
 node_of decide next = object (member (codes "decide") (list_of decide) (member (codes "next") (list_of next) no_members))
@@ -58,11 +55,6 @@ node_at decisions stochastics policy (suc later) stage seen =
     node_of (decide_of decisions policy stage seen)
     (map (λ values. branch_at stage stochastics values (node_at decisions stochastics policy later (stage + 1) (seen ++ values)))
     (outcomes_after stage stochastics))
-
--- the greatest stage of a decision; 1 where there is none
-abbrev pub last_stage : List Decision → ℕ
-last_stage [] = 1
-last_stage (d ∷ later) = max d.stage (last_stage later)
 
 -- the outermost node: stage 1, before anything is seen
 abbrev pub outermost_node : List Decision → List Stochastic → Policy → Data

@@ -9,7 +9,7 @@ ghost use Rattle.sopl_ast.specs.Instances.{names_in};
 ghost use Rattle.sopl_ast.specs.Pieces.{is_word};
 ghost use Rattle.scenario_tree.specs.Layout.{AreStated, IsTreeOf, cells_for, count_in};
 ghost use Rattle.policy_json.specs.Held.{held_outermost};
-ghost use Rattle.policy_json.specs.Nodes.{branch_of, last_stage, node_of, outermost_node};
+ghost use Rattle.policy_json.specs.Nodes.{branch_of, node_of, outermost_node};
 ghost use Rattle.policy_json.specs.Steps.{IsReady, block_in, node_in, parts_in, shown_in};
 
 use crate::blocks::Blocks;
@@ -17,6 +17,7 @@ use crate::decided::decide_list;
 use crate::point::Point;
 use crate::seen::seen_list;
 use crate::stages::stages;
+use entry_json::greatest_stage;
 use scenario_tree::Tree;
 use serde_json::{Value, json};
 use std::alloc::{AllocError, Global};
@@ -58,18 +59,6 @@ fn outermost(alloc: Global, point: &Point<'_>) -> Result<Value, AllocError>
 {
     let later = greatest_stage(point.decisions) - 1;
     node_value(alloc, point, later, 1, 0)
-}
-
-/// The greatest stage of a decision; 1 where there is none.
-fn greatest_stage(decisions: &[DecisionItem]) -> u32
-    ensures stage { result ≡ last_stage decisions.now }
-    ensures from { 1 ≤ result }
-{
-    let mut last: u32 = 1;
-    'decisions: for decision in decisions {
-        last = last.max(decision.stage);
-    }
-    last
 }
 
 /// The node of a stage and of the history that a scenario is the first of, where so many stages come after it.

@@ -1,15 +1,13 @@
 //! What each stage has: its decisions and its stochastic variables.
 
 ghost use Rattle.std.specs.Prelude.{◌≡◌, ◌≤◌, ◌<◌, ◌^◌, length, IfOk};
-ghost use Rattle.scenario_laws.specs.Laws.{seen_before};
 ghost use Rattle.policy_json.specs.Stages.{all_stages, numbers_of, stage_in};
 
+use scenario_tree::seen_before;
+use sopl_base::limits;
 use std::alloc::{AllocError, Global};
 use std::marker::Model;
 use unfold_variables::{DecisionItem, StochItem};
-
-/// The greatest stage.
-const LAST_STAGE: u32 = 24;
 
 /// A stage: the numbers of its decisions; and its stochastic variables, which stand together, from the
 /// first up to the end.
@@ -38,7 +36,7 @@ pub(crate) fn stages(
     ensures { IfOk result (λ found. found.items ≡ all_stages decisions.now stochs.now) }
 {
     let mut found = Vec::new(alloc);
-    'stages: for stage in 1..LAST_STAGE + 1 {
+    'stages: for stage in 1..limits::STAGE + 1 {
         found.push(stage_at(alloc, stage, decisions, stochs)?)?;
     }
     Ok(found)
@@ -76,16 +74,4 @@ fn numbers_of(alloc: Global, stage: u32, decisions: &[DecisionItem]) -> Result<V
         found.push(number as u32)?;
     }
     Ok(found)
-}
-
-/// How many variables come before the first whose stage is not below this one.
-fn seen_before(stage: u32, stochs: &[StochItem]) -> usize
-    ensures { result ≡ seen_before stage stochs.now }
-{
-    'stochs: for (i, stoch) in stochs.iter().enumerate() {
-        if stoch.stage >= stage {
-            return i;
-        }
-    }
-    stochs.len()
 }

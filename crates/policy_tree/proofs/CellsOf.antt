@@ -22,7 +22,7 @@ pub record IsCell (problem : Problem) (cell : Cell) : Type 0 where
   pub hi : cell.hi ≡ decision.hi
   pub seen : In cell.key.1 (histories decision.stage problem.stochastics)
 
-abbrev made : ℕ → Decision → List ℤ → Cell
+abbrev pub made : ℕ → Decision → List ℤ → Cell
 made number d seen = record { key = (number, seen); lo = d.lo; hi = d.hi }
 
 pub cell_is : (problem : Problem) (cell : Cell) → In cell (cells problem) → IsCell problem cell

@@ -3,13 +3,13 @@ use Rattle.std.proofs.Common.{◌≡◌, refl, sym, ℤ, pos, negsuc, neg_ℤ, �
 use Rattle.std.specs.Ordering.{int_eq}
 use Rattle.std.specs.Cmp.{signed_Decides}
 use Rattle.std.specs.FinMap.{get}
-use Rattle.sopl_base.specs.declared.places.CmpOp.TheVariants.{Eq}
+use Rattle.sopl_base.specs.declared.comparison.CmpOp.TheVariants.{Eq}
 use Rattle.sopl_ast.specs.Policies.{Key, Policy}
 use Rattle.sopl_ast.specs.Meanings.{compared}
 use Rattle.sopl_ast.specs.Cells.{cells, policy_at}
 use Rattle.sopl_ast.specs.Optimal.{numerator, IsInfeasible}
 use Rattle.sopl_ast.specs.Scenarios.{Scenario}
-use Rattle.policy_tree.specs.Worked.{ordering, ordering_worth, guessing, hard}
+use Rattle.policy_tree.specs.WorkedOptima.{ordering, ordering_worth, guessing, hard}
 use Rattle.policy_tree.proofs.Bijection.{value_at}
 
 -- the key of x

@@ -1,5 +1,6 @@
 -- Which elements a list has, by recursion over the list.
-use Rattle.std.proofs.Common.{◌≡◌, refl, sym, ap, subst, ◌∙◌, ℕ, zero, suc, ◌+◌, Bool, true, false, cond, List, [], ◌∷◌, ◌++◌, map, ◌⊎◌, inl, inr, Contains, filter, flat_map, slice_get, Some, arith, add-zero}
+use Rattle.std.proofs.Common.{◌≡◌, refl, sym, ap, subst, ◌∙◌, ℕ, zero, suc, ◌+◌, Bool, true, false, cond, List, [], ◌∷◌, ◌++◌, map, ◌⊎◌, inl, inr, Contains, filter, flat_map}
+use Rattle.std.proofs.Common.{slice_get, Some, arith, add-zero}
 use Rattle.std.specs.List.{enumerate_from}
 
 -- x is an element of the list

@@ -1,3 +1,3 @@
 pub mod Best
 pub mod Seen
-pub mod Worked
+pub mod WorkedOptima

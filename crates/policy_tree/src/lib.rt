@@ -1,5 +1,6 @@
 //! Points of the cells and policies are one to one, and what a search of the points says of the policies.
 //! There are no must-fail edits, since no body here could be wrong: the laws are over definitions alone.
+//! There is nothing to test.
 #![tactic(auto)]
 
 mod one_to_one;

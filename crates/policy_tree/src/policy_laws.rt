@@ -1,6 +1,6 @@
 ghost use Rattle.std.specs.Prelude.{◌≡◌, ◌≢◌, ℕ, ℤ, List};
 ghost use Rattle.sopl_base.specs.Better.{IsBetter};
-ghost use Rattle.sopl_base.specs.declared.places.Direction.TheVariants.{Nothing};
+ghost use Rattle.sopl_base.specs.declared.direction.Direction.TheVariants.{Nothing};
 ghost use Rattle.sopl_ast.specs.Instances.{Binding, Problem};
 ghost use Rattle.sopl_ast.specs.Scenarios.{Scenario};
 ghost use Rattle.sopl_ast.specs.Policies.{Policy};

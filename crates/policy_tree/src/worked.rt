@@ -1,7 +1,7 @@
 ghost use Rattle.std.specs.Prelude.{◌≡◌, pos, negsuc, map, Some};
 ghost use Rattle.sopl_ast.specs.Cells.{Cell, cells};
 ghost use Rattle.sopl_ast.specs.Optimal.{IsInfeasible};
-ghost use Rattle.policy_tree.specs.Worked.{ordering, ordering_keys, ordering_worth, guessing};
+ghost use Rattle.policy_tree.specs.WorkedOptima.{ordering, ordering_keys, ordering_worth, guessing};
 
 /// The cells and some values of `ordering`, and that `guessing` has no policy that satisfies.
 /// `negsuc 1` is -2.

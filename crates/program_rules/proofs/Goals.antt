@@ -2,8 +2,8 @@
 use Rattle.std.proofs.Common.{refl, arith, zero, ℤ, pos, Bool, true, false, if◌then◌else◌, List, [], ◌∷◌, All, Option, Some, None, IsSome, IfSome}
 use Rattle.std.proofs.lemmas.Int.{ints}
 use Rattle.std.specs.List.{AllByRecursion}
-use Rattle.sopl_base.specs.declared.places.Direction.{Direction}
-use Rattle.sopl_base.specs.declared.places.Direction.TheVariants.{Minimize, Maximize, Nothing}
+use Rattle.sopl_base.specs.declared.direction.Direction.{Direction}
+use Rattle.sopl_base.specs.declared.direction.Direction.TheVariants.{Minimize, Maximize, Nothing}
 use Rattle.box_problem.specs.Box.{Box, IsBox, InBox, IsPoint}
 use Rattle.box_rules.specs.declared.answers.Defined.{Defined}
 use Rattle.box_rules.specs.declared.answers.Defined.TheVariants.{Never, Maybe, Always}
@@ -54,7 +54,8 @@ one_worse Maximize a c p q = one_least a c p q
 one_worse Nothing a c p q = p
 
 module _ (root b : Box) (point : List ℤ) (is_box : IsBox b) (inside : InBox b point) where
-  expected_read : (weights : List ℤ) (terms : List Term) → AllByRecursion IsProper terms → IsRead point (expected_value point weights terms) (expected_form root weights terms) (expected_atoms root b weights terms) (expected_mark root b weights terms)
+  expected_read : (weights : List ℤ) (terms : List Term) → AllByRecursion IsProper terms
+      → IsRead point (expected_value point weights terms) (expected_form root weights terms) (expected_atoms root b weights terms) (expected_mark root b weights terms)
   expected_read [] terms proper = read_number point (pos 0)
   expected_read (weight ∷ weights) [] proper = read_number point (pos 0)
   expected_read (weight ∷ weights) (term ∷ later) proper =
@@ -70,7 +71,8 @@ module _ (root b : Box) (point : List ℤ) (is_box : IsBox b) (inside : InBox b 
   worst_lies direction [] proper = tt
   worst_lies direction (last ∷ []) proper = values_lie Near root b point last is_box inside proper.0
   worst_lies direction (first ∷ second ∷ later) proper =
-      both_hold (worse direction) (λ z. Lies z (interval Near root b first)) (λ z. Lies z (worst_ends direction root b (second ∷ later))) (λ z. Lies z (worst_ends direction root b (first ∷ second ∷ later)))
+      both_hold (worse direction) (λ z. Lies z (interval Near root b first)) (λ z. Lies z (worst_ends direction root b (second ∷ later)))
+      (λ z. Lies z (worst_ends direction root b (first ∷ second ∷ later)))
       (value point first) (worst_value (worse direction) point (second ∷ later))
       (λ x y p q. worse_lies direction x y (interval Near root b first) (worst_ends direction root b (second ∷ later)) p q)
       (values_lie Near root b point first is_box inside proper.0) (worst_lies direction (second ∷ later) proper.1)

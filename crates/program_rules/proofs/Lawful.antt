@@ -1,14 +1,15 @@
 -- A search may go by what closes a box.
-use Rattle.std.proofs.Common.{◌≡◌, refl, sym, ap, ◌∙◌, arith, ℕ, ◌<◌, ◌≤◌, ℤ, pos, ◌*ℤ◌, ◌≤ℤ◌, int_lt, true, false, List, [], ◌∷◌, ◌++◌, length, map, All, Contains, Option, Some, None, IsSome, IfSome, IsTrue, option_and_then, unwrap_or, slice_get}
+use Rattle.std.proofs.Common.{◌≡◌, refl, sym, ap, ◌∙◌, arith, ℕ, ◌<◌, ◌≤◌, ℤ, pos, ◌*ℤ◌, ◌≤ℤ◌, int_lt, true, false, List, [], ◌∷◌, ◌++◌, length, map, All, Contains, Option, Some}
+use Rattle.std.proofs.Common.{None, IsSome, IfSome, IsTrue, option_and_then, unwrap_or, slice_get}
 use Rattle.std.proofs.lemmas.Int.{ints}
 use Rattle.std.proofs.lemmas.List.Elements.{Contains-append_left, Contains-append_right}
 use Rattle.std.proofs.lemmas.Option.{slice_get_within}
 use Rattle.std.specs.List.{AllByRecursion, flat_map}
 use Rattle.std.specs.Option.{option_map_or}
-use Rattle.sopl_base.specs.declared.places.Direction.{Direction}
-use Rattle.sopl_base.specs.declared.places.Direction.TheVariants.{Minimize, Maximize, Nothing}
-use Rattle.sopl_base.specs.declared.places.Reason.{Reason}
-use Rattle.sopl_base.specs.declared.places.Reason.TheVariants.{Hard, Chance, Undefined, Bound}
+use Rattle.sopl_base.specs.declared.direction.Direction.{Direction}
+use Rattle.sopl_base.specs.declared.direction.Direction.TheVariants.{Minimize, Maximize, Nothing}
+use Rattle.sopl_base.specs.declared.reason.Reason.{Reason}
+use Rattle.sopl_base.specs.declared.reason.Reason.TheVariants.{Hard, Chance, Undefined, Bound}
 use Rattle.sopl_base.specs.Better.{IsBetter}
 use Rattle.box_problem.specs.Box.{Box, IsBox, InBox, IsPoint}
 use Rattle.box_problem.specs.BoxProblem.{Beats, Follows, Lawful}
@@ -67,7 +68,8 @@ closed_later Minimize a x w not_better closed = grind (arith, ints)
 closed_later Maximize a x w not_better closed = grind (arith, ints)
 closed_later Nothing a x w not_better closed = refl
 
-later_bound : (direction : Direction) (a : Ends) (v w : Option ℤ) → Follows direction v w → option_map_or (none_better direction a) w false ≡ true → option_map_or (none_better direction a) v false ≡ true
+later_bound : (direction : Direction) (a : Ends) (v w : Option ℤ) → Follows direction v w → option_map_or (none_better direction a) w false ≡ true
+    → option_map_or (none_better direction a) v false ≡ true
 later_bound direction a v None follows closed = absurd (cc)
 later_bound direction a None (Some w) follows closed = absurd follows
 later_bound direction a (Some x) (Some w) follows closed = closed_later direction a x w follows closed
@@ -166,7 +168,8 @@ module _ (root : Box) (terms : ProblemTerms) (is : IsProblem terms) where
         (λ condition at.
         let two = chained (slice_get terms.hards i) (λ conditions. slice_get conditions s) condition at in
         never_false (truth Near root b condition) (holds point condition)
-        (truths_tell Near root b point condition is_box inside (each_at IsProperCond two.first (each_at (AllByRecursion IsProperCond) terms.hards is.proper.hards i two.first two.is_first) s condition two.is_second))
+        (truths_tell Near root b point condition is_box inside
+        (each_at IsProperCond two.first (each_at (AllByRecursion IsProperCond) terms.hards is.proper.hards i two.first two.is_first) s condition two.is_second))
         (all_at (λ c. IsTrue (holds point c)) two.first (all_at DoHold terms.hards all.hards i two.first two.is_first) s condition two.is_second))
     kept (Chance i) v all better =
         fails (λ (chance : ChanceTerms). int_lt (chance.q *ℤ weight_left root b terms.weights chance.conditions) (chance.p *ℤ terms.whole)) (slice_get terms.chances i)
@@ -223,7 +226,8 @@ module _ (root : Box) (terms : ProblemTerms) (is : IsProblem terms) where
             let proper = each_at IsProperCond conditions (each_at (AllByRecursion IsProperCond) terms.hards is.proper.hards i conditions at_i) s condition at_s in
             let long = each_at (λ (c : List Cond). length c ≡ length terms.weights) terms.hards is.hards i conditions at_i in
             let within = slice_get_within conditions s condition at_s in
-            let same : option_map_or (λ c. is_false (truth Near root b c)) (option_and_then (λ (c : List Cond). slice_get c s) (slice_get terms.hards i)) false ≡ is_false (truth Near root b condition) =
+            let same : option_map_or (λ c. is_false (truth Near root b c)) (option_and_then (λ (c : List Cond). slice_get c s) (slice_get terms.hards i)) false
+            ≡ is_false (truth Near root b condition) =
             ap (λ o. option_map_or (λ c. is_false (truth Near root b c)) (option_and_then (λ (c : List Cond). slice_get c s) o) false) at_i
             ∙ ap (λ o. option_map_or (λ c. is_false (truth Near root b c)) o false) at_s in
             known_holds (truth Near root b condition) (holds point condition) (points_known root b condition is_box one proper) (truths_tell Near root b point condition is_box inside proper)

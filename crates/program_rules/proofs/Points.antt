@@ -49,8 +49,10 @@ module _ (terms : ProblemTerms) (point : List ℤ) where
       let goal = option_map_or are_defined terms.goal true in
       let rest = and_second hards (chances && goal) passed in
       record {
-        hards = all_hold (list_all (holds point)) DoHold terms.hards (λ conditions. all_hold (holds point) (λ condition. IsTrue (holds point condition)) conditions (λ condition true_there. true_there)) (and_first hards (chances && goal) passed);
-        chances = all_hold weigh_enough WeighEnough terms.chances (λ chance. at_most (chance.p *ℤ terms.whole) (chance.q *ℤ weight_where point terms.weights chance.conditions)) (and_first chances goal rest);
+        hards = all_hold (list_all (holds point)) DoHold terms.hards
+            (λ conditions. all_hold (holds point) (λ condition. IsTrue (holds point condition)) conditions (λ condition true_there. true_there)) (and_first hards (chances && goal) passed);
+        chances = all_hold weigh_enough WeighEnough terms.chances (λ chance. at_most (chance.p *ℤ terms.whole) (chance.q *ℤ weight_where point terms.weights chance.conditions))
+            (and_first chances goal rest);
         goal = goal_to terms.goal (and_second chances goal rest);
       }
 
@@ -60,7 +62,8 @@ module _ (terms : ProblemTerms) (point : List ℤ) where
   told_back : Holds terms point → satisfies terms point ≡ true
   told_back all =
       all_three (list_all (list_all (holds point)) terms.hards) (list_all weigh_enough terms.chances) (option_map_or are_defined terms.goal true)
-      (all_pass (list_all (holds point)) DoHold terms.hards (λ conditions. all_pass (holds point) (λ condition. IsTrue (holds point condition)) conditions (λ condition true_there. true_there)) all.hards)
+      (all_pass (list_all (holds point)) DoHold terms.hards (λ conditions.
+      all_pass (holds point) (λ condition. IsTrue (holds point condition)) conditions (λ condition true_there. true_there)) all.hards)
       (all_pass weigh_enough WeighEnough terms.chances (λ chance. tested_at_most (chance.p *ℤ terms.whole) (chance.q *ℤ weight_where point terms.weights chance.conditions)) all.chances)
       (goal_back terms.goal all.goal)
 

@@ -1,12 +1,13 @@
 -- The numbers of the objective's interval are no greater than its size.
-use Rattle.std.proofs.Common.{◌≡◌, sym, ap, subst, ◌∙◌, arith, ℕ, ◌+◌, ◌*◌, ◌≤◌, max, nat_lt, nat_eq, ℤ, pos, negsuc, ◌+ℤ◌, ◌*ℤ◌, ◌≤ℤ◌, unsigned_abs, Bool, true, false, if◌then◌else◌, List, [], ◌∷◌, Option, Some, None, IfSome}
+use Rattle.std.proofs.Common.{◌≡◌, sym, ap, subst, ◌∙◌, arith, ℕ, ◌+◌, ◌*◌, ◌≤◌, max, nat_lt, nat_eq, ℤ, pos, negsuc, ◌+ℤ◌, ◌*ℤ◌, ◌≤ℤ◌, unsigned_abs, Bool, true, false}
+use Rattle.std.proofs.Common.{if◌then◌else◌, List, [], ◌∷◌, Option, Some, None, IfSome}
 use Rattle.std.proofs.lemmas.Int.{ints, clamps, unsigned_abs-mul}
 use Rattle.std.proofs.Math.Nat.{mul-le-mul_right, mul-le-mul_left, mul_assoc}
 use Rattle.std.specs.List.{AllByRecursion}
 use Rattle.std.specs.Option.{option_map_or}
 use Rattle.std.specs.Ordering.{int_eq}
-use Rattle.sopl_base.specs.declared.places.Direction.{Direction}
-use Rattle.sopl_base.specs.declared.places.Direction.TheVariants.{Minimize, Maximize, Nothing}
+use Rattle.sopl_base.specs.declared.direction.Direction.{Direction}
+use Rattle.sopl_base.specs.declared.direction.Direction.TheVariants.{Minimize, Maximize, Nothing}
 use Rattle.box_problem.specs.Box.{Box, IsBox, Inside}
 use Rattle.box_rules.specs.Ends.{Ends, exactly, plus, scaled, cell_ends}
 use Rattle.box_rules.specs.Forms.{Coefficient, unless_zero, put, combined, cells_ends}
@@ -171,7 +172,8 @@ module _ (root b : Box) (is_root : IsBox root) (inside : Inside b root) where
   bounds_expected : (weights : List ℤ) (terms : List Term) → AllByRecursion IsProper terms → Bounds (expected_ends root b weights terms) (sizes_of root weights terms)
   bounds_expected weights terms proper =
       let f = expected_form root weights terms in
-      bounds_more (expected_ends root b weights terms) (unsigned_abs f.constant + (cells_weight root f.cells + others_of root weights terms)) (sizes_of root weights terms) (expected_weighs root weights terms)
+      bounds_more (expected_ends root b weights terms) (unsigned_abs f.constant + (cells_weight root f.cells + others_of root weights terms)) (sizes_of root weights terms)
+      (expected_weighs root weights terms)
       (bounds_plus (exactly f.constant) (plus (cells_ends b f.cells) (expected_atoms root b weights terms)) (unsigned_abs f.constant) (cells_weight root f.cells + others_of root weights terms)
       (record { low = omega arith; high = omega arith })
       (bounds_plus (cells_ends b f.cells) (expected_atoms root b weights terms) (cells_weight root f.cells) (others_of root weights terms)
@@ -196,7 +198,8 @@ module _ (root b : Box) (is_root : IsBox root) (inside : Inside b root) where
       → Bounds (goal_ends_of root b weights goal) (unsigned_abs (if goal.worst then pos 1 else all) * greatest_size root goal.terms)
   bounds_goal weights all goal weigh is proper = by_worst goal.worst
     where
-      by_worst : (w : Bool) → Bounds (if w then worst_ends goal.direction root b goal.terms else expected_ends root b weights goal.terms) (unsigned_abs (if w then pos 1 else all) * greatest_size root goal.terms)
+      by_worst : (w : Bool) → Bounds (if w then worst_ends goal.direction root b goal.terms else expected_ends root b weights goal.terms)
+          (unsigned_abs (if w then pos 1 else all) * greatest_size root goal.terms)
       by_worst true =
           bounds_more (worst_ends goal.direction root b goal.terms) (greatest_size root goal.terms) (unsigned_abs (pos 1) * greatest_size root goal.terms) (omega arith)
           (bounds_worst goal.direction goal.terms proper)
@@ -205,7 +208,8 @@ module _ (root b : Box) (is_root : IsBox root) (inside : Inside b root) where
           (bounds_more (expected_ends root b weights goal.terms) (sizes_of root weights goal.terms) (unsigned_abs (total weights) * greatest_size root goal.terms)
           (sizes_at_most root weights goal.terms weigh) (bounds_expected weights goal.terms proper))
 
-  bounds_any : (weights : List ℤ) (all : ℤ) (goal : Option GoalTerms) → AllByRecursion (λ weight. pos 1 ≤ℤ weight) weights → all ≡ total weights → IfSome goal (λ (g : GoalTerms). AllByRecursion IsProper g.terms)
+  bounds_any : (weights : List ℤ) (all : ℤ) (goal : Option GoalTerms) → AllByRecursion (λ weight. pos 1 ≤ℤ weight) weights → all ≡ total weights
+      → IfSome goal (λ (g : GoalTerms). AllByRecursion IsProper g.terms)
       → Bounds (option_map_or (goal_ends_of root b weights) goal (exactly (pos 0)))
       (option_map_or (λ (g : GoalTerms). unsigned_abs (option_map_or (λ (h : GoalTerms). if h.worst then pos 1 else all) goal (pos 1)) * greatest_size root g.terms) goal 0)
   bounds_any weights all None weigh is proper = bounds_zero 0

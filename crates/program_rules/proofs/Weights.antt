@@ -46,7 +46,8 @@ same_left True false w x y known tells less = absurd tells
 
 module _ (root b : Box) (point : List ℤ) (is_box : IsBox b) (inside : InBox b point) where
   -- no more scenarios make it true than may
-  pub where_or_left : (weights : List ℤ) (conditions : List Cond) → AllByRecursion (λ weight. pos 1 ≤ℤ weight) weights → AllByRecursion IsProperCond conditions → weight_where point weights conditions ≤ℤ weight_left root b weights conditions
+  pub where_or_left : (weights : List ℤ) (conditions : List Cond) → AllByRecursion (λ weight. pos 1 ≤ℤ weight) weights → AllByRecursion IsProperCond conditions
+      → weight_where point weights conditions ≤ℤ weight_left root b weights conditions
   where_or_left [] conditions weigh proper = omega (arith, ints)
   where_or_left (weight ∷ weights) [] weigh proper = omega (arith, ints)
   where_or_left (weight ∷ weights) (condition ∷ later) weigh proper =

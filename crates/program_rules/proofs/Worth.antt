@@ -1,7 +1,7 @@
 -- A point that satisfies is worth something.
 use Rattle.std.proofs.Common.{◌≡◌, refl, sym, subst, arith, ℕ, zero, suc, ◌≤◌, ℤ, pos, ◌+ℤ◌, ◌*ℤ◌, Bool, true, false, if◌then◌else◌, List, [], ◌∷◌, length, All, Option, Some, None, IsSome, IfSome}
 use Rattle.std.specs.Option.{option_map_or}
-use Rattle.sopl_base.specs.declared.places.Direction.TheVariants.{Nothing}
+use Rattle.sopl_base.specs.declared.direction.Direction.TheVariants.{Nothing}
 use Rattle.box_rules.specs.Terms.{Term}
 use Rattle.box_rules.specs.Values.{both_of, value}
 use Rattle.program_rules.specs.Laws.{PointsHaveValues}

@@ -1,7 +1,7 @@
-pub mod Problems
-pub mod Points
+pub mod Laws
 pub mod Objective
+pub mod Points
+pub mod Problems
 pub mod Refuted
 pub mod Search
-pub mod Laws
-pub mod Worked
+pub mod WorkedProgram

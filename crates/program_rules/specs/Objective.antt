@@ -1,8 +1,8 @@
 -- The objective over a box.
 use Rattle.std.specs.Prelude.{ℕ, ◌*◌, max, unsigned_abs, ℤ, pos, List, [], ◌∷◌, if◌then◌else◌}
 use Rattle.std.specs.Option.{option_map_or}
-use Rattle.sopl_base.specs.declared.places.Direction.{Direction}
-use Rattle.sopl_base.specs.declared.places.Direction.TheVariants.{Minimize, Maximize, Nothing}
+use Rattle.sopl_base.specs.declared.direction.Direction.{Direction}
+use Rattle.sopl_base.specs.declared.direction.Direction.TheVariants.{Minimize, Maximize, Nothing}
 use Rattle.box_problem.specs.Box.{Box}
 use Rattle.box_rules.specs.Ends.{Ends, ends, exactly, plus, scaled}
 use Rattle.box_rules.specs.Forms.{Form, number_form, plus_form, whole}

@@ -2,8 +2,8 @@
 use Rattle.std.specs.Prelude.{◌≡◌, ◌≤◌, pos, ℤ, ◌≤ℤ◌, Bool, List, length, Option, IfSome, if◌then◌else◌}
 use Rattle.std.specs.Option.{option_map_or}
 use Rattle.std.specs.List.{AllByRecursion}
-use Rattle.sopl_base.specs.declared.places.Direction.{Direction}
-use Rattle.sopl_base.specs.declared.places.Direction.TheVariants.{Nothing}
+use Rattle.sopl_base.specs.declared.direction.Direction.{Direction}
+use Rattle.sopl_base.specs.declared.direction.Direction.TheVariants.{Nothing}
 use Rattle.box_rules.specs.Globals.{total}
 use Rattle.box_rules.specs.Laws.{IsProper, IsProperCond}
 use Rattle.box_rules.specs.Terms.{Term, Cond}

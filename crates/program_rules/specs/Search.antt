@@ -2,8 +2,8 @@
 use Rattle.std.specs.Prelude.{ℕ, ℤ, pos, ◌*ℤ◌, int_le, Bool, true, ◌&&◌, List, [], ◌∷◌, ◌++◌, length, map, is_some, unwrap_or}
 use Rattle.std.specs.List.{list_all, flat_map, range_with_len}
 use Rattle.std.specs.Option.{option_map_or}
-use Rattle.sopl_base.specs.declared.places.Reason.{Reason}
-use Rattle.sopl_base.specs.declared.places.Reason.TheVariants.{Hard, Chance, Undefined, Bound}
+use Rattle.sopl_base.specs.declared.reason.Reason.{Reason}
+use Rattle.sopl_base.specs.declared.reason.Reason.TheVariants.{Hard, Chance, Undefined, Bound}
 use Rattle.box_problem.specs.Box.{Box}
 use Rattle.box_problem.specs.BoxProblem.{BoxProblem}
 use Rattle.box_rules.specs.Values.{value, holds}

@@ -1,16 +1,16 @@
 //! Worked values of a small problem.
 
 ghost use Rattle.std.specs.Prelude.{◌≡◌, pos, true, false, [], ◌∷◌, map, Some, None};
-ghost use Rattle.sopl_base.specs.declared.places.Direction.TheVariants.{Minimize, Maximize};
-ghost use Rattle.sopl_base.specs.declared.places.Reason.TheVariants.{Hard, Chance, Undefined, Bound};
+ghost use Rattle.sopl_base.specs.declared.direction.Direction.TheVariants.{Minimize, Maximize};
+ghost use Rattle.sopl_base.specs.declared.reason.Reason.TheVariants.{Hard, Chance, Undefined, Bound};
 ghost use Rattle.box_rules.specs.Ends.{ends};
 ghost use Rattle.box_rules.specs.Terms.{Product};
-ghost use Rattle.box_rules.specs.Worked.{box, minus, x, y, z, number, difference};
+ghost use Rattle.box_rules.specs.WorkedIntervals.{box, minus, x, y, z, number, difference};
 ghost use Rattle.program_rules.specs.Problems.{denominator_in};
 ghost use Rattle.program_rules.specs.Points.{worth};
 ghost use Rattle.program_rules.specs.Objective.{goal_ends};
 ghost use Rattle.program_rules.specs.Search.{reasons_of, satisfies};
-ghost use Rattle.program_rules.specs.Worked.{all_orders, closing, expected_over, gains, goal_by, ordering, pricing, with_goal, worst_over};
+ghost use Rattle.program_rules.specs.WorkedProgram.{all_orders, closing, expected_over, gains, goal_by, ordering, pricing, with_goal, worst_over};
 
 /// Which points satisfy, and what they are worth: as an expected value, by the worst scenario, and without an objective.
 pub fn worked_points()

@@ -1,7 +1,7 @@
 -- What a search asks of a program.
 use Rattle.std.proofs.Common.{◌≡◌, List, subst, sym}
 use Rattle.std.specs.List.{Contains}
-use Rattle.sopl_base.specs.declared.places.Reason.{Reason}
+use Rattle.sopl_base.specs.declared.reason.Reason.{Reason}
 use Rattle.box_problem.specs.BoxProblem.{BoxProblem}
 use Rattle.box_search.specs.Ends.{AreAll}
 

@@ -1,4 +1,5 @@
 //! The search for the best point of a program.
+//! Its tests stand in `program_tests`.
 #![tactic(auto)]
 
 mod searching;

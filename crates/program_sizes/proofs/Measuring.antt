@@ -1,12 +1,13 @@
 -- Sizes in a row: which passes the limit first.
-use Rattle.std.proofs.Common.{◌≡◌, ◌↔◌, ◌⊎◌, inl, inr, refl, sym, ap, subst, ◌∙◌, arith, ℕ, ◌-◌, ◌<◌, ◌≤◌, ◌^◌, nat_le, ℤ, pos, ◌≤ℤ◌, ◌<ℤ◌, int_le, Bool, true, false, List, [], ◌∷◌, ◌++◌, Option, Some, None, IfSome, option_map, option_and_then, unwrap_or, Result, Ok, Err, if◌then◌else◌}
+use Rattle.std.proofs.Common.{◌≡◌, ◌↔◌, ◌⊎◌, inl, inr, refl, sym, ap, subst, ◌∙◌, arith, ℕ, ◌-◌, ◌<◌, ◌≤◌, ◌^◌, nat_le, ℤ, pos, ◌≤ℤ◌, ◌<ℤ◌, int_le, Bool, true, false, List, []}
+use Rattle.std.proofs.Common.{◌∷◌, ◌++◌, Option, Some, None, IfSome, option_map, option_and_then, unwrap_or, Result, Ok, Err, if◌then◌else◌}
 use Rattle.std.proofs.lemmas.Bool.Decides.{leb_tells}
 use Rattle.std.proofs.lemmas.Int.{ints}
 use Rattle.std.specs.Int.{int_min}
 use Rattle.std.specs.List.{AllByRecursion}
-use Rattle.sopl_base.specs.declared.places.Excess.{Excess}
-use Rattle.sopl_base.specs.declared.places.Fault.{Fault}
-use Rattle.sopl_base.specs.declared.places.Fault.TheVariants.{Limit}
+use Rattle.sopl_base.specs.declared.fault.Excess.{Excess}
+use Rattle.sopl_base.specs.declared.fault.Fault.{Fault}
+use Rattle.sopl_base.specs.declared.fault.Fault.TheVariants.{Limit}
 use Rattle.sopl_ast.specs.Limits.{first_above}
 use Rattle.sopl_ast.specs.Numbers.{or_else}
 use Rattle.sopl_ast.specs.Occurrences.{excess}
@@ -16,7 +17,7 @@ use Rattle.box_rules.specs.Terms.{Term}
 use Rattle.box_rules.proofs.FormValues.{by_bool}
 use Rattle.program_rules.specs.Problems.{GoalTerms, ProblemTerms}
 use Rattle.program_sizes.specs.Laws.{NoneIsLarge, IsFirstLarge, FirstIsFound, LargeInTurn, FaultsInTurn, FaultsEnd, GoalIsAllowed, IsLargeGoal, GoalIsRefused}
-use Rattle.program_sizes.specs.Measured.{most_size, first_large, large_excess, goal_number, goal_excess, goal_excess_of, Measures}
+use Rattle.program_sizes.specs.Measured.{most_size, first_large, large_excess, goal_number, goal_excess, goal_excess_of, IsSizeFault, Measures}
 
 -- one term in front of others
 pub large_in_turn : LargeInTurn
@@ -187,3 +188,8 @@ goal_is_refused root terms e = (λ is. by_goal terms.goal refl is, refused)
         ap (option_and_then (goal_excess_of root terms)) f.stands
         ∙ (ap (λ worst. if worst then None else first_above 207 (2 ^ 126) (goal_number root terms f.objective ∷ [])) f.expected
         ∙ (told_above (goal_number root terms f.objective) (pos (2 ^ 126)) (goal_told root terms f.objective) f.large ∙ ap Some (sym f.told)))
+
+-- faults where the same is too large
+pub same_fault : (root : Box) (xs ys : List Term) (fault : Fault) → first_large root xs ≡ first_large root ys → IsSizeFault root xs fault → IsSizeFault root ys fault
+same_fault root xs ys fault same (inl memory) = inl memory
+same_fault root xs ys fault same (inr is) = inr (ap (option_map (λ n. Limit (large_excess n))) (sym same) ∙ is)

@@ -2,8 +2,8 @@
 use Rattle.std.specs.Prelude.{◌≡◌, ◌↔◌, ℕ, ◌-◌, ◌<◌, ◌≤◌, ◌^◌, pos, ◌≤ℤ◌, ◌<ℤ◌, List, ◌∷◌, ◌++◌, Some, None, IfSome, false}
 use Rattle.std.specs.List.{AllByRecursion}
 use Rattle.std.specs.Int.{int_min}
-use Rattle.sopl_base.specs.declared.places.Excess.{Excess}
-use Rattle.sopl_base.specs.declared.places.Fault.{Fault}
+use Rattle.sopl_base.specs.declared.fault.Excess.{Excess}
+use Rattle.sopl_base.specs.declared.fault.Fault.{Fault}
 use Rattle.sopl_ast.specs.Numbers.{or_else}
 use Rattle.box_problem.specs.Box.{Box}
 use Rattle.box_rules.specs.Sizes.{size}

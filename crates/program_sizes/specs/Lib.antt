@@ -1,5 +1,5 @@
-pub mod Subterms
-pub mod Measured
-pub mod Texts
 pub mod Laws
-pub mod Worked
+pub mod Measured
+pub mod Subterms
+pub mod Texts
+pub mod WorkedSizes

@@ -1,7 +1,8 @@
 -- The number expressions that stand in a term or a condition, in the order in which their sizes are asked for: operands before what is made of them, and
 -- from left to right.
 use Rattle.std.specs.Prelude.{List, [], ◌∷◌, ◌++◌}
-use Rattle.box_rules.specs.Terms.{Term, Constant, Cell, Sum, Product, Quotient, Remainder, Least, Greatest, Size, Element, Number, Terms, no_term, term, Parts, no_part, part, Cond, Compare, Not, All, Any, Implies, AllDifferent, Cumulative, Conds, no_cond, condition, Tasks, no_task, task}
+use Rattle.box_rules.specs.Terms.{Term, Constant, Cell, Sum, Product, Quotient, Remainder, Least, Greatest, Size, Element, Number, Terms, no_term, term, Parts, no_part, part, Cond}
+use Rattle.box_rules.specs.Terms.{Compare, Not, All, Any, Implies, AllDifferent, Cumulative, Conds, no_cond, condition, Tasks, no_task, task}
 
 abbrev mutual
   -- those in a term, the term itself last; a divisor is a number and no expression, and so are the items of an array

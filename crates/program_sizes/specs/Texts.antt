@@ -1,6 +1,6 @@
 -- The limits on the terms of a text's problem.
 use Rattle.std.specs.Prelude.{Option}
-use Rattle.sopl_base.specs.declared.places.Excess.{Excess}
+use Rattle.sopl_base.specs.declared.fault.Excess.{Excess}
 use Rattle.sopl_ast.specs.Cells.{cells}
 use Rattle.sopl_ast.specs.Instances.{Problem}
 use Rattle.sopl_ast.specs.Limits.{node_excess, usual_limits}

@@ -1,15 +1,15 @@
 //! Worked values.
 
 ghost use Rattle.std.specs.Prelude.{◌≡◌, ◌+◌, ◌-◌, ◌^◌, pos, true, false, [], ◌∷◌, map, Some, None};
-ghost use Rattle.sopl_base.specs.declared.places.CmpOp.TheVariants.{Eq, Le};
+ghost use Rattle.sopl_base.specs.declared.comparison.CmpOp.TheVariants.{Eq, Le};
 ghost use Rattle.box_rules.specs.Terms.{Constant, Product, Quotient, Remainder, Least, Size, Number, Sum, no_part, part, Compare, Not, All, Implies, AllDifferent, Cumulative, no_cond, condition};
-ghost use Rattle.box_rules.specs.Worked.{x, y, z, number, sum, difference, one, two, three, price_at, two_tasks};
-ghost use Rattle.instantiation.specs.Worked.{drawing};
-ghost use Rattle.program_rules.specs.Worked.{ordering};
+ghost use Rattle.box_rules.specs.WorkedIntervals.{x, y, z, number, sum, difference, one, two, three, price_at, two_tasks};
+ghost use Rattle.instantiation.specs.WorkedInstances.{drawing};
+ghost use Rattle.program_rules.specs.WorkedProgram.{ordering};
 ghost use Rattle.program_sizes.specs.Measured.{large_excess, measured_terms, first_large, term_excess, goal_excess, measured_excess};
 ghost use Rattle.program_sizes.specs.Subterms.{subterms, condition_subterms};
 ghost use Rattle.program_sizes.specs.Texts.{program_excess};
-ghost use Rattle.program_sizes.specs.Worked.{wide, large, larger, likely, maximal, positive, posed};
+ghost use Rattle.program_sizes.specs.WorkedSizes.{wide, large, larger, likely, maximal, positive, posed};
 ghost use Rattle.sopl_ast.specs.Occurrences.{excess};
 
 /// The number expressions in a term and in a condition: each left part of a chain of products and divisions is one, no divisor is,

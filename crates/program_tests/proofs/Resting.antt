@@ -1,6 +1,6 @@
 -- The box with which propagators begin.
 use Rattle.std.proofs.Common.{◌≡◌, List, subst, sym}
-use Rattle.sopl_base.specs.declared.places.Interval.{Interval}
+use Rattle.sopl_base.specs.declared.interval.Interval.{Interval}
 use Rattle.box_problem.specs.Box.{Box, Inside, box_of}
 use Rattle.box_problem.proofs.Boxes.{intervals_make_a_box, part_of_itself}
 

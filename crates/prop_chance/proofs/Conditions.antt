@@ -3,7 +3,7 @@ use Rattle.std.proofs.Common.{◌≡◌, ℕ, ◌+◌, ◌<◌, ◌≤◌, List,
 use Rattle.std.specs.List.{flat_map}
 use Rattle.std.proofs.lemmas.List.{get_or-map, length-map, map-append, take_all, take_more}
 use Rattle.std.specs.Option.{option_and_then, option_map_or}
-use Rattle.sopl_base.specs.declared.places.Reason.TheVariants.{Chance}
+use Rattle.sopl_base.specs.declared.reason.Reason.TheVariants.{Chance}
 use Rattle.box_problem.specs.Box.{Box}
 use Rattle.box_rules.specs.Terms.{Cond}
 use Rattle.cell_mentions.specs.Mentions.{cond_mentions}
@@ -18,14 +18,18 @@ abbrev pub part_of : Box → ProblemTerms → ℕ → ℕ → List ℕ
 part_of root terms instance scenario =
     option_map_or (cond_mentions root) (option_and_then (λ (chance : ChanceTerms). slice_get chance.conditions scenario) (slice_get terms.chances instance)) []
 
-pub part_more : (root : Box) (terms : ProblemTerms) (instance scenario : ℕ) (cond : Cond) (cells old new : List ℕ) → option_and_then (λ (chance : ChanceTerms). slice_get chance.conditions scenario) (slice_get terms.chances instance) ≡ Some cond → IsListOf (cond_mentions root cond) cells → AreIn (part_of root terms instance) scenario old → HasAll new old → HasAll new cells → AreIn (part_of root terms instance) (scenario + 1) new
+pub part_more : (root : Box) (terms : ProblemTerms) (instance scenario : ℕ) (cond : Cond) (cells old new : List ℕ)
+    → option_and_then (λ (chance : ChanceTerms). slice_get chance.conditions scenario) (slice_get terms.chances instance) ≡ Some cond → IsListOf (cond_mentions root cond) cells
+    → AreIn (part_of root terms instance) scenario old → HasAll new old → HasAll new cells → AreIn (part_of root terms instance) (scenario + 1) new
 part_more root terms instance scenario cond cells old new at listed before kept put =
     more_in (part_of root terms instance) scenario old new before kept
     (subst (λ (found : Option Cond). HasAll new (option_map_or (cond_mentions root) found [])) (sym at)
     (λ cell here. put cell ((listed.mentions cell).1 here)))
 
 -- those of all its conditions
-all_of : (root : Box) (found : Option ChanceTerms) (n : ℕ) (set : List ℕ) → IfSome found (λ (chance : ChanceTerms). length chance.conditions ≡ n) → AreIn (λ k. option_map_or (cond_mentions root) (option_and_then (λ (chance : ChanceTerms). slice_get chance.conditions k) found) []) n set → HasAll set (option_map_or (λ (chance : ChanceTerms). flat_map (cond_mentions root) chance.conditions) found [])
+all_of : (root : Box) (found : Option ChanceTerms) (n : ℕ) (set : List ℕ) → IfSome found (λ (chance : ChanceTerms). length chance.conditions ≡ n)
+    → AreIn (λ k. option_map_or (cond_mentions root) (option_and_then (λ (chance : ChanceTerms). slice_get chance.conditions k) found) []) n set
+    → HasAll set (option_map_or (λ (chance : ChanceTerms). flat_map (cond_mentions root) chance.conditions) found [])
 all_of root None n set few each = none_mentioned set
 all_of root (Some chance) n set few each =
     flat_in (cond_mentions root) chance.conditions set (λ k below. each k (omega (arith, below, few)))
@@ -34,7 +38,8 @@ each_scenario : (terms : ProblemTerms) (found : Option ChanceTerms) → IfSome f
 each_scenario terms None is = tt
 each_scenario terms (Some chance) is = is.each
 
-pub parts_all : (root : Box) (terms : ProblemTerms) (instance n : ℕ) (set list : List ℕ) → IsProblem terms → length terms.weights ≤ n → n ≤ length terms.weights → AreIn (part_of root terms instance) n set → list ≡ set → HasAll list (reason_mentions root terms (Chance instance))
+pub parts_all : (root : Box) (terms : ProblemTerms) (instance n : ℕ) (set list : List ℕ) → IsProblem terms → length terms.weights ≤ n → n ≤ length terms.weights
+    → AreIn (part_of root terms instance) n set → list ≡ set → HasAll list (reason_mentions root terms (Chance instance))
 parts_all root terms instance n set list problem past within each is =
     let same : n ≡ length terms.weights = omega (arith, past, within) in
     subst (λ (cells : List ℕ). HasAll cells (reason_mentions root terms (Chance instance))) (sym is)
@@ -43,7 +48,8 @@ parts_all root terms instance n set list problem past within each is =
     (subst (λ (k : ℕ). AreIn (part_of root terms instance) k set) same each))
 
 -- the scenarios of one cell more, and of all
-pub lists_more : {A B : Type 0} (f : A → List B) (g : ℕ → List B) (cells : List ℕ) (i d : ℕ) (old new : List A) (x : A) → i < length cells → map f old ≡ map g (take i cells) → f x ≡ g (get_or cells i d) → new ≡ old ++ x ∷ [] → map f new ≡ map g (take (i + 1) cells)
+pub lists_more : {A B : Type 0} (f : A → List B) (g : ℕ → List B) (cells : List ℕ) (i d : ℕ) (old new : List A) (x : A) → i < length cells → map f old ≡ map g (take i cells) → f x
+    ≡ g (get_or cells i d) → new ≡ old ++ x ∷ [] → map f new ≡ map g (take (i + 1) cells)
 lists_more f g cells i d old new x below so_far is pushed =
     ap (map f) pushed
     ∙ map-append f old (x ∷ [])
@@ -55,7 +61,8 @@ pub lists_all : {B : Type 0} (g : ℕ → List B) (cells : List ℕ) (i : ℕ) (
 lists_all g cells i lists past so_far = so_far ∙ ap (map g) (take_all i cells past)
 
 -- those of a cell at its place
-pub list_at : {A B : Type 0} (f : A → List B) (g : ℕ → List B) (lists : List A) (cells : List ℕ) (i d : ℕ) (e : A) → map f lists ≡ map g cells → i < length cells → f (get_or lists i e) ≡ g (get_or cells i d)
+pub list_at : {A B : Type 0} (f : A → List B) (g : ℕ → List B) (lists : List A) (cells : List ℕ) (i d : ℕ) (e : A) → map f lists ≡ map g cells → i < length cells → f (get_or lists i e)
+    ≡ g (get_or cells i d)
 list_at f g lists cells i d e same below =
     let count = length-map lists f in
     let other = length-map cells g in

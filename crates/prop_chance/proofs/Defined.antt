@@ -3,7 +3,7 @@ use Rattle.std.proofs.Common.{◌≡◌, ℕ, ℤ, false, [], ◌∷◌, Option,
 use Rattle.std.specs.List.{AllByRecursion}
 use Rattle.std.specs.Option.{option_and_then, option_map_or}
 use Rattle.std.proofs.lemmas.Int.{ints}
-use Rattle.sopl_base.specs.declared.places.Reason.TheVariants.{Undefined}
+use Rattle.sopl_base.specs.declared.reason.Reason.TheVariants.{Undefined}
 use Rattle.box_problem.specs.Box.{Box, InBox, Inside, IsBox, high, low, with_high, with_low}
 use Rattle.box_problem.specs.Rightness.{Quiets}
 use Rattle.box_problem.proofs.Boxes.{part_of_itself, points_of_parts}
@@ -46,23 +46,27 @@ never_there root b c t is_box inside proper always =
     (subst (λ (m : Defined). Marks m (value c.lows t)) always (marks_tell Near root b c.lows t is_box (points_of_parts c b c.lows inside within) proper))
 
 -- the terms of an objective are proper
-proper_at : (goal : Option GoalTerms) (scenario : ℕ) (t : Term) → IfSome goal (λ (g : GoalTerms). AllByRecursion IsProper g.terms) → Some t ≡ option_and_then (λ (g : GoalTerms). slice_get g.terms scenario) goal → IsProper t
+proper_at : (goal : Option GoalTerms) (scenario : ℕ) (t : Term) → IfSome goal (λ (g : GoalTerms). AllByRecursion IsProper g.terms) → Some t
+    ≡ option_and_then (λ (g : GoalTerms). slice_get g.terms scenario) goal → IsProper t
 proper_at None scenario t all at = absurd (cc)
 proper_at (Some goal) scenario t all at =
     subst (λ (found : Option Term). IfSome found IsProper) (sym at) (at_place IsProper goal.terms scenario all)
 
-by_goal : (root b : Box) (goal : Option GoalTerms) (scenario : ℕ) → option_map_or (λ (g : GoalTerms). option_map_or (λ t. is_never (mark Near root b t)) (slice_get g.terms scenario) false) goal false ≡ option_map_or (λ t. is_never (mark Near root b t)) (option_and_then (λ (g : GoalTerms). slice_get g.terms scenario) goal) false
+by_goal : (root b : Box) (goal : Option GoalTerms) (scenario : ℕ) → option_map_or (λ (g : GoalTerms). option_map_or (λ t. is_never (mark Near root b t)) (slice_get g.terms scenario) false) goal false
+    ≡ option_map_or (λ t. is_never (mark Near root b t)) (option_and_then (λ (g : GoalTerms). slice_get g.terms scenario) goal) false
 by_goal root b None scenario = refl
 by_goal root b (Some g) scenario = refl
 
-closed_where_never : (root b : Box) (terms : ProblemTerms) (scenario : ℕ) (v : Option ℤ) (t : Term) → Some t ≡ term_in terms scenario → is_never (mark Near root b t) ≡ false → refutes root terms (Undefined scenario) b v ≡ false
+closed_where_never : (root b : Box) (terms : ProblemTerms) (scenario : ℕ) (v : Option ℤ) (t : Term) → Some t ≡ term_in terms scenario → is_never (mark Near root b t) ≡ false
+    → refutes root terms (Undefined scenario) b v ≡ false
 closed_where_never root b terms scenario v t at defined =
     by_goal root b terms.goal scenario
     ∙ sym (ap (λ (found : Option Term). option_map_or (λ u. is_never (mark Near root b u)) found false) at)
     ∙ defined
 
 -- so the reason rests
-pub always_rests : (q : Question) (scenario : ℕ) (t : Term) → IsAsked q → q.reason ≡ Undefined scenario → Some t ≡ term_in (problem_in q.program.now) scenario → mark Near (root_in q.program.now) q.store.now.box t ≡ Always → Quiets (box_problem_of q.program.now) (Undefined scenario ∷ []) q.best q.store.now.box
+pub always_rests : (q : Question) (scenario : ℕ) (t : Term) → IsAsked q → q.reason ≡ Undefined scenario → Some t ≡ term_in (problem_in q.program.now) scenario
+    → mark Near (root_in q.program.now) q.store.now.box t ≡ Always → Quiets (box_problem_of q.program.now) (Undefined scenario ∷ []) q.best q.store.now.box
 unfolding box_problem_of
 always_rests q scenario t asked is at always =
     let root = root_in q.program.now in

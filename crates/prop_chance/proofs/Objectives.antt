@@ -4,10 +4,10 @@ use Rattle.std.specs.List.{All, Contains, flat_map, range_with_len}
 use Rattle.std.specs.Option.{option_and_then, option_map_or}
 use Rattle.std.proofs.lemmas.List.Elements.{All-append, All-cons, All-contains, All-nil, Contains-append_left, Contains-append_right}
 use Rattle.std.proofs.lemmas.List.FromFn.{get_or-map-range_with_len, length-map-range_with_len, map-range_with_len_more}
-use Rattle.sopl_base.specs.declared.places.Direction.TheVariants.{Nothing}
-use Rattle.sopl_base.specs.declared.places.Reason.{Reason}
-use Rattle.sopl_base.specs.declared.places.Reason.TheVariants.{Bound, Undefined}
-use Rattle.sopl_base.specs.declared.places.Step.{Step}
+use Rattle.sopl_base.specs.declared.direction.Direction.TheVariants.{Nothing}
+use Rattle.sopl_base.specs.declared.reason.Reason.{Reason}
+use Rattle.sopl_base.specs.declared.reason.Reason.TheVariants.{Bound, Undefined}
+use Rattle.sopl_base.specs.declared.reason.Step.{Step}
 use Rattle.box_problem.specs.Box.{Box}
 use Rattle.box_problem.specs.BoxProblem.{BoxProblem}
 use Rattle.box_problem.specs.Rightness.{IsRight, Quiets}
@@ -29,11 +29,13 @@ use Rattle.prop_chance.specs.Goals.{IsOpenTo, term_in}
 use Rattle.prop_chance.proofs.Reached.{AreIn, flat_in, none_mentioned}
 
 -- the cells that the term in a scenario mentions
-by_goal : (root : Box) (goal : Option GoalTerms) (scenario : ℕ) → option_map_or (λ (g : GoalTerms). option_map_or (mentions root) (slice_get g.terms scenario) []) goal [] ≡ option_map_or (mentions root) (option_and_then (λ (g : GoalTerms). slice_get g.terms scenario) goal) []
+by_goal : (root : Box) (goal : Option GoalTerms) (scenario : ℕ) → option_map_or (λ (g : GoalTerms). option_map_or (mentions root) (slice_get g.terms scenario) []) goal []
+    ≡ option_map_or (mentions root) (option_and_then (λ (g : GoalTerms). slice_get g.terms scenario) goal) []
 by_goal root None scenario = refl
 by_goal root (Some g) scenario = refl
 
-pub undefined_cells : (root : Box) (terms : ProblemTerms) (scenario : ℕ) (term : Term) (cells : List ℕ) → Some term ≡ term_in terms scenario → IsListOf (mentions root term) cells → HasAll cells (reason_mentions root terms (Undefined scenario))
+pub undefined_cells : (root : Box) (terms : ProblemTerms) (scenario : ℕ) (term : Term) (cells : List ℕ) → Some term ≡ term_in terms scenario → IsListOf (mentions root term) cells
+    → HasAll cells (reason_mentions root terms (Undefined scenario))
 undefined_cells root terms scenario term cells at listed =
     subst (HasAll cells) (sym (by_goal root terms.goal scenario))
     (subst (λ (found : Option Term). HasAll cells (option_map_or (mentions root) found [])) at
@@ -53,18 +55,22 @@ put_through (Err e) new cells mentioned all put = tt
 abbrev pub scenario_of : Box → ProblemTerms → ℕ → List ℕ
 scenario_of root terms scenario = reason_mentions root terms (Undefined scenario)
 
-all_of : (root : Box) (goal : Option GoalTerms) (n : ℕ) (set : List ℕ) → IfSome goal (λ (g : GoalTerms). (length g.terms ≡ n) × (¬ g.direction ≡ Nothing)) → AreIn (λ k. option_map_or (λ (g : GoalTerms). option_map_or (mentions root) (slice_get g.terms k) []) goal []) n set → HasAll set (option_map_or (λ (g : GoalTerms). flat_map (mentions root) g.terms) goal [])
+all_of : (root : Box) (goal : Option GoalTerms) (n : ℕ) (set : List ℕ) → IfSome goal (λ (g : GoalTerms). (length g.terms ≡ n) × (¬ g.direction ≡ Nothing))
+    → AreIn (λ k. option_map_or (λ (g : GoalTerms). option_map_or (mentions root) (slice_get g.terms k) []) goal []) n set
+    → HasAll set (option_map_or (λ (g : GoalTerms). flat_map (mentions root) g.terms) goal [])
 all_of root None n set few each = none_mentioned set
 all_of root (Some goal) n set few each = flat_in (mentions root) goal.terms set (λ k below. each k (omega (arith, below, few.0)))
 
-pub scenarios_all : (root : Box) (terms : ProblemTerms) (n : ℕ) (set list : List ℕ) → IsProblem terms → length terms.weights ≤ n → n ≤ length terms.weights → AreIn (scenario_of root terms) n set → list ≡ set → HasAll list (reason_mentions root terms Bound)
+pub scenarios_all : (root : Box) (terms : ProblemTerms) (n : ℕ) (set list : List ℕ) → IsProblem terms → length terms.weights ≤ n → n ≤ length terms.weights → AreIn (scenario_of root terms) n set
+    → list ≡ set → HasAll list (reason_mentions root terms Bound)
 scenarios_all root terms n set list problem past within each is =
     let same : n ≡ length terms.weights = omega (arith, past, within) in
     subst (λ (cells : List ℕ). HasAll cells (reason_mentions root terms Bound)) (sym is)
     (all_of root terms.goal (length terms.weights) set problem.goal (subst (λ (k : ℕ). AreIn (scenario_of root terms) k set) same each))
 
 -- a scenario in which there is no term
-pub quiet_without : (q : Question) (scenario : ℕ) → q.reason ≡ Undefined scenario → None ≡ term_in (problem_in q.program.now) scenario → IsWhole q → Quiets (box_problem_of q.program.now) (Undefined scenario ∷ []) q.best q.store.now.box
+pub quiet_without : (q : Question) (scenario : ℕ) → q.reason ≡ Undefined scenario → None ≡ term_in (problem_in q.program.now) scenario → IsWhole q
+    → Quiets (box_problem_of q.program.now) (Undefined scenario ∷ []) q.best q.store.now.box
 quiet_without q scenario is at whole =
     subst (λ (reason : Reason). Quiets (box_problem_of q.program.now) (reason ∷ []) q.best q.store.now.box) is
     (found_quiet q []
@@ -100,7 +106,8 @@ pub open_to : (program : Program) (v : Option ℤ) (b : Box) (reason : Reason) �
 unfolding box_problem_of
 open_to program v b reason is = is
 
-pub closed_by : (program : Program) (v : Option ℤ) (b : Box) (reasons : List Reason) (reason : Reason) → Contains reasons reason → refutes (root_in program) (problem_in program) reason b v ≡ true → Closes (box_problem_of program) reasons v b reason
+pub closed_by : (program : Program) (v : Option ℤ) (b : Box) (reasons : List Reason) (reason : Reason) → Contains reasons reason → refutes (root_in program) (problem_in program) reason b v
+    ≡ true → Closes (box_problem_of program) reasons v b reason
 unfolding box_problem_of
 closed_by program v b reasons reason own is = record { own = own; closed = is }
 
@@ -119,7 +126,8 @@ rest_together problem v b reasons all = record {
   at_high = λ reason cell own exists. (All-contains (RestsFor problem v b) reasons reason all own).at_high reason cell (itself reason) exists;
 }
 
-pub narrows_by : (problem : BoxProblem) (v : Option ℤ) (b : Box) (reasons : List Reason) (step : Step) → All (IsOpenTo problem v b) reasons → Contains reasons step.reason → IsRight problem v b step → Narrows problem reasons v b step
+pub narrows_by : (problem : BoxProblem) (v : Option ℤ) (b : Box) (reasons : List Reason) (step : Step) → All (IsOpenTo problem v b) reasons → Contains reasons step.reason
+    → IsRight problem v b step → Narrows problem reasons v b step
 narrows_by problem v b reasons step whole own right = record {
   own = own;
   right = right;
@@ -127,7 +135,8 @@ narrows_by problem v b reasons step whole own right = record {
 }
 
 -- what the last call gives
-pub own_last : (reasons : List Reason) (reason : Reason) (found : Option Step) → Contains reasons reason → IfSome found (λ (step : Step). step.reason ≡ reason) → IfSome found (λ (step : Step). Contains reasons step.reason)
+pub own_last : (reasons : List Reason) (reason : Reason) (found : Option Step) → Contains reasons reason → IfSome found (λ (step : Step). step.reason ≡ reason)
+    → IfSome found (λ (step : Step). Contains reasons step.reason)
 own_last reasons reason None own is = tt
 own_last reasons reason (Some step) own is = subst (Contains reasons) (sym is) own
 

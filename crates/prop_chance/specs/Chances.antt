@@ -1,7 +1,7 @@
 -- What the propagator of a chance constraint stands for.
 use Rattle.std.specs.Prelude.{◌≡◌, ℕ, ◌<◌, List, [], ◌∷◌, length, map}
-use Rattle.sopl_base.specs.declared.places.Reason.{Reason}
-use Rattle.sopl_base.specs.declared.places.Reason.TheVariants as reason
+use Rattle.sopl_base.specs.declared.reason.Reason.{Reason}
+use Rattle.sopl_base.specs.declared.reason.Reason.TheVariants as reason
 use Rattle.cell_questions.specs.Questions.{HasAll}
 use Rattle.chance_sums.specs.Sums.{touched_by}
 use Rattle.chance_sums.specs.declared.listing.Scenarios.{Scenarios}

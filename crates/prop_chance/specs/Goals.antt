@@ -1,8 +1,8 @@
 -- What the propagator of the objective stands for.
 use Rattle.std.specs.Prelude.{◌≡◌, ℕ, ℤ, false, List, [], ◌∷◌, ◌++◌, Option, length, map, slice_get, IfSome}
 use Rattle.std.specs.Option.{option_and_then}
-use Rattle.sopl_base.specs.declared.places.Reason.{Reason}
-use Rattle.sopl_base.specs.declared.places.Reason.TheVariants.{Bound, Undefined}
+use Rattle.sopl_base.specs.declared.reason.Reason.{Reason}
+use Rattle.sopl_base.specs.declared.reason.Reason.TheVariants.{Bound, Undefined}
 use Rattle.box_problem.specs.Box.{Box}
 use Rattle.box_problem.specs.BoxProblem.{BoxProblem}
 use Rattle.box_rules.specs.Terms.{Term}

@@ -1,7 +1,7 @@
 //! The propagator of a chance constraint.
 
 ghost use Rattle.std.specs.Prelude.{◌≡◌, ◌<◌, ◌∷◌, [], get_or, length, map, IfNone, IfOk, IfSome};
-ghost use Rattle.sopl_base.specs.declared.places.Reason.TheVariants as reason;
+ghost use Rattle.sopl_base.specs.declared.reason.Reason.TheVariants as reason;
 ghost use Rattle.box_problem.specs.Box.{Inside};
 ghost use Rattle.box_problem.specs.Rightness.{IsRight, Quiets};
 ghost use Rattle.cell_questions.specs.Opened.{IsOpen, IsWhole};

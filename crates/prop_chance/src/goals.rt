@@ -1,7 +1,7 @@
 //! The propagator of the objective.
 
 ghost use Rattle.std.specs.Prelude.{◌≡◌, ◌<◌, ◌∷◌, ◌++◌, [], false, get_or, length, map, Some, All, Contains, IfNone, IfOk, IfSome, OnOk};
-ghost use Rattle.sopl_base.specs.declared.places.Reason.TheVariants.{Bound, Undefined};
+ghost use Rattle.sopl_base.specs.declared.reason.Reason.TheVariants.{Bound, Undefined};
 ghost use Rattle.box_problem.specs.Box.{Inside};
 ghost use Rattle.box_problem.specs.Rightness.{IsRight, Quiets};
 ghost use Rattle.cell_questions.specs.Opened.{IsOpen, IsWhole};
@@ -268,7 +268,8 @@ impl Goal {
         requires asked { IsAsked question.now }
         requires reason { question.now.reason ≡ Bound }
         requires whole { IsWhole question.now }
-        requires end { end.now.number ≡ better_end (direction_in (problem_in question.now.program.now)) (goal_ends (root_in question.now.program.now) question.now.store.now.box (problem_in question.now.program.now)) }
+        requires end { end.now.number ≡ better_end (direction_in (problem_in question.now.program.now))
+            (goal_ends (root_in question.now.program.now) question.now.store.now.box (problem_in question.now.program.now)) }
         requires exists { at < length self.now.cells.items }
         ensures right { IfSome result (IsRight (box_problem_of question.now.program.now) question.now.best question.now.store.now.box) }
         ensures own { IfSome result (λ step. step.reason ≡ question.now.reason) }

@@ -6,7 +6,7 @@ use box_store::BoxStore;
 /// What narrows a box for some of the reasons that may close it.
 pub trait Propagator {
     ghost use Rattle.std.specs.Prelude.{◌≡◌, List};
-    ghost use Rattle.sopl_base.specs.declared.places.Reason.{Reason};
+    ghost use Rattle.sopl_base.specs.declared.reason.Reason.{Reason};
     ghost use Rattle.box_problem.specs.Box.{Inside};
     ghost use Rattle.box_problem.specs.BoxProblem.{BoxProblem};
     ghost use Rattle.prop_core.specs.Findings.{Finds};

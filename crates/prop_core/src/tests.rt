@@ -1,5 +1,5 @@
 ghost use Rattle.std.specs.Prelude.{◌≡◌, ◌<◌, ◌∷◌, [], length, ◌^◌, All, IfOk};
-ghost use Rattle.sopl_base.specs.declared.places.Reason.TheVariants.{Hard};
+ghost use Rattle.sopl_base.specs.declared.reason.Reason.TheVariants.{Hard};
 ghost use Rattle.box_problem.specs.Box.{Inside, box_of};
 ghost use Rattle.prop_core.specs.Rising.{AreCells, rising};
 

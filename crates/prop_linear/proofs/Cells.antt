@@ -41,7 +41,8 @@ above_all cell (x ∷ later) c above own =
     ]
 
 -- boxes that give the cells the same intervals give the same sum
-pub same_cells : (b d : Box) (parts : List Coefficient) → ((c : Coefficient) → Contains parts c → rule.cell_ends d c.cell ≡ rule.cell_ends b c.cell) → cells_ends d (cells_of parts) ≡ cells_ends b (cells_of parts)
+pub same_cells : (b d : Box) (parts : List Coefficient) → ((c : Coefficient) → Contains parts c → rule.cell_ends d c.cell ≡ rule.cell_ends b c.cell) → cells_ends d (cells_of parts)
+    ≡ cells_ends b (cells_of parts)
 same_cells b d [] each = refl
 same_cells b d (x ∷ later) each =
     ap (λ (a : rule.Ends). rule.plus (rule.scaled x.k a) (cells_ends d (cells_of later))) (each x (0, omega arith, refl))
@@ -75,7 +76,8 @@ moved_later first again before after old new same moved =
     let high = ap (λ (a : rule.Ends). a.high) same in
     record { low = omega (arith, ints, low, moved.low); high = omega (arith, ints, high, moved.high) }
 
-pub one_cell : (b : Box) (parts : List Coefficient) (c : Coefficient) (lo hi : ℤ) → IsBox b → Ascend parts → Contains parts c → c.cell < length b.lows → IsMoved (cells_ends b (cells_of parts)) (cells_ends (with_interval b c.cell lo hi) (cells_of parts)) (rule.scaled c.k (rule.cell_ends b c.cell)) (rule.scaled c.k (rule.ends lo hi))
+pub one_cell : (b : Box) (parts : List Coefficient) (c : Coefficient) (lo hi : ℤ) → IsBox b → Ascend parts → Contains parts c → c.cell < length b.lows
+    → IsMoved (cells_ends b (cells_of parts)) (cells_ends (with_interval b c.cell lo hi) (cells_of parts)) (rule.scaled c.k (rule.cell_ends b c.cell)) (rule.scaled c.k (rule.ends lo hi))
 one_cell b [] c lo hi is_box ascend own exists = absurd (none_there c own)
 one_cell b (x ∷ later) c lo hi is_box ascend own exists =
     let d = with_interval b c.cell lo hi in
@@ -88,14 +90,17 @@ one_cell b (x ∷ later) c lo hi is_box ascend own exists =
           let old : rule.scaled x.k (rule.cell_ends b x.cell) ≡ rule.scaled c.k (rule.cell_ends b c.cell) = ap (λ (z : Coefficient). rule.scaled z.k (rule.cell_ends b z.cell)) same in
           let new : rule.scaled x.k (rule.cell_ends d x.cell) ≡ rule.scaled c.k (rule.ends lo hi) =
           ap (λ (z : Coefficient). rule.scaled z.k (rule.cell_ends d z.cell)) same ∙ ap (rule.scaled c.k) (own_ends b c.cell lo hi is_box exists) in
-          subst (λ (a : rule.Ends). IsMoved (rule.plus a (cells_ends b (cells_of later))) (rule.plus (rule.scaled x.k (rule.cell_ends d x.cell)) (cells_ends d (cells_of later))) (rule.scaled c.k (rule.cell_ends b c.cell)) (rule.scaled c.k (rule.ends lo hi))) (sym old)
-          (subst (λ (a : rule.Ends). IsMoved (rule.plus (rule.scaled c.k (rule.cell_ends b c.cell)) (cells_ends b (cells_of later))) (rule.plus a (cells_ends d (cells_of later))) (rule.scaled c.k (rule.cell_ends b c.cell)) (rule.scaled c.k (rule.ends lo hi))) (sym new)
+          subst (λ (a : rule.Ends). IsMoved (rule.plus a (cells_ends b (cells_of later))) (rule.plus (rule.scaled x.k (rule.cell_ends d x.cell)) (cells_ends d (cells_of later)))
+          (rule.scaled c.k (rule.cell_ends b c.cell)) (rule.scaled c.k (rule.ends lo hi))) (sym old)
+          (subst (λ (a : rule.Ends). IsMoved (rule.plus (rule.scaled c.k (rule.cell_ends b c.cell)) (cells_ends b (cells_of later))) (rule.plus a (cells_ends d (cells_of later)))
+          (rule.scaled c.k (rule.cell_ends b c.cell)) (rule.scaled c.k (rule.ends lo hi))) (sym new)
           (moved_first (rule.scaled c.k (rule.cell_ends b c.cell)) (rule.scaled c.k (rule.ends lo hi)) (cells_ends b (cells_of later)) (cells_ends d (cells_of later)) rest))
       | inr there ↦
           let above = above_all x.cell later c ascend.0 there in
           let again : rule.scaled x.k (rule.cell_ends d x.cell) ≡ rule.scaled x.k (rule.cell_ends b x.cell) =
           ap (rule.scaled x.k) (other_ends b c.cell x.cell lo hi (λ (wrong : x.cell ≡ c.cell). absurd (omega (arith, above, wrong)))) in
-          moved_later (rule.scaled x.k (rule.cell_ends b x.cell)) (rule.scaled x.k (rule.cell_ends d x.cell)) (cells_ends b (cells_of later)) (cells_ends d (cells_of later)) (rule.scaled c.k (rule.cell_ends b c.cell)) (rule.scaled c.k (rule.ends lo hi)) again
+          moved_later (rule.scaled x.k (rule.cell_ends b x.cell)) (rule.scaled x.k (rule.cell_ends d x.cell)) (cells_ends b (cells_of later)) (cells_ends d (cells_of later))
+          (rule.scaled c.k (rule.cell_ends b c.cell)) (rule.scaled c.k (rule.ends lo hi)) again
           (one_cell b later c lo hi is_box ascend.1 there exists)
     ]
 

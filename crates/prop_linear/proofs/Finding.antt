@@ -1,15 +1,16 @@
 -- What the propagator of a linear comparison finds.
-use Rattle.std.proofs.Common.{◌≡◌, inl, inr, ℕ, ◌<◌, ◌≤◌, ℤ, pos, unsigned_abs, List, [], ◌∷◌, Option, Some, None, IfSome, option_map, Bool, true, false, get_or, slice_get, arith, ap, refl, sym, subst, ◌∙◌}
+use Rattle.std.proofs.Common.{◌≡◌, inl, inr, ℕ, ◌<◌, ◌≤◌, ℤ, pos, unsigned_abs, List, [], ◌∷◌, Option, Some, None, IfSome, option_map, Bool, true, false, get_or, slice_get, arith}
+use Rattle.std.proofs.Common.{ap, refl, sym, subst, ◌∙◌}
 use Rattle.std.specs.List.{All, Contains}
 use Rattle.std.specs.Option.{option_and_then, option_map_or}
 use Rattle.std.proofs.lemmas.Int.{ints}
 use Rattle.std.proofs.lemmas.List.{get_or-set_other}
 use Rattle.std.proofs.lemmas.List.Elements.{All-contains}
 use Rattle.std.proofs.Math.Nat.{mul-le-mul_left}
-use Rattle.sopl_base.specs.declared.places.CmpOp.{CmpOp}
-use Rattle.sopl_base.specs.declared.places.Reason.{Reason}
-use Rattle.sopl_base.specs.declared.places.Reason.TheVariants.{Hard}
-use Rattle.sopl_base.specs.declared.places.Step.{Step}
+use Rattle.sopl_base.specs.declared.comparison.CmpOp.{CmpOp}
+use Rattle.sopl_base.specs.declared.reason.Reason.{Reason}
+use Rattle.sopl_base.specs.declared.reason.Reason.TheVariants.{Hard}
+use Rattle.sopl_base.specs.declared.reason.Step.{Step}
 use Rattle.box_problem.specs.Box.{Box, IsBox, Inside, high, low, with_high, with_low}
 use Rattle.box_problem.specs.Rightness.{Quiets}
 use Rattle.box_problem.specs.Steps.{removed}
@@ -58,11 +59,14 @@ the_value f a x is = ap (λ (o : Option _). or_else x o) is
     or_else y None = y
     or_else y (Some z) = z
 
-pub read_by : (p : own.Linear) (program : Program) (parts : List Coefficient) → Fits p program → option_map (λ d. d.form.cells) (shapes.linear_in (root_in program) (condition_of p program)) ≡ Some (cells_of parts) → (d : shapes.Difference) × IsRead p program parts d
+pub read_by : (p : own.Linear) (program : Program) (parts : List Coefficient) → Fits p program → option_map (λ d. d.form.cells) (shapes.linear_in (root_in program) (condition_of p program))
+    ≡ Some (cells_of parts) → (d : shapes.Difference) × IsRead p program parts d
 read_by p program parts fits cells =
     by_option (shapes.linear_in (root_in program) (condition_of p program)) refl fits.op fits.constant cells
   where
-    by_option : (o : Option shapes.Difference) → shapes.linear_in (root_in program) (condition_of p program) ≡ o → option_map (λ (d : shapes.Difference). d.op) o ≡ Some p.op → option_map (λ (d : shapes.Difference). d.form.constant) o ≡ Some p.constant → option_map (λ (d : shapes.Difference). d.form.cells) o ≡ Some (cells_of parts) → (d : shapes.Difference) × IsRead p program parts d
+    by_option : (o : Option shapes.Difference) → shapes.linear_in (root_in program) (condition_of p program) ≡ o → option_map (λ (d : shapes.Difference). d.op) o ≡ Some p.op
+        → option_map (λ (d : shapes.Difference). d.form.constant) o ≡ Some p.constant → option_map (λ (d : shapes.Difference). d.form.cells) o ≡ Some (cells_of parts)
+        → (d : shapes.Difference) × IsRead p program parts d
     by_option None is op constant at = absurd (no_value (λ (d : shapes.Difference). d.op) p.op op)
     by_option (Some d) is op constant at = (
       d,
@@ -75,7 +79,9 @@ read_by p program parts fits cells =
     )
 
 -- where the comparison is false over a box, the reason closes it
-tells_at : (p : own.Linear) (program : Program) (d : Difference) → Fits p program → d.op ≡ p.op → d.constant ≡ p.constant → option_map (λ e. e.form.cells) (shapes.linear_in (root_in program) (condition_of p program)) ≡ Some (cells_of d.parts.now) → (b : Box) (v : Option ℤ) → Inside b (root_in program) → closes d b ≡ refutes (root_in program) (problem_in program) (Hard p.instance p.scenario) b v
+tells_at : (p : own.Linear) (program : Program) (d : Difference) → Fits p program → d.op ≡ p.op → d.constant ≡ p.constant
+    → option_map (λ e. e.form.cells) (shapes.linear_in (root_in program) (condition_of p program)) ≡ Some (cells_of d.parts.now) → (b : Box) (v : Option ℤ) → Inside b (root_in program)
+    → closes d b ≡ refutes (root_in program) (problem_in program) (Hard p.instance p.scenario) b v
 tells_at p program d fits op constant cells b v inside =
     let root = root_in program in
     let c = condition_of p program in
@@ -90,7 +96,8 @@ tells_at p program d fits op constant cells b v inside =
     ∙ sym tells
     ∙ sym (ap (λ (o : Option Cond). option_map_or (λ x. is_false (truth Near root b x)) o false) fits.condition)
 
-pub tells_of : (p : own.Linear) (program : Program) (d : Difference) → Fits p program → d.op ≡ p.op → d.constant ≡ p.constant → option_map (λ e. e.form.cells) (shapes.linear_in (root_in program) (condition_of p program)) ≡ Some (cells_of d.parts.now) → TellsOf program (Hard p.instance p.scenario) d
+pub tells_of : (p : own.Linear) (program : Program) (d : Difference) → Fits p program → d.op ≡ p.op → d.constant ≡ p.constant
+    → option_map (λ e. e.form.cells) (shapes.linear_in (root_in program) (condition_of p program)) ≡ Some (cells_of d.parts.now) → TellsOf program (Hard p.instance p.scenario) d
 tells_of p program d fits op constant cells = record { tells = tells_at p program d fits op constant cells }
 
 -- the comparison is light over each box inside the root
@@ -120,7 +127,8 @@ ascend_of : (parts : List Coefficient) → Ordered (cells_of parts) → Ascend p
 ascend_of [] ordered = tt
 ascend_of (c ∷ later) ordered = (above_rest c later ordered, ascend_of later ordered.2)
 
-pub light_in : (p : own.Linear) (program : Program) (d : Difference) (b : Box) → Fits p program → box_of d ≡ b → Inside b (root_in program) → d.constant ≡ p.constant → option_map (λ e. e.form.cells) (shapes.linear_in (root_in program) (condition_of p program)) ≡ Some (cells_of d.parts.now) → IsLight d
+pub light_in : (p : own.Linear) (program : Program) (d : Difference) (b : Box) → Fits p program → box_of d ≡ b → Inside b (root_in program) → d.constant ≡ p.constant
+    → option_map (λ e. e.form.cells) (shapes.linear_in (root_in program) (condition_of p program)) ≡ Some (cells_of d.parts.now) → IsLight d
 light_in p program d b fits seen within constant cells =
     let root = root_in program in
     let inside : Inside (box_of d) root = subst (λ (x : Box). Inside x root) (sym seen) within in
@@ -142,7 +150,8 @@ light_in p program d b fits seen within constant cells =
 pub tells_same : (program : Program) (reason : Reason) (d e : Difference) → TellsOf program reason d → e ≡ d → TellsOf program reason e
 tells_same program reason d e tells same = subst (TellsOf program reason) (sym same) tells
 
-pub is_linear : (program : Program) (instance scenario : ℕ) (cond : Cond) → IsLinear program instance scenario → option_and_then (λ conditions. slice_get conditions scenario) (slice_get (problem_in program).hards instance) ≡ Some cond → shapes.shape_in (root_in program) cond ≡ Linear
+pub is_linear : (program : Program) (instance scenario : ℕ) (cond : Cond) → IsLinear program instance scenario
+    → option_and_then (λ conditions. slice_get conditions scenario) (slice_get (problem_in program).hards instance) ≡ Some cond → shapes.shape_in (root_in program) cond ≡ Linear
 is_linear program instance scenario cond linear at =
     subst (λ (o : Option Cond). IfSome o (λ (c : Cond). shapes.shape_in (root_in program) c ≡ Linear)) at linear
 
@@ -193,11 +202,13 @@ module _ (program : Program) (mine : Reason) (d : Difference) (v : Option ℤ) (
             record {
               at_low = λ exists.
                   ap (λ (a : rule.Ends). none_compares d.op (rule.plus (rule.exactly d.constant) a))
-                  (same_cells b (with_high b cell (low b cell)) d.parts.now (λ c there. ap (λ (z : ℤ). rule.ends (low b c.cell) z) (get_or-set_other b.highs cell c.cell (low b cell) (pos 0) (nowhere c there))))
+                  (same_cells b (with_high b cell (low b cell)) d.parts.now
+                  (λ c there. ap (λ (z : ℤ). rule.ends (low b c.cell) z) (get_or-set_other b.highs cell c.cell (low b cell) (pos 0) (nowhere c there))))
                   ∙ whole;
               at_high = λ exists.
                   ap (λ (a : rule.Ends). none_compares d.op (rule.plus (rule.exactly d.constant) a))
-                  (same_cells b (with_low b cell (high b cell)) d.parts.now (λ c there. ap (λ (z : ℤ). rule.ends z (high b c.cell)) (get_or-set_other b.lows cell c.cell (high b cell) (pos 0) (nowhere c there))))
+                  (same_cells b (with_low b cell (high b cell)) d.parts.now
+                  (λ c there. ap (λ (z : ℤ). rule.ends z (high b c.cell)) (get_or-set_other b.lows cell c.cell (high b cell) (pos 0) (nowhere c there))))
                   ∙ whole;
             }
       ]
@@ -212,11 +223,13 @@ module _ (program : Program) (mine : Reason) (d : Difference) (v : Option ℤ) (
         at_low = λ reason cell own exists.
             let ordered = inside.is_box.ordered cell exists in
             let part = parts_of_parts (with_high b cell (low b cell)) b (root_in program) (high_lowered b cell (low b cell) inside.is_box exists (omega (arith, ints)) ordered) inside in
-            for_each mine (λ other. refuted other (with_high b cell (low b cell)) ≡ false) (sym (tells.tells (with_high b cell (low b cell)) v part) ∙ (open_at opened whole cell).at_low exists) reason own;
+            for_each mine (λ other. refuted other (with_high b cell (low b cell)) ≡ false) (sym (tells.tells (with_high b cell (low b cell)) v part)
+            ∙ (open_at opened whole cell).at_low exists) reason own;
         at_high = λ reason cell own exists.
             let ordered = inside.is_box.ordered cell exists in
             let part = parts_of_parts (with_low b cell (high b cell)) b (root_in program) (low_raised b cell (high b cell) inside.is_box exists ordered (omega (arith, ints))) inside in
-            for_each mine (λ other. refuted other (with_low b cell (high b cell)) ≡ false) (sym (tells.tells (with_low b cell (high b cell)) v part) ∙ (open_at opened whole cell).at_high exists) reason own;
+            for_each mine (λ other. refuted other (with_low b cell (high b cell)) ≡ false) (sym (tells.tells (with_low b cell (high b cell)) v part)
+            ∙ (open_at opened whole cell).at_high exists) reason own;
       }
 
 -- the same of the box of a store
@@ -228,7 +241,8 @@ module _ (program : Program) (mine : Reason) (d : Difference) (v : Option ℤ) (
   dead_at reason is closed =
       subst (λ (x : Box). Closes (box_problem_of program) (mine ∷ []) v x reason) seen (found_dead program mine d v tells there reason is closed)
 
-  pub cut_at : (reason : Reason) (step : Step) → reason ≡ mine → step.reason ≡ reason → closes d (box_of d) ≡ false → Removes (closes d) (box_of d) step → Narrows (box_problem_of program) (mine ∷ []) v b step
+  pub cut_at : (reason : Reason) (step : Step) → reason ≡ mine → step.reason ≡ reason → closes d (box_of d) ≡ false → Removes (closes d) (box_of d) step
+      → Narrows (box_problem_of program) (mine ∷ []) v b step
   cut_at reason step is same whole removes =
       subst (λ (x : Box). Narrows (box_problem_of program) (mine ∷ []) v x step) seen (found_cut program mine d v tells there step (same ∙ is) whole removes)
 

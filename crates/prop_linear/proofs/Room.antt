@@ -1,8 +1,8 @@
 -- What is reckoned of one cell of a comparison's sum has room.
 use Rattle.std.proofs.Common.{◌≡◌, ◌+◌, ◌^◌, ℤ, pos, ◌-ℤ◌, ◌*ℤ◌, ◌≤ℤ◌, arith, subst, sym}
 use Rattle.std.proofs.lemmas.Int.{ints}
-use Rattle.sopl_base.specs.declared.places.Side.{Side}
-use Rattle.sopl_base.specs.declared.places.Side.TheVariants.{Le, Ge}
+use Rattle.sopl_base.specs.declared.reason.Side.{Side}
+use Rattle.sopl_base.specs.declared.reason.Side.TheVariants.{Le, Ge}
 use Rattle.box_rules.specs.Ends as rule
 use Rattle.box_rules.proofs.Bounds.{Bounds, small, bounds_between, bounds_plus}
 use Rattle.end_values.specs.Ends.{highest_at, lowest_at, highest, lowest}
@@ -35,7 +35,8 @@ values_fit : (t : Turn) (count : ℤ) → HasRoom t → pos 1 ≤ℤ count → c
 values_fit t count room some fewer =
     fit (ends_at t.k (rule.ends (lowest t.end count) (highest t.end count))) (2 ^ 42) (each_bounds t count room some fewer) (omega arith)
 
-pub part_fits : (t : Turn) (count k : ℤ) (values : Ends) → HasRoom t → pos 1 ≤ℤ count → count ≤ℤ (t.end.hi -ℤ t.end.lo) → k ≡ t.k → ends_of values ≡ rule.ends (lowest t.end count) (highest t.end count) → IsFit (ends_at k (ends_of values))
+pub part_fits : (t : Turn) (count k : ℤ) (values : Ends) → HasRoom t → pos 1 ≤ℤ count → count ≤ℤ (t.end.hi -ℤ t.end.lo) → k ≡ t.k → ends_of values
+    ≡ rule.ends (lowest t.end count) (highest t.end count) → IsFit (ends_at k (ends_of values))
 part_fits t count k values room some fewer same is =
     subst (λ (z : ℤ). IsFit (ends_at z (ends_of values))) (sym same)
     (subst (λ (a : rule.Ends). IsFit (ends_at t.k a)) (sym is) (values_fit t count room some fewer))
@@ -47,7 +48,8 @@ sum_bounds t count room some fewer =
     bounds_plus (ends_of t.others) (part_of t count) (2 ^ 43) (2 ^ 42) (record { low = room.low; high = room.high })
     (bounds_between (t.k *ℤ lowest t.end count) (t.k *ℤ highest t.end count) (2 ^ 42) (small (t.k *ℤ lowest t.end count) (2 ^ 42) each.low) (small (t.k *ℤ highest t.end count) (2 ^ 42) each.high))
 
-pub sum_fits : (t : Turn) (count k : ℤ) (values part : Ends) → HasRoom t → pos 1 ≤ℤ count → count ≤ℤ (t.end.hi -ℤ t.end.lo) → k ≡ t.k → ends_of values ≡ rule.ends (lowest t.end count) (highest t.end count) → ends_of part ≡ rule.scaled k (ends_of values) → IsFit (rule.plus (ends_of t.others) (ends_of part))
+pub sum_fits : (t : Turn) (count k : ℤ) (values part : Ends) → HasRoom t → pos 1 ≤ℤ count → count ≤ℤ (t.end.hi -ℤ t.end.lo) → k ≡ t.k → ends_of values
+    ≡ rule.ends (lowest t.end count) (highest t.end count) → ends_of part ≡ rule.scaled k (ends_of values) → IsFit (rule.plus (ends_of t.others) (ends_of part))
 sum_fits t count k values part room some fewer same is scaled =
     let fits : IsFit (rule.plus (ends_of t.others) (part_of t count)) = fit (rule.plus (ends_of t.others) (part_of t count)) (2 ^ 43 + 2 ^ 42) (sum_bounds t count room some fewer) (omega arith) in
     subst (λ (a : rule.Ends). IsFit (rule.plus (ends_of t.others) a)) (sym scaled)

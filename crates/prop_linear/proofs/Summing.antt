@@ -1,16 +1,17 @@
 -- A linear comparison over a box has room, and so has it with another interval for one cell.
-use Rattle.std.proofs.Common.{◌≡◌, inl, inr, ℕ, ◌+◌, ◌*◌, ◌<◌, ◌≤◌, ◌^◌, ℤ, pos, ◌+ℤ◌, ◌-ℤ◌, ◌*ℤ◌, ◌≤ℤ◌, ◌<ℤ◌, unsigned_abs, w64, FitsSigned, false, List, [], ◌∷◌, length, get_or, take, arith, ap, refl, sym, subst, ◌∙◌}
+use Rattle.std.proofs.Common.{◌≡◌, inl, inr, ℕ, ◌+◌, ◌*◌, ◌<◌, ◌≤◌, ◌^◌, ℤ, pos, ◌+ℤ◌, ◌-ℤ◌, ◌*ℤ◌, ◌≤ℤ◌, ◌<ℤ◌, unsigned_abs, w64, FitsSigned, false, List, [], ◌∷◌, length, get_or}
+use Rattle.std.proofs.Common.{take, arith, ap, refl, sym, subst, ◌∙◌}
 use Rattle.std.specs.List.{All, Contains}
 use Rattle.std.proofs.lemmas.Bool.{cases_lt}
 use Rattle.std.proofs.lemmas.Int.{ints, fits_signed_from_abs, unsigned_abs-mul}
 use Rattle.std.proofs.lemmas.List.{get_or_past, take_all, take_more}
 use Rattle.std.proofs.lemmas.List.Elements.{All-append, All-cons, All-nil}
 use Rattle.std.proofs.Math.Nat.{mul-le-mul_left}
-use Rattle.sopl_base.specs.declared.places.CmpOp.{CmpOp}
-use Rattle.sopl_base.specs.declared.places.Reason.{Reason}
-use Rattle.sopl_base.specs.declared.places.Side.{Side}
-use Rattle.sopl_base.specs.declared.places.Side.TheVariants.{Le, Ge}
-use Rattle.sopl_base.specs.declared.places.Step.{Step}
+use Rattle.sopl_base.specs.declared.comparison.CmpOp.{CmpOp}
+use Rattle.sopl_base.specs.declared.reason.Reason.{Reason}
+use Rattle.sopl_base.specs.declared.reason.Side.{Side}
+use Rattle.sopl_base.specs.declared.reason.Side.TheVariants.{Le, Ge}
+use Rattle.sopl_base.specs.declared.reason.Step.{Step}
 use Rattle.box_problem.specs.Box.{Box, IsBox, Inside, high, low}
 use Rattle.box_problem.proofs.Boxes.{part_of_itself}
 use Rattle.box_rules.specs.Ends as rule
@@ -51,7 +52,8 @@ sum_bounds d light =
     let all = bounds_plus (rule.exactly d.constant) (cells_ends (box_of d) (cells_of d.parts.now)) (unsigned_abs d.constant) (cells_weight (box_of d) (cells_of d.parts.now)) constant cells in
     record { low = omega (arith, all.low, light.light); high = omega (arith, all.high, light.light) }
 
-pub whole_has_room : (d : Difference) (constant cells : Ends) → IsLight d → ends_of constant ≡ rule.exactly d.constant → ends_of cells ≡ cells_ends (box_of d) (cells_of d.parts.now) → IsFit (rule.plus (ends_of constant) (ends_of cells))
+pub whole_has_room : (d : Difference) (constant cells : Ends) → IsLight d → ends_of constant ≡ rule.exactly d.constant → ends_of cells ≡ cells_ends (box_of d) (cells_of d.parts.now)
+    → IsFit (rule.plus (ends_of constant) (ends_of cells))
 whole_has_room d constant cells light first second =
     subst (λ (a : rule.Ends). IsFit (rule.plus a (ends_of cells))) (sym first)
     (subst (λ (a : rule.Ends). IsFit (rule.plus (rule.exactly d.constant) a)) (sym second)
@@ -68,7 +70,8 @@ part_bounds d c light own =
     let most = part_weighs d c light own in
     record { low = omega (arith, bounds.low, most); high = omega (arith, bounds.high, most) }
 
-pub part_has_room : (d : Difference) (c : Coefficient) (k : ℤ) (interval : Ends) → IsLight d → Contains d.parts.now c → k ≡ c.k → ends_of interval ≡ rule.cell_ends (box_of d) c.cell → IsFit (ends_at k (ends_of interval))
+pub part_has_room : (d : Difference) (c : Coefficient) (k : ℤ) (interval : Ends) → IsLight d → Contains d.parts.now c → k ≡ c.k → ends_of interval ≡ rule.cell_ends (box_of d) c.cell
+    → IsFit (ends_at k (ends_of interval))
 part_has_room d c k interval light own same is =
     let a = rule.cell_ends (box_of d) c.cell in
     subst (λ (z : ℤ). IsFit (ends_at z (ends_of interval))) (sym same)
@@ -89,20 +92,24 @@ whole_size x summed =
 own_size : (d : Difference) (c : Coefficient) (own : Ends) → IsLight d → Contains d.parts.now c → ends_of own ≡ rule.scaled c.k (rule.cell_ends (box_of d) c.cell) → Bounds (ends_of own) (2 ^ 42)
 own_size d c own light there is = subst (λ (a : rule.Ends). Bounds a (2 ^ 42)) (sym is) (part_bounds d c light there)
 
-low_has_room : (x : Balance) (c : Coefficient) (own : Ends) → IsSummed x → Contains x.difference.parts.now c → ends_of own ≡ rule.scaled c.k (rule.cell_ends (box_of x.difference) c.cell) → FitsSigned w64 (x.whole.low -ℤ own.low)
+low_has_room : (x : Balance) (c : Coefficient) (own : Ends) → IsSummed x → Contains x.difference.parts.now c → ends_of own ≡ rule.scaled c.k (rule.cell_ends (box_of x.difference) c.cell)
+    → FitsSigned w64 (x.whole.low -ℤ own.low)
 low_has_room x c own summed there is =
     let size = gap_size x.whole.low own.low (whole_size x summed).low (own_size x.difference c own summed.light there is).low in
     fits_signed_from_abs w64 (x.whole.low -ℤ own.low) (omega (arith, size))
 
-high_has_room : (x : Balance) (c : Coefficient) (own : Ends) → IsSummed x → Contains x.difference.parts.now c → ends_of own ≡ rule.scaled c.k (rule.cell_ends (box_of x.difference) c.cell) → FitsSigned w64 (x.whole.high -ℤ own.high)
+high_has_room : (x : Balance) (c : Coefficient) (own : Ends) → IsSummed x → Contains x.difference.parts.now c → ends_of own ≡ rule.scaled c.k (rule.cell_ends (box_of x.difference) c.cell)
+    → FitsSigned w64 (x.whole.high -ℤ own.high)
 high_has_room x c own summed there is =
     let size = gap_size x.whole.high own.high (whole_size x summed).high (own_size x.difference c own summed.light there is).high in
     fits_signed_from_abs w64 (x.whole.high -ℤ own.high) (omega (arith, size))
 
-pub others_fit : (x : Balance) (c : Coefficient) (own : Ends) → IsSummed x → Contains x.difference.parts.now c → ends_of own ≡ rule.scaled c.k (rule.cell_ends (box_of x.difference) c.cell) → IsFit (rule.ends (x.whole.low -ℤ own.low) (x.whole.high -ℤ own.high))
+pub others_fit : (x : Balance) (c : Coefficient) (own : Ends) → IsSummed x → Contains x.difference.parts.now c → ends_of own ≡ rule.scaled c.k (rule.cell_ends (box_of x.difference) c.cell)
+    → IsFit (rule.ends (x.whole.low -ℤ own.low) (x.whole.high -ℤ own.high))
 others_fit x c own summed there is = record { low = low_has_room x c own summed there is; high = high_has_room x c own summed there is }
 
-pub others_are : (x : Balance) (c : Coefficient) (own others : Ends) → ends_of own ≡ rule.scaled c.k (rule.cell_ends (box_of x.difference) c.cell) → others.low ≡ x.whole.low -ℤ own.low → others.high ≡ x.whole.high -ℤ own.high → IsOthers x c others
+pub others_are : (x : Balance) (c : Coefficient) (own others : Ends) → ends_of own ≡ rule.scaled c.k (rule.cell_ends (box_of x.difference) c.cell) → others.low ≡ x.whole.low -ℤ own.low
+    → others.high ≡ x.whole.high -ℤ own.high → IsOthers x c others
 others_are x c own others is low high =
     let own_low = ap (λ (a : rule.Ends). a.low) is in
     let own_high = ap (λ (a : rule.Ends). a.high) is in
@@ -141,7 +148,8 @@ times_size d c z light own from to =
     omega (arith, unsigned_abs-mul c.k z, mul-le-mul_left (unsigned_abs c.k) size, part_weighs d c light own)
 
 -- one cell of the comparison
-sum_moves : (x : Balance) (c : Coefficient) (others : Ends) (lo hi : ℤ) → IsSummed x → Contains x.difference.parts.now c → c.cell < length (box_of x.difference).lows → IsOthers x c others → none_compares x.difference.op (rule.plus (ends_of others) (rule.scaled c.k (rule.ends lo hi))) ≡ closes x.difference (with_interval (box_of x.difference) c.cell lo hi)
+sum_moves : (x : Balance) (c : Coefficient) (others : Ends) (lo hi : ℤ) → IsSummed x → Contains x.difference.parts.now c → c.cell < length (box_of x.difference).lows → IsOthers x c others
+    → none_compares x.difference.op (rule.plus (ends_of others) (rule.scaled c.k (rule.ends lo hi))) ≡ closes x.difference (with_interval (box_of x.difference) c.cell lo hi)
 sum_moves x c others lo hi summed own exists are =
     let d = x.difference in
     let b = box_of d in
@@ -149,13 +157,16 @@ sum_moves x c others lo hi summed own exists are =
     let whole_low = ap (λ (a : rule.Ends). a.low) summed.whole in
     let whole_high = ap (λ (a : rule.Ends). a.high) summed.whole in
     same_compares d.op (rule.plus (ends_of others) (rule.scaled c.k (rule.ends lo hi))) (sum_over d (with_interval b c.cell lo hi))
-    (lead others.low (rule.scaled c.k (rule.cell_ends b c.cell)).low (rule.scaled c.k (rule.ends lo hi)).low (cells_ends b (cells_of d.parts.now)).low (cells_ends (with_interval b c.cell lo hi) (cells_of d.parts.now)).low x.whole.low d.constant are.low whole_low moved.low)
-    (lead others.high (rule.scaled c.k (rule.cell_ends b c.cell)).high (rule.scaled c.k (rule.ends lo hi)).high (cells_ends b (cells_of d.parts.now)).high (cells_ends (with_interval b c.cell lo hi) (cells_of d.parts.now)).high x.whole.high d.constant are.high whole_high moved.high)
+    (lead others.low (rule.scaled c.k (rule.cell_ends b c.cell)).low (rule.scaled c.k (rule.ends lo hi)).low (cells_ends b (cells_of d.parts.now)).low
+    (cells_ends (with_interval b c.cell lo hi) (cells_of d.parts.now)).low x.whole.low d.constant are.low whole_low moved.low)
+    (lead others.high (rule.scaled c.k (rule.cell_ends b c.cell)).high (rule.scaled c.k (rule.ends lo hi)).high (cells_ends b (cells_of d.parts.now)).high
+    (cells_ends (with_interval b c.cell lo hi) (cells_of d.parts.now)).high x.whole.high d.constant are.high whole_high moved.high)
   where
     lead : (rest old new before after all constant : ℤ) → rest +ℤ old ≡ all → all ≡ constant +ℤ before → after +ℤ old ≡ before +ℤ new → rest +ℤ new ≡ constant +ℤ after
     lead rest old new before after all constant first second third = omega (arith, ints, first, second, third)
 
-room_of : (x : Balance) (c : Coefficient) (op : CmpOp) (others : Ends) (end : End) → IsSummed x → Contains x.difference.parts.now c → IsOthers x c others → end.lo ≡ low (box_of x.difference) c.cell → end.hi ≡ high (box_of x.difference) c.cell → end.lo <ℤ end.hi → HasRoom (record { op = op; k = c.k; others = others; end = end })
+room_of : (x : Balance) (c : Coefficient) (op : CmpOp) (others : Ends) (end : End) → IsSummed x → Contains x.difference.parts.now c → IsOthers x c others → end.lo ≡ low (box_of x.difference) c.cell
+    → end.hi ≡ high (box_of x.difference) c.cell → end.lo <ℤ end.hi → HasRoom (record { op = op; k = c.k; others = others; end = end })
 room_of x c op others end summed own are is_low is_high wide =
     let d = x.difference in
     let part = part_bounds d c summed.light own in
@@ -175,7 +186,8 @@ room_of x c op others end summed own are is_low is_high wide =
 abbrev turn_with : CmpOp → ℤ → Ends → End → Turn
 turn_with op k others end = record { op = op; k = k; others = others; end = end }
 
-turn_at : (x : Balance) (c : Coefficient) (op : CmpOp) (k : ℤ) (others : Ends) (end : End) → IsSummed x → Contains x.difference.parts.now c → op ≡ x.difference.op → k ≡ c.k → IsOthers x c others → end.cell ≡ c.cell → end.lo ≡ low (box_of x.difference) c.cell → end.hi ≡ high (box_of x.difference) c.cell → end.lo <ℤ end.hi → IsTurnIn x.difference (turn_with op k others end)
+turn_at : (x : Balance) (c : Coefficient) (op : CmpOp) (k : ℤ) (others : Ends) (end : End) → IsSummed x → Contains x.difference.parts.now c → op ≡ x.difference.op → k ≡ c.k → IsOthers x c others
+    → end.cell ≡ c.cell → end.lo ≡ low (box_of x.difference) c.cell → end.hi ≡ high (box_of x.difference) c.cell → end.lo <ℤ end.hi → IsTurnIn x.difference (turn_with op k others end)
 turn_at x c op k others end summed own same_op same_k are cell is_low is_high wide =
     let d = x.difference in
     let exists = there (box_of d) c.cell summed.light.is_box (omega (arith, ints, is_low, is_high, wide)) in
@@ -190,7 +202,8 @@ turn_at x c op k others end summed own same_op same_k are cell is_low is_high wi
           sum_moves x c others lo hi summed own exists are ∙ ap (λ (n : ℕ). closes d (with_interval (box_of d) n lo hi)) (sym cell);
     }))
 
-pub turn_in : (x : Balance) (c : Coefficient) (t : Turn) (end : End) → IsSummed x → Contains x.difference.parts.now c → t.op ≡ x.difference.op → t.k ≡ c.k → t.end ≡ end → IsOthers x c t.others → end.cell ≡ c.cell → end.lo ≡ low (box_of x.difference) c.cell → end.hi ≡ high (box_of x.difference) c.cell → end.lo <ℤ end.hi → IsTurnIn x.difference t
+pub turn_in : (x : Balance) (c : Coefficient) (t : Turn) (end : End) → IsSummed x → Contains x.difference.parts.now c → t.op ≡ x.difference.op → t.k ≡ c.k → t.end ≡ end → IsOthers x c t.others
+    → end.cell ≡ c.cell → end.lo ≡ low (box_of x.difference) c.cell → end.hi ≡ high (box_of x.difference) c.cell → end.lo <ℤ end.hi → IsTurnIn x.difference t
 turn_in x c t end summed own same_op same_k same are cell is_low is_high wide =
     let at_end = ap (λ (e : End). e.cell) same in
     let lo = ap (λ (e : End). e.lo) same in
@@ -218,7 +231,8 @@ upper_in d t upper is same =
 pub fixed_open : (d : Difference) (cell : ℕ) → closes d (box_of d) ≡ false → low (box_of d) cell ≡ high (box_of d) cell → IsOpenAt (closes d) (box_of d) cell
 fixed_open d cell whole single = removing.fixed_open (closes d) (box_of d) cell whole (λ exists. single)
 
-pub both_open : (d : Difference) (cell : ℕ) (lower upper : Turn) → IsTurnIn d lower → lower.end.cell ≡ cell → lower.end.side ≡ Ge → upper ≡ with_end lower (upper_of lower.end) → turn_closes lower (pos 1) ≡ false → turn_closes upper (pos 1) ≡ false → IsOpenAt (closes d) (box_of d) cell
+pub both_open : (d : Difference) (cell : ℕ) (lower upper : Turn) → IsTurnIn d lower → lower.end.cell ≡ cell → lower.end.side ≡ Ge → upper ≡ with_end lower (upper_of lower.end)
+    → turn_closes lower (pos 1) ≡ false → turn_closes upper (pos 1) ≡ false → IsOpenAt (closes d) (box_of d) cell
 both_open d cell lower upper is same side are low_open high_open =
     let e = lower.end in
     let upper_open : turn_closes (with_end lower (upper_of e)) (pos 1) ≡ false = ap (λ (t : Turn). turn_closes t (pos 1)) (sym are) ∙ high_open in
@@ -232,7 +246,8 @@ both_open d cell lower upper is same side are low_open high_open =
           ∙ sym (is.tells (lowest_at Le e.lo e.hi (pos 1)) (highest_at Le e.lo e.hi (pos 1))) ∙ upper_open;
     })
 
-pub step_removes : (d : Difference) (t : Turn) (removal : Removal) (reason : Reason) (step : Step) → IsTurnIn d t → IsRemoval t removal → step ≡ step_at t.end reason removal.count → Removes (closes d) (box_of d) step
+pub step_removes : (d : Difference) (t : Turn) (removal : Removal) (reason : Reason) (step : Step) → IsTurnIn d t → IsRemoval t removal → step ≡ step_at t.end reason removal.count
+    → Removes (closes d) (box_of d) step
 step_removes d t removal reason step is known same =
     let e = t.end in
     subst (Removes (closes d) (box_of d)) (sym same)
@@ -246,7 +261,8 @@ step_own t count reason step same = ap (λ (s : Step). s.reason) same
 abbrev pub AreOpen : Difference → List Coefficient → Type 0
 AreOpen d parts = All (λ (c : Coefficient). IsOpenAt (closes d) (box_of d) c.cell) parts
 
-pub open_more : (d : Difference) (i : ℕ) (c : Coefficient) → AreOpen d (take i d.parts.now) → i < length d.parts.now → IsOpenAt (closes d) (box_of d) (get_or d.parts.now i c).cell → AreOpen d (take (i + 1) d.parts.now)
+pub open_more : (d : Difference) (i : ℕ) (c : Coefficient) → AreOpen d (take i d.parts.now) → i < length d.parts.now → IsOpenAt (closes d) (box_of d) (get_or d.parts.now i c).cell
+    → AreOpen d (take (i + 1) d.parts.now)
 open_more d i c before exists here =
     subst (AreOpen d) (sym (take_more d.parts.now i c exists))
     (All-append (λ (x : Coefficient). IsOpenAt (closes d) (box_of d) x.cell) (take i d.parts.now) (get_or d.parts.now i c ∷ []) before

@@ -1,9 +1,10 @@
 -- A linear comparison is false over a box exactly where no number of its sum's interval compares so with 0.
-use Rattle.std.proofs.Common.{◌≡◌, inl, inr, ℕ, ◌+◌, ◌≤◌, ◌^◌, ℤ, pos, negsuc, ◌+ℤ◌, ◌*ℤ◌, unsigned_abs, Bool, true, false, ◌&&◌, ◌||◌, if◌then◌else◌, List, [], ◌∷◌, length, get_or, Option, Some, None, arith, ap, refl, sym, subst, ◌∙◌}
+use Rattle.std.proofs.Common.{◌≡◌, inl, inr, ℕ, ◌+◌, ◌≤◌, ◌^◌, ℤ, pos, negsuc, ◌+ℤ◌, ◌*ℤ◌, unsigned_abs, Bool, true, false, ◌&&◌, ◌||◌, if◌then◌else◌, List, [], ◌∷◌, length}
+use Rattle.std.proofs.Common.{get_or, Option, Some, None, arith, ap, refl, sym, subst, ◌∙◌}
 use Rattle.std.proofs.lemmas.Bool.{cases_lt}
 use Rattle.std.proofs.lemmas.Int.{ints, clamps, unsigned_abs-mul}
 use Rattle.std.proofs.lemmas.List.{get_or_default}
-use Rattle.sopl_base.specs.declared.places.CmpOp.{CmpOp}
+use Rattle.sopl_base.specs.declared.comparison.CmpOp.{CmpOp}
 use Rattle.box_problem.specs.Box.{Box, IsBox, Inside, InBox}
 use Rattle.box_problem.proofs.Boxes.{points_of_parts}
 use Rattle.box_rules.specs.declared.answers.Defined.{Defined}
@@ -102,7 +103,8 @@ abbrev inner : Difference → Option Difference → Difference
 inner d None = d
 inner d (Some x) = x
 
-pair_here : (root : Box) (op : CmpOp) (a b : Term) (d : Difference) → is_linear_pair root a b ≡ true → difference op (plus_form (negsuc 0) (form root a) (form root b)) ≡ d → IsPair root (Compare op a b) d
+pair_here : (root : Box) (op : CmpOp) (a b : Term) (d : Difference) → is_linear_pair root a b ≡ true → difference op (plus_form (negsuc 0) (form root a) (form root b)) ≡ d
+    → IsPair root (Compare op a b) d
 pair_here root op a b d met all = record {
   op = op;
   left = a;
@@ -192,7 +194,8 @@ same_compares op a c low high = by_ends op a.low c.low a.high c.high low high
 abbrev pub sum_of : Form → Box → Ends
 sum_of f b = plus (exactly f.constant) (cells_ends b f.cells)
 
-pair_tells : (root b : Box) (op : CmpOp) (a c : Term) → IsBox root → Inside b root → IsSoundTerm root a → IsSoundTerm root c → is_linear_pair root a c ≡ true → is_false (truth Near root b (Compare op a c)) ≡ none_compares op (sum_of (plus_form (negsuc 0) (form root a) (form root c)) b)
+pair_tells : (root b : Box) (op : CmpOp) (a c : Term) → IsBox root → Inside b root → IsSoundTerm root a → IsSoundTerm root c → is_linear_pair root a c ≡ true
+    → is_false (truth Near root b (Compare op a c)) ≡ none_compares op (sum_of (plus_form (negsuc 0) (form root a) (form root c)) b)
 pair_tells root b op a c is_root inside left right linear =
     let f = form root a in
     let g = form root c in
@@ -211,7 +214,8 @@ pair_tells root b op a c is_root inside left right linear =
     only_first true is = refl
     only_first false is = is
 
-    no_atoms : (constant cells : ℤ) (x y : Ends) → IsClear x → IsClear y → ((constant +ℤ (cells +ℤ (x.low +ℤ (scaled (negsuc 0) y).low))) ≡ constant +ℤ cells) × ((constant +ℤ (cells +ℤ (x.high +ℤ (scaled (negsuc 0) y).high))) ≡ constant +ℤ cells)
+    no_atoms : (constant cells : ℤ) (x y : Ends) → IsClear x → IsClear y
+        → ((constant +ℤ (cells +ℤ (x.low +ℤ (scaled (negsuc 0) y).low))) ≡ constant +ℤ cells) × ((constant +ℤ (cells +ℤ (x.high +ℤ (scaled (negsuc 0) y).high))) ≡ constant +ℤ cells)
     no_atoms constant cells x y x_clear y_clear =
         let low : negsuc 0 *ℤ y.low ≡ pos 0 = ap (λ (z : ℤ). negsuc 0 *ℤ z) y_clear.low in
         let high : negsuc 0 *ℤ y.high ≡ pos 0 = ap (λ (z : ℤ). negsuc 0 *ℤ z) y_clear.high in (
@@ -219,7 +223,8 @@ pair_tells root b op a c is_root inside left right linear =
           omega (arith, ints, clamps, x_clear.high, low, high),
         )
 
-pub linear_tells : (root b : Box) (c : Cond) (d : Difference) → IsBox root → Inside b root → AreSound root c → linear_in root c ≡ Some d → is_false (truth Near root b c) ≡ none_compares d.op (sum_of d.form b)
+pub linear_tells : (root b : Box) (c : Cond) (d : Difference) → IsBox root → Inside b root → AreSound root c → linear_in root c ≡ Some d → is_false (truth Near root b c)
+    ≡ none_compares d.op (sum_of d.form b)
 linear_tells root b c d is_root inside sound is =
     let pair = pair_of root c d is in
     let sides = subst (AreSound root) pair.cond sound in
@@ -229,12 +234,23 @@ linear_tells root b c d is_root inside sound is =
     ∙ ap (λ (f : Form). none_compares d.op (sum_of f b)) (sym pair.form_is)
 
 -- the form is light, and its cells ascend
-pair_light : (root : Box) (a c : Term) → IsSoundTerm root a → IsSoundTerm root c → unsigned_abs (plus_form (negsuc 0) (form root a) (form root c)).constant + cells_weight root (plus_form (negsuc 0) (form root a) (form root c)).cells ≤ 2 ^ 41
+pair_light : (root : Box) (a c : Term) → IsSoundTerm root a → IsSoundTerm root c
+    → unsigned_abs (plus_form (negsuc 0) (form root a) (form root c)).constant + cells_weight root (plus_form (negsuc 0) (form root a) (form root c)).cells ≤ 2 ^ 41
 pair_light root a c left right =
     let d = plus_form (negsuc 0) (form root a) (form root c) in
     let cells = combined_weighted (λ cell. weight_of (cell_ends root cell)) (negsuc 0) (form root a).cells (form root c).cells in
     let constant = plus_size (form root a).constant (negsuc 0 *ℤ (form root c).constant) in
-    omega (arith, cells, constant, unsigned_abs-mul (negsuc 0) (form root c).constant, cells_weighted root d.cells, cells_weighted root (form root a).cells, cells_weighted root (form root c).cells, left.small, right.small)
+    omega (
+      arith,
+      cells,
+      constant,
+      unsigned_abs-mul (negsuc 0) (form root c).constant,
+      cells_weighted root d.cells,
+      cells_weighted root (form root a).cells,
+      cells_weighted root (form root c).cells,
+      left.small,
+      right.small,
+    )
 
 pub linear_light : (root : Box) (c : Cond) (d : Difference) → AreSound root c → linear_in root c ≡ Some d → unsigned_abs d.form.constant + cells_weight root d.form.cells ≤ 2 ^ 41
 linear_light root c d sound is =

@@ -1,8 +1,8 @@
 -- What the propagator of a linear comparison stands for.
 use Rattle.std.specs.Prelude.{◌≡◌, ℕ, ℤ, List, [], ◌∷◌, Option, Some, IfSome, option_map, slice_get}
 use Rattle.std.specs.Option.{option_and_then}
-use Rattle.sopl_base.specs.declared.places.Reason.{Reason}
-use Rattle.sopl_base.specs.declared.places.Reason.TheVariants.{Hard}
+use Rattle.sopl_base.specs.declared.reason.Reason.{Reason}
+use Rattle.sopl_base.specs.declared.reason.Reason.TheVariants.{Hard}
 use Rattle.box_problem.specs.Box.{Box, Inside}
 use Rattle.box_rules.specs.Terms.{Cond}
 use Rattle.program_rules.specs.Refuted.{refutes}

@@ -4,7 +4,7 @@ ghost use Rattle.std.specs.Prelude.{◌≡◌, ◌-ℤ◌, pos, false, All, Cont
 ghost use Rattle.box_problem.specs.Box.{high, low};
 ghost use Rattle.box_rules.specs.Ends as rule;
 ghost use Rattle.end_values.specs.Removals.{IsOpenAt, Removes};
-ghost use Rattle.sopl_base.specs.declared.places.Side.TheVariants.{Ge};
+ghost use Rattle.sopl_base.specs.declared.reason.Side.TheVariants.{Ge};
 ghost use Rattle.term_rules.specs.Shown.{IsFit, ends_of};
 ghost use Rattle.prop_linear.specs.Balances.{IsLight, IsOthers, IsSummed, IsTurnIn, box_of, closes, sum_over};
 ghost use Rattle.prop_linear.specs.Turns.{turn_closes};

@@ -2,7 +2,7 @@
 
 ghost use Rattle.std.specs.Prelude.{◌≡◌, ◌<◌, ◌∷◌, [], length, Some, None, IfOk, slice_get};
 ghost use Rattle.std.specs.Option.{option_and_then, option_map_or};
-ghost use Rattle.sopl_base.specs.declared.places.Reason.TheVariants.{Hard};
+ghost use Rattle.sopl_base.specs.declared.reason.Reason.TheVariants.{Hard};
 ghost use Rattle.box_problem.specs.Box.{Inside};
 ghost use Rattle.program_laws.specs.Stated.{box_problem_of};
 ghost use Rattle.term_program.specs.Programs.{IsMade, problem_in, root_in};

@@ -1,6 +1,6 @@
 -- The problem of a program, by its parts.
 use Rattle.std.proofs.Common.{◌≡◌, ◌∙◌, ℤ}
-use Rattle.sopl_base.specs.declared.places.Direction.{Direction}
+use Rattle.sopl_base.specs.declared.direction.Direction.{Direction}
 use Rattle.box_problem.specs.Box.{Box, Inside}
 use Rattle.program_laws.specs.Stated.{box_problem_of}
 use Rattle.program_rules.specs.Objective.{better_end, goal_ends}

@@ -7,7 +7,7 @@ use Rattle.std.proofs.lemmas.List.{append-nil, map-append, map-id}
 use Rattle.std.proofs.lemmas.List.Elements.{All-append, All-cons, All-nil}
 use Rattle.std.proofs.lemmas.List.FromFn.{map-range_with_len_more}
 use Rattle.std.specs.List.{All}
-use Rattle.sopl_base.specs.declared.places.Reason.{Reason}
+use Rattle.sopl_base.specs.declared.reason.Reason.{Reason}
 use Rattle.box_rules.specs.Terms.{Cond}
 use Rattle.prop_core.specs.Members.{together}
 use Rattle.program_laws.specs.Stated.{box_problem_of}
@@ -44,7 +44,8 @@ range_more n =
 pub none_yet : (base : List Reason) (f : ℕ → Reason) → base ≡ base ++ map f (range_with_len 0 0)
 none_yet base f = sym (append-nil base)
 
-pub reasons_more : {P : Type 0} (of : P → List Reason) (f : ℕ → Reason) (base : List Reason) (xs new : List P) (p : P) (n : ℕ) → together (map of xs) ≡ base ++ map f (range_with_len 0 n) → of p ≡ f n ∷ [] → new ≡ xs ++ p ∷ [] → together (map of new) ≡ base ++ map f (range_with_len 0 (n + 1))
+pub reasons_more : {P : Type 0} (of : P → List Reason) (f : ℕ → Reason) (base : List Reason) (xs new : List P) (p : P) (n : ℕ) → together (map of xs) ≡ base ++ map f (range_with_len 0 n)
+    → of p ≡ f n ∷ [] → new ≡ xs ++ p ∷ [] → together (map of new) ≡ base ++ map f (range_with_len 0 (n + 1))
 reasons_more of f base xs new p n so_far is pushed =
     one_more of xs new p (f n) is pushed
     ∙ ap (λ (list : List Reason). list ++ f n ∷ []) so_far
@@ -86,7 +87,8 @@ in_order hards chances undefined bound = sym (append_behind (hards ++ chances) u
     append_behind [] ys zs = refl
     append_behind (x ∷ xs) ys zs = ap (λ (list : List Reason). x ∷ list) (append_behind xs ys zs)
 
-pub all_reasons : (program : Program) (hards chances all : List Reason) → hards ≡ hard_reasons (problem_in program) → chances ≡ hards ++ chance_reasons (problem_in program) → all ≡ chances ++ goal_reasons (problem_in program) → all ≡ (box_problem_of program).reasons
+pub all_reasons : (program : Program) (hards chances all : List Reason) → hards ≡ hard_reasons (problem_in program) → chances ≡ hards ++ chance_reasons (problem_in program) → all ≡ chances
+    ++ goal_reasons (problem_in program) → all ≡ (box_problem_of program).reasons
 unfolding box_problem_of
 all_reasons program hards chances all first second third =
     third
@@ -102,6 +104,8 @@ pub fit_none : {P : Type 0} (Fit : P → Type 0) → All Fit []
 fit_none Fit = All-nil Fit
 
 -- a condition of the form of linear comparisons
-pub linear_there : (program : Program) (instance scenario : ℕ) (cond : Cond) (form : Form) → option_and_then (λ conditions. slice_get conditions scenario) (slice_get (problem_in program).hards instance) ≡ Some cond → form ≡ shape_in (root_in program) cond → form ≡ Linear → IsLinear program instance scenario
+pub linear_there : (program : Program) (instance scenario : ℕ) (cond : Cond) (form : Form)
+    → option_and_then (λ conditions. slice_get conditions scenario) (slice_get (problem_in program).hards instance) ≡ Some cond → form ≡ shape_in (root_in program) cond → form ≡ Linear
+    → IsLinear program instance scenario
 linear_there program instance scenario cond form at is linear =
     subst (λ (o : Option Cond). IfSome o (λ (c : Cond). shape_in (root_in program) c ≡ Linear)) (sym at) (sym is ∙ linear)

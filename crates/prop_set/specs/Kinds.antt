@@ -1,8 +1,8 @@
 -- What a propagator of any kind stands for.
 use Rattle.std.specs.Prelude.{ℕ, List, [], ◌∷◌, ◌++◌, length, map}
 use Rattle.std.specs.List.{flat_map}
-use Rattle.sopl_base.specs.declared.places.Reason.{Reason}
-use Rattle.sopl_base.specs.declared.places.Reason.TheVariants as reason
+use Rattle.sopl_base.specs.declared.reason.Reason.{Reason}
+use Rattle.sopl_base.specs.declared.reason.Reason.TheVariants as reason
 use Rattle.program_rules.specs.Problems.{ProblemTerms}
 use Rattle.program_rules.specs.Search.{numbers_to}
 use Rattle.prop_chance.specs.Chances as chances

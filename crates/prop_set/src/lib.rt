@@ -1,4 +1,5 @@
 //! The propagators of a program: one of any kind, those of all its hard constraints, and all of them.
+//! Its tests stand in `prop_tests`.
 #![tactic(auto)]
 
 mod any_prop;

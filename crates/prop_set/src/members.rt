@@ -1,7 +1,7 @@
 //! The propagators of all hard constraints of a program.
 
 ghost use Rattle.std.specs.Prelude.{◌≡◌, ◌<◌, ◌∷◌, ◌++◌, [], length, map, IfOk, OnOk};
-ghost use Rattle.sopl_base.specs.declared.places.Reason.TheVariants.{Hard};
+ghost use Rattle.sopl_base.specs.declared.reason.Reason.TheVariants.{Hard};
 ghost use Rattle.prop_core.specs.Members.{AllFit, together};
 ghost use Rattle.term_program.specs.Programs.{IsMade, problem_in};
 ghost use Rattle.prop_set.specs.Kinds.{Fits, hard_reasons, instance_reasons, reasons_of};

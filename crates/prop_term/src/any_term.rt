@@ -1,7 +1,7 @@
 //! The propagator of a hard constraint of any form.
 
 ghost use Rattle.std.specs.Prelude.{◌≡◌, ◌<◌, ◌∷◌, [], length, IfOk};
-ghost use Rattle.sopl_base.specs.declared.places.Reason.TheVariants.{Hard};
+ghost use Rattle.sopl_base.specs.declared.reason.Reason.TheVariants.{Hard};
 ghost use Rattle.box_problem.specs.Box.{Inside};
 ghost use Rattle.term_program.specs.Programs.{IsMade, problem_in, root_in};
 ghost use Rattle.prop_core.specs.Findings.{Finds};

@@ -1,6 +1,6 @@
 ghost use Rattle.std.specs.Prelude.{◌≡◌, ◌<◌, ◌≤◌, ◌^◌, ◌∷◌, [], length, OnOk, IfOk};
 ghost use Rattle.std.specs.List.{AllByRecursion};
-ghost use Rattle.sopl_base.specs.declared.places.Direction.TheVariants.{Nothing};
+ghost use Rattle.sopl_base.specs.declared.direction.Direction.TheVariants.{Nothing};
 ghost use Rattle.box_problem.specs.Box.{box_of};
 ghost use Rattle.sopl_term.specs.Built.{IsBuilding, IsKept, IsNear, asked_direction, built, problem_built, root_built};
 ghost use Rattle.term_program.specs.Programs.{IsMade, root_in};

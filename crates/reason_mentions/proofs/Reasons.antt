@@ -4,9 +4,9 @@ use Rattle.std.specs.List.{All, Contains, flat_map}
 use Rattle.std.specs.Option.{option_map_or, option_and_then}
 use Rattle.std.proofs.lemmas.Int.{ints}
 use Rattle.std.proofs.lemmas.List.{get_or_default}
-use Rattle.sopl_base.specs.declared.places.Direction.{Direction}
-use Rattle.sopl_base.specs.declared.places.Reason.{Reason}
-use Rattle.sopl_base.specs.declared.places.Reason.TheVariants.{Hard, Chance, Undefined, Bound}
+use Rattle.sopl_base.specs.declared.direction.Direction.{Direction}
+use Rattle.sopl_base.specs.declared.reason.Reason.{Reason}
+use Rattle.sopl_base.specs.declared.reason.Reason.TheVariants.{Hard, Chance, Undefined, Bound}
 use Rattle.box_problem.specs.Box.{Box}
 use Rattle.box_rules.specs.declared.answers.Truth.{Truth}
 use Rattle.box_rules.specs.Ends.{Ends, ends, plus, scaled}
@@ -36,7 +36,8 @@ same_truth root b c cond reach = truths_agree Near root b c cond (all_of (Same b
 abbrev counted : ℤ → Truth → ℤ → ℤ
 counted weight found later = if is_false found then later else weight +ℤ later
 
-same_weight : (root b c : Box) (weights : List ℤ) (conditions : List Cond) → Reach (Same b c) (flat_map (cond_mentions root) conditions) → weight_left root b weights conditions ≡ weight_left root c weights conditions
+same_weight : (root b c : Box) (weights : List ℤ) (conditions : List Cond) → Reach (Same b c) (flat_map (cond_mentions root) conditions) → weight_left root b weights conditions
+    ≡ weight_left root c weights conditions
 same_weight root b c [] conditions reach = refl
 same_weight root b c (weight ∷ weights) [] reach = refl
 same_weight root b c (weight ∷ weights) (cond ∷ later) reach =
@@ -89,30 +90,36 @@ abbrev over_box : Box → Box → List ℤ → GoalTerms → Bool → Ends
 over_box root b weights goal worst =
     if worst then worst_ends goal.direction root b goal.terms else whole b (expected_form root weights goal.terms) (expected_atoms root b weights goal.terms)
 
-same_goal : (root b c : Box) (weights : List ℤ) (goal : GoalTerms) (worst : Bool) → Reach (Same b c) (flat_map (mentions root) goal.terms) → over_box root b weights goal worst ≡ over_box root c weights goal worst
+same_goal : (root b c : Box) (weights : List ℤ) (goal : GoalTerms) (worst : Bool) → Reach (Same b c) (flat_map (mentions root) goal.terms) → over_box root b weights goal worst
+    ≡ over_box root c weights goal worst
 same_goal root b c weights goal true reach = same_worst goal.direction root b c goal.terms reach
 same_goal root b c weights goal false reach =
     same_whole b c (expected_form root weights goal.terms) (expected_atoms root b weights goal.terms) (expected_atoms root c weights goal.terms)
     (over_expected (Same b c) root weights goal.terms reach) (same_expected root b c weights goal.terms reach)
 
-same_goal_ends : (root b c : Box) (terms : ProblemTerms) (goal : Option GoalTerms) → Reach (Same b c) (option_map_or (λ (g : GoalTerms). flat_map (mentions root) g.terms) goal []) → goal_ends root b (record terms { goal = goal }) ≡ goal_ends root c (record terms { goal = goal })
+same_goal_ends : (root b c : Box) (terms : ProblemTerms) (goal : Option GoalTerms) → Reach (Same b c) (option_map_or (λ (g : GoalTerms). flat_map (mentions root) g.terms) goal [])
+    → goal_ends root b (record terms { goal = goal }) ≡ goal_ends root c (record terms { goal = goal })
 same_goal_ends root b c terms None reach = refl
 same_goal_ends root b c terms (Some goal) reach = same_goal root b c terms.weights goal goal.worst reach
 
 -- each reason
-same_hard : (root b c : Box) (found : Option Cond) → Reach (Same b c) (option_map_or (cond_mentions root) found []) → option_map_or (λ cond. is_false (truth Near root b cond)) found false ≡ option_map_or (λ cond. is_false (truth Near root c cond)) found false
+same_hard : (root b c : Box) (found : Option Cond) → Reach (Same b c) (option_map_or (cond_mentions root) found []) → option_map_or (λ cond. is_false (truth Near root b cond)) found false
+    ≡ option_map_or (λ cond. is_false (truth Near root c cond)) found false
 same_hard root b c None reach = refl
 same_hard root b c (Some cond) reach = ap is_false (same_truth root b c cond reach)
 
 abbrev too_few : Box → Box → ProblemTerms → ChanceTerms → Bool
 too_few root b terms chance = int_lt (chance.q *ℤ weight_left root b terms.weights chance.conditions) (chance.p *ℤ terms.whole)
 
-same_chance : (root b c : Box) (terms : ProblemTerms) (found : Option ChanceTerms) → Reach (Same b c) (option_map_or (λ (chance : ChanceTerms). flat_map (cond_mentions root) chance.conditions) found []) → option_map_or (too_few root b terms) found false ≡ option_map_or (too_few root c terms) found false
+same_chance : (root b c : Box) (terms : ProblemTerms) (found : Option ChanceTerms)
+    → Reach (Same b c) (option_map_or (λ (chance : ChanceTerms). flat_map (cond_mentions root) chance.conditions) found []) → option_map_or (too_few root b terms) found false
+    ≡ option_map_or (too_few root c terms) found false
 same_chance root b c terms None reach = refl
 same_chance root b c terms (Some chance) reach =
     ap (λ (left : ℤ). int_lt (chance.q *ℤ left) (chance.p *ℤ terms.whole)) (same_weight root b c terms.weights chance.conditions reach)
 
-same_never : (root b c : Box) (found : Option Term) → Reach (Same b c) (option_map_or (mentions root) found []) → option_map_or (λ t. is_never (mark Near root b t)) found false ≡ option_map_or (λ t. is_never (mark Near root c t)) found false
+same_never : (root b c : Box) (found : Option Term) → Reach (Same b c) (option_map_or (mentions root) found []) → option_map_or (λ t. is_never (mark Near root b t)) found false
+    ≡ option_map_or (λ t. is_never (mark Near root c t)) found false
 same_never root b c None reach = refl
 same_never root b c (Some t) reach = ap is_never (marks_agree Near root b c t (all_of (Same b c) (mentions root t) reach))
 
@@ -127,13 +134,15 @@ same_bound root b c terms None same = refl
 same_bound root b c terms (Some value) same = ap (λ (e : Ends). none_better (direction_in terms) e value) same
 
 -- the law
-by_reason : (root b c : Box) (terms : ProblemTerms) (reason : Reason) (v : Option ℤ) → Reach (Same b c) (reason_mentions root terms reason) → refutes root terms reason b v ≡ refutes root terms reason c v
+by_reason : (root b c : Box) (terms : ProblemTerms) (reason : Reason) (v : Option ℤ) → Reach (Same b c) (reason_mentions root terms reason) → refutes root terms reason b v
+    ≡ refutes root terms reason c v
 by_reason root b c terms (Hard instance scenario) v reach =
     same_hard root b c (option_and_then (λ conditions. slice_get conditions scenario) (slice_get terms.hards instance)) reach
 by_reason root b c terms (Chance instance) v reach = same_chance root b c terms (slice_get terms.chances instance) reach
 by_reason root b c terms (Undefined scenario) v reach = same_undefined root b c scenario terms.goal reach
 by_reason root b c terms Bound v reach = same_bound root b c terms v (same_goal_ends root b c terms terms.goal reach)
 
-pub reasons_agree : (root b c : Box) (terms : ProblemTerms) (reason : Reason) (v : Option ℤ) → BoxesAgree (reason_mentions root terms reason) b c → refutes root terms reason b v ≡ refutes root terms reason c v
+pub reasons_agree : (root b c : Box) (terms : ProblemTerms) (reason : Reason) (v : Option ℤ) → BoxesAgree (reason_mentions root terms reason) b c → refutes root terms reason b v
+    ≡ refutes root terms reason c v
 reasons_agree root b c terms reason v agree =
     by_reason root b c terms reason v (reach_all (Same b c) (reason_mentions root terms reason) agree)

@@ -1,6 +1,6 @@
 -- What the cells that a reason mentions decide.
 use Rattle.std.specs.Prelude.{◌≡◌, ℤ, Option}
-use Rattle.sopl_base.specs.declared.places.Reason.{Reason}
+use Rattle.sopl_base.specs.declared.reason.Reason.{Reason}
 use Rattle.box_problem.specs.Box.{Box}
 use Rattle.cell_mentions.specs.Laws.{BoxesAgree}
 use Rattle.program_rules.specs.Problems.{ProblemTerms}

@@ -2,8 +2,8 @@
 use Rattle.std.specs.Prelude.{ℕ, List, [], slice_get}
 use Rattle.std.specs.List.{flat_map}
 use Rattle.std.specs.Option.{option_map_or, option_and_then}
-use Rattle.sopl_base.specs.declared.places.Reason.{Reason}
-use Rattle.sopl_base.specs.declared.places.Reason.TheVariants.{Hard, Chance, Undefined, Bound}
+use Rattle.sopl_base.specs.declared.reason.Reason.{Reason}
+use Rattle.sopl_base.specs.declared.reason.Reason.TheVariants.{Hard, Chance, Undefined, Bound}
 use Rattle.box_problem.specs.Box.{Box}
 use Rattle.cell_mentions.specs.Mentions.{cond_mentions, mentions}
 use Rattle.program_rules.specs.Problems.{ChanceTerms, GoalTerms, ProblemTerms}

@@ -1,8 +1,8 @@
 //! What the reasons of a small problem mention.
 
 ghost use Rattle.std.specs.Prelude.{◌≡◌, [], ◌∷◌, map, None};
-ghost use Rattle.sopl_base.specs.declared.places.Reason.TheVariants.{Hard, Chance, Undefined, Bound};
-ghost use Rattle.program_rules.specs.Worked.{all_orders, ordering, with_goal};
+ghost use Rattle.sopl_base.specs.declared.reason.Reason.TheVariants.{Hard, Chance, Undefined, Bound};
+ghost use Rattle.program_rules.specs.WorkedProgram.{all_orders, ordering, with_goal};
 ghost use Rattle.reason_mentions.specs.Reasons.{reason_mentions};
 
 /// x, y and z are the cells 0, 1 and 2: y, and z, is sold in a scenario, and no more than x. What is not there mentions nothing, nor does

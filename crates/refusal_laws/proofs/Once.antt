@@ -1,6 +1,6 @@
 -- A text that is not read is refused by one code at one place.
 use Rattle.std.proofs.Common.{◌≡◌, List, length, Result, Ok, Err, sym, subst}
-use Rattle.sopl_base.specs.declared.places.Refusal.{Refusal}
+use Rattle.sopl_base.specs.declared.fault.Refusal.{Refusal}
 use Rattle.sopl_ast.specs.declared.token.Token.{Token}
 use Rattle.sopl_lex.proofs.Meet.{lexes_one}
 use Rattle.sopl_grammar.proofs.Fronts.{front_of_front}

@@ -1,6 +1,6 @@
 -- The refusals of texts that are not read.
 use Rattle.std.specs.Prelude.{◌≡◌, ℕ, List, length, Ok, Err}
-use Rattle.sopl_base.specs.declared.places.Refusal.{Refusal}
+use Rattle.sopl_base.specs.declared.fault.Refusal.{Refusal}
 use Rattle.sopl_ast.specs.declared.token.Token.{Token}
 use Rattle.sopl_ast.specs.Tokens.{Lexes}
 use Rattle.sopl_ast.specs.Misspelled.{IsMisspelled}

@@ -1,5 +1,6 @@
 //! The box of all points of an accepted text: where its ends lie, and how many bits it has. The functions are empty and state what was
 //! proved of the definitions, so that no body here could be wrong; hence the crate has no must-fail edits.
+//! There is nothing to test.
 #![tactic(auto)]
 
 ghost use Rattle.root_bits.specs.RootLaws.{BitsAreTheSame, DigitsAreTheSame, RootHasFewBits, RootIsNear};

@@ -2,7 +2,7 @@
 use Rattle.std.specs.Prelude.{◌≡◌, ℕ, suc, ◌≤◌, ◌-◌, ◌*◌, ◌^◌, ℤ, pos, ◌≤ℤ◌, ◌*ℤ◌, int_le, nat_lt, List, [], ◌∷◌, ◌++◌, length, take, map, slice_get, Option, Some, None, if◌then◌else◌}
 use Rattle.std.specs.Int.{int_min}
 use Rattle.std.specs.List.{AllByRecursion, IsDistinct, flat_map, position}
-use Rattle.sopl_base.specs.declared.places.Excess.{Excess}
+use Rattle.sopl_base.specs.declared.fault.Excess.{Excess}
 use Rattle.sopl_ast.specs.Whole.{ModelTree}
 use Rattle.sopl_ast.specs.Known.{same_values}
 use Rattle.sopl_ast.specs.Occurrences.{excess}

@@ -1,6 +1,7 @@
 //! Laws over the definitions of scenarios.
 
-ghost use Rattle.scenario_laws.specs.Laws.{CountsMultiply, FrontsAreFewer, HistoriesAreFronts, HistoriesAreRows, ProductsRun, RowsAreNumbered, RowsDiffer, ScenariosAreCounted, ScenariosAreLight, ScenariosExtend, ScenariosSplit, StochasticsAscend, WeightsMultiply};
+ghost use Rattle.scenario_laws.specs.Laws.{CountsMultiply, FrontsAreFewer, HistoriesAreFronts, HistoriesAreRows, ProductsRun, RowsAreNumbered, RowsDiffer, ScenariosAreCounted};
+ghost use Rattle.scenario_laws.specs.Laws.{ScenariosAreLight, ScenariosExtend, ScenariosSplit, StochasticsAscend, WeightsMultiply};
 
 /// The stochastic variables of a text are by stage.
 pub fn stochastics_ascend()

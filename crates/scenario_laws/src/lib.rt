@@ -1,5 +1,6 @@
 //! What holds of the scenarios, the histories and the limits of stochastic variables. The functions are empty and state what was
 //! proved of the definitions, so that no body here could be wrong; hence the crate has no must-fail edits.
+//! There is nothing to test.
 #![tactic(auto)]
 
 mod laws;

@@ -1,5 +1,6 @@
 -- The tables of a tree hold its scenarios, its histories and its cells.
-use Rattle.std.proofs.Common.{◌≡◌, ◌+◌, ◌-◌, ◌*◌, ◌≤◌, ◌<◌, ◌^◌, ℕ, zero, suc, ℤ, pos, ◌≤ℤ◌, nat_lt, Bool, true, false, cond, List, [], ◌∷◌, length, map, get_or, take, slice_get, unsigned_abs, Some, arith, refl, sym, ap, subst, ◌∙◌}
+use Rattle.std.proofs.Common.{◌≡◌, ◌+◌, ◌-◌, ◌*◌, ◌≤◌, ◌<◌, ◌^◌, ℕ, zero, suc, ℤ, pos, ◌≤ℤ◌, nat_lt, Bool, true, false, cond, List, [], ◌∷◌, length, map, get_or, take, slice_get}
+use Rattle.std.proofs.Common.{unsigned_abs, Some, arith, refl, sym, ap, subst, ◌∙◌}
 use Rattle.std.proofs.Math.Seq.{take-length}
 use Rattle.std.proofs.lemmas.Int.{ints}
 use Rattle.std.proofs.lemmas.Option.{get_or_from_slice_get, slice_get-get_or, slice_get_within}

@@ -6,7 +6,7 @@ use Rattle.std.proofs.lemmas.List.Elements.{All-from_recursion}
 use Rattle.std.proofs.lemmas.List.FromFn.{length-range_with_len}
 use Rattle.std.proofs.lemmas.List.Sums.{sum_by-cons}
 use Rattle.std.specs.List.{AllByRecursion, range_with_len, sum_by}
-use Rattle.sopl_base.specs.declared.places.Excess.{Excess}
+use Rattle.sopl_base.specs.declared.fault.Excess.{Excess}
 use Rattle.sopl_ast.specs.Numbers.{or_else}
 use Rattle.sopl_ast.specs.Instances.{Decision, Stochastic, Problem}
 use Rattle.sopl_ast.specs.Scenarios.{Scenario, scenarios, total_weight}
@@ -22,7 +22,8 @@ use Rattle.scenario_tree.specs.Stages.{all_stages, count_at, cell_count, bit_cou
 use Rattle.scenario_tree.specs.Sizes.{early_excess}
 use Rattle.scenario_tree.specs.Layout.{Layout, IsFilled, IsTreeOf, AreStated, IsProblemOf, cells_for, cell_at}
 use Rattle.scenario_tree.proofs.Reading.{row_long, path_long, pieces_long, last_is, last_long}
-use Rattle.scenario_tree.proofs.Assembled.{AreSound, weights_are, stages_long, count_is, count_few, front_few, history_numbered, value_found, cells_total, place_is, places_long, cell_found, cell_number, bits_sum}
+use Rattle.scenario_tree.proofs.Assembled.{AreSound, weights_are, stages_long, count_is, count_few, front_few, history_numbered, value_found, cells_total, place_is, places_long}
+use Rattle.scenario_tree.proofs.Assembled.{cell_found, cell_number, bits_sum}
 
 -- The first limit that is passed.
 

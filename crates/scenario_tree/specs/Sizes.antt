@@ -1,6 +1,6 @@
 -- The limits that are tested before anything is built.
 use Rattle.std.specs.Prelude.{ℕ, ◌*◌, ◌^◌, pos, List, [], ◌∷◌, length, map, Option}
-use Rattle.sopl_base.specs.declared.places.Excess.{Excess}
+use Rattle.sopl_base.specs.declared.fault.Excess.{Excess}
 use Rattle.sopl_ast.specs.Numbers.{or_else}
 use Rattle.sopl_ast.specs.Instances.{Stochastic}
 use Rattle.sopl_ast.specs.Scenarios.{scenarios, total_weight}

@@ -10,14 +10,9 @@ ghost use Rattle.scenario_tree.specs.Stages.{bit_count, cell_count, count_at, pl
 
 use crate::products::Number;
 use crate::stages::Stage;
-use sopl_base::{Excess, bits};
+use sopl_base::{Excess, bits, codes, limits};
 use std::alloc::{AllocError, Global};
 use unfold_variables::DecisionItem;
-
-/// The code of too many bits, and how many there may be.
-const BITS: u16 = 204;
-
-const MOST_BITS: i128 = 1024;
 
 /// A decision: the number of its first cell, and its stage.
 #[derive(Clone, Copy)]
@@ -89,7 +84,7 @@ pub(crate) fn bits_of_all(decisions: &[DecisionItem], stages: &[Stage]) -> Resul
     'decisions: for decision in decisions {
         total = total.plus(bits_of(decision, stages));
     }
-    total.within(BITS, MOST_BITS)
+    total.within(codes::BITS, limits::BITS)
 }
 
 /// The bits of a decision: those of its domain, in each of its cells.

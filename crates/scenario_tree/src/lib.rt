@@ -13,4 +13,5 @@ mod table;
 mod tests;
 mod tree;
 
+pub use stages::seen_before;
 pub use tree::Tree;

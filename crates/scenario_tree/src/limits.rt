@@ -9,23 +9,8 @@ ghost use Rattle.unfold_laws.specs.Bounds.{IsBoundedStochastic};
 ghost use Rattle.scenario_tree.specs.Sizes.{early_excess};
 
 use crate::products::{Number, number_of_outcomes, total_of_outcomes};
-use sopl_base::Excess;
+use sopl_base::{Excess, codes, limits};
 use unfold_variables::StochItem;
-
-/// The code of too great a weight of all scenarios, and the greatest weight.
-const WEIGHT: u16 = 201;
-
-const MOST_WEIGHT: i128 = 1267650600228229401496703205376;
-
-/// The code of too many scenarios, and how many there may be.
-const SCENARIOS: u16 = 202;
-
-const MOST_SCENARIOS: i128 = 16384;
-
-/// The code of too many instances times scenarios, and how many there may be.
-const COPIES: u16 = 209;
-
-const MOST_COPIES: i128 = 1048576;
 
 /// The total of a variable's weights.
 fn weight_of(stoch: &StochItem) -> Number
@@ -58,7 +43,7 @@ pub(crate) fn weight_of_all(stochs: &[StochItem]) -> Result<Number, Excess>
     let mut product = Number { value: 1 };
     'stochs: for stoch in stochs {
         let total = weight_of(stoch);
-        product = product.times(total, WEIGHT, MOST_WEIGHT)?;
+        product = product.times(total, codes::WEIGHT, limits::WEIGHT)?;
     }
     Ok(product)
 }
@@ -74,7 +59,7 @@ pub(crate) fn count_of_all(stochs: &[StochItem]) -> Result<Number, Excess>
     let mut product = Number { value: 1 };
     'stochs: for stoch in stochs {
         let outcomes = count_of(stoch);
-        product = product.times(outcomes, SCENARIOS, MOST_SCENARIOS)?;
+        product = product.times(outcomes, codes::SCENARIOS, limits::SCENARIOS)?;
     }
     Ok(product)
 }
@@ -89,7 +74,7 @@ pub(crate) fn copies(instances: usize, scenarios: Number) -> Result<Number, Exce
     let instances = Number {
         value: instances as i128,
     };
-    instances.times(scenarios, COPIES, MOST_COPIES)
+    instances.times(scenarios, codes::COPIES, limits::COPIES)
 }
 
 /// What was measured before anything is built.

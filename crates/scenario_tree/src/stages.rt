@@ -6,11 +6,9 @@ ghost use Rattle.scenario_tree.specs.Levels.{AreSmall, all_levels};
 ghost use Rattle.scenario_tree.specs.Stages.{all_stages, stage_in};
 
 use crate::nodes::Level;
+use sopl_base::limits;
 use std::alloc::{AllocError, Global};
 use unfold_variables::StochItem;
-
-/// The greatest stage.
-pub(crate) const LAST_STAGE: u32 = 24;
 
 /// A stage: how many stochastic variables are seen before it is chosen, and how many histories it has.
 #[derive(Clone, Copy)]
@@ -30,7 +28,7 @@ pub(crate) fn stages(
     ensures { IfOk result (λ found. found.items ≡ all_stages stochs.now) }
 {
     let mut found = Vec::new(alloc);
-    'stages: for stage in 1..LAST_STAGE + 1 {
+    'stages: for stage in 1..limits::STAGE + 1 {
         found.push(stage_at(stage, stochs, levels))?;
     }
     Ok(found)
@@ -50,7 +48,7 @@ fn stage_at(stage: u32, stochs: &[StochItem], levels: &[Level]) -> Stage
 }
 
 /// How many variables come before the first whose stage is not below this one.
-fn seen_before(stage: u32, stochs: &[StochItem]) -> usize
+pub fn seen_before(stage: u32, stochs: &[StochItem]) -> usize
     ensures value { result ≡ seen_before stage stochs.now }
     ensures within { result ≤ length stochs.now }
 {

@@ -1,7 +1,7 @@
 //! The tree of scenarios: their weights, values and histories, and the cells of decisions.
 
 ghost use Rattle.std.specs.Prelude.{◌≡◌, ◌≤◌, ◌<◌, ◌+◌, ◌⊎◌, length, Some, None, IfOk, IfErr};
-ghost use Rattle.sopl_base.specs.declared.places.Excess.{Excess};
+ghost use Rattle.sopl_base.specs.declared.fault.Excess.{Excess};
 ghost use Rattle.sopl_ast.specs.Instances.{Problem};
 ghost use Rattle.sopl_ast.specs.Limits.{size_excess, usual_limits};
 ghost use Rattle.scenario_tree.specs.Layout.{AreStated, IsProblemOf, IsTreeOf, cell_in, count_in, decisions_in, histories_in, history_in, value_in, weight_in};

@@ -1,5 +1,6 @@
 -- The domains of cells are the roots.
-use Rattle.std.proofs.Common.{◌≡◌, ◌+◌, ◌-◌, ◌<◌, ◌≤◌, ◌≤ℤ◌, ◌^◌, ℕ, zero, suc, ℤ, pos, negsuc, List, [], ◌∷◌, ◌++◌, length, map, get_or, drop, All, arith, refl, sym, ap, subst, ◌∙◌, append_assoc, Result, Ok, Err, IfOk}
+use Rattle.std.proofs.Common.{◌≡◌, ◌+◌, ◌-◌, ◌<◌, ◌≤◌, ◌≤ℤ◌, ◌^◌, ℕ, zero, suc, ℤ, pos, negsuc, List, [], ◌∷◌, ◌++◌, length, map, get_or, drop, All, arith, refl, sym, ap, subst}
+use Rattle.std.proofs.Common.{◌∙◌, append_assoc, Result, Ok, Err, IfOk}
 use Rattle.std.proofs.Math.ListN.{replicate}
 use Rattle.std.specs.List.{AllByRecursion, enumerate_from, flat_map}
 use Rattle.std.proofs.lemmas.Int.{ints}
@@ -8,7 +9,7 @@ use Rattle.std.proofs.lemmas.Simd.{map-map}
 use Rattle.std.specs.declared.alloc.AllocError.{AllocError}
 use Rattle.std.specs.declared.alloc.Global.{Global}
 use Rattle.std.specs.declared.vec.Vec.{Vec}
-use Rattle.sopl_base.specs.declared.places.Interval.{Interval}
+use Rattle.sopl_base.specs.declared.interval.Interval.{Interval}
 use Rattle.sopl_ast.specs.Cells.{Cell, cells_of}
 use Rattle.sopl_ast.specs.Histories.{histories}
 use Rattle.sopl_ast.specs.Instances.{Decision, Stochastic}

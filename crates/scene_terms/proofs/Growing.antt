@@ -1,10 +1,11 @@
 -- What stands in a work stays where more is added, and what is added stands.
-use Rattle.std.proofs.Common.{◌≡◌, ◌∙◌, refl, ap, sym, subst, arith, ℕ, zero, suc, ◌+◌, ◌<◌, ◌≤◌, ◌^◌, nat_le, Bool, true, false, pos, cond, List, [], ◌∷◌, ◌++◌, length, length-append, Option, Some, None, option_map, Result, Ok, Err, IfOk, OnOk, inl, inr}
+use Rattle.std.proofs.Common.{◌≡◌, ◌∙◌, refl, ap, sym, subst, arith, ℕ, zero, suc, ◌+◌, ◌<◌, ◌≤◌, ◌^◌, nat_le, Bool, true, false, pos, cond, List, [], ◌∷◌, ◌++◌, length}
+use Rattle.std.proofs.Common.{length-append, Option, Some, None, option_map, Result, Ok, Err, IfOk, OnOk, inl, inr}
 use Rattle.std.specs.declared.alloc.AllocError.{AllocError}
 use Rattle.std.specs.declared.alloc.Global.{Global}
 use Rattle.std.specs.declared.vec.Vec.{Vec}
-use Rattle.sopl_base.specs.declared.places.Fault.{Fault}
-use Rattle.sopl_base.specs.declared.places.Fault.TheVariants.{Limit, NoMemory}
+use Rattle.sopl_base.specs.declared.fault.Fault.{Fault}
+use Rattle.sopl_base.specs.declared.fault.Fault.TheVariants.{Limit, NoMemory}
 use Rattle.box_problem.specs.Box.{Box}
 use Rattle.box_rules.specs.Sizes.{size}
 use Rattle.box_rules.specs.Terms.{Table, Term}
@@ -100,15 +101,18 @@ added_stands before after id thing added = record {
   is = ap (λ (ts : List Thing). thing_at ts id) added.added ∙ ap (thing_at (before ++ thing ∷ [])) added.number ∙ last_at before thing;
 }
 
-pub term_stands : (result : Result TermId Fault) (before after : List Thing) (thing : Thing) → IfOk result (λ (id : TermId). IsAdded before after id.0 thing) → IfOk result (λ (id : TermId). Stands after id.0 thing)
+pub term_stands : (result : Result TermId Fault) (before after : List Thing) (thing : Thing) → IfOk result (λ (id : TermId). IsAdded before after id.0 thing)
+    → IfOk result (λ (id : TermId). Stands after id.0 thing)
 term_stands (Ok id) before after thing added = added_stands before after id.0 thing added
 term_stands (Err fault) before after thing added = tt
 
-pub cond_stands : (result : Result CondId AllocError) (before after : List Thing) (thing : Thing) → IfOk result (λ (id : CondId). IsAdded before after id.0 thing) → IfOk result (λ (id : CondId). Stands after id.0 thing)
+pub cond_stands : (result : Result CondId AllocError) (before after : List Thing) (thing : Thing) → IfOk result (λ (id : CondId). IsAdded before after id.0 thing)
+    → IfOk result (λ (id : CondId). Stands after id.0 thing)
 cond_stands (Ok id) before after thing added = added_stands before after id.0 thing added
 cond_stands (Err fault) before after thing added = tt
 
-pub table_stands : (result : Result TableId AllocError) (before after : List Thing) (thing : Thing) → IfOk result (λ (id : TableId). IsAdded before after id.0 thing) → IfOk result (λ (id : TableId). Stands after id.0 thing)
+pub table_stands : (result : Result TableId AllocError) (before after : List Thing) (thing : Thing) → IfOk result (λ (id : TableId). IsAdded before after id.0 thing)
+    → IfOk result (λ (id : TableId). Stands after id.0 thing)
 table_stands (Ok id) before after thing added = added_stands before after id.0 thing added
 table_stands (Err fault) before after thing added = tt
 

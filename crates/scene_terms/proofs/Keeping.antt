@@ -1,15 +1,14 @@
 -- The arrays that are kept of a name.
-use Rattle.std.proofs.Common.{◌≡◌, ◌∙◌, refl, ap, sym, subst, ℕ, Bool, true, false, cond, nat_eq, List, [], ◌∷◌, Option, Some, None}
-use Rattle.std.proofs.lemmas.Slice.Eq.{bytes_eq-Decides}
+use Rattle.std.proofs.Common.{◌≡◌, ◌∙◌, refl, ap, sym, subst, ℕ, Bool, true, false, cond, nat_eq, List, [], ◌∷◌, Some, None}
 use Rattle.std.specs.Cmp.Lexicographic.{pointwise}
 use Rattle.std.specs.Map.{lookup}
 use Rattle.std.specs.Option.{unwrap_or}
-use Rattle.std.specs.Str.{bytes_eq}
 use Rattle.std.specs.declared.alloc.Global.{Global}
 use Rattle.std.specs.declared.vec.Vec.{Vec}
 use Rattle.indexmap.specs.IndexMap.{insert_entry}
 use Rattle.place_names.specs.declared.setting.Setting.{Setting}
 use Rattle.scenario_tree.specs.Layout.{count_in}
+use Rattle.place_names.proofs.Grouping.{same_name}
 use Rattle.scene_terms.specs.Scenes.{array_in}
 use Rattle.scene_terms.specs.Works.{AreArrays, AreKept, Extends, Stands, entries_in, things_of}
 use Rattle.scene_terms.specs.declared.work.Arrays.{Arrays}
@@ -24,9 +23,6 @@ Entry = Vec ℕ Global × Arrays
 -- the test of a key
 abbrev pub is_key : List ℕ → Vec ℕ Global → Bool
 is_key name key = pointwise nat_eq name key.items
-
-same_name : (name other : List ℕ) → bytes_eq name other ≡ true → name ≡ other
-same_name name other is = (bytes_eq-Decides name other).0 is
 
 none_there : (found : Arrays) → None ≡ Some found → ⊥
 none_there found is = cc

@@ -3,7 +3,7 @@ use Rattle.std.specs.Prelude.{ℤ, List, replicate}
 use Rattle.std.specs.List.{flat_map}
 use Rattle.scenario_tree.specs.Layout.{Layout, histories_in}
 use Rattle.sopl_ast.specs.Instances.{Decision}
-use Rattle.sopl_base.specs.declared.places.Interval.{Interval}
+use Rattle.sopl_base.specs.declared.interval.Interval.{Interval}
 
 -- the ends of an interval
 abbrev pub ends_of : Interval → ℤ × ℤ

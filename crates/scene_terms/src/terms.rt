@@ -56,7 +56,8 @@ impl Work {
         requires right { b.0 < length (things_of self.old) }
         ensures extends { (setting : Setting) → IsReady setting self.old → Extends setting self.old self.new }
         ensures stands { IfOk result (λ id. Stands (things_of self.new) id.0 (a_term (term.Product (term_at (things_of self.old) a.0) (term_at (things_of self.old) b.0)))) }
-        ensures measured { (setting : Setting) → IsReady setting self.old → Measures (root_in setting) ((term.Product (term_at (things_of self.old) a.0) (term_at (things_of self.old) b.0)) ∷ []) result }
+        ensures measured { (setting : Setting) → IsReady setting self.old
+            → Measures (root_in setting) ((term.Product (term_at (things_of self.old) a.0) (term_at (things_of self.old) b.0)) ∷ []) result }
     {
         self.builder.product(a, b)
     }
@@ -138,7 +139,8 @@ impl Work {
         requires exist { AllBelow (length (things_of self.old)) (term_ids at.now) }
         ensures extends { (setting : Setting) → IsReady setting self.old → Extends setting self.old self.new }
         ensures stands { IfOk result (λ id. Stands (things_of self.new) id.0 (a_term (term.Element (table_at (things_of self.old) table.0) (terms_at (things_of self.old) (term_ids at.now))))) }
-        ensures measured { (setting : Setting) → IsReady setting self.old → Measures (root_in setting) ((term.Element (table_at (things_of self.old) table.0) (terms_at (things_of self.old) (term_ids at.now))) ∷ []) result }
+        ensures measured { (setting : Setting) → IsReady setting self.old
+            → Measures (root_in setting) ((term.Element (table_at (things_of self.old) table.0) (terms_at (things_of self.old) (term_ids at.now))) ∷ []) result }
     {
         self.builder.element(table, at)
     }

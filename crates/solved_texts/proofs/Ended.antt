@@ -1,7 +1,7 @@
 -- An accepted text is solved, is not solved yet, or passes a limit on its terms.
 use Rattle.std.proofs.Common.{◌≡◌, ◌⊎◌, inl, inr, ◌∙◌, refl, sym, ap, ℕ, List, Option, Some, None, unwrap_or}
-use Rattle.sopl_base.specs.declared.places.Excess.{Excess}
-use Rattle.sopl_base.specs.declared.places.Refusal.{Refusal}
+use Rattle.sopl_base.specs.declared.fault.Excess.{Excess}
+use Rattle.sopl_base.specs.declared.fault.Refusal.{Refusal}
 use Rattle.sopl_ast.specs.Accepted.{AcceptedModel, AcceptedText, IsTextOf}
 use Rattle.sopl_ast.specs.Instances.{Problem}
 use Rattle.sopl_ast.specs.Limits.{size_excess, usual_limits}

@@ -1,9 +1,9 @@
 -- The texts that are accepted, with the problem that each states, and why another text is not. The limits on term nodes (206) and on the sizes of terms
 -- (207) are told behind these, by `solve` alone; and which forms of expressions the program has yet is said apart, since it is no matter of what a text means.
 use Rattle.std.specs.Prelude.{◌≡◌, ℕ, List, length, Some, None, Ok, Err, IsOk}
-use Rattle.sopl_base.specs.declared.places.Refusal.{Refusal}
-use Rattle.sopl_base.specs.declared.places.Excess.{Excess}
-use Rattle.sopl_base.specs.declared.places.Fault.TheVariants.{Text, Limit}
+use Rattle.sopl_base.specs.declared.fault.Refusal.{Refusal}
+use Rattle.sopl_base.specs.declared.fault.Excess.{Excess}
+use Rattle.sopl_base.specs.declared.fault.Fault.TheVariants.{Text, Limit}
 use Rattle.sopl_ast.specs.declared.token.Token.{Token}
 use Rattle.sopl_ast.specs.Tokens.{Lexes}
 use Rattle.sopl_ast.specs.Whole.{ModelTree}

@@ -3,11 +3,12 @@ use Rattle.std.specs.Prelude.{◌≡◌, ℕ, Bool, List, refl}
 use Rattle.std.proofs.Common.{ap, arith, zero, suc}
 use Rattle.std.specs.Coded.{Coded, code_by, coded_ℕ, coded_ℤ, coded_bool, coded_list, coded×}
 use base.Stored.{Gv, gnil, gnum, gcons, num}
-use Rattle.sopl_base.specs.declared.places.CmpOp.{CmpOp}
-use Rattle.sopl_base.specs.declared.places.CmpOp.TheVariants.{Eq, Ne, Lt, Le, Gt, Ge}
+use Rattle.sopl_base.specs.declared.comparison.CmpOp.{CmpOp}
+use Rattle.sopl_base.specs.declared.comparison.CmpOp.TheVariants.{Eq, Ne, Lt, Le, Gt, Ge}
 use Rattle.sopl_ast.specs.declared.operators.MulOp.{MulOp}
 use Rattle.sopl_ast.specs.declared.operators.MulOp.TheVariants.{Times, Div, Mod}
-use Rattle.sopl_ast.specs.Tree.{Tree, Node, Shape, Lit, Name, Index, Neg, Add, Mul, Cmp, Not, And, Or, Implies, Sum, Least, Greatest, Abs, AllDifferent, Cumulative, Trees, no_tree, tree, Terms, no_term, term, Factors, no_factor, factor, Binders, no_binder, binder, Range, Named, Ends}
+use Rattle.sopl_ast.specs.Tree.{Tree, Node, Shape, Lit, Name, Index, Neg, Add, Mul, Cmp, Not, And, Or, Implies, Sum, Least, Greatest, Abs, AllDifferent, Cumulative, Trees, no_tree}
+use Rattle.sopl_ast.specs.Tree.{tree, Terms, no_term, term, Factors, no_factor, factor, Binders, no_binder, binder, Range, Named, Ends}
 use Rattle.sopl_ast.specs.Lists.{BinderTree, Product}
 
 abbrev front : Gv → Gv
@@ -133,7 +134,8 @@ mutual
   inj_shape (Neg x1) (Neg y1) e = λ i. Neg (inj_tree x1 y1 (pairs e).1 i)
   inj_shape (Add x1) (Add y1) e = λ i. Add (inj_terms x1 y1 (pairs e).1 i)
   inj_shape (Mul x1 x2) (Mul y1 y2) e = λ i. Mul (inj_tree x1 y1 ((pairs (pairs e).1).0) i) (inj_factors x2 y2 ((pairs (pairs e).1).1) i)
-  inj_shape (Cmp x1 x2 x3) (Cmp y1 y2 y3) e = λ i. Cmp (coded_cmp.inj x1 y1 ((pairs (pairs e).1).0) i) (inj_tree x2 y2 ((pairs (pairs (pairs e).1).1).0) i) (inj_tree x3 y3 ((pairs ((pairs (pairs e).1).1)).1) i)
+  inj_shape (Cmp x1 x2 x3) (Cmp y1 y2 y3) e = λ i. Cmp (coded_cmp.inj x1 y1 ((pairs (pairs e).1).0) i) (inj_tree x2 y2 ((pairs (pairs (pairs e).1).1).0) i)
+      (inj_tree x3 y3 ((pairs ((pairs (pairs e).1).1)).1) i)
   inj_shape (Not x1) (Not y1) e = λ i. Not (inj_tree x1 y1 (pairs e).1 i)
   inj_shape (And x1) (And y1) e = λ i. And (inj_trees x1 y1 (pairs e).1 i)
   inj_shape (Or x1) (Or y1) e = λ i. Or (inj_trees x1 y1 (pairs e).1 i)
@@ -143,7 +145,9 @@ mutual
   inj_shape (Greatest x1) (Greatest y1) e = λ i. Greatest (inj_trees x1 y1 (pairs e).1 i)
   inj_shape (Abs x1) (Abs y1) e = λ i. Abs (inj_tree x1 y1 (pairs e).1 i)
   inj_shape (AllDifferent x1 x2) (AllDifferent y1 y2) e = λ i. AllDifferent (inj_binders x1 y1 ((pairs (pairs e).1).0) i) (inj_tree x2 y2 ((pairs (pairs e).1).1) i)
-  inj_shape (Cumulative x1 x2 x3 x4 x5) (Cumulative y1 y2 y3 y4 y5) e = λ i. Cumulative (inj_binders x1 y1 ((pairs (pairs e).1).0) i) (inj_tree x2 y2 ((pairs (pairs (pairs e).1).1).0) i) (inj_tree x3 y3 ((pairs (pairs ((pairs (pairs e).1).1)).1).0) i) (inj_tree x4 y4 ((pairs (pairs ((pairs ((pairs (pairs e).1).1)).1)).1).0) i) (inj_tree x5 y5 ((pairs ((pairs ((pairs ((pairs (pairs e).1).1)).1)).1)).1) i)
+  inj_shape (Cumulative x1 x2 x3 x4 x5) (Cumulative y1 y2 y3 y4 y5) e = λ i.
+      Cumulative (inj_binders x1 y1 ((pairs (pairs e).1).0) i) (inj_tree x2 y2 ((pairs (pairs (pairs e).1).1).0) i) (inj_tree x3 y3 ((pairs (pairs ((pairs (pairs e).1).1)).1).0) i)
+      (inj_tree x4 y4 ((pairs (pairs ((pairs ((pairs (pairs e).1).1)).1)).1).0) i) (inj_tree x5 y5 ((pairs ((pairs ((pairs ((pairs (pairs e).1).1)).1)).1)).1) i)
   inj_shape _ _ e = let f = ap num (pairs e).0 in absurd (omega arith)
 
   pub inj_trees : (x y : Trees) → code_trees x ≡ code_trees y → x ≡ y
@@ -153,17 +157,21 @@ mutual
 
   pub inj_terms : (x y : Terms) → code_terms x ≡ code_terms y → x ≡ y
   inj_terms no_term no_term e = refl
-  inj_terms (term x1 x2 x3) (term y1 y2 y3) e = λ i. term (coded_bool.inj x1 y1 ((pairs (pairs e).1).0) i) (inj_tree x2 y2 ((pairs (pairs (pairs e).1).1).0) i) (inj_terms x3 y3 ((pairs ((pairs (pairs e).1).1)).1) i)
+  inj_terms (term x1 x2 x3) (term y1 y2 y3) e = λ i. term (coded_bool.inj x1 y1 ((pairs (pairs e).1).0) i) (inj_tree x2 y2 ((pairs (pairs (pairs e).1).1).0) i)
+      (inj_terms x3 y3 ((pairs ((pairs (pairs e).1).1)).1) i)
   inj_terms _ _ e = let f = ap num (pairs e).0 in absurd (omega arith)
 
   pub inj_factors : (x y : Factors) → code_factors x ≡ code_factors y → x ≡ y
   inj_factors no_factor no_factor e = refl
-  inj_factors (factor x1 x2 x3) (factor y1 y2 y3) e = λ i. factor (coded_mul.inj x1 y1 ((pairs (pairs e).1).0) i) (inj_tree x2 y2 ((pairs (pairs (pairs e).1).1).0) i) (inj_factors x3 y3 ((pairs ((pairs (pairs e).1).1)).1) i)
+  inj_factors (factor x1 x2 x3) (factor y1 y2 y3) e = λ i. factor (coded_mul.inj x1 y1 ((pairs (pairs e).1).0) i) (inj_tree x2 y2 ((pairs (pairs (pairs e).1).1).0) i)
+      (inj_factors x3 y3 ((pairs ((pairs (pairs e).1).1)).1) i)
   inj_factors _ _ e = let f = ap num (pairs e).0 in absurd (omega arith)
 
   pub inj_binders : (x y : Binders) → code_binders x ≡ code_binders y → x ≡ y
   inj_binders no_binder no_binder e = refl
-  inj_binders (binder x1 x2 x3 x4) (binder y1 y2 y3 y4) e = λ i. binder (coded_text.inj x1 y1 ((pairs (pairs e).1).0) i) (inj_num x2 y2 ((pairs (pairs (pairs e).1).1).0) i) (inj_range x3 y3 ((pairs (pairs ((pairs (pairs e).1).1)).1).0) i) (inj_binders x4 y4 ((pairs ((pairs ((pairs (pairs e).1).1)).1)).1) i)
+  inj_binders (binder x1 x2 x3 x4) (binder y1 y2 y3 y4) e = λ i.
+      binder (coded_text.inj x1 y1 ((pairs (pairs e).1).0) i) (inj_num x2 y2 ((pairs (pairs (pairs e).1).1).0) i) (inj_range x3 y3 ((pairs (pairs ((pairs (pairs e).1).1)).1).0) i)
+      (inj_binders x4 y4 ((pairs ((pairs ((pairs (pairs e).1).1)).1)).1) i)
   inj_binders _ _ e = let f = ap num (pairs e).0 in absurd (omega arith)
 
   pub inj_range : (x y : Range) → code_range x ≡ code_range y → x ≡ y

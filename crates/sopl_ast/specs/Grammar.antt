@@ -3,10 +3,10 @@
 -- prefixes may be opened there. `cut` says whether the tokens may end too early: where they do, what is still missing counts as spelled,
 -- whatever it is; so a front of a text is what is spelled where `cut` is true. A text itself is spelled where `cut` is false.
 use Rattle.std.specs.Prelude.{◌≡◌, ℕ, suc, ℤ, Bool, true, false, List, [], ◌∷◌, Option, Some, None}
-use Rattle.sopl_base.specs.declared.places.CmpOp.{CmpOp}
-use Rattle.sopl_base.specs.declared.places.CmpOp.TheVariants.{Eq, Ne, Lt, Le, Gt, Ge}
-use Rattle.sopl_base.specs.declared.places.Direction.{Direction}
-use Rattle.sopl_base.specs.declared.places.Direction.TheVariants.{Minimize, Maximize}
+use Rattle.sopl_base.specs.declared.comparison.CmpOp.{CmpOp}
+use Rattle.sopl_base.specs.declared.comparison.CmpOp.TheVariants.{Eq, Ne, Lt, Le, Gt, Ge}
+use Rattle.sopl_base.specs.declared.direction.Direction.{Direction}
+use Rattle.sopl_base.specs.declared.direction.Direction.TheVariants.{Minimize, Maximize}
 use Rattle.sopl_ast.specs.declared.operators.MulOp.{MulOp}
 use Rattle.sopl_ast.specs.declared.operators.MulOp.TheVariants.{Times, Div, Mod}
 use Rattle.sopl_ast.specs.declared.token.Token.{Token}
@@ -15,7 +15,8 @@ use Rattle.sopl_ast.specs.declared.token.TokenKind.TheVariants as k
 use Rattle.sopl_ast.specs.Lists.{BinderTree, trees, terms, factors, binders}
 use Rattle.sopl_ast.specs.Tree as t
 use Rattle.sopl_ast.specs.Tree.{Tree, Trees, Shape, Range, Node, Named, Ends, place_of, shape_of}
-use Rattle.sopl_ast.specs.Whole.{DimTree, InitTree, One, Many, inits, Declaration, IntDecl, RangeDecl, SetDecl, DvarDecl, StochDecl, ConsTree, ForallTree, BlockTree, HardTree, ChanceTree, conses, GoalTree, ModelTree}
+use Rattle.sopl_ast.specs.Whole.{DimTree, InitTree, One, Many, inits, Declaration, IntDecl, RangeDecl, SetDecl, DvarDecl, StochDecl, ConsTree, ForallTree, BlockTree, HardTree}
+use Rattle.sopl_ast.specs.Whole.{ChanceTree, conses, GoalTree, ModelTree}
 
 -- the operator of a chain of products
 abbrev pub factor_operator : TokenKind → Option MulOp
@@ -346,7 +347,8 @@ pub data IsDeclaration (cut : Bool) : ℕ → List Token → Declaration → Lis
   decision : (n : ℕ) (u : Token) (us : List Token) (bytes : List ℕ) (at : ℕ) (dims : List DimTree) (vs : List Token) (over : Range) (ws : List Token) (stage : Option Tree) (xs r : List Token)
       → u.kind ≡ k.Dvar → IsVariable cut n us bytes at dims vs → IsRange cut n vs over ws → IsStage cut n ws stage xs → Is cut k.Semi xs r
       → IsDeclaration cut n (u ∷ us) (DvarDecl bytes at dims over stage) r
-  stochastic : (n : ℕ) (u : Token) (us : List Token) (bytes : List ℕ) (at : ℕ) (dims : List DimTree) (vs : List Token) (dist : List (Tree × Tree)) (ws : List Token) (stage : Option Tree) (xs r : List Token)
+  stochastic : (n : ℕ) (u : Token) (us : List Token) (bytes : List ℕ) (at : ℕ) (dims : List DimTree) (vs : List Token) (dist : List (Tree × Tree)) (ws : List Token) (stage : Option Tree)
+      (xs r : List Token)
       → u.kind ≡ k.Stoch → IsVariable cut n us bytes at dims vs → IsDistribution cut n vs dist ws → IsStage cut n ws stage xs → Is cut k.Semi xs r
       → IsDeclaration cut n (u ∷ us) (StochDecl bytes at dims dist stage) r
 

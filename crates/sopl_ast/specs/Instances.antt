@@ -1,6 +1,6 @@
 -- The instances of an unfolded text: its decisions, its stochastic variables, its constraints and its objective.
 use Rattle.std.specs.Prelude.{ℕ, ℤ, Bool, List, map, ◌++◌, Option}
-use Rattle.sopl_base.specs.declared.places.Direction.{Direction}
+use Rattle.sopl_base.specs.declared.direction.Direction.{Direction}
 use Rattle.sopl_ast.specs.Tree.{Tree}
 use Rattle.sopl_ast.specs.Known.{Known}
 pub use Rattle.sopl_ast.specs.Known.{Binding}

@@ -31,6 +31,7 @@ pub mod Limits
 -- Which texts are accepted
 pub mod Accepted
 -- How the program's values stand for trees
+pub mod References
 pub mod Sight
 pub mod Lists
 pub mod Ranges

@@ -1,7 +1,8 @@
 -- Which names stand in an expression.
 use Rattle.std.specs.Prelude.{ℕ, Bool, false, ◌||◌, List}
 use Rattle.std.specs.Str.{bytes_eq}
-use Rattle.sopl_ast.specs.Tree.{Tree, Node, Shape, Lit, Name, Index, Neg, Add, Mul, Cmp, Not, And, Or, Implies, Sum, Least, Greatest, Abs, AllDifferent, Cumulative, Trees, no_tree, tree, Terms, no_term, term, Factors, no_factor, factor, Binders, no_binder, binder, Range, Named, Ends}
+use Rattle.sopl_ast.specs.Tree.{Tree, Node, Shape, Lit, Name, Index, Neg, Add, Mul, Cmp, Not, And, Or, Implies, Sum, Least, Greatest, Abs, AllDifferent, Cumulative, Trees, no_tree}
+use Rattle.sopl_ast.specs.Tree.{tree, Terms, no_term, term, Factors, no_factor, factor, Binders, no_binder, binder, Range, Named, Ends}
 
 abbrev mutual
   -- the name stands in the expression: alone, before indices, as a binder or as a range

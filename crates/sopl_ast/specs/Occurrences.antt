@@ -3,10 +3,10 @@ use Rattle.std.specs.Prelude.{ℕ, ◌+◌, nat_lt, nat_le, ℤ, pos, Bool, true
 use Rattle.std.specs.List.{flat_map}
 use Rattle.std.specs.Option.{unwrap_or}
 use Rattle.std.specs.Ordering.{int_eq}
-use Rattle.sopl_base.specs.declared.places.Refusal.{Refusal}
-use Rattle.sopl_base.specs.declared.places.Excess.{Excess}
-use Rattle.sopl_base.specs.declared.places.Fault.{Fault}
-use Rattle.sopl_base.specs.declared.places.Fault.TheVariants.{Text, Limit}
+use Rattle.sopl_base.specs.declared.fault.Refusal.{Refusal}
+use Rattle.sopl_base.specs.declared.fault.Excess.{Excess}
+use Rattle.sopl_base.specs.declared.fault.Fault.{Fault}
+use Rattle.sopl_base.specs.declared.fault.Fault.TheVariants.{Text, Limit}
 use Rattle.sopl_ast.specs.declared.operators.MulOp.TheVariants.{Times, Div, Mod}
 use Rattle.sopl_ast.specs.Tree as t
 use Rattle.sopl_ast.specs.Tree.{Tree, Shape, Trees, Terms, Factors, Binders, Range, Node, no_tree, tree, no_term, term, no_factor, factor, no_binder, binder, Named, Ends, place_of}

@@ -1,7 +1,7 @@
 -- The syntax tree as plain data: what contracts see of an expression, a binder, a range, an initial value and a constraint.
 -- A node's place is the offset of its first byte in the text.
 use Rattle.std.specs.Prelude.{ℕ, ℤ, Bool, List}
-use Rattle.sopl_base.specs.declared.places.CmpOp.{CmpOp}
+use Rattle.sopl_base.specs.declared.comparison.CmpOp.{CmpOp}
 use Rattle.sopl_ast.specs.declared.operators.MulOp.{MulOp}
 
 mutual

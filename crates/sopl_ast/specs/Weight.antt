@@ -3,7 +3,8 @@ use Rattle.std.specs.Prelude.{ℕ, Bool, ◌+◌, ◌≤◌, max, List, [], ◌�
 use Rattle.std.proofs.Common.{arith}
 use denote.Param.Weighed.{most}
 use Rattle.sopl_ast.specs.declared.operators.MulOp.{MulOp}
-use Rattle.sopl_ast.specs.Tree.{Tree, Node, Shape, Lit, Name, Index, Neg, Add, Mul, Cmp, Not, And, Or, Implies, Sum, Least, Greatest, Abs, AllDifferent, Cumulative, Trees, no_tree, tree, Terms, no_term, term, Factors, no_factor, factor, Binders, no_binder, binder, Range, Named, Ends}
+use Rattle.sopl_ast.specs.Tree.{Tree, Node, Shape, Lit, Name, Index, Neg, Add, Mul, Cmp, Not, And, Or, Implies, Sum, Least, Greatest, Abs, AllDifferent, Cumulative, Trees, no_tree}
+use Rattle.sopl_ast.specs.Tree.{tree, Terms, no_term, term, Factors, no_factor, factor, Binders, no_binder, binder, Range, Named, Ends}
 use Rattle.sopl_ast.specs.Lists.{BinderTree, Product, trees, terms, factors, binders}
 
 abbrev mutual

@@ -1,6 +1,6 @@
 -- A whole model text as plain data: declarations, the objective and constraints.
 use Rattle.std.specs.Prelude.{ℕ, Bool, Option, List, [], ◌∷◌}
-use Rattle.sopl_base.specs.declared.places.Direction.{Direction}
+use Rattle.sopl_base.specs.declared.direction.Direction.{Direction}
 use Rattle.sopl_ast.specs.Tree.{Tree, Trees, Binders, Range}
 
 -- a dimension: the name that goes over it, if any; its place; and its range

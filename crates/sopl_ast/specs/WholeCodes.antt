@@ -86,7 +86,8 @@ inj_declaration (StochDecl x1 x2 x3 x4 x5) (StochDecl y1 y2 y3 y4 y5) e =
     let e2 = (pairs e1).1 in
     let e3 = (pairs e2).1 in
     let e4 = (pairs e3).1 in
-    λ i. StochDecl (coded_text.inj x1 y1 (pairs e1).0 i) (inj_num x2 y2 (pairs e2).0 i) (coded_dims.inj x3 y3 (pairs e3).0 i) (coded_dist.inj x4 y4 (pairs e4).0 i) (coded_stage.inj x5 y5 (pairs e4).1 i)
+    λ i. StochDecl (coded_text.inj x1 y1 (pairs e1).0 i) (inj_num x2 y2 (pairs e2).0 i) (coded_dims.inj x3 y3 (pairs e3).0 i) (coded_dist.inj x4 y4 (pairs e4).0 i)
+    (coded_stage.inj x5 y5 (pairs e4).1 i)
 inj_declaration _ _ e = let f = ap num (pairs e).0 in absurd (omega arith)
 
 -- a declaration

@@ -16,6 +16,14 @@ use crate::name::Name;
 use sopl_base::CmpOp;
 use std::alloc::{AllocError, Global};
 
+/// A task of `cumulative`: when it starts, how long it lasts, and what it demands of the capacity.
+#[derive(Debug, Drop)]
+pub struct Task {
+    pub start: Expr,
+    pub duration: Expr,
+    pub demand: Expr,
+}
+
 /// Both expressions, each in a box.
 fn boxed(alloc: Global, a: Expr, b: Expr) -> Result<(Box<Expr>, Box<Expr>), AllocError>
     ensures { IfOk result (λ pair. (pair.0.value ≡ a) × (pair.1.value ≡ b)) }
@@ -195,17 +203,21 @@ impl Expr {
     }
 
     /// True where the tasks, one for each value of the binders, never demand more than the capacity
-    /// at one time. A task is its start, with its length and its demand.
+    /// at one time.
     pub fn cumulative(
         alloc: Global,
         at: usize,
         over: Binders,
-        task: (Expr, (Expr, Expr)),
+        task: Task,
         capacity: Expr,
     ) -> Result<Expr, AllocError>
-        ensures built { IfOk result (λ e. e ≡ Node at (Cumulative (binders over) task.0 task.1.0 task.1.1 capacity)) }
+        ensures built { IfOk result (λ e. e ≡ Node at (Cumulative (binders over) task.start task.duration task.demand capacity)) }
     {
-        let (start, (duration, demand)) = task;
+        let Task {
+            start,
+            duration,
+            demand,
+        } = task;
         let (start, duration) = boxed(alloc, start, duration)?;
         let (demand, capacity) = boxed(alloc, demand, capacity)?;
         Ok(Expr {

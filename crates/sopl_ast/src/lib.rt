@@ -1,5 +1,6 @@
 //! The tokens and the syntax tree of a model text, and what the language means: the definitions in
 //! `specs/` that every contract above cites.
+//! Its tests stand in `parser_tests`.
 #![tactic(auto)]
 
 mod binders;
@@ -17,6 +18,7 @@ mod token;
 mod whole;
 
 pub use binders::{Binder, Binders, RangeText};
+pub use build::Task;
 pub use chains::{Factors, Terms};
 pub use constraints::{Cons, ConsList};
 pub use decls::{Decl, Decls, Dim, Dims, Dist};

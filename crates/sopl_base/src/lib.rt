@@ -1,10 +1,22 @@
-//! The small types that every layer shares, and exact comparisons of whole numbers.
+//! The small types that every layer shares, all codes and limits, and exact comparisons of whole numbers.
 #![tactic(auto)]
 
+pub mod codes;
+mod comparison;
+mod direction;
+mod fault;
+mod interval;
+pub mod limits;
 mod numbers;
-mod places;
+mod reason;
+mod span;
 mod steps;
 
+pub use comparison::CmpOp;
+pub use direction::Direction;
+pub use fault::{Excess, Fault, Refusal};
+pub use interval::Interval;
 pub use numbers::{better, bits, midpoint, reaches};
-pub use places::{CmpOp, Direction, Excess, Fault, Interval, Reason, Refusal, Side, Span, Step};
+pub use reason::{Reason, Side, Step};
+pub use span::Span;
 pub use steps::Steps;

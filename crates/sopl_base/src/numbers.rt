@@ -3,7 +3,7 @@
 ghost use Rattle.std.specs.Prelude.{◌≡◌, ◌+◌, ◌*◌, ◌^◌, ◌<◌, ◌≤◌, ◌↔◌, IsTrue, pos, neg_ℤ, ◌+ℤ◌, ◌-ℤ◌, ◌*ℤ◌, ◌≤ℤ◌, ◌<ℤ◌, unsigned_abs};
 ghost use Rattle.sopl_base.specs.Better.{IsBetter};
 
-use crate::places::Direction;
+use crate::direction::Direction;
 
 /// Whether `sum / total` is at least `p / q`, without a division.
 pub fn reaches(sum: i128, total: i128, p: i64, q: i64) -> bool

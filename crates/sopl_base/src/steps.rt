@@ -2,7 +2,7 @@
 
 ghost use Rattle.std.specs.Prelude.{◌≡◌, List, [], ◌∷◌, ◌++◌, OnOk, OnErr};
 
-use crate::places::Step;
+use crate::reason::Step;
 use std::alloc::{AllocError, Global};
 use std::marker::Model;
 
@@ -14,7 +14,7 @@ pub struct Steps {
 
 impl Model for Steps {
     ghost use Rattle.std.specs.Prelude.{List};
-    ghost use Rattle.sopl_base.specs.declared.places.Step.{Step};
+    ghost use Rattle.sopl_base.specs.declared.reason.Step.{Step};
 
     ghost Value = { List Step };
 

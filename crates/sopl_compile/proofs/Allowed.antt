@@ -1,5 +1,6 @@
 -- What the limits on scenarios and instances say of a problem's scenarios and cells.
-use Rattle.std.proofs.Common.{arith, ◌≡◌, ◌∙◌, refl, sym, ap, ℕ, suc, ◌+◌, ◌*◌, ◌<◌, ◌≤◌, ◌^◌, ◌-◌, ℤ, pos, ◌≤ℤ◌, int_le, Bool, true, false, not, List, [], ◌∷◌, length, length-append, map, filter, Option, Some, None, if◌then◌else◌}
+use Rattle.std.proofs.Common.{arith, ◌≡◌, ◌∙◌, refl, sym, ap, ℕ, suc, ◌+◌, ◌*◌, ◌<◌, ◌≤◌, ◌^◌, ◌-◌, ℤ, pos, ◌≤ℤ◌, int_le, Bool, true, false, not, List, [], ◌∷◌, length}
+use Rattle.std.proofs.Common.{length-append, map, filter, Option, Some, None, if◌then◌else◌}
 use Rattle.std.proofs.lemmas.Int.{ints}
 use Rattle.std.proofs.lemmas.List.{length-map}
 use Rattle.std.proofs.lemmas.List.Filters.{length-filter_both}
@@ -17,8 +18,8 @@ use Rattle.sopl_ast.specs.Limits.{first_above, fronts, size_excess, usual_limits
 use Rattle.sopl_ast.specs.Numbers.{or_else}
 use Rattle.sopl_ast.specs.Occurrences.{excess}
 use Rattle.sopl_ast.specs.Scenarios.{Scenario, scenarios, total_weight}
-use Rattle.sopl_base.specs.declared.places.Excess.{Excess}
-use Rattle.sopl_base.specs.declared.places.Interval.{Interval}
+use Rattle.sopl_base.specs.declared.fault.Excess.{Excess}
+use Rattle.sopl_base.specs.declared.interval.Interval.{Interval}
 use Rattle.sopl_compile.specs.Posed.{IsSettingOf}
 
 first_none : {A : Type 0} (a b : Option A) → or_else a b ≡ None → a ≡ None

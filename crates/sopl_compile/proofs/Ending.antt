@@ -1,5 +1,6 @@
 -- The objective ends a program, which is then that of the problem.
-use Rattle.std.proofs.Common.{arith, ◌≡◌, ◌∙◌, refl, sym, ap, subst, inl, inr, ℕ, ◌+◌, ◌^◌, ◌≤◌, ℤ, pos, ◌*ℤ◌, ◌≤ℤ◌, ◌<ℤ◌, Bool, List, [], ◌∷◌, map, length, Option, Some, None, IfErr, IfOk, option_map, Result, Ok, Err}
+use Rattle.std.proofs.Common.{arith, ◌≡◌, ◌∙◌, refl, sym, ap, subst, inl, inr, ℕ, ◌+◌, ◌^◌, ◌≤◌, ℤ, pos, ◌*ℤ◌, ◌≤ℤ◌, ◌<ℤ◌, Bool, List, [], ◌∷◌, map, length, Option, Some, None}
+use Rattle.std.proofs.Common.{IfErr, IfOk, option_map, Result, Ok, Err}
 use Rattle.std.proofs.lemmas.List.{length-map}
 use Rattle.std.specs.Option.{option_map_or}
 use Rattle.box_problem.specs.Box.{Box}
@@ -19,14 +20,14 @@ use Rattle.sopl_ast.specs.Origin.{IsFromTokens}
 use Rattle.sopl_ast.specs.Scenarios.{scenarios}
 use Rattle.sopl_ast.specs.Unfolding.{objective_of, problem_of, text_occurrences}
 use Rattle.sopl_ast.specs.Whole.{GoalTree, ModelTree}
-use Rattle.sopl_base.specs.declared.places.Direction.{Direction}
-use Rattle.sopl_base.specs.declared.places.Direction.TheVariants.{Minimize, Maximize, Nothing}
-use Rattle.sopl_base.specs.declared.places.Fault.{Fault}
+use Rattle.sopl_base.specs.declared.direction.Direction.{Direction}
+use Rattle.sopl_base.specs.declared.direction.Direction.TheVariants.{Minimize, Maximize, Nothing}
+use Rattle.sopl_base.specs.declared.fault.Fault.{Fault}
 use Rattle.sopl_compile.proofs.Allowed.{light}
 use Rattle.sopl_compile.proofs.Faults.{IsLimitOf, asked_number, goal_allowed, goal_alone, goal_refused}
 use Rattle.sopl_compile.proofs.Listing.{listed_length}
 use Rattle.sopl_compile.proofs.Made.{goal_directed, some_weight, whole_is}
-use Rattle.sopl_compile.proofs.Objectives.{goal_direction, goal_worst, no_direction, no_terms, objective_is}
+use Rattle.sopl_compile.proofs.Objectives.{goal_direction, goal_worst, no_direction, no_terms, objective_is, some_is}
 use Rattle.sopl_compile.proofs.Weights.{weight_of}
 use Rattle.sopl_compile.specs.Adding.{Adds, with_chances, with_hards}
 use Rattle.sopl_compile.specs.Begun.{bare_terms, direction_of, worst_of}
@@ -80,11 +81,8 @@ module _ (model : ModelTree) (root : Box) (b : Builder) (ids : List TermId) (rea
       ∙ sym (ap (length {A = Term}) (no_terms model none))))
 
   -- with one
-  some_asked : (goal : GoalTree) → model.goal ≡ Some goal → (problem_of model).objective ≡ Some (objective_of goal)
-  some_asked goal some = objective_is model ∙ ap (option_map objective_of) some
-
   goal_list : (goal : GoalTree) → model.goal ≡ Some goal → terms_asked (problem_of model) ≡ (goal_terms (problem_of model) (objective_of goal)).terms
-  goal_list goal some = ap (λ (x : Option Objective). option_map_or (λ (o : Objective). (goal_terms (problem_of model) o).terms) x []) (some_asked goal some)
+  goal_list goal some = ap (λ (x : Option Objective). option_map_or (λ (o : Objective). (goal_terms (problem_of model) o).terms) x []) (some_is model goal some)
 
   many_asked : (goal : GoalTree) → model.goal ≡ Some goal → length ids ≡ length own.weights
   many_asked goal some =
@@ -116,7 +114,7 @@ module _ (model : ModelTree) (root : Box) (b : Builder) (ids : List TermId) (rea
       by (Some goal) some =
           asked_some b ids goal.direction goal.worst (goal_terms (problem_of model) (objective_of goal)).terms (omega (arith, many_asked goal some, ready.some))
           (ready.direction ∙ sym (goal_direction model goal some)) (ready.worst ∙ sym (goal_worst model goal some)) (ready.listed.are ∙ goal_list goal some)
-          ∙ sym (ap (option_map (goal_terms (problem_of model))) (some_asked goal some))
+          ∙ sym (ap (option_map (goal_terms (problem_of model))) (some_is model goal some))
 
   problem_is : (p : Program) → problem_in p ≡ with_goal (problem_built b) (goal_asked b ids) → problem_in p ≡ own
   problem_is p made = made ∙ (λ i. with_goal (ready.problem i) (goal_is i))

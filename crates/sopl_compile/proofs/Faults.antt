@@ -1,5 +1,6 @@
 -- The sizes of a problem's terms, part by part.
-use Rattle.std.proofs.Common.{arith, ◌≡◌, ◌∙◌, refl, sym, ap, subst, ◌⊎◌, inl, inr, ℕ, ◌+◌, ◌-◌, ◌^◌, min, ℤ, pos, negsuc, ◌*ℤ◌, ◌≤ℤ◌, ◌<ℤ◌, false, List, [], ◌++◌, Option, Some, None, IfSome, option_map, unwrap_or, Result}
+use Rattle.std.proofs.Common.{arith, ◌≡◌, ◌∙◌, refl, sym, ap, subst, ◌⊎◌, inl, inr, ℕ, ◌+◌, ◌-◌, ◌^◌, min, ℤ, pos, negsuc, ◌*ℤ◌, ◌≤ℤ◌, ◌<ℤ◌, false, List, [], ◌++◌, Option, Some}
+use Rattle.std.proofs.Common.{None, IfSome, option_map, unwrap_or, Result}
 use Rattle.std.proofs.Math.IntN.{*ℤ_comm}
 use Rattle.std.proofs.lemmas.Int.{ints, clamps}
 use Rattle.std.specs.Int.{int_min, saturate_signed, w128}
@@ -17,9 +18,9 @@ use Rattle.program_sizes.specs.Measured.{IsSizeFault, Measures, constraint_subte
 use Rattle.sopl_ast.specs.Instances.{Objective, Problem}
 use Rattle.sopl_ast.specs.Numbers.{or_else}
 use Rattle.sopl_ast.specs.Occurrences.{excess}
-use Rattle.sopl_base.specs.declared.places.Excess.{Excess}
-use Rattle.sopl_base.specs.declared.places.Fault.{Fault}
-use Rattle.sopl_base.specs.declared.places.Fault.TheVariants.{Limit, NoMemory}
+use Rattle.sopl_base.specs.declared.fault.Excess.{Excess}
+use Rattle.sopl_base.specs.declared.fault.Fault.{Fault}
+use Rattle.sopl_base.specs.declared.fault.Fault.TheVariants.{Limit, NoMemory}
 use Rattle.sopl_compile.specs.Begun.{worst_of}
 use Rattle.sopl_compile.specs.Posed.{terms_asked}
 

@@ -2,7 +2,7 @@
 use Rattle.std.proofs.Common.{arith, ◌≡◌, ◌∙◌, refl, ap, sym, subst, ℕ, ◌+◌, ◌<◌, ◌≤◌, List, [], ◌∷◌, ◌++◌, map, length, drop, None}
 use Rattle.std.proofs.lemmas.List.{append-nil, append_assoc, length-map, map-append}
 use Rattle.std.specs.List.{flat_map, range_with_len}
-use Rattle.sopl_base.specs.declared.places.Fault.{Fault}
+use Rattle.sopl_base.specs.declared.fault.Fault.{Fault}
 use Rattle.box_rules.specs.Terms.{Term}
 use Rattle.place_names.specs.declared.setting.Setting.{Setting}
 use Rattle.program_sizes.specs.Measured.{IsSizeFault, first_large}

@@ -12,7 +12,7 @@ use Rattle.program_rules.specs.Problems.{GoalTerms}
 use Rattle.sopl_ast.specs.Origin.{IsFromTokens}
 use Rattle.sopl_ast.specs.Unfolding.{objective_of, problem_of, text_occurrences}
 use Rattle.sopl_ast.specs.Whole.{GoalTree, ModelTree}
-use Rattle.sopl_base.specs.declared.places.Direction.TheVariants.{Nothing}
+use Rattle.sopl_base.specs.declared.direction.Direction.TheVariants.{Nothing}
 use Rattle.sopl_compile.proofs.Objectives.{objective_is}
 use Rattle.unfold_laws.specs.Passing.{Passes}
 

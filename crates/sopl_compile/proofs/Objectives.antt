@@ -12,7 +12,7 @@ use Rattle.sopl_ast.specs.Known.{Known}
 use Rattle.sopl_ast.specs.Occurrences.{expression_occurrences}
 use Rattle.sopl_ast.specs.Unfolding.{objective_of, problem_of, text_occurrences}
 use Rattle.sopl_ast.specs.Whole.{GoalTree, ModelTree}
-use Rattle.sopl_base.specs.declared.places.Direction.TheVariants.{Nothing}
+use Rattle.sopl_base.specs.declared.direction.Direction.TheVariants.{Nothing}
 use Rattle.unfold_laws.proofs.Conditions.{objective_is_met}
 use Rattle.unfold_laws.specs.Passing.{Passes}
 use Rattle.unfold_tables.specs.Tables.{table_known}
@@ -29,7 +29,7 @@ module _ (model : ModelTree) where
   none_is : model.goal ≡ None → (problem_of model).objective ≡ None
   none_is none = objective_is model ∙ ap (option_map objective_of) none
 
-  some_is : (goal : GoalTree) → model.goal ≡ Some goal → (problem_of model).objective ≡ Some (objective_of goal)
+  pub some_is : (goal : GoalTree) → model.goal ≡ Some goal → (problem_of model).objective ≡ Some (objective_of goal)
   some_is goal some = objective_is model ∙ ap (option_map objective_of) some
 
   pub no_direction : model.goal ≡ None → Nothing ≡ direction_of (problem_of model)

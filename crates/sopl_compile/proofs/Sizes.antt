@@ -1,18 +1,12 @@
 -- Which sizes are left where those so far are small.
-use Rattle.std.proofs.Common.{◌≡◌, ◌∙◌, ap, sym, List, [], ◌∷◌, ◌++◌, None, option_map, inl, inr}
+use Rattle.std.proofs.Common.{◌≡◌, ◌∙◌, ap, sym, List, [], ◌∷◌, ◌++◌, None}
 use Rattle.std.specs.List.{flat_map}
-use Rattle.sopl_base.specs.declared.places.Fault.{Fault}
-use Rattle.sopl_base.specs.declared.places.Fault.TheVariants.{Limit}
+use Rattle.sopl_base.specs.declared.fault.Fault.{Fault}
 use Rattle.sopl_ast.specs.Numbers.{or_else}
 use Rattle.box_problem.specs.Box.{Box}
 use Rattle.box_rules.specs.Terms.{Term}
-use Rattle.program_sizes.specs.Measured.{IsSizeFault, first_large, large_excess}
-use Rattle.program_sizes.proofs.Measuring.{faults_end, large_in_turn}
-
--- a fault goes by the first size that is too large
-pub fault_moves : (root : Box) (xs ys : List Term) (fault : Fault) → first_large root xs ≡ first_large root ys → IsSizeFault root xs fault → IsSizeFault root ys fault
-fault_moves root xs ys fault same (inl memory) = inl memory
-fault_moves root xs ys fault same (inr is) = inr (ap (option_map (λ n. Limit (large_excess n))) (sym same) ∙ is)
+use Rattle.program_sizes.specs.Measured.{IsSizeFault, first_large}
+use Rattle.program_sizes.proofs.Measuring.{faults_end, large_in_turn, same_fault}
 
 -- behind small ones
 pub behind_small : (root : Box) (xs ys : List Term) → first_large root xs ≡ None → first_large root (xs ++ ys) ≡ first_large root ys
@@ -28,5 +22,5 @@ module _ {A : Type 0} (root : Box) (sub : A → List Term) (left all : List A) (
 
   pub sizes_fault : (x : A) (later : List A) (fault : Fault) → left ≡ x ∷ later → IsSizeFault root (sub x) fault → IsSizeFault root (flat_map sub all) fault
   sizes_fault x later fault next large =
-      fault_moves root (sub x ++ flat_map sub later) (flat_map sub all) fault (sym (ap (λ xs. first_large root (flat_map sub xs)) next) ∙ so_far)
+      same_fault root (sub x ++ flat_map sub later) (flat_map sub all) fault (sym (ap (λ xs. first_large root (flat_map sub xs)) next) ∙ so_far)
       (faults_end root (sub x) (flat_map sub later) fault large)

@@ -4,8 +4,8 @@ use Rattle.std.specs.Option.{option_map_or}
 use Rattle.instantiation.specs.Whole.{problem_terms}
 use Rattle.program_rules.specs.Problems.{ProblemTerms}
 use Rattle.sopl_ast.specs.Instances.{Objective, Problem}
-use Rattle.sopl_base.specs.declared.places.Direction.{Direction}
-use Rattle.sopl_base.specs.declared.places.Direction.TheVariants.{Nothing}
+use Rattle.sopl_base.specs.declared.direction.Direction.{Direction}
+use Rattle.sopl_base.specs.declared.direction.Direction.TheVariants.{Nothing}
 
 -- a problem's scenarios alone
 abbrev pub bare_terms : Problem → ProblemTerms

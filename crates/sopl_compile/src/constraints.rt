@@ -8,13 +8,14 @@ ghost use Rattle.program_sizes.specs.Measured.{Measures, constraint_subterms};
 ghost use Rattle.scene_terms.specs.Scenes.{root_in};
 ghost use Rattle.scene_terms.specs.Works.{Extends, IsReady, things_of};
 ghost use Rattle.sopl_ast.specs.Instances.{Chance, Hard};
+ghost use Rattle.sopl_ast.specs.References.{now_of};
 ghost use Rattle.sopl_compile.specs.Adding.{Adds, HasWeights, with_chances, with_hards};
 ghost use Rattle.sopl_compile.specs.Listed.{AreListed};
 ghost use Rattle.sopl_compile.specs.Posed.{AreSupported, instances_in, posed};
 ghost use Rattle.sopl_term.specs.Built.{cond_ids, problem_built};
 ghost use Rattle.term_nodes.specs.Things.{cond_in};
 ghost use Rattle.unfold_laws.specs.Conditions.{IsMet, IsThreshold};
-ghost use Rattle.unfold_tables.specs.Tables.{now_of, table_known};
+ghost use Rattle.unfold_tables.specs.Tables.{table_known};
 
 use crate::scenarios::conditions_of;
 use binder_places::known_at;

@@ -10,9 +10,10 @@ ghost use Rattle.scene_terms.specs.Scenes.{root_in};
 ghost use Rattle.scene_terms.specs.Works.{IsReady, things_of};
 ghost use Rattle.sopl_ast.specs.Cells.{cells};
 ghost use Rattle.sopl_ast.specs.Limits.{size_excess, usual_limits};
+ghost use Rattle.sopl_ast.specs.References.{now_of};
 ghost use Rattle.sopl_ast.specs.Unfolding.{problem_of};
 ghost use Rattle.sopl_ast.specs.WholeModel.{whole};
-ghost use Rattle.sopl_base.specs.declared.places.Excess.{Excess};
+ghost use Rattle.sopl_base.specs.declared.fault.Excess.{Excess};
 ghost use Rattle.sopl_compile.specs.Adding.{Adds, HasWeights, with_chances, with_hards};
 ghost use Rattle.sopl_compile.specs.Begun.{bare_terms, direction_of, worst_of};
 ghost use Rattle.sopl_compile.specs.Listed.{AreListed};
@@ -21,7 +22,6 @@ ghost use Rattle.sopl_term.specs.Built.{asked_direction, asked_worst, problem_bu
 ghost use Rattle.term_nodes.specs.Things.{term_in};
 ghost use Rattle.term_program.specs.Programs.{IsMade, problem_in};
 ghost use Rattle.term_program.specs.Programs as programs;
-ghost use Rattle.unfold_tables.specs.Tables.{now_of};
 ghost use Rattle.unsupported_forms.specs.Forms.{unsupported_place};
 
 use crate::constraints::{add_chances, add_hards};
@@ -99,7 +99,8 @@ fn program_of(alloc: Global, ground: &Ground, tree: &Tree) -> Result<Program, Fa
     ensures problem { IfOk result (λ program. problem_in program ≡ problem_terms (problem_of (whole ground.now.typed.model))) }
     ensures allowed { IfOk result (λ program. measured_excess (root_box (cells (problem_of (whole ground.now.typed.model)))) (problem_terms (problem_of (whole ground.now.typed.model))) ≡ None) }
     ensures limit { IfErr result (λ fault. (fault ≡ Fault.NoMemory)
-        ⊎ ((e : Excess) × (fault ≡ Fault.Limit e) × (measured_excess (root_box (cells (problem_of (whole ground.now.typed.model)))) (problem_terms (problem_of (whole ground.now.typed.model))) ≡ Some e))) }
+        ⊎ ((e : Excess) × (fault ≡ Fault.Limit e) × (measured_excess (root_box (cells (problem_of (whole ground.now.typed.model)))) (problem_terms (problem_of (whole ground.now.typed.model)))
+        ≡ Some e))) }
 {
     let setting = Setting::of(
         alloc,
@@ -113,7 +114,8 @@ fn program_of(alloc: Global, ground: &Ground, tree: &Tree) -> Result<Program, Fa
     completed(alloc, ground, &setting, conditions.as_slice(), work)
 }
 
-/// The program of an unfolded text and the tree of its scenarios; or the first limit that its terms pass: their nodes (206), which are counted before anything is made of them, then the first size of a
+/// The program of an unfolded text and the tree of its scenarios; or the first limit that its terms pass: their nodes (206), which are counted before anything
+/// is made of them, then the first size of a
 /// term that is too large (207), in hard constraints, in chance constraints and then in the objective, and at last the size of an expected objective (207).
 pub fn compile(alloc: Global, ground: &Ground, tree: &Tree) -> Result<Program, Fault>
     requires laid { IsTreeOf (problem_of (whole ground.now.typed.model)).decisions (problem_of (whole ground.now.typed.model)).stochastics tree.now }

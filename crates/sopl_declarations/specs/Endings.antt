@@ -5,7 +5,7 @@ use Rattle.sopl_ast.specs.declared.token.Token.{Token}
 use Rattle.sopl_grammar.specs.declared.marks.Mark.{Mark}
 use Rattle.sopl_grammar.specs.Reading.{Way, past}
 use Rattle.sopl_grammar.specs.Phrases.{finished}
-use Rattle.sopl_expr.specs.Answers.{Answers}
+use Rattle.sopl_expr.specs.ReaderAnswers.{Answers}
 use Rattle.sopl_expr.specs.declared.reader.Halt.{Halt}
 
 -- what was read is what is answered, behind the mark that follows it; a reading that stops stops there

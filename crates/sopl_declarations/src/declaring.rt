@@ -6,7 +6,7 @@ ghost use Rattle.sopl_ast.specs.Inits.{init_tree};
 ghost use Rattle.sopl_grammar.specs.Reading.{chain as chain_of};
 ghost use Rattle.sopl_grammar.specs.Phrases as phrase;
 ghost use Rattle.sopl_grammar.specs.Phrases.{way};
-ghost use Rattle.sopl_expr.specs.Answers.{Answers};
+ghost use Rattle.sopl_expr.specs.ReaderAnswers.{Answers};
 ghost use Rattle.sopl_declarations.specs.Parts as piece;
 
 use crate::dims::{dims, stage};

@@ -6,7 +6,7 @@ ghost use Rattle.sopl_ast.specs.Ranges.{range_of};
 ghost use Rattle.sopl_grammar.specs.Reading.{chain as chain_of};
 ghost use Rattle.sopl_grammar.specs.Phrases as phrase;
 ghost use Rattle.sopl_grammar.specs.Phrases.{way};
-ghost use Rattle.sopl_expr.specs.Answers.{Answers};
+ghost use Rattle.sopl_expr.specs.ReaderAnswers.{Answers};
 
 use crate::ends::{ended, found};
 use sopl_ast::{Dim, Dims, Expr, Name, RangeText, Token};

@@ -1,4 +1,5 @@
 //! What is read of declarations: constants, ranges, sets, decisions and stochastic variables.
+//! Its tests stand in `parser_tests`.
 #![tactic(auto)]
 
 mod declaring;

@@ -3,7 +3,7 @@ use Rattle.std.proofs.Common.{◌≡◌, Result, Err}
 use Rattle.sopl_grammar.specs.Reading.{Stop, Syntax, Depth}
 use Rattle.sopl_expr.specs.declared.reader.Halt.{Halt}
 use Rattle.sopl_expr.specs.declared.reader.Halt.TheVariants as halt
-use Rattle.sopl_expr.specs.Answers.{Fails}
+use Rattle.sopl_expr.specs.ReaderAnswers.{Fails}
 
 -- where the phrase stops as its part does
 pub fails_on : {B D : Type 0} (h : Halt) (part : Result B Stop) (whole : Result D Stop)

@@ -5,7 +5,7 @@ use denote.Ref.{Bor}
 use Rattle.sopl_ast.specs.declared.token.Token.{Token}
 use Rattle.sopl_ast.specs.Tree.{Tree}
 use Rattle.sopl_grammar.specs.Phrases.{way}
-use Rattle.sopl_expr.specs.Answers.{Answers}
+use Rattle.sopl_expr.specs.ReaderAnswers.{Answers}
 use Rattle.sopl_expr.specs.Nests.{Nests, nests, asked}
 use Rattle.sopl_expr.specs.declared.reader.Ask.{Ask}
 use Rattle.sopl_expr.specs.declared.reader.Halt.{Halt}

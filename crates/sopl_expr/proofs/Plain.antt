@@ -3,7 +3,7 @@ use Rattle.std.proofs.Common.{◌≡◌, List, Option, Some, None, Result, Ok, E
 use denote.Ref.{Bor}
 use Rattle.sopl_ast.specs.declared.token.Token.{Token}
 use Rattle.sopl_grammar.specs.Reading.{Read}
-use Rattle.sopl_expr.specs.Answers.{Answers}
+use Rattle.sopl_expr.specs.ReaderAnswers.{Answers}
 use Rattle.sopl_expr.specs.declared.reader.Halt.{Halt}
 
 -- a part or none, seen through nothing

@@ -1,3 +1,3 @@
-pub mod Answers
 pub mod Nests
+pub mod ReaderAnswers
 pub mod Tasks

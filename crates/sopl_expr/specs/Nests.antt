@@ -8,7 +8,7 @@ use Rattle.sopl_ast.specs.Tree.{Tree}
 use Rattle.sopl_grammar.specs.Expressions as phrase
 use Rattle.sopl_grammar.specs.Phrases.{way}
 use Rattle.sopl_grammar.specs.Reading.{Read, Way}
-use Rattle.sopl_expr.specs.Answers.{Answers}
+use Rattle.sopl_expr.specs.ReaderAnswers.{Answers}
 use Rattle.sopl_expr.specs.declared.reader.Ask.{Ask}
 use Rattle.sopl_expr.specs.declared.reader.Ask.TheVariants as ask
 use Rattle.sopl_expr.specs.declared.reader.Halt.{Halt}

@@ -4,14 +4,15 @@ ghost use Rattle.std.specs.Prelude.{◌≡◌, ◌+◌, false, [], ◌∷◌, le
 ghost use Rattle.sopl_grammar.specs.Reading.{chain as chain_of};
 ghost use Rattle.sopl_grammar.specs.Expressions as phrase;
 ghost use Rattle.sopl_grammar.specs.Phrases.{way};
-ghost use Rattle.sopl_expr.specs.Answers.{Answers};
+ghost use Rattle.sopl_expr.specs.ReaderAnswers.{Answers};
 ghost use Rattle.sopl_expr.specs.Tasks as piece;
+ghost use Rattle.sopl_expr.specs.Tasks.{task_in};
 ghost use Rattle.sopl_expr.specs.Nests.{Nests};
 
 use crate::chains::chain;
 use crate::level::Below;
 use crate::reader::{Ask, Next, Read, joined};
-use sopl_ast::{Binders, Expr, Exprs, Token};
+use sopl_ast::{Binders, Expr, Exprs, Task, Token};
 use sopl_grammar::{Mark, has_mark, rest};
 use std::alloc::Global;
 
@@ -80,9 +81,9 @@ impl<F: Fn(Global, usize, Ask, &[Token]) -> Read<'_, Expr> + Copy> Below<F> {
 
     /// The start, the length and the demand of a task.
     #[tactic(auto, unfolding(sopl_grammar::specs::Expressions::task))]
-    pub(crate) fn task<'a>(&self, tokens: &'a [Token]) -> Read<'a, (Expr, (Expr, Expr))>
+    pub(crate) fn task<'a>(&self, tokens: &'a [Token]) -> Read<'a, Task>
         requires { Nests (self.now.here.depth + 1) (F.pre self.now.read) (F.post self.now.read) }
-        ensures { Answers (λ x. (x.0, x.1.now)) result
+        ensures { Answers (λ x. (task_in x.0, x.1.now)) result
             (phrase.task (way false self.now.here.depth) tokens.now) }
     {
         let read = self.expression(tokens)?;
@@ -90,14 +91,21 @@ impl<F: Fn(Global, usize, Ask, &[Token]) -> Read<'_, Expr> + Copy> Below<F> {
         let read = joined(start, self.expression(left))?;
         let (first, left) = self.here.closed(Mark::Comma, read)?;
         let (((start, duration), demand), left) = joined(first, self.expression(left))?;
-        Ok(((start, (duration, demand)), left))
+        Ok((
+            Task {
+                start,
+                duration,
+                demand,
+            },
+            left,
+        ))
     }
 
     /// A task in parentheses.
     #[tactic(auto, unfolding(crate::specs::Tasks::enclosed_task, sopl_grammar::specs::Phrases::inner_of))]
-    fn enclosed_task<'a>(&self, tokens: &'a [Token]) -> Read<'a, (Expr, (Expr, Expr))>
+    fn enclosed_task<'a>(&self, tokens: &'a [Token]) -> Read<'a, Task>
         requires { Nests (self.now.here.depth + 1) (F.pre self.now.read) (F.post self.now.read) }
-        ensures { Answers (λ x. (x.0, x.1.now)) result
+        ensures { Answers (λ x. (task_in x.0, x.1.now)) result
             (piece.enclosed_task (way false self.now.here.depth) tokens.now) }
     {
         let (inner, left) = self.enter(Mark::ParenOpen, tokens)?;
@@ -107,9 +115,9 @@ impl<F: Fn(Global, usize, Ask, &[Token]) -> Read<'_, Expr> + Copy> Below<F> {
 
     /// A task in parentheses, and the capacity.
     #[tactic(auto, unfolding(crate::specs::Tasks::limited_task))]
-    fn limited_task<'a>(&self, tokens: &'a [Token]) -> Read<'a, ((Expr, (Expr, Expr)), Expr)>
+    fn limited_task<'a>(&self, tokens: &'a [Token]) -> Read<'a, (Task, Expr)>
         requires { Nests (self.now.here.depth + 1) (F.pre self.now.read) (F.post self.now.read) }
-        ensures { Answers (λ x. (x.0, x.1.now)) result
+        ensures { Answers (λ x. ((task_in x.0.0, x.0.1), x.1.now)) result
             (piece.limited_task (way false self.now.here.depth) tokens.now) }
     {
         let read = self.enclosed_task(tokens)?;
@@ -119,12 +127,9 @@ impl<F: Fn(Global, usize, Ask, &[Token]) -> Read<'_, Expr> + Copy> Below<F> {
 
     /// What stands inside `cumulative`: the binders, the task and the capacity.
     #[tactic(auto, using(crate::proofs::Grouped::tasks_parts))]
-    pub(crate) fn tasks<'a>(
-        &self,
-        tokens: &'a [Token],
-    ) -> Read<'a, (Binders, ((Expr, (Expr, Expr)), Expr))>
+    pub(crate) fn tasks<'a>(&self, tokens: &'a [Token]) -> Read<'a, (Binders, (Task, Expr))>
         requires { Nests (self.now.here.depth + 1) (F.pre self.now.read) (F.post self.now.read) }
-        ensures { Answers (λ x. (x.0, x.1.now)) result
+        ensures { Answers (λ x. ((x.0.0, (task_in x.0.1.0, x.0.1.1)), x.1.now)) result
             (phrase.tasks (way false self.now.here.depth) tokens.now) }
     {
         let (over, left) = self.all(tokens)?;

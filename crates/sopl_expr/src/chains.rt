@@ -2,7 +2,7 @@
 
 ghost use Rattle.std.specs.Prelude.{◌≡◌, [], ◌∷◌, ◌++◌, length, option_map};
 ghost use Rattle.sopl_grammar.specs.Reading.{Next as NextOf, chain as chain_of};
-ghost use Rattle.sopl_expr.specs.Answers.{Answers};
+ghost use Rattle.sopl_expr.specs.ReaderAnswers.{Answers};
 
 use crate::parts::Parts;
 use crate::reader::{Next, Read};

@@ -5,7 +5,7 @@ ghost use Rattle.std.specs.Prelude.{◌≡◌, ◌+◌, ◌<◌, Ok, Some, false
 ghost use Rattle.sopl_grammar.specs.Expressions as phrase;
 ghost use Rattle.sopl_grammar.specs.Phrases.{way, inner_of};
 ghost use Rattle.sopl_grammar.specs.Reading.{opening as opening_of};
-ghost use Rattle.sopl_expr.specs.Answers.{Answers};
+ghost use Rattle.sopl_expr.specs.ReaderAnswers.{Answers};
 ghost use Rattle.sopl_expr.specs.Nests.{Nests};
 
 use crate::reader::{Ask, Halt, Read, Reader};

@@ -1,4 +1,5 @@
 //! A reader of tokens: it reads the expressions at the front of tokens, and their ranges and binders.
+//! Its tests stand in `parser_tests`.
 #![tactic(auto)]
 
 mod arguments;

@@ -3,7 +3,7 @@
 ghost use Rattle.std.specs.Prelude.{◌≡◌, ◌<◌, Ok, Some, false, OnOk, IfOk};
 ghost use Rattle.sopl_grammar.specs.Phrases.{way, inner_of, is_over as over};
 ghost use Rattle.sopl_grammar.specs.Reading.{past as past_of, name as name_of, opening as opening_of};
-ghost use Rattle.sopl_expr.specs.Answers.{Answers, with_first};
+ghost use Rattle.sopl_expr.specs.ReaderAnswers.{Answers, with_first};
 
 use sopl_ast::{Name, Token};
 use sopl_grammar::{Mark, has_mark, named, place, rest};

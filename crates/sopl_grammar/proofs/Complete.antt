@@ -6,7 +6,8 @@ use Rattle.sopl_ast.specs.declared.token.TokenKind.TheVariants as k
 use Rattle.sopl_ast.specs.Lists.{BinderTree}
 use Rattle.sopl_ast.specs.Tree.{Tree, Range}
 use Rattle.sopl_ast.specs.Grammar as g
-use Rattle.sopl_ast.specs.Grammar.{IsPrimary, MoreIndices, AreArguments, MoreArguments, IsAll, IsTask, AreBinders, MoreBinders, IsBinder, IsRange, IsOperand, MoreFactors, IsProduct, MoreTerms, IsSum, IsComparison, IsNegation, MoreConjuncts, IsConjunction, MoreDisjuncts, IsDisjunction, IsExpression}
+use Rattle.sopl_ast.specs.Grammar.{IsPrimary, MoreIndices, AreArguments, MoreArguments, IsAll, IsTask, AreBinders, MoreBinders, IsBinder, IsRange, IsOperand, MoreFactors}
+use Rattle.sopl_ast.specs.Grammar.{IsProduct, MoreTerms, IsSum, IsComparison, IsNegation, MoreConjuncts, IsConjunction, MoreDisjuncts, IsDisjunction, IsExpression}
 use Rattle.sopl_grammar.specs.declared.marks.Mark.TheVariants as m
 use Rattle.sopl_grammar.specs.Heads as h
 use Rattle.sopl_grammar.specs.Heads.{head, at_kind}

@@ -6,7 +6,8 @@ use Rattle.sopl_ast.specs.declared.token.TokenKind.TheVariants as k
 use Rattle.sopl_ast.specs.Lists.{BinderTree}
 use Rattle.sopl_ast.specs.Tree.{Tree, Range}
 use Rattle.sopl_ast.specs.Grammar as g
-use Rattle.sopl_ast.specs.Grammar.{IsPrimary, MoreIndices, AreArguments, MoreArguments, IsAll, IsTask, AreBinders, MoreBinders, IsBinder, IsRange, IsOperand, MoreFactors, IsProduct, MoreTerms, IsSum, IsComparison, IsNegation, MoreConjuncts, IsConjunction, MoreDisjuncts, IsDisjunction, IsExpression}
+use Rattle.sopl_ast.specs.Grammar.{IsPrimary, MoreIndices, AreArguments, MoreArguments, IsAll, IsTask, AreBinders, MoreBinders, IsBinder, IsRange, IsOperand, MoreFactors}
+use Rattle.sopl_ast.specs.Grammar.{IsProduct, MoreTerms, IsSum, IsComparison, IsNegation, MoreConjuncts, IsConjunction, MoreDisjuncts, IsDisjunction, IsExpression}
 use Rattle.sopl_grammar.specs.declared.marks.Mark.TheVariants as m
 use Rattle.sopl_grammar.specs.Heads as h
 use Rattle.sopl_grammar.specs.Heads.{head}
@@ -15,7 +16,8 @@ use Rattle.sopl_grammar.specs.Expressions.{no_tree}
 use Rattle.sopl_grammar.specs.Phrases.{way}
 use Rattle.sopl_grammar.proofs.Chains.{chain_end, chain_step}
 use Rattle.sopl_grammar.proofs.Ends.{level, operand_level, operand_low, factor_binds, term_binds, comparison_binds, range_end_binds, paren_comma}
-use Rattle.sopl_grammar.proofs.NotLonger.{is_kept, all_kept, arguments_kept, binder_kept, expression_kept, more_binders_kept, negation_kept, conjunction_kept, operand_kept, product_kept, task_kept, opens_kept}
+use Rattle.sopl_grammar.proofs.NotLonger.{is_kept, all_kept, arguments_kept, binder_kept, expression_kept, more_binders_kept, negation_kept, conjunction_kept, operand_kept}
+use Rattle.sopl_grammar.proofs.NotLonger.{product_kept, task_kept, opens_kept}
 use Rattle.sopl_grammar.proofs.Tokens.{inside_way}
 use Rattle.sopl_grammar.proofs.ReadOperands as operands
 use Rattle.sopl_grammar.proofs.ReadChains as chains

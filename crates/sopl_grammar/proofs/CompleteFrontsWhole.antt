@@ -3,7 +3,8 @@ use Rattle.std.proofs.Common.{◌≡◌, ℕ, suc, ◌≤◌, true, List, [], �
 use Rattle.sopl_ast.specs.declared.token.Token.{Token}
 use Rattle.sopl_ast.specs.declared.token.TokenKind.TheVariants as k
 use Rattle.sopl_ast.specs.Grammar as g
-use Rattle.sopl_ast.specs.Grammar.{Is, IsRange, IsStage, IsDim, AreDims, IsInit, AreInits, MoreInits, MoreElements, AreElements, IsOutcome, MoreOutcomes, IsDistribution, IsVariable, IsDeclaration, AreDeclarations, MayBeGoal, IsConstraint, AreConstraints, IsModel, IsFront}
+use Rattle.sopl_ast.specs.Grammar.{Is, IsRange, IsStage, IsDim, AreDims, IsInit, AreInits, MoreInits, MoreElements, AreElements, IsOutcome, MoreOutcomes, IsDistribution}
+use Rattle.sopl_ast.specs.Grammar.{IsVariable, IsDeclaration, AreDeclarations, MayBeGoal, IsConstraint, AreConstraints, IsModel, IsFront}
 use Rattle.sopl_ast.specs.Tree.{Tree, Range}
 use Rattle.sopl_ast.specs.Whole.{DimTree, InitTree, One, Declaration, IntDecl, RangeDecl, SetDecl, DvarDecl, StochDecl, ConsTree, GoalTree, ModelTree}
 use Rattle.sopl_ast.specs.Lists.{trees}
@@ -17,12 +18,14 @@ use Rattle.sopl_grammar.proofs.Chains.{chain_end, chain_step}
 use Rattle.sopl_grammar.proofs.Ends.{level, bracket_comma, brace_comma}
 use Rattle.sopl_grammar.proofs.MarkLaws.{no_mark}
 use Rattle.sopl_grammar.proofs.NotLonger.{is_kept, expression_kept, sum_kept}
-use Rattle.sopl_grammar.proofs.NotLongerWhole.{dim_kept, init_kept, more_inits_kept, elements_kept, more_elements_kept, outcome_kept, more_outcomes_kept, declaration_fewer, constraint_kept, constraints_kept, constraint_fewer}
+use Rattle.sopl_grammar.proofs.NotLongerWhole.{dim_kept, init_kept, more_inits_kept, elements_kept, more_elements_kept, outcome_kept, more_outcomes_kept, declaration_fewer}
+use Rattle.sopl_grammar.proofs.NotLongerWhole.{constraint_kept, constraints_kept, constraint_fewer}
 use Rattle.sopl_grammar.proofs.Tokens.{inside_way}
 use Rattle.sopl_grammar.proofs.ReadBinders.{dim_by_name, dim_by_ends}
 use Rattle.sopl_grammar.proofs.ReadDecls as decl
 use Rattle.sopl_grammar.proofs.ReadWhole as whole
-use Rattle.sopl_grammar.proofs.FrontTokens.{Gives, GivesItem, GivesVariable, Lists, past_front, name_front, closed_front, none_left, Shuts, shut, nothing_left, shuts, shut_level, shut_no_comma, shut_rests, Rests, rests, nothing_there}
+use Rattle.sopl_grammar.proofs.FrontTokens.{Gives, GivesItem, GivesVariable, Lists, past_front, name_front, closed_front, none_left, Shuts, shut, nothing_left, shuts, shut_level}
+use Rattle.sopl_grammar.proofs.FrontTokens.{shut_no_comma, shut_rests, Rests, rests, nothing_there}
 use Rattle.sopl_grammar.proofs.FrontStarts.{begins_sum, begins_expression, begins_init, begins_constraint}
 use Rattle.sopl_grammar.proofs.FrontReads as reads
 use Rattle.sopl_grammar.proofs.CompleteFronts.{sum_front, range_front, expression_front, bindings_front}

@@ -3,7 +3,8 @@ use Rattle.std.proofs.Common.{◌≡◌, ℕ, suc, ◌≤◌, false, true, List,
 use Rattle.sopl_ast.specs.declared.token.Token.{Token}
 use Rattle.sopl_ast.specs.declared.token.TokenKind.TheVariants as k
 use Rattle.sopl_ast.specs.Grammar as g
-use Rattle.sopl_ast.specs.Grammar.{IsRange, IsStage, IsDim, AreDims, IsInit, AreInits, MoreInits, MoreElements, AreElements, IsOutcome, MoreOutcomes, IsDistribution, IsVariable, IsDeclaration, AreDeclarations, MayBeGoal, IsConstraint, AreConstraints, IsModel}
+use Rattle.sopl_ast.specs.Grammar.{IsRange, IsStage, IsDim, AreDims, IsInit, AreInits, MoreInits, MoreElements, AreElements, IsOutcome, MoreOutcomes, IsDistribution, IsVariable}
+use Rattle.sopl_ast.specs.Grammar.{IsDeclaration, AreDeclarations, MayBeGoal, IsConstraint, AreConstraints, IsModel}
 use Rattle.sopl_ast.specs.Tree.{Tree, Range}
 use Rattle.sopl_ast.specs.Whole.{DimTree, InitTree, Declaration, IntDecl, RangeDecl, SetDecl, DvarDecl, StochDecl, ConsTree, GoalTree, ModelTree}
 use Rattle.sopl_ast.specs.Lists.{trees}

@@ -6,7 +6,8 @@ use Rattle.sopl_ast.specs.Lists.{BinderTree}
 use Rattle.sopl_ast.specs.Tree.{Tree}
 use Rattle.sopl_ast.specs.Whole.{DimTree, InitTree, ConsTree}
 use Rattle.sopl_ast.specs.Grammar as g
-use Rattle.sopl_ast.specs.Grammar.{Is, Opens, IsExpression, IsNegation, IsOperand, IsProduct, AreArguments, IsAll, IsTask, IsBinder, AreBinders, MoreBinders, IsDim, AreInits, AreElements, IsOutcome, MoreOutcomes, IsConstraint, AreConstraints}
+use Rattle.sopl_ast.specs.Grammar.{Is, Opens, IsExpression, IsNegation, IsOperand, IsProduct, AreArguments, IsAll, IsTask, IsBinder, AreBinders, MoreBinders, IsDim, AreInits}
+use Rattle.sopl_ast.specs.Grammar.{AreElements, IsOutcome, MoreOutcomes, IsConstraint, AreConstraints}
 use Rattle.sopl_grammar.specs.Heads.{head, at_kind}
 use Rattle.sopl_grammar.specs.Expressions as expressions
 use Rattle.sopl_grammar.specs.Phrases as p

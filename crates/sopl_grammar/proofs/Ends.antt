@@ -1,6 +1,6 @@
 -- What may follow a phrase, so that the phrase ends there; and what a phrase may begin with.
 use Rattle.std.proofs.Common.{◌≡◌, ℕ, ◌≤◌, Bool, true, false, List, Option, Some, None, refl, ap, arith}
-use Rattle.sopl_base.specs.declared.places.CmpOp.{CmpOp}
+use Rattle.sopl_base.specs.declared.comparison.CmpOp.{CmpOp}
 use Rattle.sopl_ast.specs.declared.operators.MulOp.{MulOp}
 use Rattle.sopl_ast.specs.declared.token.Token.{Token}
 use Rattle.sopl_ast.specs.declared.token.TokenKind.{TokenKind}

@@ -1,6 +1,6 @@
 -- Where the tokens may end too early: the reading of phrases with brackets, from the reading of what stands in them, and of phrases that are missing.
 use Rattle.std.proofs.Common.{◌≡◌, ℕ, ◌≤◌, Bool, true, false, List, [], ◌∷◌, length, Some, None, Ok, refl, ap, ◌∙◌, arith}
-use Rattle.sopl_base.specs.declared.places.Direction.{Direction}
+use Rattle.sopl_base.specs.declared.direction.Direction.{Direction}
 use Rattle.sopl_ast.specs.declared.token.Token.{Token}
 use Rattle.sopl_ast.specs.declared.token.TokenKind.TheVariants as k
 use Rattle.sopl_ast.specs.Grammar as g
@@ -21,7 +21,8 @@ use Rattle.sopl_grammar.proofs.Chains.{chain_read}
 use Rattle.sopl_grammar.proofs.Nothing.{none_sum}
 use Rattle.sopl_grammar.proofs.ReadOperands.{absolute_by, extreme_by, different_by, cumulative_by}
 use Rattle.sopl_grammar.proofs.ReadBinders.{sum_of_name, range_ends}
-use Rattle.sopl_grammar.proofs.FrontTokens.{Gives, given, Lists, gives_then, gives_past, gives_closed, past_front, measure_front, enter_front, begins, no_minus_front, no_total_front, no_not_front, no_bracket_front, no_brace_front, no_forall_front, no_prob_front}
+use Rattle.sopl_grammar.proofs.FrontTokens.{Gives, given, Lists, gives_then, gives_past, gives_closed, past_front, measure_front, enter_front, begins, no_minus_front}
+use Rattle.sopl_grammar.proofs.FrontTokens.{no_total_front, no_not_front, no_bracket_front, no_brace_front, no_forall_front, no_prob_front}
 
 -- a primary that is missing
 pub none_primary : (n : ℕ) → expressions.primary (way true n) [] ≡ Ok (no_tree, [])

@@ -1,6 +1,6 @@
 -- Declarations, objectives, constraints and models go by the tokens that they take and the kind of the next one.
 use Rattle.std.proofs.Common.{◌≡◌, ◌<◌, ℕ, zero, suc, Bool, true, false, List, [], length, Option, Some, None, Ok, Err, refl, ap, subst}
-use Rattle.sopl_base.specs.declared.places.Direction.{Direction}
+use Rattle.sopl_base.specs.declared.direction.Direction.{Direction}
 use Rattle.sopl_ast.specs.declared.token.Token.{Token}
 use Rattle.sopl_ast.specs.Grammar as g
 use Rattle.sopl_ast.specs.Lists.{trees, binders}
@@ -15,9 +15,11 @@ use Rattle.sopl_grammar.specs.Expressions.{no_tree}
 use Rattle.sopl_grammar.specs.Phrases.{way, inner_of}
 use Rattle.sopl_grammar.proofs.Local.{absent_stops, Reader, Over, Local, local_bind, local_pure, local_missing, local_same, same_value}
 use Rattle.sopl_grammar.proofs.LocalChain.{Steps, local_chain}
-use Rattle.sopl_grammar.proofs.LocalForms.{local_past, local_last, local_enter, local_name, Mapped, local_mapped, none_mapped, Closed, local_closed, none_closed, no_item, Item, none_follows, steps_of, is_some_item, local_opens, local_if, local_test, item_if, item_opens, local_up}
+use Rattle.sopl_grammar.proofs.LocalForms.{local_past, local_last, local_enter, local_name, Mapped, local_mapped, none_mapped, Closed, local_closed, none_closed, no_item, Item}
+use Rattle.sopl_grammar.proofs.LocalForms.{none_follows, steps_of, is_some_item, local_opens, local_if, local_test, item_if, item_opens, local_up}
 use Rattle.sopl_grammar.proofs.LocalPhrases.{LocalInner, Below, sum_local, expression_local, negation_local, operand_local}
-use Rattle.sopl_grammar.proofs.LocalWhole.{arguments_local, summed_local, compared_local, task_local, tasks_local, bound_local, bindings_local, dim_local, dims_local, range_local, init_local, init_list_local, elements_local, outcomes_local, distribution_local, stage_local, unless_over}
+use Rattle.sopl_grammar.proofs.LocalWhole.{arguments_local, summed_local, compared_local, task_local, tasks_local, bound_local, bindings_local, dim_local, dims_local, range_local}
+use Rattle.sopl_grammar.proofs.LocalWhole.{init_local, init_list_local, elements_local, outcomes_local, distribution_local, stage_local, unless_over}
 use Rattle.sopl_grammar.proofs.Nothing.{none_set, none_expression, none_elements, none_constraints, none_quantified}
 use Rattle.sopl_grammar.proofs.Shorter.{shorter_constraint}
 use Rattle.sopl_grammar.proofs.SoundWhole.{constraint_sound, below_sounds}

@@ -17,7 +17,8 @@ use Rattle.sopl_grammar.specs.Expressions.{no_tree, no_binders}
 use Rattle.sopl_grammar.specs.Phrases.{way, inner_of}
 use Rattle.sopl_grammar.proofs.Local.{absent_stops, Reader, Local, local_bind, local_pure, local_missing}
 use Rattle.sopl_grammar.proofs.LocalChain.{Steps, local_chain}
-use Rattle.sopl_grammar.proofs.LocalForms.{local_enter, Mapped, local_mapped, none_mapped, Closed, local_closed, none_closed, steps_by_mark, steps_by_test, steps_by_bracket, local_opens, local_if, local_test}
+use Rattle.sopl_grammar.proofs.LocalForms.{local_enter, Mapped, local_mapped, none_mapped, Closed, local_closed, none_closed, steps_by_mark, steps_by_test, steps_by_bracket}
+use Rattle.sopl_grammar.proofs.LocalForms.{local_opens, local_if, local_test}
 use Rattle.sopl_grammar.proofs.Nothing.{none_expression, none_operand, none_negation, none_summed, none_arguments, none_compared, none_tasks}
 
 -- the phrases inside a bracket go by the tokens that they take
@@ -164,7 +165,8 @@ chained next found make n steps = local_mapped (λ cut m ts. chain (next cut m) 
 pub product_local : (n : ℕ) → Below n → Local (λ cut m ts. expressions.product (way cut m) ts) n
 unfolding expressions.product expressions.more_factors
 product_local n below =
-    local_bind (λ cut m ts. expressions.operand (way cut m) ts) (λ cut m x. expressions.next_factor (way cut m) x.1 >>= (λ y. expressions.product_from (way cut m) x.0 y.1 y.0)) n (operand_local n below)
+    local_bind (λ cut m ts. expressions.operand (way cut m) ts) (λ cut m x. expressions.next_factor (way cut m) x.1 >>= (λ y. expressions.product_from (way cut m) x.0 y.1 y.0)) n
+    (operand_local n below)
     (λ first. local_bind (λ cut m ts. expressions.next_factor (way cut m) ts) (λ cut m y. expressions.product_from (way cut m) first y.1 y.0) n (factor_steps n below).each (behind first))
   where
     behind : (first : Tree) (second : Option (MulOp × Tree)) → Local (λ cut m r. expressions.product_from (way cut m) first r second) n
@@ -210,12 +212,14 @@ negation_local n below =
 conjunct_steps : (n : ℕ) → Below n → Steps (λ cut m ts. expressions.next_conjunct (way cut m) ts) n
 unfolding expressions.next_conjunct
 conjunct_steps n below =
-    steps_by_mark mark.AndAnd (λ cut m ts b. expressions.conjunct_behind (way cut m) ts b) (λ cut m ts. expressions.negation (way cut m) ts) n (negation_local n below) (λ cut m ts. refl) (λ cut m u us. refl)
+    steps_by_mark mark.AndAnd (λ cut m ts b. expressions.conjunct_behind (way cut m) ts b) (λ cut m ts. expressions.negation (way cut m) ts) n (negation_local n below) (λ cut m ts. refl)
+    (λ cut m u us. refl)
 
 pub conjunction_local : (n : ℕ) → Below n → Local (λ cut m ts. expressions.conjunction (way cut m) ts) n
 unfolding expressions.conjunction expressions.more_conjuncts
 conjunction_local n below =
-    local_bind (λ cut m ts. expressions.negation (way cut m) ts) (λ cut m x. expressions.next_conjunct (way cut m) x.1 >>= (λ y. expressions.conjunction_from (way cut m) x.0 y.1 y.0)) n (negation_local n below)
+    local_bind (λ cut m ts. expressions.negation (way cut m) ts) (λ cut m x. expressions.next_conjunct (way cut m) x.1 >>= (λ y. expressions.conjunction_from (way cut m) x.0 y.1 y.0))
+    n (negation_local n below)
     (λ first. local_bind (λ cut m ts. expressions.next_conjunct (way cut m) ts) (λ cut m y. expressions.conjunction_from (way cut m) first y.1 y.0) n (conjunct_steps n below).each (behind first))
   where
     behind : (first : Tree) (second : Option Tree) → Local (λ cut m r. expressions.conjunction_from (way cut m) first r second) n
@@ -226,12 +230,14 @@ conjunction_local n below =
 disjunct_steps : (n : ℕ) → Below n → Steps (λ cut m ts. expressions.next_disjunct (way cut m) ts) n
 unfolding expressions.next_disjunct
 disjunct_steps n below =
-    steps_by_mark mark.OrOr (λ cut m ts b. expressions.disjunct_behind (way cut m) ts b) (λ cut m ts. expressions.conjunction (way cut m) ts) n (conjunction_local n below) (λ cut m ts. refl) (λ cut m u us. refl)
+    steps_by_mark mark.OrOr (λ cut m ts b. expressions.disjunct_behind (way cut m) ts b) (λ cut m ts. expressions.conjunction (way cut m) ts) n (conjunction_local n below) (λ cut m ts. refl)
+    (λ cut m u us. refl)
 
 pub disjunction_local : (n : ℕ) → Below n → Local (λ cut m ts. expressions.disjunction (way cut m) ts) n
 unfolding expressions.disjunction expressions.more_disjuncts
 disjunction_local n below =
-    local_bind (λ cut m ts. expressions.conjunction (way cut m) ts) (λ cut m x. expressions.next_disjunct (way cut m) x.1 >>= (λ y. expressions.disjunction_from (way cut m) x.0 y.1 y.0)) n (conjunction_local n below)
+    local_bind (λ cut m ts. expressions.conjunction (way cut m) ts) (λ cut m x. expressions.next_disjunct (way cut m) x.1 >>= (λ y. expressions.disjunction_from (way cut m) x.0 y.1 y.0))
+    n (conjunction_local n below)
     (λ first. local_bind (λ cut m ts. expressions.next_disjunct (way cut m) ts) (λ cut m y. expressions.disjunction_from (way cut m) first y.1 y.0) n (disjunct_steps n below).each (behind first))
   where
     behind : (first : Tree) (second : Option Tree) → Local (λ cut m r. expressions.disjunction_from (way cut m) first r second) n

@@ -20,14 +20,16 @@ use Rattle.sopl_grammar.specs.Phrases.{way, inner_of}
 use Rattle.sopl_grammar.proofs.Local.{Reader, Local, local_bind, local_pure, local_same}
 use Rattle.sopl_grammar.proofs.LocalCases.{Branch, as_other, behind_it, local_cases}
 use Rattle.sopl_grammar.proofs.LocalChain.{Steps, local_chain}
-use Rattle.sopl_grammar.proofs.LocalForms.{local_past, local_enter, local_name, Mapped, local_mapped, Closed, local_closed, none_closed, steps_by_mark, steps_by_bracket, local_opens, local_if, local_after}
+use Rattle.sopl_grammar.proofs.LocalForms.{local_past, local_enter, local_name, Mapped, local_mapped, Closed, local_closed, none_closed, steps_by_mark, steps_by_bracket}
+use Rattle.sopl_grammar.proofs.LocalForms.{local_opens, local_if, local_after}
 use Rattle.sopl_grammar.proofs.LocalPhrases.{Below, product_local, sum_local, expression_local}
 use Rattle.sopl_grammar.proofs.Nothing.{none_bound, none_task, none_dim, none_inits, none_outcomes}
 
 argument_steps : (n : ℕ) → Below n → Steps (λ cut m ts. expressions.next_argument (way cut m) ts) n
 unfolding expressions.next_argument
 argument_steps n below =
-    steps_by_mark mark.Comma (λ cut m ts b. expressions.argument_behind (way cut m) ts b) (λ cut m ts. expressions.expression (way cut m) ts) n (expression_local n below) (λ cut m ts. refl) (λ cut m u us. refl)
+    steps_by_mark mark.Comma (λ cut m ts b. expressions.argument_behind (way cut m) ts b) (λ cut m ts. expressions.expression (way cut m) ts) n (expression_local n below) (λ cut m ts. refl)
+    (λ cut m u us. refl)
 
 pub arguments_local : (n : ℕ) → Below n → Local (λ cut m ts. expressions.arguments (way cut m) ts) n
 unfolding expressions.arguments expressions.more_arguments
@@ -39,7 +41,8 @@ arguments_local n below =
 
 -- a name alone is a sum
 name_alone : (cut : Bool) (n : ℕ) (u : Token) (bytes : List ℕ) → u.kind ≡ k.Name bytes → expressions.sum (way cut n) (u ∷ []) ≡ Ok (Node u.span.start (t.Name bytes), [])
-unfolding expressions.sum expressions.next_term expressions.product expressions.operand expressions.primary expressions.element expressions.indices expressions.next_index chain expressions.next_factor h.factor_operator h.term_operator h.literal h.named h.is_mark
+unfolding expressions.sum expressions.next_term expressions.product expressions.operand expressions.primary expressions.element expressions.indices expressions.next_index chain
+    expressions.next_factor h.factor_operator h.term_operator h.literal h.named h.is_mark
 name_alone cut n u bytes e = rw e refl
 
 -- a sum that begins with a name takes the name
@@ -82,7 +85,8 @@ name_kind kind bytes e = absurd (cc)
 pub range_local : (n : ℕ) → Below n → Local (λ cut m ts. expressions.range (way cut m) ts) n
 unfolding expressions.range expressions.range_name h.named h.range_end
 range_local n below =
-    local_cases (h.at_kind h.name_bytes) (λ cut m ts o. expressions.range_by (way cut m) ts (expressions.range_name_of o (h.at_kind h.ends_range (head (rest ts))))) (λ cut m ts. expressions.ends (way cut m) ts) n
+    local_cases (h.at_kind h.name_bytes) (λ cut m ts o. expressions.range_by (way cut m) ts (expressions.range_name_of o (h.at_kind h.ends_range (head (rest ts)))))
+    (λ cut m ts. expressions.ends (way cut m) ts) n
     (ends_local n below) (λ cut m. refl) branch
   where
     branch : (u : Token) (o : Option (List ℕ)) → h.name_bytes u.kind ≡ o

@@ -7,7 +7,8 @@ use Rattle.sopl_ast.specs.declared.token.TokenKind.TheVariants as k
 use Rattle.sopl_ast.specs.Lists.{BinderTree}
 use Rattle.sopl_ast.specs.Tree.{Tree, Range}
 use Rattle.sopl_ast.specs.Grammar as g
-use Rattle.sopl_ast.specs.Grammar.{Is, Opens, IsName, IsPrimary, MoreIndices, AreArguments, MoreArguments, IsAll, IsTask, AreBinders, MoreBinders, IsBinder, IsRange, IsOperand, MoreFactors, IsProduct, MoreTerms, IsSum, IsComparison, IsNegation, MoreConjuncts, IsConjunction, MoreDisjuncts, IsDisjunction, IsExpression}
+use Rattle.sopl_ast.specs.Grammar.{Is, Opens, IsName, IsPrimary, MoreIndices, AreArguments, MoreArguments, IsAll, IsTask, AreBinders, MoreBinders, IsBinder, IsRange, IsOperand}
+use Rattle.sopl_ast.specs.Grammar.{MoreFactors, IsProduct, MoreTerms, IsSum, IsComparison, IsNegation, MoreConjuncts, IsConjunction, MoreDisjuncts, IsDisjunction, IsExpression}
 use Rattle.sopl_grammar.proofs.Items.{IsFactor, a_factor}
 
 -- a mark takes one token or none
@@ -40,7 +41,17 @@ mutual
   primary_kept cut _ _ _ _ (g.all_different n u us m vs bs ws e xs r h0 h1 h2 h3 h4) =
       omega (arith, opens_kept cut k.ParenOpen n us m vs h1, all_kept cut m vs bs ws h2, expression_kept cut m ws e xs h3, is_kept cut k.ParenClose xs r h4)
   primary_kept cut _ _ _ _ (g.cumulative n u us m vs bs ws l xs start length demand ys zs ps capacity cs r h0 h1 h2 h3 h4 h5 h6 h7 h8) =
-      omega (arith, opens_kept cut k.ParenOpen n us m vs h1, all_kept cut m vs bs ws h2, opens_kept cut k.ParenOpen m ws l xs h3, task_kept cut l xs start length demand ys h4, is_kept cut k.ParenClose ys zs h5, is_kept cut k.Comma zs ps h6, expression_kept cut m ps capacity cs h7, is_kept cut k.ParenClose cs r h8)
+      omega (
+        arith,
+        opens_kept cut k.ParenOpen n us m vs h1,
+        all_kept cut m vs bs ws h2,
+        opens_kept cut k.ParenOpen m ws l xs h3,
+        task_kept cut l xs start length demand ys h4,
+        is_kept cut k.ParenClose ys zs h5,
+        is_kept cut k.Comma zs ps h6,
+        expression_kept cut m ps capacity cs h7,
+        is_kept cut k.ParenClose cs r h8,
+      )
 
   pub more_indices_kept : (cut : Bool) (n : ℕ) (ts : List Token) (x : List Tree) (r : List Token) → MoreIndices cut n ts x r → length r ≤ length ts
   more_indices_kept cut _ _ _ _ (g.no_more_index n r) = omega arith

@@ -5,8 +5,11 @@ use Rattle.sopl_ast.specs.declared.token.TokenKind.TheVariants as k
 use Rattle.sopl_ast.specs.Tree.{Tree}
 use Rattle.sopl_ast.specs.Whole.{DimTree, InitTree, Declaration, ConsTree, GoalTree}
 use Rattle.sopl_ast.specs.Grammar as g
-use Rattle.sopl_ast.specs.Grammar.{IsMeasure, IsPrimary, IsOperand, IsProduct, IsSum, IsComparison, IsNegation, IsConjunction, IsDisjunction, IsExpression, IsStage, IsDim, AreDims, IsInit, AreInits, MoreInits, MoreElements, AreElements, IsOutcome, MoreOutcomes, IsDistribution, IsVariable, IsDeclaration, MayBeGoal, IsConstraint, AreConstraints}
-use Rattle.sopl_grammar.proofs.NotLonger.{all_kept, arguments_kept, binders_kept, expression_kept, is_kept, more_conjuncts_kept, more_disjuncts_kept, more_factors_kept, more_indices_kept, more_terms_kept, name_kept, negation_kept, opens_kept, operand_kept, product_kept, range_kept, sum_kept, task_kept}
+use Rattle.sopl_ast.specs.Grammar.{IsMeasure, IsPrimary, IsOperand, IsProduct, IsSum, IsComparison, IsNegation, IsConjunction, IsDisjunction, IsExpression, IsStage, IsDim, AreDims}
+use Rattle.sopl_ast.specs.Grammar.{IsInit, AreInits, MoreInits, MoreElements, AreElements, IsOutcome, MoreOutcomes, IsDistribution, IsVariable, IsDeclaration, MayBeGoal}
+use Rattle.sopl_ast.specs.Grammar.{IsConstraint, AreConstraints}
+use Rattle.sopl_grammar.proofs.NotLonger.{all_kept, arguments_kept, binders_kept, expression_kept, is_kept, more_conjuncts_kept, more_disjuncts_kept, more_factors_kept}
+use Rattle.sopl_grammar.proofs.NotLonger.{more_indices_kept, more_terms_kept, name_kept, negation_kept, opens_kept, operand_kept, product_kept, range_kept, sum_kept, task_kept}
 
 -- what an objective measures takes one token or none
 measure_kept : (cut : Bool) (ts : List Token) (worst : Bool) (r : List Token) → IsMeasure cut ts worst r → length r ≤ length ts

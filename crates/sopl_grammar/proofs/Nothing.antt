@@ -16,7 +16,8 @@ unfolding expressions.product expressions.operand expressions.primary expression
 none_product n = refl
 
 pub none_sum : (n : ℕ) → expressions.sum (way true n) [] ≡ Ok (no_tree, [])
-unfolding expressions.sum expressions.next_term h.term_operator expressions.product expressions.operand expressions.primary expressions.call expressions.next_factor h.factor_operator h.literal h.named h.extreme_function h.is_mark
+unfolding expressions.sum expressions.next_term h.term_operator expressions.product expressions.operand expressions.primary expressions.call expressions.next_factor h.factor_operator
+    h.literal h.named h.extreme_function h.is_mark
 none_sum n = refl
 
 pub none_operand : (n : ℕ) → Over (λ cut m ts. expressions.operand (way cut m) ts) n []
@@ -24,11 +25,14 @@ unfolding expressions.operand expressions.primary expressions.call h.literal h.n
 none_operand n = record { value = no_tree; read = refl }
 
 pub none_negation : (n : ℕ) → Over (λ cut m ts. expressions.negation (way cut m) ts) n []
-unfolding expressions.negation expressions.comparison expressions.sum expressions.next_term expressions.product expressions.operand expressions.primary expressions.call expressions.next_factor h.factor_operator h.term_operator h.comparison_operator h.literal h.named h.extreme_function h.is_mark
+unfolding expressions.negation expressions.comparison expressions.sum expressions.next_term expressions.product expressions.operand expressions.primary expressions.call expressions.next_factor
+    h.factor_operator h.term_operator h.comparison_operator h.literal h.named h.extreme_function h.is_mark
 none_negation n = record { value = no_tree; read = refl }
 
 pub none_expression : (n : ℕ) → Over (λ cut m ts. expressions.expression (way cut m) ts) n []
-unfolding expressions.expression expressions.disjunction expressions.next_disjunct expressions.conjunction expressions.next_conjunct expressions.negation expressions.comparison expressions.sum expressions.next_term expressions.product expressions.operand expressions.primary expressions.call expressions.next_factor h.factor_operator h.term_operator h.comparison_operator h.literal h.named h.extreme_function h.is_mark
+unfolding expressions.expression expressions.disjunction expressions.next_disjunct expressions.conjunction expressions.next_conjunct expressions.negation expressions.comparison expressions.sum
+    expressions.next_term expressions.product expressions.operand expressions.primary expressions.call expressions.next_factor h.factor_operator h.term_operator h.comparison_operator
+    h.literal h.named h.extreme_function h.is_mark
 none_expression n = record { value = no_tree; read = refl }
 
 pub none_bindings : (n : ℕ) → Over (λ cut m ts. expressions.bindings (way cut m) ts) n []
@@ -36,31 +40,42 @@ unfolding expressions.bindings past opening h.is_mark
 none_bindings n = record { value = no_binders; read = refl }
 
 pub none_summed : (n : ℕ) → Over (λ cut m ts. expressions.summed (way cut m) ts) n []
-unfolding expressions.summed expressions.bindings past opening expressions.product expressions.operand expressions.primary expressions.call expressions.next_factor h.factor_operator h.literal h.named h.extreme_function h.is_mark
+unfolding expressions.summed expressions.bindings past opening expressions.product expressions.operand expressions.primary expressions.call expressions.next_factor h.factor_operator
+    h.literal h.named h.extreme_function h.is_mark
 none_summed n = record { value = (no_binders, no_tree); read = refl }
 
 pub none_arguments : (n : ℕ) → Over (λ cut m ts. expressions.arguments (way cut m) ts) n []
-unfolding expressions.arguments expressions.more_arguments chain past expressions.expression expressions.disjunction expressions.next_disjunct expressions.conjunction expressions.next_conjunct expressions.negation expressions.comparison expressions.sum expressions.next_term expressions.product expressions.operand expressions.primary expressions.call expressions.next_factor h.factor_operator h.term_operator h.comparison_operator h.literal h.named h.extreme_function h.is_mark
+unfolding expressions.arguments expressions.more_arguments chain past expressions.expression expressions.disjunction expressions.next_disjunct expressions.conjunction expressions.next_conjunct
+    expressions.negation expressions.comparison expressions.sum expressions.next_term expressions.product expressions.operand expressions.primary expressions.call expressions.next_factor
+    h.factor_operator h.term_operator h.comparison_operator h.literal h.named h.extreme_function h.is_mark
 none_arguments n = record { value = no_tree ∷ no_tree ∷ []; read = refl }
 
 pub none_compared : (n : ℕ) → Over (λ cut m ts. expressions.compared (way cut m) ts) n []
-unfolding expressions.compared expressions.all expressions.bindings past opening expressions.expression expressions.disjunction expressions.next_disjunct expressions.conjunction expressions.next_conjunct expressions.negation expressions.comparison expressions.sum expressions.next_term expressions.product expressions.operand expressions.primary expressions.call expressions.next_factor h.factor_operator h.term_operator h.comparison_operator h.literal h.named h.extreme_function h.is_mark
+unfolding expressions.compared expressions.all expressions.bindings past opening expressions.expression expressions.disjunction expressions.next_disjunct expressions.conjunction
+    expressions.next_conjunct expressions.negation expressions.comparison expressions.sum expressions.next_term expressions.product expressions.operand expressions.primary expressions.call
+    expressions.next_factor h.factor_operator h.term_operator h.comparison_operator h.literal h.named h.extreme_function h.is_mark
 none_compared n = record { value = (no_binders, no_tree); read = refl }
 
 pub none_task : (n : ℕ) → Over (λ cut m ts. expressions.task (way cut m) ts) n []
-unfolding expressions.task past expressions.expression expressions.disjunction expressions.next_disjunct expressions.conjunction expressions.next_conjunct expressions.negation expressions.comparison expressions.sum expressions.next_term expressions.product expressions.operand expressions.primary expressions.call expressions.next_factor h.factor_operator h.term_operator h.comparison_operator h.literal h.named h.extreme_function h.is_mark
+unfolding expressions.task past expressions.expression expressions.disjunction expressions.next_disjunct expressions.conjunction expressions.next_conjunct expressions.negation
+    expressions.comparison expressions.sum expressions.next_term expressions.product expressions.operand expressions.primary expressions.call expressions.next_factor h.factor_operator
+    h.term_operator h.comparison_operator h.literal h.named h.extreme_function h.is_mark
 none_task n = record { value = (no_tree, (no_tree, no_tree)); read = refl }
 
 pub none_tasks : (n : ℕ) → Over (λ cut m ts. expressions.tasks (way cut m) ts) n []
-unfolding expressions.tasks expressions.all expressions.bindings past opening expressions.expression expressions.disjunction expressions.next_disjunct expressions.conjunction expressions.next_conjunct expressions.negation expressions.comparison expressions.sum expressions.next_term expressions.product expressions.operand expressions.primary expressions.call expressions.next_factor h.factor_operator h.term_operator h.comparison_operator h.literal h.named h.extreme_function h.is_mark
+unfolding expressions.tasks expressions.all expressions.bindings past opening expressions.expression expressions.disjunction expressions.next_disjunct expressions.conjunction
+    expressions.next_conjunct expressions.negation expressions.comparison expressions.sum expressions.next_term expressions.product expressions.operand expressions.primary expressions.call
+    expressions.next_factor h.factor_operator h.term_operator h.comparison_operator h.literal h.named h.extreme_function h.is_mark
 none_tasks n = record { value = (no_binders, ((no_tree, (no_tree, no_tree)), no_tree)); read = refl }
 
 pub none_bound : (n : ℕ) → Over (λ cut m ts. expressions.bound (way cut m) ts) n []
-unfolding expressions.bound expressions.binder expressions.more_binders expressions.range expressions.range_name expressions.ends name chain past expressions.sum expressions.next_term expressions.product expressions.operand expressions.primary expressions.call expressions.next_factor h.factor_operator h.term_operator h.literal h.named h.range_end h.extreme_function h.is_mark
+unfolding expressions.bound expressions.binder expressions.more_binders expressions.range expressions.range_name expressions.ends name chain past expressions.sum expressions.next_term
+    expressions.product expressions.operand expressions.primary expressions.call expressions.next_factor h.factor_operator h.term_operator h.literal h.named h.range_end h.extreme_function h.is_mark
 none_bound n = record { value = no_binders; read = refl }
 
 pub none_dim : (n : ℕ) → Over (λ cut m ts. p.dim (way cut m) ts) n []
-unfolding p.dim p.dim_name expressions.range expressions.range_name expressions.ends past expressions.sum expressions.next_term expressions.product expressions.operand expressions.primary expressions.call expressions.next_factor h.factor_operator h.term_operator h.literal h.named h.range_end h.extreme_function h.is_mark
+unfolding p.dim p.dim_name expressions.range expressions.range_name expressions.ends past expressions.sum expressions.next_term expressions.product expressions.operand expressions.primary
+    expressions.call expressions.next_factor h.factor_operator h.term_operator h.literal h.named h.range_end h.extreme_function h.is_mark
 none_dim n = record { value = record { binder = None; at = 0; range = Ends no_tree no_tree }; read = refl }
 
 pub none_inits : (n : ℕ) → Over (λ cut m ts. p.init_list (way cut m) ts) n []
@@ -72,11 +87,14 @@ unfolding p.elements
 none_elements n = record { value = []; read = refl }
 
 pub none_outcomes : (n : ℕ) → Over (λ cut m ts. p.outcomes (way cut m) ts) n []
-unfolding p.outcomes p.outcome p.more_outcomes chain past expressions.sum expressions.next_term expressions.product expressions.operand expressions.primary expressions.call expressions.next_factor h.factor_operator h.term_operator h.literal h.named h.extreme_function h.is_mark
+unfolding p.outcomes p.outcome p.more_outcomes chain past expressions.sum expressions.next_term expressions.product expressions.operand expressions.primary expressions.call
+    expressions.next_factor h.factor_operator h.term_operator h.literal h.named h.extreme_function h.is_mark
 none_outcomes n = record { value = (no_tree, no_tree) ∷ []; read = refl }
 
 pub none_quantified : (n : ℕ) → Over (λ cut m ts. p.quantified (way cut m) ts) n []
-unfolding p.quantified expressions.bindings p.constraint p.hard past opening expressions.expression expressions.disjunction expressions.next_disjunct expressions.conjunction expressions.next_conjunct expressions.negation expressions.comparison expressions.sum expressions.next_term expressions.product expressions.operand expressions.primary expressions.call expressions.next_factor h.factor_operator h.term_operator h.comparison_operator h.literal h.named h.extreme_function h.is_mark
+unfolding p.quantified expressions.bindings p.constraint p.hard past opening expressions.expression expressions.disjunction expressions.next_disjunct expressions.conjunction
+    expressions.next_conjunct expressions.negation expressions.comparison expressions.sum expressions.next_term expressions.product expressions.operand expressions.primary expressions.call
+    expressions.next_factor h.factor_operator h.term_operator h.comparison_operator h.literal h.named h.extreme_function h.is_mark
 none_quantified n = record { value = (no_binders, HardTree no_tree); read = refl }
 
 pub none_constraints : (n : ℕ) → Over (λ cut m ts. p.constraints (way cut m) ts) n []

@@ -7,7 +7,9 @@ use Rattle.sopl_ast.specs.Lists.{BinderTree}
 use Rattle.sopl_ast.specs.Tree.{Tree}
 use Rattle.sopl_ast.specs.Whole.{DimTree, InitTree, Declaration, ConsTree}
 use Rattle.sopl_ast.specs.Grammar as g
-use Rattle.sopl_ast.specs.Grammar.{IsExpression, IsNegation, IsConjunction, IsBinder, IsInit, IsSum, IsOutcome, IsDeclaration, IsConstraint, MoreIndices, MoreArguments, MoreBinders, MoreFactors, MoreTerms, MoreConjuncts, MoreDisjuncts, AreDims, MoreInits, MoreElements, MoreOutcomes, AreDeclarations, AreConstraints}
+use Rattle.sopl_ast.specs.Grammar.{IsExpression, IsNegation, IsConjunction, IsBinder, IsInit, IsSum, IsOutcome, IsDeclaration, IsConstraint, MoreIndices, MoreArguments}
+use Rattle.sopl_ast.specs.Grammar.{MoreBinders, MoreFactors, MoreTerms, MoreConjuncts, MoreDisjuncts, AreDims, MoreInits, MoreElements, MoreOutcomes, AreDeclarations}
+use Rattle.sopl_ast.specs.Grammar.{AreConstraints}
 use Rattle.sopl_grammar.specs.Heads.{head, at_kind}
 use Rattle.sopl_grammar.proofs.Items.{Items, no_item, an_item, IsBehind, behind, IsFactor, a_factor, IsTerm, a_term, IsIndex, an_index, IsNextDim, a_dim}
 

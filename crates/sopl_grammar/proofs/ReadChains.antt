@@ -1,6 +1,6 @@
 -- The reading of the phrases of an expression, from the reading of their parts.
 use Rattle.std.proofs.Common.{◌≡◌, ◌≤◌, Bool, false, List, [], ◌∷◌, Some, None, Ok, refl, ◌∙◌}
-use Rattle.sopl_base.specs.declared.places.CmpOp.{CmpOp}
+use Rattle.sopl_base.specs.declared.comparison.CmpOp.{CmpOp}
 use Rattle.sopl_ast.specs.declared.operators.MulOp.{MulOp}
 use Rattle.sopl_ast.specs.declared.token.Token.{Token}
 use Rattle.sopl_ast.specs.declared.token.TokenKind.TheVariants as k

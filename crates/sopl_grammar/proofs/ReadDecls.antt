@@ -1,6 +1,6 @@
 -- The reading of declarations, from the reading of their parts.
 use Rattle.std.proofs.Common.{◌≡◌, ℕ, ◌≤◌, true, false, List, [], ◌∷◌, Option, Some, None, Ok, refl, arith}
-use Rattle.sopl_base.specs.declared.places.Direction.{Direction}
+use Rattle.sopl_base.specs.declared.direction.Direction.{Direction}
 use Rattle.sopl_ast.specs.declared.token.Token.{Token}
 use Rattle.sopl_ast.specs.declared.token.TokenKind.{TokenKind}
 use Rattle.sopl_ast.specs.declared.token.TokenKind.TheVariants as k

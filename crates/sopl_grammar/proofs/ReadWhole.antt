@@ -1,6 +1,6 @@
 -- The reading of objectives, constraints and models, from the reading of their parts.
 use Rattle.std.proofs.Common.{◌≡◌, ◌≤◌, Bool, List, [], Option, Some, None, Ok, refl, ◌∙◌}
-use Rattle.sopl_base.specs.declared.places.Direction.{Direction}
+use Rattle.sopl_base.specs.declared.direction.Direction.{Direction}
 use Rattle.sopl_ast.specs.declared.token.Token.{Token}
 use Rattle.sopl_ast.specs.declared.token.TokenKind.TheVariants as k
 use Rattle.sopl_ast.specs.Grammar as g

@@ -8,7 +8,10 @@ use Rattle.sopl_ast.specs.Lists.{BinderTree}
 use Rattle.sopl_ast.specs.Tree.{Tree, Range}
 use Rattle.sopl_ast.specs.Whole.{DimTree, InitTree, Declaration, ConsTree, GoalTree, ModelTree}
 use Rattle.sopl_ast.specs.Grammar as g
-use Rattle.sopl_ast.specs.Grammar.{Is, Opens, IsName, IsMeasure, IsPrimary, MoreIndices, AreArguments, MoreArguments, IsAll, IsTask, AreBinders, MoreBinders, IsBinder, IsRange, IsOperand, MoreFactors, IsProduct, MoreTerms, IsSum, IsComparison, IsNegation, MoreConjuncts, IsConjunction, MoreDisjuncts, IsDisjunction, IsExpression, IsStage, IsDim, AreDims, IsInit, AreInits, MoreInits, MoreElements, AreElements, IsOutcome, MoreOutcomes, IsDistribution, IsVariable, IsDeclaration, AreDeclarations, MayBeGoal, IsConstraint, AreConstraints, IsModel}
+use Rattle.sopl_ast.specs.Grammar.{Is, Opens, IsName, IsMeasure, IsPrimary, MoreIndices, AreArguments, MoreArguments, IsAll, IsTask, AreBinders, MoreBinders, IsBinder, IsRange}
+use Rattle.sopl_ast.specs.Grammar.{IsOperand, MoreFactors, IsProduct, MoreTerms, IsSum, IsComparison, IsNegation, MoreConjuncts, IsConjunction, MoreDisjuncts, IsDisjunction}
+use Rattle.sopl_ast.specs.Grammar.{IsExpression, IsStage, IsDim, AreDims, IsInit, AreInits, MoreInits, MoreElements, AreElements, IsOutcome, MoreOutcomes, IsDistribution}
+use Rattle.sopl_ast.specs.Grammar.{IsVariable, IsDeclaration, AreDeclarations, MayBeGoal, IsConstraint, AreConstraints, IsModel}
 
 -- a mark: fewer are left
 pub shorter_mark : (kind : TokenKind) (ts : List Token) (r : List Token) → Is false kind ts r → length r < length ts

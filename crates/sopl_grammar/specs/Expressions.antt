@@ -1,6 +1,6 @@
 -- What is read of each kind of phrase of an expression.
 use Rattle.std.specs.Prelude.{ℕ, ℤ, pos, Bool, true, false, List, [], ◌∷◌, length, Option, Some, None, Ok}
-use Rattle.sopl_base.specs.declared.places.CmpOp.{CmpOp}
+use Rattle.sopl_base.specs.declared.comparison.CmpOp.{CmpOp}
 use Rattle.sopl_ast.specs.declared.operators.MulOp.{MulOp}
 use Rattle.sopl_ast.specs.declared.token.Token.{Token}
 use Rattle.sopl_ast.specs.Grammar.{extreme_of}

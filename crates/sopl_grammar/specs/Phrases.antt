@@ -1,11 +1,12 @@
 -- What is read of declarations, constraints and models, and of the phrases inside a bracket.
 use Rattle.std.specs.Prelude.{ℕ, zero, suc, Bool, true, false, List, [], ◌∷◌, length, Option, Some, None, Result, Ok, Err}
-use Rattle.sopl_base.specs.declared.places.Direction.{Direction}
+use Rattle.sopl_base.specs.declared.direction.Direction.{Direction}
 use Rattle.sopl_ast.specs.declared.token.Token.{Token}
 use Rattle.sopl_ast.specs.Grammar.{range_place}
 use Rattle.sopl_ast.specs.Lists.{BinderTree, trees, binders}
 use Rattle.sopl_ast.specs.Tree.{Tree}
-use Rattle.sopl_ast.specs.Whole.{DimTree, InitTree, One, Many, inits, Declaration, IntDecl, RangeDecl, SetDecl, DvarDecl, StochDecl, ConsTree, ForallTree, BlockTree, HardTree, ChanceTree, conses, GoalTree, ModelTree}
+use Rattle.sopl_ast.specs.Whole.{DimTree, InitTree, One, Many, inits, Declaration, IntDecl, RangeDecl, SetDecl, DvarDecl, StochDecl, ConsTree, ForallTree, BlockTree, HardTree}
+use Rattle.sopl_ast.specs.Whole.{ChanceTree, conses, GoalTree, ModelTree}
 use Rattle.sopl_grammar.specs.declared.marks.Mark.TheVariants as m
 use Rattle.sopl_grammar.specs.Heads as h
 use Rattle.sopl_grammar.specs.Heads.{head, rest, place, is_mark}

@@ -1,5 +1,6 @@
 //! What stands between the grammar and a reader of tokens: the reading of each phrase on lists of
 //! tokens, and the laws that tie it to the grammar.
+//! Its tests stand in `parser_tests`.
 #![tactic(auto)]
 
 mod laws;

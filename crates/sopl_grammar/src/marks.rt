@@ -1,7 +1,9 @@
 //! The front of a list of tokens, and what a token is to the reader.
 
 ghost use Rattle.std.specs.Prelude.{◌≡◌, option_copied};
-ghost use Rattle.sopl_grammar.specs.Heads.{head, rest as rest_of, place as place_of, is_mark, literal as literal_of, named as named_of, factor_operator as factor_operator_of, term_operator as term_operator_of, comparison_operator as comparison_operator_of, extreme_function as extreme_function_of, goal_direction as goal_direction_of, goal_measure as goal_measure_of, range_end as range_end_of};
+ghost use Rattle.sopl_grammar.specs.Heads.{head, rest as rest_of, place as place_of, is_mark, literal as literal_of, named as named_of, factor_operator as factor_operator_of};
+ghost use Rattle.sopl_grammar.specs.Heads.{term_operator as term_operator_of, comparison_operator as comparison_operator_of, extreme_function as extreme_function_of};
+ghost use Rattle.sopl_grammar.specs.Heads.{goal_direction as goal_direction_of, goal_measure as goal_measure_of, range_end as range_end_of};
 
 use sopl_ast::{MulOp, Name, Token, TokenKind};
 use sopl_base::{CmpOp, Direction};

@@ -1,5 +1,6 @@
 -- Where the first text of a name stands.
-use Rattle.std.proofs.Common.{◌≡◌, ℕ, ◌<◌, Bool, true, false, cond, List, [], ◌∷◌, length, map, Option, Some, None, option_map, unwrap_or, String, Vec, string_bytes, nat_lt, refl, sym, ap, ◌∙◌, arith, inl, inr}
+use Rattle.std.proofs.Common.{◌≡◌, ℕ, ◌<◌, Bool, true, false, cond, List, [], ◌∷◌, length, map, Option, Some, None, option_map, unwrap_or, String, Vec, string_bytes, nat_lt, refl}
+use Rattle.std.proofs.Common.{sym, ap, ◌∙◌, arith, inl, inr}
 use Rattle.std.specs.List.{find, position, position_or_len, slice_get}
 use Rattle.std.specs.Str.{bytes_eq}
 use Rattle.std.specs.declared.alloc.Global.{Global}
@@ -18,13 +19,16 @@ find-map {X} {Y} f p (x ∷ xs) =
       | false ↦ find-map f p xs
     ]
 
-content : (o : Option (String Global × Vec ℕ Global)) → option_map (λ (t : List ℕ × List ℕ). t.1) (option_map (λ (t : String Global × Vec ℕ Global). (string_bytes t.0, t.1.items)) o) ≡ option_map (λ (t : String Global × Vec ℕ Global). t.1.items) o
+content : (o : Option (String Global × Vec ℕ Global)) → option_map (λ (t : List ℕ × List ℕ). t.1) (option_map (λ (t : String Global × Vec ℕ Global). (string_bytes t.0, t.1.items)) o)
+    ≡ option_map (λ (t : String Global × Vec ℕ Global). t.1.items) o
 content None = refl
 content (Some t) = refl
 
-named_text_at : (texts : List (String Global × Vec ℕ Global)) (name : List ℕ) → named_text (texts_of texts) name ≡ option_map (λ (t : String Global × Vec ℕ Global). t.1.items) (slice_get texts (position_or_len (has_name name) texts))
+named_text_at : (texts : List (String Global × Vec ℕ Global)) (name : List ℕ) → named_text (texts_of texts) name
+    ≡ option_map (λ (t : String Global × Vec ℕ Global). t.1.items) (slice_get texts (position_or_len (has_name name) texts))
 named_text_at texts name =
-    ap (λ (o : Option (List ℕ × List ℕ)). option_map (λ (t : List ℕ × List ℕ). t.1) o) (find-map (λ (t : String Global × Vec ℕ Global). (string_bytes t.0, t.1.items)) (λ (t : List ℕ × List ℕ). bytes_eq t.0 name) texts)
+    ap (λ (o : Option (List ℕ × List ℕ)). option_map (λ (t : List ℕ × List ℕ). t.1) o)
+    (find-map (λ (t : String Global × Vec ℕ Global). (string_bytes t.0, t.1.items)) (λ (t : List ℕ × List ℕ). bytes_eq t.0 name) texts)
     ∙ content (find (has_name name) texts)
     ∙ ap (λ (o : Option (String Global × Vec ℕ Global)). option_map (λ (t : String Global × Vec ℕ Global). t.1.items) o) (find_at (has_name name) texts)
 

@@ -26,7 +26,8 @@ cut_full (Some most) text bytes rest split full small =
     sym (ap (λ (l : List ℕ). take most l) split ∙ take_at bytes rest most full)
 
 -- at the end of input the text was read
-pub read_to_end : (stock : Option Stock) (name : List ℕ) (first now : Option (List ℕ)) (most : Option ℕ) (bytes : List ℕ) → IfSome stock (λ s. first ≡ Some (text_of s name)) → Consumes first now bytes → IsAtEnd now → length bytes ≤ unwrap_or most (2 ^ 64 - 1) → IfSome stock (λ s. bytes ≡ cut_at most (text_of s name))
+pub read_to_end : (stock : Option Stock) (name : List ℕ) (first now : Option (List ℕ)) (most : Option ℕ) (bytes : List ℕ) → IfSome stock (λ s. first ≡ Some (text_of s name))
+    → Consumes first now bytes → IsAtEnd now → length bytes ≤ unwrap_or most (2 ^ 64 - 1) → IfSome stock (λ s. bytes ≡ cut_at most (text_of s name))
 read_to_end None name first now most bytes given read end bound = tt
 read_to_end (Some s) name None now most bytes given read end bound = absurd (cc)
 read_to_end (Some s) name (Some xs) None most bytes given read end bound = absurd read
@@ -35,7 +36,8 @@ read_to_end (Some s) name (Some xs) (Some ys) most bytes given read end bound =
     cut_whole most (text_of s name) bytes ys (same ∙ read) end bound
 
 -- where the most is held, that much of the text was read
-pub read_to_most : (stock : Option Stock) (name : List ℕ) (first now : Option (List ℕ)) (most : Option ℕ) (bytes : List ℕ) → IfSome stock (λ s. first ≡ Some (text_of s name)) → Consumes first now bytes → length bytes ≡ unwrap_or most (2 ^ 64 - 1) → length bytes < 2 ^ 64 - 1 → IfSome stock (λ s. bytes ≡ cut_at most (text_of s name))
+pub read_to_most : (stock : Option Stock) (name : List ℕ) (first now : Option (List ℕ)) (most : Option ℕ) (bytes : List ℕ) → IfSome stock (λ s. first ≡ Some (text_of s name))
+    → Consumes first now bytes → length bytes ≡ unwrap_or most (2 ^ 64 - 1) → length bytes < 2 ^ 64 - 1 → IfSome stock (λ s. bytes ≡ cut_at most (text_of s name))
 read_to_most None name first now most bytes given read full small = tt
 read_to_most (Some s) name None now most bytes given read full small = absurd (cc)
 read_to_most (Some s) name (Some xs) None most bytes given read full small = absurd read
@@ -49,7 +51,8 @@ is_full None n full small = absurd (omega arith)
 is_full (Some most) n full small = ap Some (sym full)
 
 -- what was not read of the text is left
-pub rest_left : (stock : Option Stock) (name : List ℕ) (first now : Option (List ℕ)) (bytes : List ℕ) → IfSome stock (λ s. first ≡ Some (text_of s name)) → Consumes first now bytes → IfSome stock (λ s. now ≡ Some (drop (length bytes) (text_of s name)))
+pub rest_left : (stock : Option Stock) (name : List ℕ) (first now : Option (List ℕ)) (bytes : List ℕ) → IfSome stock (λ s. first ≡ Some (text_of s name)) → Consumes first now bytes
+    → IfSome stock (λ s. now ≡ Some (drop (length bytes) (text_of s name)))
 rest_left None name first now bytes given read = tt
 rest_left (Some s) name None now bytes given read = absurd (cc)
 rest_left (Some s) name (Some xs) None bytes given read = absurd read

@@ -13,7 +13,8 @@ appends_more (Some xs) (Some ys) (Some zs) bytes piece before more =
     more ∙ ap (λ (l : List ℕ). l ++ piece) before ∙ append_assoc xs bytes piece
 
 -- one more piece
-pub written_more : (first now next : Option (List ℕ)) (bytes : List ℕ) (at n : ℕ) → at + n ≤ length bytes → Appends first now (take at bytes) → Appends now next (take n (take (length bytes - at) (drop at bytes))) → Appends first next (take (at + n) bytes)
+pub written_more : (first now next : Option (List ℕ)) (bytes : List ℕ) (at n : ℕ) → at + n ≤ length bytes → Appends first now (take at bytes)
+    → Appends now next (take n (take (length bytes - at) (drop at bytes))) → Appends first next (take (at + n) bytes)
 written_more first now next bytes at n within before more =
     let fits : take n (take (length bytes - at) (drop at bytes)) ≡ take n (drop at bytes) = take-take n (length bytes - at) (drop at bytes) (omega arith) in
     let whole = take-add at n bytes ∙ ap (λ (l : List ℕ). take at bytes ++ l) (sym fits) in

@@ -7,7 +7,8 @@ use Rattle.std.specs.Char.{is_ascii_digit}
 use Rattle.std.specs.List.{list_all}
 use Rattle.std.specs.Option.{option_map}
 use Rattle.std.specs.Str.{bytes_eq}
-use Rattle.sopl_ast.specs.Pieces.{Piece, Blank, Word, begins_with, is_block_comment, is_letter, is_line_comment, is_literal, is_name_byte, is_one_space, is_space, is_word, keywords, kind_in, piece_of, symbols}
+use Rattle.sopl_ast.specs.Pieces.{Piece, Blank, Word, begins_with, is_block_comment, is_letter, is_line_comment, is_literal, is_name_byte, is_one_space, is_space, is_word}
+use Rattle.sopl_ast.specs.Pieces.{keywords, kind_in, piece_of, symbols}
 use Rattle.sopl_ast.specs.Tokens.{IsSmall}
 use Rattle.sopl_ast.specs.declared.token.TokenKind.{TokenKind}
 use Rattle.sopl_ast.specs.declared.token.TokenKind.TheVariants as k
@@ -58,13 +59,15 @@ pub slash_letter : (c : ℕ) → (c == 47) ≡ true → is_letter c ≡ false
 slash_letter c h = ap is_letter (eqb-true c 47 h)
 
 -- what each row of a table passes, the bytes found there pass
-row_passes : (bytes : List ℕ) (rows : List (List ℕ × TokenKind)) (test : List ℕ → Bool) (kind : TokenKind) → list_all (λ (row : List ℕ × TokenKind). test row.0) rows ≡ true → kind_in bytes rows ≡ Some kind → test bytes ≡ true
+row_passes : (bytes : List ℕ) (rows : List (List ℕ × TokenKind)) (test : List ℕ → Bool) (kind : TokenKind) → list_all (λ (row : List ℕ × TokenKind). test row.0) rows ≡ true → kind_in bytes rows
+    ≡ Some kind → test bytes ≡ true
 row_passes bytes [] test kind all found = absurd (cc)
 row_passes bytes (row ∷ rows) test kind all found =
     let parts = and_parts (test row.0) (list_all (λ (r : List ℕ × TokenKind). test r.0) rows) all in
     by_row (bytes_eq bytes row.0) refl found parts.0 (row_passes bytes rows test kind parts.1)
   where
-    by_row : (same : Bool) → bytes_eq bytes row.0 ≡ same → cond same (Some row.1) (kind_in bytes rows) ≡ Some kind → test row.0 ≡ true → (kind_in bytes rows ≡ Some kind → test bytes ≡ true) → test bytes ≡ true
+    by_row : (same : Bool) → bytes_eq bytes row.0 ≡ same → cond same (Some row.1) (kind_in bytes rows) ≡ Some kind → test row.0 ≡ true → (kind_in bytes rows ≡ Some kind → test bytes ≡ true)
+        → test bytes ≡ true
     by_row true e was here more = ap test ((bytes_eq-Decides bytes row.0).0 e) ∙ here
     by_row false e was here more = more was
 
@@ -141,7 +144,8 @@ small_if : (kind : TokenKind) → is_no_literal kind ≡ true → IsSmall kind
 small_if (k.Lit value) e = absurd (cc)
 small_if _ e = tt
 
-row_small : (bytes : List ℕ) (rows : List (List ℕ × TokenKind)) (kind : TokenKind) → list_all (λ (row : List ℕ × TokenKind). is_no_literal row.1) rows ≡ true → kind_in bytes rows ≡ Some kind → IsSmall kind
+row_small : (bytes : List ℕ) (rows : List (List ℕ × TokenKind)) (kind : TokenKind) → list_all (λ (row : List ℕ × TokenKind). is_no_literal row.1) rows ≡ true → kind_in bytes rows ≡ Some kind
+    → IsSmall kind
 row_small bytes [] kind all found = absurd (cc)
 row_small bytes (row ∷ rows) kind all found =
     let parts = and_parts (is_no_literal row.1) (list_all (λ (r : List ℕ × TokenKind). is_no_literal r.1) rows) all in

@@ -1,18 +1,21 @@
 -- What `front` answers is the longest piece, or a refusal of what stands there.
-use Rattle.std.proofs.Common.{◌≡◌, ℕ, suc, ◌+◌, ◌^◌, ◌-◌, ◌≤◌, ◌<◌, ◌<ℤ◌, ◌≤ℤ◌, pos, Bool, true, false, cond, ◌||◌, ◌==◌, nat_le, List, [], ◌∷◌, ◌++◌, length, take, drop, Option, None, Some, Result, Ok, Err, refl, ap, sym, ◌∙◌, subst, arith, ◌⊎◌, inl, inr, length-append, length-take-le, take-append-drop}
+use Rattle.std.proofs.Common.{◌≡◌, ℕ, suc, ◌+◌, ◌^◌, ◌-◌, ◌≤◌, ◌<◌, ◌<ℤ◌, ◌≤ℤ◌, pos, Bool, true, false, cond, ◌||◌, ◌==◌, nat_le, List, [], ◌∷◌, ◌++◌, length, take, drop, Option}
+use Rattle.std.proofs.Common.{None, Some, Result, Ok, Err, refl, ap, sym, ◌∙◌, subst, arith, ◌⊎◌, inl, inr, length-append, length-take-le, take-append-drop}
 use Rattle.std.proofs.lemmas.Bool.{and_from, and_left, and_parts, both_ways, false_from_ne_true, or_left, cond_both, eq-eqb, eqb-true, lt-ltb, leb-true, leb-false}
 use Rattle.std.proofs.lemmas.Int.{ints}
 use Rattle.std.proofs.lemmas.List.Sums.{prefix_len-le-length}
 use Rattle.std.specs.Char.{is_ascii_digit}
 use Rattle.std.specs.List.{list_all, prefix_len}
 use Rattle.std.specs.Option.{option_map}
-use Rattle.sopl_base.specs.declared.places.Refusal.{Refusal}
-use Rattle.sopl_ast.specs.Pieces.{Piece, Blank, Word, Begins, before_close, begins_with, decimal, is_block_comment, is_letter, is_line_comment, is_literal, is_name_byte, is_one_space, is_space, is_word, kind_in, piece_of, symbols}
+use Rattle.sopl_base.specs.declared.fault.Refusal.{Refusal}
+use Rattle.sopl_ast.specs.Pieces.{Piece, Blank, Word, Begins, before_close, begins_with, decimal, is_block_comment, is_letter, is_line_comment, is_literal, is_name_byte}
+use Rattle.sopl_ast.specs.Pieces.{is_one_space, is_space, is_word, kind_in, piece_of, symbols}
 use Rattle.sopl_ast.specs.Tokens.{IsSmall, IsStuck, IsTooLarge}
 use Rattle.sopl_ast.specs.declared.token.TokenKind.{TokenKind}
 use Rattle.sopl_ast.specs.declared.token.TokenKind.TheVariants as k
 use Rattle.sopl_lex.specs.Front.{block_comment, double, front, is_line_byte, line_comment, literal, symbol, symbol_of, word, word_kind}
-use Rattle.sopl_lex.proofs.Forms.{Start, s_space, s_line, s_block, s_literal, s_word, s_symbol, start_with, begins_append, begins_first, digit_letter, slash_digit, slash_letter, slash_space, space_digit, space_letter, symbol_short, symbol_small, word_small}
+use Rattle.sopl_lex.proofs.Forms.{Start, s_space, s_line, s_block, s_literal, s_word, s_symbol, start_with, begins_append, begins_first, digit_letter, slash_digit, slash_letter}
+use Rattle.sopl_lex.proofs.Forms.{slash_space, space_digit, space_letter, symbol_short, symbol_small, word_small}
 use Rattle.sopl_lex.proofs.Longest.{close_append, close_take, prefix_longest, run_passes}
 
 pos_le : (a b : ℕ) → a ≤ b → pos a ≤ℤ pos b
@@ -46,7 +49,8 @@ Holds at text (Err refusal) = Fails at text refusal
 abbrev IsLongest : ℕ → List ℕ → ℕ → Type 0
 IsLongest c cs n = (more others : List ℕ) (other : Piece) → c ∷ cs ≡ more ++ others → Start c more other → length more ≤ n
 
-begins : (c : ℕ) (cs : List ℕ) (piece : Piece) (n : ℕ) → n ≤ length (c ∷ cs) → piece_of (take n (c ∷ cs)) ≡ Some piece → IsLongest c cs n → (begins_with 47 42 (c ∷ cs) ≡ true → piece ≡ Blank) → Begins (c ∷ cs) piece (take n (c ∷ cs)) (drop n (c ∷ cs))
+begins : (c : ℕ) (cs : List ℕ) (piece : Piece) (n : ℕ) → n ≤ length (c ∷ cs) → piece_of (take n (c ∷ cs)) ≡ Some piece → IsLongest c cs n → (begins_with 47 42 (c ∷ cs) ≡ true → piece ≡ Blank)
+    → Begins (c ∷ cs) piece (take n (c ∷ cs)) (drop n (c ∷ cs))
 begins c cs piece n h form longest comment =
     record {
       cut = sym (take-append-drop n (c ∷ cs));
@@ -75,13 +79,16 @@ module _ (x y : Piece) where
   first_block false false true g w o e = refl
   first_block false false false g w o e = absurd (cc)
 
-  first_literal : (s l b g w : Bool) (o : Option TokenKind) → s ≡ false → l ≡ false → b ≡ false → g ≡ true → cond (s || l || b) (Some Blank) (cond g (Some x) (cond w (Some y) (option_map Word o))) ≡ Some x
+  first_literal : (s l b g w : Bool) (o : Option TokenKind) → s ≡ false → l ≡ false → b ≡ false → g ≡ true
+      → cond (s || l || b) (Some Blank) (cond g (Some x) (cond w (Some y) (option_map Word o))) ≡ Some x
   first_literal s l b g w o es el eb eg = rw (es, el, eb, eg) refl
 
-  first_word : (s l b g w : Bool) (o : Option TokenKind) → s ≡ false → l ≡ false → b ≡ false → g ≡ false → w ≡ true → cond (s || l || b) (Some Blank) (cond g (Some x) (cond w (Some y) (option_map Word o))) ≡ Some y
+  first_word : (s l b g w : Bool) (o : Option TokenKind) → s ≡ false → l ≡ false → b ≡ false → g ≡ false → w ≡ true
+      → cond (s || l || b) (Some Blank) (cond g (Some x) (cond w (Some y) (option_map Word o))) ≡ Some y
   first_word s l b g w o es el eb eg ew = rw (es, el, eb, eg, ew) refl
 
-  first_symbol : (s l b g w : Bool) (o : Option TokenKind) (kind : TokenKind) → s ≡ false → l ≡ false → b ≡ false → g ≡ false → w ≡ false → o ≡ Some kind → cond (s || l || b) (Some Blank) (cond g (Some x) (cond w (Some y) (option_map Word o))) ≡ Some (Word kind)
+  first_symbol : (s l b g w : Bool) (o : Option TokenKind) (kind : TokenKind) → s ≡ false → l ≡ false → b ≡ false → g ≡ false → w ≡ false → o ≡ Some kind
+      → cond (s || l || b) (Some Blank) (cond g (Some x) (cond w (Some y) (option_map Word o))) ≡ Some (Word kind)
   first_symbol s l b g w o kind es el eb eg ew eo = rw (es, el, eb, eg, ew, eo) refl
 
 -- the bytes that pass a test of a blank piece
@@ -176,7 +183,8 @@ block_longest c cs p more others other e (s_word h m) = absurd (both_ways _ (sla
 block_longest c cs p more others other e (s_symbol b kind found is) = let short = symbol_short more kind found in omega arith
 
 -- a comment that begins here ends in the text
-block_ends : (c : ℕ) (cs more others : List ℕ) (other : Piece) → begins_with 47 42 (c ∷ cs) ≡ true → c ∷ cs ≡ more ++ others → other ≡ Blank → Start c more other → before_close (drop 2 (c ∷ cs)) + 4 ≤ length (c ∷ cs)
+block_ends : (c : ℕ) (cs more others : List ℕ) (other : Piece) → begins_with 47 42 (c ∷ cs) ≡ true → c ∷ cs ≡ more ++ others → other ≡ Blank → Start c more other
+    → before_close (drop 2 (c ∷ cs)) + 4 ≤ length (c ∷ cs)
 block_ends c cs more others other p e blank (s_space h short) = absurd (both_ways _ (slash_space c (begins_first 47 42 c cs p)) h)
 block_ends c cs more others other p e blank (s_line h m) = absurd (not_both (c ∷ cs) (front_begins 47 47 c cs more others e (and_parts _ _ m).0) p)
 block_ends c cs more others other p e blank (s_block h m) = let len = block_len (c ∷ cs) more others e m in omega (arith, len.0, len.1)
@@ -346,7 +354,8 @@ block_holds at c cs p =
     })
 
 -- the piece of a symbol
-symbol_form : (c : ℕ) (ys : List ℕ) (kind : TokenKind) → is_space c ≡ false → is_ascii_digit c ≡ false → is_letter c ≡ false → begins_with 47 47 (c ∷ ys) ≡ false → begins_with 47 42 (c ∷ ys) ≡ false → kind_in (c ∷ ys) symbols ≡ Some kind → piece_of (c ∷ ys) ≡ Some (Word kind)
+symbol_form : (c : ℕ) (ys : List ℕ) (kind : TokenKind) → is_space c ≡ false → is_ascii_digit c ≡ false → is_letter c ≡ false → begins_with 47 47 (c ∷ ys) ≡ false → begins_with 47 42 (c ∷ ys)
+    ≡ false → kind_in (c ∷ ys) symbols ≡ Some kind → piece_of (c ∷ ys) ≡ Some (Word kind)
 symbol_form c ys kind s g l line block found =
     let b = c ∷ ys in
     first_symbol (Word (k.Lit (pos (decimal b)))) (Word (word_kind b)) (is_one_space b) (is_line_comment b) (is_block_comment b) (is_literal b) (is_word b) (kind_in b symbols) kind

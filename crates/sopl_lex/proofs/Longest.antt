@@ -29,7 +29,8 @@ close_append [] ys h = absurd (omega arith)
 close_append (x ∷ []) ys h = absurd (omega arith)
 close_append (x ∷ z ∷ zs) ys h = by_two (begins_with 42 47 (x ∷ z ∷ zs)) h (close_append (z ∷ zs) ys)
   where
-    by_two : (b : Bool) → cond b 0 (1 + before_close (z ∷ zs)) + 2 ≤ length (x ∷ z ∷ zs) → (before_close (z ∷ zs) + 2 ≤ length (z ∷ zs) → before_close ((z ∷ zs) ++ ys) ≡ before_close (z ∷ zs)) → cond b 0 (1 + before_close ((z ∷ zs) ++ ys)) ≡ cond b 0 (1 + before_close (z ∷ zs))
+    by_two : (b : Bool) → cond b 0 (1 + before_close (z ∷ zs)) + 2 ≤ length (x ∷ z ∷ zs) → (before_close (z ∷ zs) + 2 ≤ length (z ∷ zs) → before_close ((z ∷ zs) ++ ys) ≡ before_close (z ∷ zs))
+        → cond b 0 (1 + before_close ((z ∷ zs) ++ ys)) ≡ cond b 0 (1 + before_close (z ∷ zs))
     by_two true h ih = refl
     by_two false h ih = ap (λ n. 1 + n) (ih (omega arith))
 
@@ -42,7 +43,9 @@ close_take (x ∷ z ∷ zs) h = by_two (begins_with 42 47 (x ∷ z ∷ zs)) refl
     front : (n : ℕ) (b : Bool) → begins_with 42 47 (x ∷ z ∷ zs) ≡ b → before_close (x ∷ take (suc n) (z ∷ zs)) ≡ cond b 0 (1 + before_close (take (suc n) (z ∷ zs)))
     front n b e = ap (λ c. cond c 0 (1 + before_close (take (suc n) (z ∷ zs)))) e
 
-    by_two : (b : Bool) → begins_with 42 47 (x ∷ z ∷ zs) ≡ b → cond b 0 (1 + before_close (z ∷ zs)) + 2 ≤ length (x ∷ z ∷ zs) → (before_close (z ∷ zs) + 2 ≤ length (z ∷ zs) → before_close (take (before_close (z ∷ zs) + 2) (z ∷ zs)) ≡ before_close (z ∷ zs)) → before_close (take (cond b 0 (1 + before_close (z ∷ zs)) + 2) (x ∷ z ∷ zs)) ≡ cond b 0 (1 + before_close (z ∷ zs))
+    by_two : (b : Bool) → begins_with 42 47 (x ∷ z ∷ zs) ≡ b → cond b 0 (1 + before_close (z ∷ zs)) + 2 ≤ length (x ∷ z ∷ zs)
+        → (before_close (z ∷ zs) + 2 ≤ length (z ∷ zs) → before_close (take (before_close (z ∷ zs) + 2) (z ∷ zs)) ≡ before_close (z ∷ zs))
+        → before_close (take (cond b 0 (1 + before_close (z ∷ zs)) + 2) (x ∷ z ∷ zs)) ≡ cond b 0 (1 + before_close (z ∷ zs))
     by_two true e h more = front 0 true e
     by_two false e h more =
         let n = before_close (z ∷ zs) in

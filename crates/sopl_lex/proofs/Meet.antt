@@ -1,14 +1,14 @@
 -- Of two cuts of one text one goes on from the other, so a text has at most one outcome.
 use Rattle.std.proofs.Common.{◌≡◌, ℕ, ℤ, ◌+◌, ◌<ℤ◌, ◌≤ℤ◌, List, [], ◌∷◌, ◌++◌, length, Some, Result, Ok, Err, refl, ap, sym, ◌∙◌, subst, arith, ◌⊎◌, inl, inr}
 use Rattle.std.proofs.lemmas.Int.{ints}
-use Rattle.sopl_base.specs.declared.places.Fault.{Fault}
-use Rattle.sopl_base.specs.declared.places.Fault.TheVariants as fault
-use Rattle.sopl_base.specs.declared.places.Refusal.{Refusal}
+use Rattle.sopl_base.specs.declared.fault.Fault.{Fault}
+use Rattle.sopl_base.specs.declared.fault.Fault.TheVariants as fault
+use Rattle.sopl_base.specs.declared.fault.Refusal.{Refusal}
 use Rattle.sopl_ast.specs.Pieces.{Piece, Word, Begins, piece_of}
 use Rattle.sopl_ast.specs.Tokens.{AreSmall, Cuts, start, next, IsTooLarge, Lexes, Refuses, too_long, no_piece, too_large, Tokens, max_literal, token_of}
 use Rattle.sopl_ast.specs.declared.token.Token.{Token}
 use Rattle.sopl_ast.specs.declared.token.TokenKind.TheVariants as k
-use Rattle.sopl_lex.specs.Answers.{Answers}
+use Rattle.sopl_lex.specs.TextAnswers.{Answers}
 
 same_split : (xs ys zs ws : List ℕ) → xs ++ ys ≡ zs ++ ws → length xs ≡ length zs → (xs ≡ zs) × (ys ≡ ws)
 same_split [] ys [] ws e h = (refl, e)
@@ -40,7 +40,8 @@ data Onward : (at : ℕ) → (tokens : List Token) → (rest : List ℕ) → (to
   step : (at : ℕ) (tokens : List Token) (rest : List ℕ) (piece : Piece) (bytes after : List ℕ) (to : ℕ) (more : List Token) (left : List ℕ) →
       Begins rest piece bytes after → Onward (at + length bytes) (tokens ++ token_of at piece bytes) after to more left → Onward at tokens rest to more left
 
-push : (a : ℕ) (ts : List Token) (r : List ℕ) (b : ℕ) (us : List Token) (s : List ℕ) (piece : Piece) (bytes after : List ℕ) → Onward a ts r b us s → Begins s piece bytes after → Onward a ts r (b + length bytes) (us ++ token_of b piece bytes) after
+push : (a : ℕ) (ts : List Token) (r : List ℕ) (b : ℕ) (us : List Token) (s : List ℕ) (piece : Piece) (bytes after : List ℕ) → Onward a ts r b us s → Begins s piece bytes after
+    → Onward a ts r (b + length bytes) (us ++ token_of b piece bytes) after
 push _ _ _ _ _ _ piece bytes after (here a ts r) g = step a ts r piece bytes after _ _ _ g (here _ _ _)
 push _ _ _ _ _ _ piece bytes after (step a ts r p bs af b us s f o) g = step a ts r p bs af _ _ _ f (push _ _ _ _ _ _ piece bytes after o g)
 
@@ -48,14 +49,16 @@ whole : (text : List ℕ) (a : ℕ) (ts : List Token) (r : List ℕ) → Cuts te
 whole text _ _ _ start = here _ _ _
 whole text _ _ _ (next a ts r piece bytes after c g) = push _ _ _ _ _ _ piece bytes after (whole text a ts r c) g
 
-advance : (b : ℕ) (us : List Token) (s : List ℕ) (a : ℕ) (ts : List Token) (r : List ℕ) (piece : Piece) (bytes after : List ℕ) → Onward b us s a ts r → Begins s piece bytes after → Onward a ts r (b + length bytes) (us ++ token_of b piece bytes) after ⊎ Onward (b + length bytes) (us ++ token_of b piece bytes) after a ts r
+advance : (b : ℕ) (us : List Token) (s : List ℕ) (a : ℕ) (ts : List Token) (r : List ℕ) (piece : Piece) (bytes after : List ℕ) → Onward b us s a ts r → Begins s piece bytes after
+    → Onward a ts r (b + length bytes) (us ++ token_of b piece bytes) after ⊎ Onward (b + length bytes) (us ++ token_of b piece bytes) after a ts r
 advance _ _ _ _ _ _ piece bytes after (here b us s) g = inl (step b us s piece bytes after _ _ _ g (here _ _ _))
 advance _ _ _ _ _ _ piece bytes after (step b us s p bs af a ts r f o) g =
     let same = same_begins s p piece bs bytes af after f g in
     let P : Piece → List ℕ → List ℕ → Type 0 = λ x y z. Onward (b + length y) (us ++ token_of b x y) z a ts r in
     inr (subst (λ x. P x bytes after) same.piece (subst (λ y. P p y after) same.bytes (subst (P p bs) same.after o)))
 
-turn : (a : ℕ) (ts : List Token) (r : List ℕ) (b : ℕ) (us : List Token) (s : List ℕ) (piece : Piece) (bytes after : List ℕ) → Onward a ts r b us s ⊎ Onward b us s a ts r → Begins s piece bytes after → Onward a ts r (b + length bytes) (us ++ token_of b piece bytes) after ⊎ Onward (b + length bytes) (us ++ token_of b piece bytes) after a ts r
+turn : (a : ℕ) (ts : List Token) (r : List ℕ) (b : ℕ) (us : List Token) (s : List ℕ) (piece : Piece) (bytes after : List ℕ) → Onward a ts r b us s ⊎ Onward b us s a ts r
+    → Begins s piece bytes after → Onward a ts r (b + length bytes) (us ++ token_of b piece bytes) after ⊎ Onward (b + length bytes) (us ++ token_of b piece bytes) after a ts r
 turn a ts r b us s piece bytes after (inl o) g = inl (push a ts r b us s piece bytes after o g)
 turn a ts r b us s piece bytes after (inr o) g = advance b us s a ts r piece bytes after o g
 
@@ -174,7 +177,8 @@ tokens_one text ts us c d = by_order (meet text (length text) ts [] (length text
     by_order (inr o) = sym (stops_there _ _ _ _ _ _ o empty_stops)
 
 -- where one answer is an outcome, and there is one at most, that one is the answer
-pub answers_only : {A B : Type 0} (view : A → B) (result : Result A Fault) (P : Result B Refusal → Type 0) (outcome : Result B Refusal) → ((x y : Result B Refusal) → P x → P y → x ≡ y) → Answers view result P → P outcome → Answers view result (λ answer. answer ≡ outcome)
+pub answers_only : {A B : Type 0} (view : A → B) (result : Result A Fault) (P : Result B Refusal → Type 0) (outcome : Result B Refusal) → ((x y : Result B Refusal) → P x → P y → x ≡ y)
+    → Answers view result P → P outcome → Answers view result (λ answer. answer ≡ outcome)
 answers_only view (Ok value) P outcome one found is = one _ _ found is
 answers_only view (Err (fault.Text refusal)) P outcome one found is = one _ _ found is
 answers_only view (Err (fault.Limit excess)) P outcome one found is = found

@@ -2,7 +2,7 @@
 use Rattle.std.proofs.Common.{◌≡◌, ℕ, zero, suc, ◌+◌, ◌≤◌, ◌<◌, List, [], ◌++◌, length, drop, Result, Ok, Err, refl, subst, arith, ◌⊎◌, inl, inr, length-drop}
 use Rattle.std.proofs.lemmas.Bool.{cases_lt}
 use Rattle.std.proofs.lemmas.List.{drop_all}
-use Rattle.sopl_base.specs.declared.places.Refusal.{Refusal}
+use Rattle.sopl_base.specs.declared.fault.Refusal.{Refusal}
 use Rattle.sopl_ast.specs.Pieces.{Piece}
 use Rattle.sopl_ast.specs.Tokens.{Cuts, Lexes, too_long, max_length}
 use Rattle.sopl_ast.specs.declared.token.Token.{Token}

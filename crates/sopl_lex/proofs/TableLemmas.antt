@@ -13,7 +13,8 @@ pub kind_in_append : (bytes : List ℕ) (rows more : List (List ℕ × TokenKind
 kind_in_append bytes [] more = refl
 kind_in_append bytes (row ∷ rows) more = by_row (bytes_eq bytes row.0) (kind_in_append bytes rows more)
   where
-    by_row : (b : Bool) → kind_in bytes (rows ++ more) ≡ either (kind_in bytes rows) (kind_in bytes more) → cond b (Some row.1) (kind_in bytes (rows ++ more)) ≡ either (cond b (Some row.1) (kind_in bytes rows)) (kind_in bytes more)
+    by_row : (b : Bool) → kind_in bytes (rows ++ more) ≡ either (kind_in bytes rows) (kind_in bytes more) → cond b (Some row.1) (kind_in bytes (rows ++ more))
+        ≡ either (cond b (Some row.1) (kind_in bytes rows)) (kind_in bytes more)
     by_row true ih = refl
     by_row false ih = ih
 

@@ -1,4 +1,4 @@
-pub mod Answers
 pub mod Front
 pub mod Reads
 pub mod Shown
+pub mod TextAnswers

@@ -1,7 +1,7 @@
 -- How far a text is read.
 use Rattle.std.specs.Prelude.{ℕ, ◌≤◌, List, length, drop}
-use Rattle.sopl_base.specs.declared.places.Fault.{Fault}
-use Rattle.sopl_base.specs.declared.places.Fault.TheVariants as fault
+use Rattle.sopl_base.specs.declared.fault.Fault.{Fault}
+use Rattle.sopl_base.specs.declared.fault.Fault.TheVariants as fault
 use Rattle.sopl_ast.specs.Tokens.{Cuts, AreSmall, Refuses, max_length}
 use Rattle.sopl_ast.specs.declared.token.Token.{Token}
 

@@ -8,32 +8,17 @@ mod tables;
 mod tests;
 
 ghost use Rattle.std.specs.Prelude.{◌≡◌, ℕ, ◌<◌, ◌≤◌, List, [], ◌∷◌, ◌++◌, length, Result, IfOk, IfErr, OnOk};
-ghost use Rattle.sopl_base.specs.declared.places.Refusal.{Refusal};
+ghost use Rattle.sopl_base.specs.declared.fault.Refusal.{Refusal};
 ghost use Rattle.sopl_ast.specs.declared.token.Token.{Token};
 ghost use Rattle.sopl_ast.specs.Tokens.{Lexes, Tokens};
-ghost use Rattle.sopl_lex.specs.Answers.{Answers};
+ghost use Rattle.sopl_lex.specs.TextAnswers.{Answers};
 ghost use Rattle.sopl_lex.specs.Reads.{Reads, RefusesAs};
 
-use pieces::{front, refused};
+use pieces::front;
 use runs::skipped;
 use sopl_ast::Token;
-use sopl_base::{Fault, Span};
+use sopl_base::{Fault, Span, codes, limits};
 use std::alloc::{AllocError, Global};
-
-/// The code of a text that is too long.
-pub const LENGTH: u16 = 101;
-
-/// The code of a place where no token, space or comment begins.
-pub const TOKEN: u16 = 102;
-
-/// The code of a literal that is too large.
-pub const LITERAL: u16 = 116;
-
-/// The greatest length of a text, in bytes.
-pub const MAX_LENGTH: usize = 1048576;
-
-/// The greatest literal.
-pub const MAX_LITERAL: u64 = 1 << 40;
 
 /// The tokens of a text, in order. Spaces and comments are passed over.
 pub fn lex(alloc: Global, text: &[u8]) -> Result<Vec<Token>, Fault>
@@ -63,8 +48,8 @@ pub fn one_outcome()
 fn read(alloc: Global, text: &[u8]) -> Result<Vec<Token>, Fault>
     ensures { Answers (λ tokens. tokens.items) result (Lexes text.now) }
 {
-    if text.len() > MAX_LENGTH {
-        return Err(refused(LENGTH, MAX_LENGTH));
+    if text.len() > limits::TEXT_BYTES {
+        return Err(Fault::refused(codes::TEXT_LENGTH, limits::TEXT_BYTES));
     }
     let mut tokens = Vec::new(alloc);
     let mut at = 0;

@@ -1,18 +1,16 @@
 //! The piece at the front of a text.
 
 ghost use Rattle.std.specs.Prelude.{◌≡◌, ◌<◌, length};
-ghost use Rattle.sopl_base.specs.declared.places.Fault.{Fault};
-ghost use Rattle.sopl_base.specs.declared.places.Fault.TheVariants.{Text};
-ghost use Rattle.sopl_lex.specs.Answers.{Answers};
+ghost use Rattle.sopl_lex.specs.TextAnswers.{Answers};
 ghost use Rattle.sopl_lex.specs.Front.{block_comment, double, front, line_comment, literal, symbol, word};
 ghost use Rattle.sopl_lex.specs.Shown.{shown};
 
 use crate::runs::{
     before_close, begins_with, digits, is_letter, is_space, line_len, name_len, skipped, taken,
 };
-use crate::{LITERAL, MAX_LITERAL, TOKEN, tables};
+use crate::tables;
 use sopl_ast::{Name, TokenKind};
-use sopl_base::{Fault, Refusal};
+use sopl_base::{Fault, codes, limits};
 use std::alloc::Global;
 
 /// A piece at the front of a text: its length, and its token's kind unless it is a space or a comment.
@@ -20,13 +18,6 @@ use std::alloc::Global;
 pub struct Piece {
     pub len: usize,
     pub kind: Option<TokenKind>,
-}
-
-/// A refusal of the text at an offset.
-pub fn refused(code: u16, at: usize) -> Fault
-    ensures { result ≡ Text (record { code = code; at = at }) }
-{
-    Fault::Text(Refusal { code, at })
 }
 
 /// The piece with which the text begins; the text stands at an offset.
@@ -56,8 +47,8 @@ fn literal(text: &[u8], at: usize) -> Result<Piece, Fault>
     ensures { Answers shown result (λ answer. answer ≡ literal at text.now) }
 {
     let digits = digits(text);
-    if digits.value > MAX_LITERAL {
-        return Err(refused(LITERAL, at));
+    if digits.value > limits::LITERAL {
+        return Err(Fault::refused(codes::LITERAL, at));
     }
     Ok(Piece {
         len: digits.len,
@@ -98,7 +89,7 @@ fn block_comment(text: &[u8], at: usize) -> Result<Piece, Fault>
 {
     let len = before_close(skipped(text, 2)) + 4;
     if len > text.len() {
-        return Err(refused(TOKEN, at));
+        return Err(Fault::refused(codes::TOKEN, at));
     }
     Ok(Piece { len, kind: None })
 }
@@ -119,7 +110,7 @@ fn symbol(text: &[u8], at: usize) -> Result<Piece, Fault>
             len: 1,
             kind: Some(kind),
         }),
-        None => Err(refused(TOKEN, at)),
+        None => Err(Fault::refused(codes::TOKEN, at)),
     }
 }
 

@@ -6,7 +6,7 @@ ghost use Rattle.std.specs.List.{prefix_len};
 ghost use Rattle.sopl_ast.specs.Pieces.{before_close, begins_with, decimal, is_letter, is_name_byte, is_space};
 ghost use Rattle.sopl_lex.specs.Front.{is_line_byte};
 
-use crate::MAX_LITERAL;
+use sopl_base::limits;
 
 /// The text without its first `count` bytes.
 pub fn skipped(text: &[u8], count: usize) -> &[u8]
@@ -74,7 +74,7 @@ pub fn digits(text: &[u8]) -> Number
         if !byte.is_ascii_digit() {
             return Number { value, len: i };
         }
-        value = (10 * value + u64::from(*byte - b'0')).min(MAX_LITERAL + 1);
+        value = (10 * value + u64::from(*byte - b'0')).min(limits::LITERAL + 1);
     }
     Number {
         value,

@@ -1,8 +1,8 @@
 //! The tokens and refusals of short texts, worked out by hand.
 
-use crate::{MAX_LENGTH, lex};
+use crate::lex;
 use sopl_ast::{Token, TokenKind};
-use sopl_base::Fault;
+use sopl_base::{Fault, limits};
 use std::alloc::{AllocError, Global};
 use std::test::Fail;
 
@@ -157,7 +157,7 @@ fn texts(rt: HostRuntime) -> Result<(), Fail> {
 
 #[test]
 fn lengths(rt: HostRuntime) -> Result<(), Fail> {
-    let mut text = vec![in rt.alloc(); b' '; MAX_LENGTH]?;
+    let mut text = vec![in rt.alloc(); b' '; limits::TEXT_BYTES]?;
     assert_eq!(rt; shown(rt.alloc(), text.as_slice())?.as_str(), "");
     text.push(b'#')?;
     assert_eq!(rt;

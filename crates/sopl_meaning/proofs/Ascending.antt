@@ -46,7 +46,7 @@ inserted k (x ∷ xs) up = put_first (int_cmp k x) (int_ranks k x)
     put_first Equal is = up
     put_first Greater is = inserted_behind x k xs is up
 
-all_inserted : (ks xs : List ℤ) → Ascends xs → Ascends (fold (insert_key int_cmp) xs ks)
+pub all_inserted : (ks xs : List ℤ) → Ascends xs → Ascends (fold (insert_key int_cmp) xs ks)
 all_inserted [] xs up = up
 all_inserted (k ∷ ks) xs up = all_inserted ks (insert_key int_cmp xs k) (inserted k xs up)
 

@@ -24,7 +24,8 @@ more_times a b c so_far =
 -- one time less a sum
 less_times : (a b c : ℤ) → a *ℤ (b +ℤ c) ≡ a *ℤ b +ℤ a *ℤ c → pred_ℤ a *ℤ (b +ℤ c) ≡ pred_ℤ a *ℤ b +ℤ pred_ℤ a *ℤ c
 less_times a b c so_far =
-    pred_ℤ-*ℤ a (b +ℤ c) ∙ (ap (λ z. z -ℤ (b +ℤ c)) so_far ∙ (four_parts_less (a *ℤ b) (a *ℤ c) b c ∙ sym (ap (λ z. z +ℤ (pred_ℤ a *ℤ c)) (pred_ℤ-*ℤ a b) ∙ ap (λ z. (a *ℤ b -ℤ b) +ℤ z) (pred_ℤ-*ℤ a c))))
+    pred_ℤ-*ℤ a (b +ℤ c) ∙ (ap (λ z. z -ℤ (b +ℤ c)) so_far ∙ (four_parts_less (a *ℤ b) (a *ℤ c) b c
+    ∙ sym (ap (λ z. z +ℤ (pred_ℤ a *ℤ c)) (pred_ℤ-*ℤ a b) ∙ ap (λ z. (a *ℤ b -ℤ b) +ℤ z) (pred_ℤ-*ℤ a c))))
 
 -- a product of a sum
 pub *ℤ-+ℤ : (a b c : ℤ) → a *ℤ (b +ℤ c) ≡ a *ℤ b +ℤ a *ℤ c

@@ -1,6 +1,6 @@
 pub mod Integers
 pub mod ScenarioLaws
-mod Ascending
+pub mod Ascending
 mod Times
 mod Holding
 mod Satisfied

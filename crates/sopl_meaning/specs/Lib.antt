@@ -1,5 +1,5 @@
-pub mod Worked
-pub mod WorkedRefusals
-pub mod WorkedProblems
-pub mod WorkedValues
 pub mod Laws
+pub mod WorkedProblems
+pub mod WorkedRefusals
+pub mod WorkedTexts
+pub mod WorkedValues

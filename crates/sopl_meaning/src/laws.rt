@@ -1,4 +1,5 @@
-ghost use Rattle.sopl_meaning.specs.Laws.{FitAtEachTime, RangesAscend, RangesHold, SatisfiedIsWorth, ScenariosAgree, ScenariosAlive, ScenariosDistinct, ScenariosSplit, SetsAscend, SetsHold, WeightsSum};
+ghost use Rattle.sopl_meaning.specs.Laws.{FitAtEachTime, RangesAscend, RangesHold, SatisfiedIsWorth, ScenariosAgree, ScenariosAlive, ScenariosDistinct, ScenariosSplit, SetsAscend};
+ghost use Rattle.sopl_meaning.specs.Laws.{SetsHold, WeightsSum};
 
 /// The numbers of a range ascend.
 pub fn ranges_ascend()

@@ -1,5 +1,6 @@
 //! Worked texts and laws of the definitions in `sopl_ast/specs`; no crate of the program uses them. The functions are empty and
 //! state what was proved of the definitions, so that no body here could be wrong; hence the crate has no must-fail edits.
+//! There is nothing to test.
 #![tactic(auto)]
 
 mod laws;

@@ -10,8 +10,10 @@ ghost use Rattle.sopl_ast.specs.Policies.{Policy};
 ghost use Rattle.sopl_ast.specs.Optimal.{weight_of};
 ghost use Rattle.sopl_ast.specs.TermNodes.{text_nodes, condition_nodes, objective_nodes};
 ghost use Rattle.sopl_ast.specs.Limits.{usual_limits, first_passed, bits_of};
-ghost use Rattle.sopl_meaning.specs.Worked.{limit, values_of, weights_of, element, decision, outcome, stochastic, bound_to, hard, chance, Decides};
-ghost use Rattle.sopl_meaning.specs.WorkedProblems.{within_sum, within_terms, empty_arrays, no_inner_range, bracket_names, conditions_counted, functions_counted, tasks_counted, operators_in_turn, negative_elements, least_constant, crossed, drawn_against_text, set_of_three, counts, staged, nested, summed_ends, threshold_of_conditions, many_nodes, heaviest, heavy_late, sizes, digits};
+ghost use Rattle.sopl_meaning.specs.WorkedTexts.{limit, values_of, weights_of, element, decision, outcome, stochastic, bound_to, hard, chance, Decides};
+ghost use Rattle.sopl_meaning.specs.WorkedProblems.{within_sum, within_terms, empty_arrays, no_inner_range, bracket_names, conditions_counted, functions_counted, tasks_counted};
+ghost use Rattle.sopl_meaning.specs.WorkedProblems.{operators_in_turn, negative_elements, least_constant, crossed, drawn_against_text, set_of_three, counts, staged, nested};
+ghost use Rattle.sopl_meaning.specs.WorkedProblems.{summed_ends, threshold_of_conditions, many_nodes, heaviest, heavy_late, sizes, digits};
 
 /// The elements of constants.
 pub fn stated_constants()
@@ -22,7 +24,9 @@ pub fn stated_constants()
     ensures empty_arrays { met 0 (text_occurrences empty_arrays) ≡ Ok 0 }
     ensures no_inner_range { met 0 (text_occurrences no_inner_range) ≡ Ok 1 }
     ensures bracket_names { met 0 (text_occurrences bracket_names) ≡ Ok 4 }
-    ensures bracket_names_values { (problem_of bracket_names).known.constants ≡ element (codes "a") (pos 1 ∷ pos 2 ∷ []) (pos 2) ∷ element (codes "a") (pos 1 ∷ pos 3 ∷ []) (pos 4) ∷ element (codes "a") (pos 2 ∷ pos 2 ∷ []) (pos 0) ∷ element (codes "a") (pos 2 ∷ pos 3 ∷ []) (pos 3) ∷ [] }
+    ensures bracket_names_values { (problem_of bracket_names).known.constants
+        ≡ element (codes "a") (pos 1 ∷ pos 2 ∷ []) (pos 2) ∷ element (codes "a") (pos 1 ∷ pos 3 ∷ []) (pos 4) ∷ element (codes "a") (pos 2 ∷ pos 2 ∷ []) (pos 0)
+        ∷ element (codes "a") (pos 2 ∷ pos 3 ∷ []) (pos 3) ∷ [] }
     ensures conditions_counted { met 0 (text_occurrences conditions_counted) ≡ Ok 1 }
     ensures conditions_counted_value { (problem_of conditions_counted).known.constants ≡ element (codes "n") [] (pos 3) ∷ [] }
     ensures functions_counted { met 0 (text_occurrences functions_counted) ≡ Ok 5 }
@@ -30,9 +34,12 @@ pub fn stated_constants()
     ensures tasks_counted { met 0 (text_occurrences tasks_counted) ≡ Ok 10 }
     ensures tasks_counted_value { (problem_of tasks_counted).known.constants ≡ element (codes "n") [] (pos 1002) ∷ [] }
     ensures operators_in_turn { met 0 (text_occurrences operators_in_turn) ≡ Ok 11 }
-    ensures operators_in_turn_values { (problem_of operators_in_turn).known.constants ≡ element (codes "n") [] (pos 4) ∷ element (codes "m") [] (pos 6) ∷ element (codes "k") [] (negsuc 0) ∷ element (codes "j") [] (negsuc 5) ∷ element (codes "h") [] (negsuc 4) ∷ element (codes "g") [] (negsuc 5) ∷ element (codes "f") [] (pos 5) ∷ [] }
+    ensures operators_in_turn_values { (problem_of operators_in_turn).known.constants
+        ≡ element (codes "n") [] (pos 4) ∷ element (codes "m") [] (pos 6) ∷ element (codes "k") [] (negsuc 0) ∷ element (codes "j") [] (negsuc 5) ∷ element (codes "h") [] (negsuc 4)
+        ∷ element (codes "g") [] (negsuc 5) ∷ element (codes "f") [] (pos 5) ∷ [] }
     ensures negative_elements { met 0 (text_occurrences negative_elements) ≡ Ok 3 }
-    ensures negative_elements_values { (problem_of negative_elements).known.constants ≡ element (codes "a") (negsuc 0 ∷ []) (pos 10) ∷ element (codes "a") (pos 5 ∷ []) (pos 20) ∷ element (codes "b") [] (pos 1020) ∷ [] }
+    ensures negative_elements_values { (problem_of negative_elements).known.constants
+        ≡ element (codes "a") (negsuc 0 ∷ []) (pos 10) ∷ element (codes "a") (pos 5 ∷ []) (pos 20) ∷ element (codes "b") [] (pos 1020) ∷ [] }
     ensures least_constant { met 0 (text_occurrences least_constant) ≡ Ok 1 }
     ensures least_constant_value { (problem_of least_constant).known.constants ≡ element (codes "n") [] (negsuc 1099511627775) ∷ [] }
 {}
@@ -41,8 +48,11 @@ pub fn stated_constants()
 pub fn stated_instances()
     ensures crossed { met 0 (text_occurrences crossed) ≡ Ok 12 }
     ensures crossed_constants { (problem_of crossed).known.constants ≡ element (codes "a") (pos 1 ∷ []) (pos 1) ∷ element (codes "a") (pos 2 ∷ []) (pos 2) ∷ [] }
-    ensures crossed_decisions { (problem_of crossed).decisions ≡ decision (codes "x") (pos 1 ∷ []) (pos 0) (pos 1) 1 ∷ decision (codes "x") (pos 2 ∷ []) (pos 0) (pos 2) 2 ∷ decision (codes "z") [] (pos 0) (pos 1) 3 ∷ [] }
-    ensures crossed_stochastics { (problem_of crossed).stochastics ≡ stochastic (codes "s") (pos 2 ∷ []) (outcome (pos 2) (pos 2) ∷ outcome (pos 0) (pos 1) ∷ []) 1 ∷ stochastic (codes "s") (pos 1 ∷ []) (outcome (pos 1) (pos 1) ∷ outcome (pos 0) (pos 1) ∷ []) 2 ∷ [] }
+    ensures crossed_decisions { (problem_of crossed).decisions
+        ≡ decision (codes "x") (pos 1 ∷ []) (pos 0) (pos 1) 1 ∷ decision (codes "x") (pos 2 ∷ []) (pos 0) (pos 2) 2 ∷ decision (codes "z") [] (pos 0) (pos 1) 3 ∷ [] }
+    ensures crossed_stochastics { (problem_of crossed).stochastics
+        ≡ stochastic (codes "s") (pos 2 ∷ []) (outcome (pos 2) (pos 2) ∷ outcome (pos 0) (pos 1) ∷ []) 1
+        ∷ stochastic (codes "s") (pos 1 ∷ []) (outcome (pos 1) (pos 1) ∷ outcome (pos 0) (pos 1) ∷ []) 2 ∷ [] }
     ensures crossed_hards { (problem_of crossed).hards ≡ hard 1 [] ∷ [] }
     ensures crossed_chances { (problem_of crossed).chances ≡ chance 0 (bound_to (codes "i") (pos 1)) (pos 1) (pos 2) ∷ chance 0 (bound_to (codes "i") (pos 2)) (pos 2) (pos 2) ∷ [] }
     ensures crossed_weight { total_weight (problem_of crossed).stochastics ≡ pos 6 }
@@ -50,8 +60,10 @@ pub fn stated_instances()
     ensures crossed_weights { weights_of (scenarios (problem_of crossed).stochastics) ≡ pos 2 ∷ pos 2 ∷ pos 1 ∷ pos 1 ∷ [] }
     ensures crossed_history { histories 2 (problem_of crossed).stochastics ≡ (pos 2 ∷ []) ∷ (pos 0 ∷ []) ∷ [] }
     ensures crossed_histories { histories 3 (problem_of crossed).stochastics ≡ (pos 2 ∷ pos 1 ∷ []) ∷ (pos 2 ∷ pos 0 ∷ []) ∷ (pos 0 ∷ pos 1 ∷ []) ∷ (pos 0 ∷ pos 0 ∷ []) ∷ [] }
-    ensures crossed_always { (policy : Policy) → get policy (1, pos 2 ∷ []) ≡ Some (pos 2) → get policy (1, pos 0 ∷ []) ≡ Some (pos 0) → weight_of (problem_of crossed) policy (chance 0 (bound_to (codes "i") (pos 2)) (pos 2) (pos 2)) ≡ pos 6 }
-    ensures crossed_seldom { (policy : Policy) → get policy (1, pos 2 ∷ []) ≡ Some (pos 1) → get policy (1, pos 0 ∷ []) ≡ Some (pos 0) → weight_of (problem_of crossed) policy (chance 0 (bound_to (codes "i") (pos 2)) (pos 2) (pos 2)) ≡ pos 2 }
+    ensures crossed_always { (policy : Policy) → get policy (1, pos 2 ∷ []) ≡ Some (pos 2) → get policy (1, pos 0 ∷ []) ≡ Some (pos 0)
+        → weight_of (problem_of crossed) policy (chance 0 (bound_to (codes "i") (pos 2)) (pos 2) (pos 2)) ≡ pos 6 }
+    ensures crossed_seldom { (policy : Policy) → get policy (1, pos 2 ∷ []) ≡ Some (pos 1) → get policy (1, pos 0 ∷ []) ≡ Some (pos 0)
+        → weight_of (problem_of crossed) policy (chance 0 (bound_to (codes "i") (pos 2)) (pos 2) (pos 2)) ≡ pos 2 }
     ensures crossed_at_one { (policy : Policy) → Decides policy 0 (pos 1) → weight_of (problem_of crossed) policy (chance 0 (bound_to (codes "i") (pos 1)) (pos 1) (pos 2)) ≡ pos 6 }
     ensures drawn_against_text { met 0 (text_occurrences drawn_against_text) ≡ Ok 3 }
     ensures drawn_against_text_decisions { (problem_of drawn_against_text).decisions ≡ decision (codes "x") [] (negsuc 1) (pos 3) 2 ∷ [] }
@@ -67,12 +79,18 @@ pub fn stated_instances()
 pub fn stated_parts()
     ensures set_of_three { met 0 (text_occurrences set_of_three) ≡ Ok 12 }
     ensures set_of_three_decisions { (problem_of set_of_three).decisions ≡ decision (codes "x") (pos 1 ∷ []) (pos 0) (pos 1) 1 ∷ decision (codes "x") (pos 3 ∷ []) (pos 0) (pos 3) 1 ∷ [] }
-    ensures set_of_three_hards { (problem_of set_of_three).hards ≡ hard 0 ((record { name = codes "i"; value = (pos 1) }) ∷ (record { name = codes "j"; value = (pos 1) }) ∷ []) ∷ hard 0 ((record { name = codes "i"; value = (pos 1) }) ∷ (record { name = codes "j"; value = (pos 2) }) ∷ []) ∷ hard 0 ((record { name = codes "i"; value = (pos 1) }) ∷ (record { name = codes "j"; value = (pos 3) }) ∷ []) ∷ hard 0 ((record { name = codes "i"; value = (pos 3) }) ∷ (record { name = codes "j"; value = (pos 3) }) ∷ []) ∷ [] }
+    ensures set_of_three_hards { (problem_of set_of_three).hards
+        ≡ hard 0 ((record { name = codes "i"; value = (pos 1) }) ∷ (record { name = codes "j"; value = (pos 1) }) ∷ [])
+        ∷ hard 0 ((record { name = codes "i"; value = (pos 1) }) ∷ (record { name = codes "j"; value = (pos 2) }) ∷ [])
+        ∷ hard 0 ((record { name = codes "i"; value = (pos 1) }) ∷ (record { name = codes "j"; value = (pos 3) }) ∷ [])
+        ∷ hard 0 ((record { name = codes "i"; value = (pos 3) }) ∷ (record { name = codes "j"; value = (pos 3) }) ∷ []) ∷ [] }
     ensures counts { met 0 (text_occurrences counts) ≡ Ok 22 }
     ensures counts_within { met_within 22 0 (text_occurrences counts) ≡ Ok 22 }
     ensures counts_past { met_within 21 0 (text_occurrences counts) ≡ limit 205 22 21 }
     ensures staged { met 0 (text_occurrences staged) ≡ Ok 4 }
-    ensures staged_stochastics { (problem_of staged).stochastics ≡ stochastic (codes "a") (pos 3 ∷ []) (outcome (pos 3) (pos 1) ∷ []) 1 ∷ stochastic (codes "a") (pos 2 ∷ []) (outcome (pos 2) (pos 1) ∷ []) 2 ∷ stochastic (codes "b") [] (outcome (pos 0) (pos 1) ∷ []) 2 ∷ stochastic (codes "a") (pos 1 ∷ []) (outcome (pos 1) (pos 1) ∷ []) 3 ∷ [] }
+    ensures staged_stochastics { (problem_of staged).stochastics
+        ≡ stochastic (codes "a") (pos 3 ∷ []) (outcome (pos 3) (pos 1) ∷ []) 1 ∷ stochastic (codes "a") (pos 2 ∷ []) (outcome (pos 2) (pos 1) ∷ []) 2
+        ∷ stochastic (codes "b") [] (outcome (pos 0) (pos 1) ∷ []) 2 ∷ stochastic (codes "a") (pos 1 ∷ []) (outcome (pos 1) (pos 1) ∷ []) 3 ∷ [] }
     ensures nested { met 0 (text_occurrences nested) ≡ Ok 6 }
     ensures nested_hards { (problem_of nested).hards ≡ hard 2 (bound_to (codes "i") (pos 1)) ∷ hard 2 (bound_to (codes "i") (pos 2)) ∷ hard 4 [] ∷ [] }
     ensures nested_chances { (problem_of nested).chances ≡ chance 3 [] (pos 1) (pos 1) ∷ [] }

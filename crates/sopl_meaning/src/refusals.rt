@@ -1,8 +1,15 @@
 ghost use Rattle.std.specs.Prelude.{◌≡◌, Ok};
 ghost use Rattle.sopl_ast.specs.Occurrences.{met, met_within};
 ghost use Rattle.sopl_ast.specs.Unfolding.{text_occurrences};
-ghost use Rattle.sopl_meaning.specs.Worked.{refusal, limit};
-ghost use Rattle.sopl_meaning.specs.WorkedRefusals.{sum_end, sum_begin, inner_range, great_front, great_product, great_inside, great_part, great_compared, times_zero, not_spared, outside_array, rest_by_zero, by_condition, outside_later, past_least, great_index, twice_no_weight, first_no_weight, outcome_by_zero, weight_before_stage, repeated_product, repeated_at_two, empty_named_domain, backward_domain, wide_before_stage, empty_before_stage, end_before_stage, widest_range, full_domains, long_dimension, longer_row, bracket_first, stage_zero, stage_by_zero, last_stage, element_by_zero, end_by_zero, divisor_of_sum, divisor_at_two, element_less_one, inner_divisor, no_denominator, great_denominator, greatest_threshold, both_by_zero, threshold_of_two, moving_threshold, condition_first, objective_first, moving_range, length_first, divisor_first, element_counted, binding_counted, constraint_counted};
+ghost use Rattle.sopl_meaning.specs.WorkedTexts.{refusal, limit};
+ghost use Rattle.sopl_meaning.specs.WorkedRefusals.{sum_end, sum_begin, inner_range, great_front, great_product, great_inside, great_part, great_compared, times_zero, not_spared};
+ghost use Rattle.sopl_meaning.specs.WorkedRefusals.{outside_array, rest_by_zero, by_condition, outside_later, past_least, great_index, twice_no_weight, first_no_weight};
+ghost use Rattle.sopl_meaning.specs.WorkedRefusals.{outcome_by_zero, weight_before_stage, repeated_product, repeated_at_two, empty_named_domain, backward_domain};
+ghost use Rattle.sopl_meaning.specs.WorkedRefusals.{wide_before_stage, empty_before_stage, end_before_stage, widest_range, full_domains, long_dimension, longer_row, bracket_first};
+ghost use Rattle.sopl_meaning.specs.WorkedRefusals.{stage_zero, stage_by_zero, last_stage, element_by_zero, end_by_zero, divisor_of_sum, divisor_at_two, element_less_one};
+ghost use Rattle.sopl_meaning.specs.WorkedRefusals.{inner_divisor, no_denominator, great_denominator, greatest_threshold, both_by_zero, threshold_of_two, moving_threshold};
+ghost use Rattle.sopl_meaning.specs.WorkedRefusals.{condition_first, objective_first, moving_range, length_first, divisor_first, element_counted, binding_counted};
+ghost use Rattle.sopl_meaning.specs.WorkedRefusals.{constraint_counted};
 
 /// Constants that are worth nothing.
 pub fn refused_constants()

@@ -9,7 +9,10 @@ ghost use Rattle.sopl_ast.specs.Policies.{Policy};
 ghost use Rattle.sopl_ast.specs.Optimal.{numerator, denominator, weight_of};
 ghost use Rattle.sopl_ast.specs.TermNodes.{nodes, text_nodes};
 ghost use Rattle.sopl_ast.specs.Limits.{usual_limits, first_passed, weight_excess, scenario_excess, copy_excess};
-ghost use Rattle.sopl_meaning.specs.Worked.{stages, ordering, seller, blocks, elements, different, tasks, sums, bits, heavy, by_zero, empty_domain, short_bracket, no_weight, late_stage, threshold, wide_domain, long_range, pairs, two_numbers, refusal, limit, values_of, weights_of, history_counts, element, decision, outcome, stochastic, bound_to, hard, chance, quotients, quotient, lit, times_greatest, sum_to, constant, meant, Decides, holds_in};
+ghost use Rattle.sopl_meaning.specs.WorkedTexts.{stages, ordering, seller, blocks, elements, different, tasks, sums, bits, heavy, by_zero, empty_domain, short_bracket, no_weight};
+ghost use Rattle.sopl_meaning.specs.WorkedTexts.{late_stage, threshold, wide_domain, long_range, pairs, two_numbers, refusal, limit, values_of, weights_of, history_counts};
+ghost use Rattle.sopl_meaning.specs.WorkedTexts.{element, decision, outcome, stochastic, bound_to, hard, chance, quotients, quotient, lit, times_greatest, sum_to, constant, meant};
+ghost use Rattle.sopl_meaning.specs.WorkedTexts.{Decides, holds_in};
 
 /// The instances of `seller` and of `blocks`.
 pub fn worked_instances()

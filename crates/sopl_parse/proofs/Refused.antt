@@ -1,6 +1,6 @@
 -- What the reader's answer says of the models that the tokens spell.
 use Rattle.std.proofs.Common.{◌≡◌, ℕ, List, Result, Ok, Err, refl, sym, ◌∙◌}
-use Rattle.sopl_base.specs.declared.places.Fault.TheVariants as fault
+use Rattle.sopl_base.specs.declared.fault.Fault.TheVariants as fault
 use Rattle.sopl_ast.specs.declared.token.Token.{Token}
 use Rattle.sopl_ast.specs.Grammar.{SpellsWithin}
 use Rattle.sopl_ast.specs.Misspelled.{misplaced, too_deep}
@@ -10,7 +10,7 @@ use Rattle.sopl_grammar.specs.Reading.{Stop}
 use Rattle.sopl_grammar.proofs.CompleteWhole.{model_read}
 use Rattle.sopl_grammar.proofs.Refused.{misplaced_at, too_deep_at}
 use Rattle.sopl_grammar.proofs.SoundWhole.{model_sound}
-use Rattle.sopl_expr.specs.Answers.{Fails}
+use Rattle.sopl_expr.specs.ReaderAnswers.{Fails}
 use Rattle.sopl_parse.specs.Faults.{fault_of, IsSpellingFault}
 use Rattle.sopl_expr.specs.declared.reader.Halt.{Halt}
 use Rattle.sopl_expr.specs.declared.reader.Halt.TheVariants as halt

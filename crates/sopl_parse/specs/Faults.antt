@@ -1,7 +1,7 @@
 -- The fault of a reader that halts, and what a fault says of the tokens.
 use Rattle.std.specs.Prelude.{ℕ, List}
-use Rattle.sopl_base.specs.declared.places.Fault.{Fault}
-use Rattle.sopl_base.specs.declared.places.Fault.TheVariants as fault
+use Rattle.sopl_base.specs.declared.fault.Fault.{Fault}
+use Rattle.sopl_base.specs.declared.fault.Fault.TheVariants as fault
 use Rattle.sopl_ast.specs.declared.token.Token.{Token}
 use Rattle.sopl_ast.specs.Misspelled.{IsMisspelled, place_in}
 use Rattle.sopl_expr.specs.declared.reader.Halt.{Halt}

@@ -5,7 +5,7 @@ ghost use Rattle.sopl_ast.specs.Constraints.{cons_tree, cons_trees};
 ghost use Rattle.sopl_grammar.specs.Reading.{chain as chain_of};
 ghost use Rattle.sopl_grammar.specs.Phrases as phrase;
 ghost use Rattle.sopl_grammar.specs.Phrases.{way};
-ghost use Rattle.sopl_expr.specs.Answers.{Answers};
+ghost use Rattle.sopl_expr.specs.ReaderAnswers.{Answers};
 ghost use Rattle.sopl_parse.specs.Parts as piece;
 
 use sopl_ast::{Binders, Cons, ConsList, Expr, Token};

@@ -1,33 +1,25 @@
 //! The model that the tokens of a text spell.
+//! Its tests stand in `parser_tests`.
 #![tactic(auto)]
 
 mod constraints;
 mod models;
 
 ghost use Rattle.std.specs.Prelude.{◌≡◌, IfErr, IfOk, MatchResult};
-ghost use Rattle.sopl_base.specs.declared.places.Fault.TheVariants.{NoMemory};
+ghost use Rattle.sopl_base.specs.declared.fault.Fault.TheVariants.{NoMemory};
 ghost use Rattle.sopl_ast.specs.Grammar.{SpellsWithin};
 ghost use Rattle.sopl_ast.specs.Misspelled.{place_in};
 ghost use Rattle.sopl_ast.specs.Whole.{ModelTree};
 ghost use Rattle.sopl_ast.specs.WholeModel.{whole};
 ghost use Rattle.sopl_grammar.specs.Phrases.{model as model_of};
-ghost use Rattle.sopl_expr.specs.Answers.{Answers};
+ghost use Rattle.sopl_expr.specs.ReaderAnswers.{Answers};
 ghost use Rattle.sopl_parse.specs.Faults.{fault_of, IsSpellingFault};
 
 use models::model;
 use sopl_ast::{Model, Token};
-use sopl_base::{Fault, Refusal};
+use sopl_base::{Fault, codes, limits};
 use sopl_expr::{Halt, Reader};
 use std::alloc::Global;
-
-/// The code of a token that opens one bracket or prefix too many.
-pub const DEPTH: u16 = 103;
-
-/// The code of tokens that spell no model.
-pub const SYNTAX: u16 = 104;
-
-/// How many brackets and prefixes may be open at once.
-const OPENINGS: usize = 64;
 
 /// The model that the tokens of a text spell; `length` is the length of the text. The offset of a
 /// refusal is that of the token where reading stopped, or the length of the text where no token was
@@ -56,7 +48,7 @@ fn read<'a>(alloc: Global, tokens: &'a [Token]) -> Result<Model, Halt<'a>>
 {
     let reader = Reader {
         alloc,
-        depth: OPENINGS,
+        depth: limits::OPENINGS,
     };
     model(&reader, tokens)
 }
@@ -76,14 +68,8 @@ fn fault(halt: &Halt<'_>, length: usize) -> Fault
     ensures { result ≡ fault_of length halt.now }
 {
     match halt {
-        Halt::Syntax(left) => Fault::Text(Refusal {
-            code: SYNTAX,
-            at: start(left, length),
-        }),
-        Halt::Depth(left) => Fault::Text(Refusal {
-            code: DEPTH,
-            at: start(left, length),
-        }),
+        Halt::Syntax(left) => Fault::refused(codes::SYNTAX, start(left, length)),
+        Halt::Depth(left) => Fault::refused(codes::DEPTH, start(left, length)),
         Halt::NoMemory => Fault::NoMemory,
     }
 }

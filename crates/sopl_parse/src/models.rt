@@ -5,7 +5,7 @@ ghost use Rattle.sopl_ast.specs.WholeModel.{goal_tree, whole};
 ghost use Rattle.sopl_grammar.specs.Reading.{chain};
 ghost use Rattle.sopl_grammar.specs.Phrases as phrase;
 ghost use Rattle.sopl_grammar.specs.Phrases.{way};
-ghost use Rattle.sopl_expr.specs.Answers.{Answers};
+ghost use Rattle.sopl_expr.specs.ReaderAnswers.{Answers};
 
 use crate::constraints::body;
 use sopl_ast::{Goal, Model, Token};

@@ -19,7 +19,8 @@ use Rattle.text_replies.specs.declared.status.Status.{Status}
 use Rattle.text_replies.specs.declared.status.Status.TheVariants.{Done, Failing, Usage, Refused, Limit, Bounded, ReadFault, WriteFault, NoMemory, Unreadable}
 use Rattle.text_replies.proofs.Ends.{end_status, ends_alike, ends_settled, one_limit_on, one_refusal_on, reply_ends as text_reply_ends}
 use Rattle.sopl_run.specs.Words.{Request, request_of}
-use Rattle.sopl_run.specs.Replies.{Asked, asked_by, asked_in, IsModelText, IsReply, replied, usage, read_fault, IsAnswered, IsCutOff, Answers, whole, front, log_front, nothing, EndedEarly, EndsSo, EndsWhen, EndsSettled, RefusedOnce, LimitedOnce}
+use Rattle.sopl_run.specs.Replies.{Asked, asked_by, asked_in, IsModelText, IsReply, replied, usage, read_fault, IsAnswered, IsCutOff, Answers, whole, front, log_front, nothing}
+use Rattle.sopl_run.specs.Replies.{EndedEarly, EndsSo, EndsWhen, EndsSettled, RefusedOnce, LimitedOnce}
 use Rattle.sopl_run.specs.Runs.{IsWritten, all, part, Replied, StopsWith, stop_status}
 
 -- a run that ended early says nothing of the text

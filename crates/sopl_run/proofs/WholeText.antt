@@ -7,16 +7,17 @@ use Rattle.std.specs.Io.KnownBytes.{IsAtEnd}
 use Rattle.sopl_io.specs.Causes.{Rose}
 use Rattle.sopl_io.specs.Stock.{Stock, text_of}
 use Rattle.sopl_io.specs.Transfer.{cut_at}
-use Rattle.sopl_base.specs.declared.places.Excess.{Excess}
-use Rattle.sopl_base.specs.declared.places.Refusal.{Refusal}
+use Rattle.sopl_base.specs.declared.fault.Excess.{Excess}
+use Rattle.sopl_base.specs.declared.fault.Refusal.{Refusal}
 use Rattle.sopl_ast.specs.Accepted.{IsRefusedFor, no_tokens, misspelled, mistaken, stopped, IsLimitedFor, unfolding_passes, sizes_pass}
 use Rattle.sopl_ast.specs.Tokens.{too_long, no_piece, too_large}
 use Rattle.sopl_ast.specs.Limits.{usual_limits}
 use Rattle.box_search.specs.declared.outcome.SearchStop.{SearchStop}
 use Rattle.box_search.specs.declared.outcome.SearchStop.TheVariants.{Write, NoMemory}
-use Rattle.answer_lines.specs.Answers.{word_data, line_of}
+use Rattle.answer_lines.specs.AnswerData.{word_data, line_of}
 use Rattle.text_solver.specs.Logs.{IsUnused, Told}
-use Rattle.text_replies.specs.Replies.{IsRefusedOn, by_rule, not_yet, IsLimitedOn, by_size, by_terms, IsTextReply, optimal, infeasible, bounded, scenes, refused, limited, Replies, IsCut, Logged, StopsSo}
+use Rattle.text_replies.specs.Replies.{IsRefusedOn, by_rule, not_yet, IsLimitedOn, by_size, by_terms, IsTextReply, optimal, infeasible, bounded, scenes, refused, limited, Replies}
+use Rattle.text_replies.specs.Replies.{IsCut, Logged, StopsSo}
 use Rattle.text_replies.specs.declared.command.Command.{Command}
 use Rattle.text_replies.specs.declared.command.Command.TheVariants.{Solve}
 use Rattle.text_replies.specs.declared.reply.Reply.{Reply}

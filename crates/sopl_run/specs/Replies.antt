@@ -5,11 +5,11 @@ use Rattle.std.specs.Option.{option_and_then, option_map_or}
 use Rattle.sopl_io.specs.Causes.{Rose}
 use Rattle.sopl_io.specs.Stock.{Stock, text_of, with_name}
 use Rattle.sopl_io.specs.Transfer.{AppendsPrefix}
-use Rattle.sopl_base.specs.declared.places.Excess.{Excess}
-use Rattle.sopl_base.specs.declared.places.Refusal.{Refusal}
+use Rattle.sopl_base.specs.declared.fault.Excess.{Excess}
+use Rattle.sopl_base.specs.declared.fault.Refusal.{Refusal}
 use Rattle.sopl_ast.specs.Instances.{Problem}
 use Rattle.solved_texts.specs.Solved.{SolvedText}
-use Rattle.answer_lines.specs.Answers.{word_data, line_of}
+use Rattle.answer_lines.specs.AnswerData.{word_data, line_of}
 use Rattle.text_solver.specs.Logs.{IsUnused, Told, most_nodes}
 use Rattle.text_replies.specs.Replies.{Ends, settled, IsLimitedOn, IsRefusedOn, IsTextReply, IsCut, Logged}
 use Rattle.text_replies.specs.declared.command.Command.{Command}

@@ -1,6 +1,7 @@
 //! The top call: the words of the command line, a source and two sinks in, one answer line and a status out.
 //!
 //! `run` reads the words and the text of the model; what the command is answered on that text is the reply of `text_replies`.
+//! Its tests stand in `sopl`.
 #![tactic(auto)]
 
 mod options;

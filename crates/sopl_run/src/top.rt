@@ -4,7 +4,7 @@ ghost use Rattle.std.specs.Prelude.{◌≡◌, ◌⊎◌, ◌≤◌, None, Some,
 ghost use Rattle.std.specs.Io.KnownBytes.{IsAtEnd};
 ghost use Rattle.sopl_io.specs.Causes.{Rose};
 ghost use Rattle.box_search.specs.declared.outcome.SearchStop.TheVariants as search;
-ghost use Rattle.answer_lines.specs.Answers.{line_of, word_data};
+ghost use Rattle.answer_lines.specs.AnswerData.{line_of, word_data};
 ghost use Rattle.text_solver.specs.Logs.{told};
 ghost use Rattle.sopl_run.specs.Words.{model_of, request_of};
 ghost use Rattle.sopl_run.specs.Replies.{asked_in, Answers, EndsSettled, EndsSo, EndsWhen, IsAnswered, LimitedOnce, RefusedOnce, begun_names, IsUntouched};
@@ -14,12 +14,13 @@ use crate::request::asked;
 use crate::words::Words;
 use answer_lines::word_line;
 use box_search::SearchStop;
+use sopl_base::limits;
 use sopl_io::{ReadStop, Sink, Source, read_all, write_all};
 use std::alloc::{AllocError, Global};
 use text_replies::{Reply, Status, reply_to};
 
 /// The bytes of a model text that are read at most: one more than a text may have.
-const MOST_READ: usize = 1_048_577;
+const MOST_READ: usize = limits::TEXT_BYTES + 1;
 
 /// Runs the command that the words name: it reads from the source, writes the log of a search to the log's sink, and then one answer line to the
 /// answer's sink.

@@ -1,15 +1,12 @@
 -- What a ground problem states is what a tree asks for.
-use Rattle.std.proofs.Common.{◌≡◌, ◌⊎◌, ◌+◌, ◌≤◌, ℕ, List, [], ◌∷◌, length, Option, Some, None, Result, Ok, Err, IfOk, IfErr, arith, refl, sym, ap, subst}
+use Rattle.std.proofs.Common.{◌≡◌, ◌≤◌, ℕ, List, [], ◌∷◌, arith, sym, subst}
 use denote.Struct.Props.{props}
 use Rattle.std.proofs.Math.Logic.{∥∥₁_elim, ∥∥₁_map}
 use Rattle.std.specs.List.{AllByRecursion}
-use Rattle.sopl_base.specs.declared.places.Excess.{Excess}
-use Rattle.sopl_base.specs.declared.places.Fault.{Fault}
-use Rattle.sopl_base.specs.declared.places.Fault.TheVariants as fault
+use Rattle.sopl_base.specs.declared.fault.Fault.TheVariants as fault
 use Rattle.sopl_ast.specs.Whole.{ModelTree}
 use Rattle.sopl_ast.specs.Origin.{IsFromTokens}
-use Rattle.sopl_ast.specs.Instances.{Decision, Stochastic, Problem}
-use Rattle.sopl_ast.specs.Limits.{size_excess, usual_limits}
+use Rattle.sopl_ast.specs.Instances.{Decision, Stochastic}
 use Rattle.sopl_ast.specs.Unfolding.{problem_of, text_occurrences}
 use Rattle.unfold_laws.specs.Passing.{Passes}
 use Rattle.unfold_laws.proofs.Whole.{decisions_are_bounded, stochastics_are_bounded}
@@ -18,15 +15,12 @@ use Rattle.unfold_laws.proofs.Counts.{instances_are_counted}
 use Rattle.scenario_laws.specs.Laws.{HasOutcome}
 use Rattle.scenario_laws.proofs.Stages.{stochastics_ascend}
 use Rattle.scenario_tree.specs.Layout.{AreStated, IsProblemOf}
+use Rattle.scenario_tree.proofs.Stated.{constraints_in}
 
 -- that each variable has outcomes is a proposition, so it may be known of a model whose tokens are not
 outcomes_there : (ss : List Stochastic) → ∥ AllByRecursion HasOutcome ss ∥₁ → AllByRecursion HasOutcome ss
 outcomes_there [] held = tt
 outcomes_there (s ∷ ss) held = (∥∥₁_elim held (search props) (λ h. h.0), outcomes_there ss (∥∥₁_map held (λ h. h.1)))
-
--- how many constraints a problem has
-abbrev pub constraints_in : Problem → ℕ
-constraints_in problem = length problem.hards + length problem.chances
 
 -- a model that is typed and passes states what a tree asks for
 pub ground_stated : (model : ModelTree) → ∥ IsFromTokens model ∥₁ → Passes (text_occurrences model) → (ds : List Decision) (ss : List Stochastic) (constraints : ℕ)

@@ -1,7 +1,7 @@
 //! From a ground problem to the tree of its scenarios.
 
 ghost use Rattle.std.specs.Prelude.{◌≡◌, ◌+◌, ◌⊎◌, length, Some, None, IfOk, IfErr};
-ghost use Rattle.sopl_base.specs.declared.places.Excess.{Excess};
+ghost use Rattle.sopl_base.specs.declared.fault.Excess.{Excess};
 ghost use Rattle.sopl_ast.specs.Limits.{size_excess, usual_limits};
 ghost use Rattle.sopl_ast.specs.Unfolding.{problem_of};
 ghost use Rattle.sopl_ast.specs.WholeModel.{whole};

@@ -22,7 +22,8 @@ from_zero i = omega arith
 pub no_cell : (s : TermStore) → IsSoundStore s → all s ≡ [] → HasCells s s [] 0
 no_cell s sound empty = record { sound = sound; root = refl; things = empty; nodes = refl }
 
-pub next_cell : (a b c : TermStore) (nodes next : List ℕ) (i id : ℕ) → HasCells a b nodes i → IsSoundStore c → root_of c ≡ root_of b → IsAdded (all b) (all c) id (a_term (Cell i)) → next ≡ nodes ++ id ∷ [] → HasCells a c next (i + 1)
+pub next_cell : (a b c : TermStore) (nodes next : List ℕ) (i id : ℕ) → HasCells a b nodes i → IsSoundStore c → root_of c ≡ root_of b → IsAdded (all b) (all c) id (a_term (Cell i)) → next
+    ≡ nodes ++ id ∷ [] → HasCells a c next (i + 1)
 next_cell a b c nodes next i id has sound root added next_is =
     let number : id ≡ i = added.number ∙ ap length has.things ∙ length-map-range_with_len as_term 0 i in
     record {

@@ -32,7 +32,8 @@ module _ (b : Builder) (cs : Vec ChanceConditions Global) (c : ChanceConditions)
   pub problem_more : draft_problem (of_chances b.draft cs) ≡ with_chance (draft_problem b.draft) (map (cond_at (built b)) c.conditions.ids.items) c.p c.q
   problem_more = ap (λ (chances : List ChanceTerms). record (draft_problem b.draft) { chances = chances }) listed
 
-  made_more : length c.conditions.ids.items ≡ length b.draft.weights.items → AllBelow (length (built b)) c.conditions.ids.items → IsThreshold c → length b.draft.chances.items < 4294967295 → IsDraft (of_chances b.draft cs)
+  made_more : length c.conditions.ids.items ≡ length b.draft.weights.items → AllBelow (length (built b)) c.conditions.ids.items → IsThreshold c → length b.draft.chances.items < 4294967295
+      → IsDraft (of_chances b.draft cs)
   made_more each exist threshold few =
       let made : IsDraft b.draft = building in
       let terms : ProblemTerms = draft_problem b.draft in
@@ -71,7 +72,9 @@ module _ (b : Builder) (cs : Vec ChanceConditions Global) (c : ChanceConditions)
       }
 
 -- the constraint is there
-pub chance_under : (b : Builder) (cs : Vec ChanceConditions Global) (c : ChanceConditions) (conds : List CondId) → IsBuilding b → c.conditions.ids.items ≡ cond_ids conds → length conds ≡ length b.draft.weights.items → AllBelow (length (built b)) (cond_ids conds) → IsThreshold c → length b.draft.chances.items < 4294967295 → cs.items ≡ b.draft.chances.items ++ c ∷ [] → IsUnder b (record b { draft = of_chances b.draft cs })
+pub chance_under : (b : Builder) (cs : Vec ChanceConditions Global) (c : ChanceConditions) (conds : List CondId) → IsBuilding b → c.conditions.ids.items ≡ cond_ids conds → length conds
+    ≡ length b.draft.weights.items → AllBelow (length (built b)) (cond_ids conds) → IsThreshold c → length b.draft.chances.items < 4294967295 → cs.items ≡ b.draft.chances.items ++ c ∷ []
+    → IsUnder b (record b { draft = of_chances b.draft cs })
 chance_under b cs c conds building ids each exist threshold few added = record {
   building =
       made_more b cs c building added (ap length ids ∙ length-map conds (λ (id : CondId). id.0) ∙ each) (subst (AllBelow (length (built b))) (sym ids) exist)
@@ -82,7 +85,8 @@ chance_under b cs c conds building ids each exist threshold few added = record {
   worst = refl;
 }
 
-pub chance_problem : (b : Builder) (cs : Vec ChanceConditions Global) (c : ChanceConditions) (conds : List CondId) (p q : ℤ) → IsBuilding b → c.p ≡ p → c.q ≡ q → c.conditions.ids.items ≡ cond_ids conds → cs.items ≡ b.draft.chances.items ++ c ∷ [] → draft_problem (of_chances b.draft cs) ≡ with_chance (draft_problem b.draft) (conds_of b conds) p q
+pub chance_problem : (b : Builder) (cs : Vec ChanceConditions Global) (c : ChanceConditions) (conds : List CondId) (p q : ℤ) → IsBuilding b → c.p ≡ p → c.q ≡ q → c.conditions.ids.items
+    ≡ cond_ids conds → cs.items ≡ b.draft.chances.items ++ c ∷ [] → draft_problem (of_chances b.draft cs) ≡ with_chance (draft_problem b.draft) (conds_of b conds) p q
 chance_problem b cs c conds p q building p_is q_is ids added =
     problem_more b cs c building added ∙ ap (λ (xs : List ℕ). with_chance (draft_problem b.draft) (map (cond_at (built b)) xs) c.p c.q) ids
     ∙ ap (λ (z : ℤ). with_chance (draft_problem b.draft) (conds_of b conds) z c.q) p_is ∙ ap (λ (z : ℤ). with_chance (draft_problem b.draft) (conds_of b conds) p z) q_is
@@ -117,6 +121,8 @@ module _ (b : Builder) (cs : Vec ChanceConditions Global) (building : IsBuilding
       }
 
 -- either of them
-pub chance_either : {A B : Type 0} (b : Builder) (cs : Vec ChanceConditions Global) (c : ChanceConditions) (conds : List CondId) (r : Result A B) → IsBuilding b → c.conditions.ids.items ≡ cond_ids conds → length conds ≡ length b.draft.weights.items → AllBelow (length (built b)) (cond_ids conds) → IsThreshold c → OnOk r (length b.draft.chances.items < 4294967295) → OnOk r (cs.items ≡ b.draft.chances.items ++ c ∷ []) → OnErr r (cs.items ≡ b.draft.chances.items) → IsUnder b (record b { draft = of_chances b.draft cs })
+pub chance_either : {A B : Type 0} (b : Builder) (cs : Vec ChanceConditions Global) (c : ChanceConditions) (conds : List CondId) (r : Result A B) → IsBuilding b → c.conditions.ids.items
+    ≡ cond_ids conds → length conds ≡ length b.draft.weights.items → AllBelow (length (built b)) (cond_ids conds) → IsThreshold c → OnOk r (length b.draft.chances.items < 4294967295)
+    → OnOk r (cs.items ≡ b.draft.chances.items ++ c ∷ []) → OnErr r (cs.items ≡ b.draft.chances.items) → IsUnder b (record b { draft = of_chances b.draft cs })
 chance_either b cs c conds (Ok x) building ids each exist threshold few added same = chance_under b cs c conds building ids each exist threshold few added
 chance_either b cs c conds (Err e) building ids each exist threshold few added same = chance_refused b cs building same

@@ -5,8 +5,8 @@ use Rattle.std.proofs.Math.IntN.{*ℤ_comm}
 use Rattle.box_rules.proofs.Products.{one-*ℤ}
 use Rattle.std.proofs.lemmas.List.{length-map}
 use Rattle.std.specs.List.{AllByRecursion}
-use Rattle.sopl_base.specs.declared.places.Direction.{Direction}
-use Rattle.sopl_base.specs.declared.places.Direction.TheVariants.{Minimize, Maximize, Nothing}
+use Rattle.sopl_base.specs.declared.direction.Direction.{Direction}
+use Rattle.sopl_base.specs.declared.direction.Direction.TheVariants.{Minimize, Maximize, Nothing}
 use Rattle.box_rules.specs.Globals.{total}
 use Rattle.box_rules.specs.Laws.{IsProper}
 use Rattle.box_rules.specs.Terms.{Term}
@@ -38,7 +38,8 @@ proper_terms p [] made = tt
 proper_terms p (id ∷ ids) made = ((terms_proper (draft_root p) p.store.items.items (id ∷ []) made.store.built).0, proper_terms p ids made)
 
 -- where there are terms there is a direction, and a term for each scenario
-directed : (direction : Direction) (scenarios : ℕ) (first : TermId) (later : List TermId) → FitsDirection direction scenarios (first ∷ later) → (length (first ∷ later) ≡ scenarios) × (¬ direction ≡ Nothing)
+directed : (direction : Direction) (scenarios : ℕ) (first : TermId) (later : List TermId) → FitsDirection direction scenarios (first ∷ later)
+    → (length (first ∷ later) ≡ scenarios) × (¬ direction ≡ Nothing)
 directed Minimize scenarios first later fits = (fits, λ e. cc)
 directed Maximize scenarios first later fits = (fits, λ e. cc)
 directed Nothing scenarios first later fits = absurd (omega (arith, fits))
@@ -52,17 +53,20 @@ goal_same g h direction worst terms =
 
 module _ (b : Builder) (g : Goal) (building : IsBuilding b) where
   -- the objective is the one that is asked for, if there is a term
-  pub asked_so : (terms : List TermId) → ¬ length terms ≡ 0 → (goal_of (built b) g).direction ≡ b.direction → (goal_of (built b) g).worst ≡ b.worst → (goal_of (built b) g).terms ≡ terms_of (built b) (term_ids terms) → Some (goal_of (built b) g) ≡ goal_asked b terms
+  pub asked_so : (terms : List TermId) → ¬ length terms ≡ 0 → (goal_of (built b) g).direction ≡ b.direction → (goal_of (built b) g).worst ≡ b.worst → (goal_of (built b) g).terms
+      ≡ terms_of (built b) (term_ids terms) → Some (goal_of (built b) g) ≡ goal_asked b terms
   asked_so [] some direction worst listed = absurd (some refl)
   asked_so (first ∷ later) some direction worst listed =
       ap Some (goal_same (goal_of (built b) g) (record { direction = b.direction; worst = b.worst; terms = terms_of (built b) (term_ids (first ∷ later)) }) direction worst listed)
 
-  pub ended_problem : (p : Program) (terms : List TermId) → ¬ length terms ≡ 0 → (goal_of (built b) g).direction ≡ b.direction → (goal_of (built b) g).worst ≡ b.worst → (goal_of (built b) g).terms ≡ terms_of (built b) (term_ids terms) → problem_in p ≡ with_goal (problem_built b) (Some (goal_of (built b) g)) → problem_in p ≡ with_goal (problem_built b) (goal_asked b terms)
+  pub ended_problem : (p : Program) (terms : List TermId) → ¬ length terms ≡ 0 → (goal_of (built b) g).direction ≡ b.direction → (goal_of (built b) g).worst ≡ b.worst → (goal_of (built b) g).terms
+      ≡ terms_of (built b) (term_ids terms) → problem_in p ≡ with_goal (problem_built b) (Some (goal_of (built b) g)) → problem_in p ≡ with_goal (problem_built b) (goal_asked b terms)
   ended_problem p terms some direction worst listed is =
       is ∙ ap (λ (goal : Option GoalTerms). with_goal (problem_built b) goal) (asked_so terms some direction worst listed)
 
   -- and it makes a problem
-  sound : (first : TermId) (later : List TermId) → FitsDirection b.direction (length b.draft.weights.items) (first ∷ later) → (goal_of (built b) g).direction ≡ b.direction → (goal_of (built b) g).terms ≡ terms_of (built b) (term_ids (first ∷ later)) → IsProblem (with_goal (problem_built b) (Some (goal_of (built b) g)))
+  sound : (first : TermId) (later : List TermId) → FitsDirection b.direction (length b.draft.weights.items) (first ∷ later) → (goal_of (built b) g).direction ≡ b.direction
+      → (goal_of (built b) g).terms ≡ terms_of (built b) (term_ids (first ∷ later)) → IsProblem (with_goal (problem_built b) (Some (goal_of (built b) g)))
   sound first later fits direction terms =
       let before : ProblemTerms = problem_built b in
       let other : ProblemTerms = with_goal (problem_built b) (Some (goal_of (built b) g)) in
@@ -82,7 +86,8 @@ module _ (b : Builder) (g : Goal) (building : IsBuilding b) where
             };
       }
 
-  pub ended_sound : (terms : List TermId) → ¬ length terms ≡ 0 → FitsDirection b.direction (length b.draft.weights.items) terms → (goal_of (built b) g).direction ≡ b.direction → (goal_of (built b) g).terms ≡ terms_of (built b) (term_ids terms) → IsProblem (with_goal (problem_built b) (Some (goal_of (built b) g)))
+  pub ended_sound : (terms : List TermId) → ¬ length terms ≡ 0 → FitsDirection b.direction (length b.draft.weights.items) terms → (goal_of (built b) g).direction ≡ b.direction
+      → (goal_of (built b) g).terms ≡ terms_of (built b) (term_ids terms) → IsProblem (with_goal (problem_built b) (Some (goal_of (built b) g)))
   ended_sound [] some fits direction listed = absurd (some refl)
   ended_sound (first ∷ later) some fits direction listed = sound first later fits direction listed
 

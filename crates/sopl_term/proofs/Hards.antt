@@ -62,7 +62,8 @@ module _ (b : Builder) (hs : Vec Conditions Global) (c : Conditions) (building :
               whole = made.problem.whole;
               hards =
                   subst (AllByRecursion (λ (conditions : List Cond). length conditions ≡ length terms.weights)) (sym listed)
-                  (all_more (λ (conditions : List Cond). length conditions ≡ length terms.weights) terms.hards (conditions_of (built b) c) made.problem.hards (length-map c.ids.items (cond_at (built b)) ∙ each));
+                  (all_more (λ (conditions : List Cond). length conditions ≡ length terms.weights) terms.hards (conditions_of (built b) c) made.problem.hards
+                  (length-map c.ids.items (cond_at (built b)) ∙ each));
               chances = all_so (IsChance terms) (IsChance (draft_problem (of_hards b.draft hs))) terms.chances (same_chance terms (draft_problem (of_hards b.draft hs)) refl) made.problem.chances;
               goal = made.problem.goal;
               proper =
@@ -84,7 +85,8 @@ module _ (b : Builder) (hs : Vec Conditions Global) (c : Conditions) (building :
       }
 
 -- the constraint is there
-pub hard_under : (b : Builder) (hs : Vec Conditions Global) (c : Conditions) (conds : List CondId) → IsBuilding b → c.ids.items ≡ cond_ids conds → length conds ≡ length b.draft.weights.items → AllBelow (length (built b)) (cond_ids conds) → length b.draft.hards.items < 4294967295 → hs.items ≡ b.draft.hards.items ++ c ∷ [] → IsUnder b (record b { draft = of_hards b.draft hs })
+pub hard_under : (b : Builder) (hs : Vec Conditions Global) (c : Conditions) (conds : List CondId) → IsBuilding b → c.ids.items ≡ cond_ids conds → length conds ≡ length b.draft.weights.items
+    → AllBelow (length (built b)) (cond_ids conds) → length b.draft.hards.items < 4294967295 → hs.items ≡ b.draft.hards.items ++ c ∷ [] → IsUnder b (record b { draft = of_hards b.draft hs })
 hard_under b hs c conds building ids each exist few added = record {
   building =
       made_more b hs c building added (ap length ids ∙ length-map conds (λ (id : CondId). id.0) ∙ each) (subst (AllBelow (length (built b))) (sym ids) exist) few;
@@ -94,7 +96,8 @@ hard_under b hs c conds building ids each exist few added = record {
   worst = refl;
 }
 
-pub hard_problem : (b : Builder) (hs : Vec Conditions Global) (c : Conditions) (conds : List CondId) → IsBuilding b → c.ids.items ≡ cond_ids conds → hs.items ≡ b.draft.hards.items ++ c ∷ [] → draft_problem (of_hards b.draft hs) ≡ with_hard (draft_problem b.draft) (conds_of b conds)
+pub hard_problem : (b : Builder) (hs : Vec Conditions Global) (c : Conditions) (conds : List CondId) → IsBuilding b → c.ids.items ≡ cond_ids conds → hs.items ≡ b.draft.hards.items ++ c ∷ []
+    → draft_problem (of_hards b.draft hs) ≡ with_hard (draft_problem b.draft) (conds_of b conds)
 hard_problem b hs c conds building ids added =
     problem_more b hs c building added ∙ ap (λ (xs : List ℕ). with_hard (draft_problem b.draft) (map (cond_at (built b)) xs)) ids
 
@@ -131,6 +134,8 @@ pub nothing_added : (b : Builder) → IsBuilding b → IsUnder b b
 nothing_added b building = record { building = building; root = refl; things = refl; direction = refl; worst = refl }
 
 -- either of them
-pub hard_either : {A B : Type 0} (b : Builder) (hs : Vec Conditions Global) (c : Conditions) (conds : List CondId) (r : Result A B) → IsBuilding b → c.ids.items ≡ cond_ids conds → length conds ≡ length b.draft.weights.items → AllBelow (length (built b)) (cond_ids conds) → OnOk r (length b.draft.hards.items < 4294967295) → OnOk r (hs.items ≡ b.draft.hards.items ++ c ∷ []) → OnErr r (hs.items ≡ b.draft.hards.items) → IsUnder b (record b { draft = of_hards b.draft hs })
+pub hard_either : {A B : Type 0} (b : Builder) (hs : Vec Conditions Global) (c : Conditions) (conds : List CondId) (r : Result A B) → IsBuilding b → c.ids.items ≡ cond_ids conds
+    → length conds ≡ length b.draft.weights.items → AllBelow (length (built b)) (cond_ids conds) → OnOk r (length b.draft.hards.items < 4294967295) → OnOk r (hs.items ≡ b.draft.hards.items ++ c ∷ [])
+    → OnErr r (hs.items ≡ b.draft.hards.items) → IsUnder b (record b { draft = of_hards b.draft hs })
 hard_either b hs c conds (Ok x) building ids each exist few added same = hard_under b hs c conds building ids each exist few added
 hard_either b hs c conds (Err e) building ids each exist few added same = hard_refused b hs building same

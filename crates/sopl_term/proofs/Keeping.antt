@@ -43,7 +43,8 @@ same_conds before after (id ∷ ids) grows below =
     ap (λ (t : Thing). cond_in t ∷ map (cond_at after) ids) (grows.same id below.0)
     ∙ ap (λ (cs : List Cond). cond_at before id ∷ cs) (same_conds before after ids grows below.1)
 
-same_hards : (before after : List Thing) (hards : List Conditions) → Grows before after → AllByRecursion (HasConditions (length before)) hards → map (conditions_of after) hards ≡ map (conditions_of before) hards
+same_hards : (before after : List Thing) (hards : List Conditions) → Grows before after → AllByRecursion (HasConditions (length before)) hards → map (conditions_of after) hards
+    ≡ map (conditions_of before) hards
 same_hards before after [] grows there = refl
 same_hards before after (c ∷ hards) grows there =
     ap (λ (cs : List Cond). cs ∷ map (conditions_of after) hards) (same_conds before after c.ids.items grows there.0)
@@ -52,7 +53,8 @@ same_hards before after (c ∷ hards) grows there =
 abbrev chance_with : ChanceConditions → List Cond → ChanceTerms
 chance_with c conditions = record { conditions = conditions; p = c.p; q = c.q }
 
-same_chances : (before after : List Thing) (chances : List ChanceConditions) → Grows before after → AllByRecursion (λ (c : ChanceConditions). HasConditions (length before) c.conditions) chances → map (chance_of after) chances ≡ map (chance_of before) chances
+same_chances : (before after : List Thing) (chances : List ChanceConditions) → Grows before after → AllByRecursion (λ (c : ChanceConditions). HasConditions (length before) c.conditions) chances
+    → map (chance_of after) chances ≡ map (chance_of before) chances
 same_chances before after [] grows there = refl
 same_chances before after (c ∷ chances) grows there =
     ap (λ (cs : List Cond). chance_with c cs ∷ map (chance_of after) chances) (same_conds before after c.conditions.ids.items grows there.0)
@@ -67,7 +69,8 @@ more_hards : (n m : ℕ) (hards : List Conditions) → n ≤ m → AllByRecursio
 more_hards n m [] most there = tt
 more_hards n m (c ∷ hards) most there = (all_below n m c.ids.items most there.0, more_hards n m hards most there.1)
 
-more_chances : (n m : ℕ) (chances : List ChanceConditions) → n ≤ m → AllByRecursion (λ (c : ChanceConditions). HasConditions n c.conditions) chances → AllByRecursion (λ (c : ChanceConditions). HasConditions m c.conditions) chances
+more_chances : (n m : ℕ) (chances : List ChanceConditions) → n ≤ m → AllByRecursion (λ (c : ChanceConditions). HasConditions n c.conditions) chances
+    → AllByRecursion (λ (c : ChanceConditions). HasConditions m c.conditions) chances
 more_chances n m [] most there = tt
 more_chances n m (c ∷ chances) most there = (all_below n m c.conditions.ids.items most there.0, more_chances n m chances most there.1)
 
@@ -128,7 +131,8 @@ kept_over b s building sound root grows = record {
   worst = refl;
 }
 
-pub kept_added : (b : Builder) (s : TermStore) (id : ℕ) (thing : Thing) → IsBuilding b → IsSoundStore s → root_of s ≡ draft_root b.draft → IsAdded (built b) (all s) id thing → IsKept b (record b { draft = over b.draft s })
+pub kept_added : (b : Builder) (s : TermStore) (id : ℕ) (thing : Thing) → IsBuilding b → IsSoundStore s → root_of s ≡ draft_root b.draft → IsAdded (built b) (all s) id thing
+    → IsKept b (record b { draft = over b.draft s })
 kept_added b s id thing building sound root added = kept_over b s building sound root (grows_added (built b) (all s) id thing added)
 
 pub kept_same : (b : Builder) (s : TermStore) → IsBuilding b → IsSoundStore s → root_of s ≡ draft_root b.draft → all s ≡ built b → IsKept b (record b { draft = over b.draft s })

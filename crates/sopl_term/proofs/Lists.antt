@@ -11,7 +11,8 @@ nothing_behind : {B : Type 0} (done : List B) → done ++ [] ≡ done
 nothing_behind [] = refl
 nothing_behind (x ∷ done) = ap (λ ys. x ∷ ys) (nothing_behind done)
 
-pub list_more : {A B C : Type 0} (f : A → B) (g : C → B) (xs : List A) (i : ℕ) (x : A) (e : C) (list new : List C) → i < length xs → x ≡ get_or xs i x → g e ≡ f x → new ≡ list ++ e ∷ [] → map g list ++ map f (drop i xs) ≡ map f xs → map g new ++ map f (drop (i + 1) xs) ≡ map f xs
+pub list_more : {A B C : Type 0} (f : A → B) (g : C → B) (xs : List A) (i : ℕ) (x : A) (e : C) (list new : List C) → i < length xs → x ≡ get_or xs i x → g e ≡ f x → new ≡ list ++ e ∷ []
+    → map g list ++ map f (drop i xs) ≡ map f xs → map g new ++ map f (drop (i + 1) xs) ≡ map f xs
 list_more f g xs i x e list new below at same added so_far =
     ap (λ es. map g es ++ map f (drop (i + 1) xs)) added
     ∙ ap (λ ys. ys ++ map f (drop (i + 1) xs)) (map_more g list e)

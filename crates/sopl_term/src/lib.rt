@@ -1,4 +1,5 @@
 //! A compiled problem: terms and conditions over cells, with no syntax, and what they are over the box of a store. A program is built call by call.
+//! Its tests stand in `term_tests`.
 #![tactic(auto)]
 
 mod builder;
@@ -15,7 +16,7 @@ pub use builder::Builder;
 pub use ids::{Indices, TableId};
 pub use term_goals::Atom;
 pub use term_program::{
-    CondId, Form, Program, Range, TermId, end_at, goal_ends, goal_ends_in, kleene, kleene_in,
-    range_in, range_of, refuted, refuted_at, refuted_in,
+    CondId, Form, Program, Range, TermId, goal_ends, goal_ends_in, kleene, kleene_in, range_in,
+    range_of, refuted, refuted_in,
 };
 pub use term_rules::Coefficient;

@@ -1,20 +1,14 @@
 -- Walks over constraints.
-use Rattle.std.proofs.Common.{◌≡◌, refl, ℕ, zero, suc, ◌+◌, ◌<◌, ◌≤◌, List, [], ◌∷◌, arith, map, length, get_or, drop, Option}
-use Rattle.sopl_base.specs.declared.places.Refusal.{Refusal}
+use Rattle.std.proofs.Common.{◌≡◌, refl, ℕ, ◌+◌, ◌<◌, ◌≤◌, List, map, length, get_or, drop, Option}
+use Rattle.sopl_base.specs.declared.fault.Refusal.{Refusal}
+use Rattle.sopl_ast.proofs.Lighter.{weight-constraint}
 use Rattle.sopl_ast.specs.declared.constraints.Cons.{Cons}
 use Rattle.sopl_ast.specs.Constraints.{cons_tree}
 use Rattle.sopl_ast.specs.Mistakes.{Scope, of_constraint, of_constraints}
 use Rattle.sopl_ast.specs.Whole.{conses}
-use Rattle.sopl_types.specs.ConsWeight.{weight_cons, weight_conses}
 use Rattle.sopl_types.specs.Earliest.{earlier_of, earliest}
 use Rattle.sopl_types.proofs.EarliestLemmas.{earlier_none, earlier_three, earliest_both}
 use Rattle.sopl_types.proofs.Walks.{walk_more, walk_end}
-
--- a constraint weighs less than its list
-pub weight-constraint : (xs : List Cons) (i : ℕ) (d : Cons) → i < length xs → weight_cons (cons_tree (get_or xs i d)) < weight_conses (conses (map cons_tree xs))
-weight-constraint [] i d h = absurd (omega arith)
-weight-constraint (x ∷ xs) zero d h = omega arith
-weight-constraint (x ∷ xs) (suc i) d h = omega (arith, weight-constraint xs i d (omega arith))
 
 module _ (scope : Scope) (first : Option Refusal) (xs : List Cons) (i : ℕ) where
   pub constraints_more : (x : Cons) → i < length xs → x ≡ get_or xs i x →

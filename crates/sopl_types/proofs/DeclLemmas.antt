@@ -1,7 +1,7 @@
 -- The walk over declarations: each name is known behind its own.
 use Rattle.std.proofs.Common.{◌≡◌, refl, sym, ap, ◌∙◌, ℕ, ◌+◌, ◌<◌, ◌≤◌, List, ◌∷◌, map, length, get_or, drop, Option}
 use Rattle.std.proofs.lemmas.List.{at_drop_more, at_drop_all}
-use Rattle.sopl_base.specs.declared.places.Refusal.{Refusal}
+use Rattle.sopl_base.specs.declared.fault.Refusal.{Refusal}
 use Rattle.sopl_ast.specs.declared.decls.Decl.{Decl}
 use Rattle.sopl_ast.specs.Decls.{declaration}
 use Rattle.sopl_ast.specs.Mistakes.{Scope, entity_of, of_declaration, declare, of_declarations, declare_all}

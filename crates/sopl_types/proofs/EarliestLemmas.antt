@@ -1,7 +1,7 @@
 -- The earlier of two mistakes, over several.
 use Rattle.std.proofs.Common.{◌≡◌, refl, sym, ap, ◌∙◌, List, [], ◌∷◌, ◌++◌, Option, None, Some, arith}
 use Rattle.std.proofs.lemmas.Grind.{common_steps}
-use Rattle.sopl_base.specs.declared.places.Refusal.{Refusal}
+use Rattle.sopl_base.specs.declared.fault.Refusal.{Refusal}
 use Rattle.sopl_types.specs.Earliest.{sooner, earlier_of, earliest}
 
 -- no mistake comes after one

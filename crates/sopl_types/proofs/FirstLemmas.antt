@@ -1,7 +1,8 @@
 -- The earliest of some mistakes is the first of them.
-use Rattle.std.proofs.Common.{◌≡◌, refl, sym, ap, ◌∙◌, subst, Bool, true, false, cond, ℕ, zero, suc, ◌<◌, nat_lt, List, [], ◌∷◌, length, slice_index_or, Option, None, Some, Contains, unwrap_or, rules, arith}
+use Rattle.std.proofs.Common.{◌≡◌, refl, sym, ap, ◌∙◌, subst, Bool, true, false, cond, ℕ, zero, suc, ◌<◌, nat_lt, List, [], ◌∷◌, length, slice_index_or, Option, None, Some}
+use Rattle.std.proofs.Common.{Contains, unwrap_or, rules, arith}
 use Rattle.std.proofs.lemmas.Grind.{common_steps}
-use Rattle.sopl_base.specs.declared.places.Refusal.{Refusal}
+use Rattle.sopl_base.specs.declared.fault.Refusal.{Refusal}
 use Rattle.sopl_ast.specs.Mistakes.{IsNoLater, earlier, same_place}
 use Rattle.sopl_types.specs.Earliest.{comes_first, earlier_of, earliest}
 

@@ -1,6 +1,6 @@
 -- Walks over initial values.
 use Rattle.std.proofs.Common.{◌≡◌, refl, ℕ, zero, suc, ◌+◌, ◌<◌, ◌≤◌, List, [], ◌∷◌, map, length, get_or, drop, Option, arith}
-use Rattle.sopl_base.specs.declared.places.Refusal.{Refusal}
+use Rattle.sopl_base.specs.declared.fault.Refusal.{Refusal}
 use Rattle.sopl_ast.specs.declared.inits.Init.{Init}
 use Rattle.sopl_ast.specs.Inits.{init_tree}
 use Rattle.sopl_ast.specs.Mistakes.{Scope, of_init, of_inits}

@@ -3,8 +3,12 @@ use Rattle.std.proofs.Common.{◌≡◌, refl, ap, Bool, true, false, ◌||◌, 
 use Rattle.std.specs.Str.{bytes_eq}
 use Rattle.sopl_ast.specs.Tree as t
 use Rattle.sopl_ast.specs.Tree.{Tree, Trees, Terms, Factors, Binders, Range, Node, no_tree, tree, no_term, term, no_factor, factor, no_binder, binder, Named, Ends}
-use Rattle.sopl_ast.specs.Whole.{DimTree, InitTree, InitTrees, One, Many, no_init, init, Declaration, IntDecl, RangeDecl, SetDecl, DvarDecl, StochDecl, ConsTree, ConsTrees, ForallTree, BlockTree, HardTree, ChanceTree, no_cons, cons, GoalTree}
-use Rattle.sopl_ast.specs.Mistakes.{Entity, Constant, Variable, RangeName, SetName, Scope, entity_of, known_name, unknown_name, no_range, no_condition, of_use, count, bind, asks_constant, of_number, of_numbers, of_conditions, of_terms, of_factors, of_binders, of_range, bind_dim, bind_dims, of_dim_name, of_dims, of_init, of_inits, wrong_depths, first_of, of_stage, of_outcomes, of_declaration, declare, of_declarations, declare_all, of_constraint, of_constraints, of_goal}
+use Rattle.sopl_ast.specs.Whole.{DimTree, InitTree, InitTrees, One, Many, no_init, init, Declaration, IntDecl, RangeDecl, SetDecl, DvarDecl, StochDecl, ConsTree, ConsTrees}
+use Rattle.sopl_ast.specs.Whole.{ForallTree, BlockTree, HardTree, ChanceTree, no_cons, cons, GoalTree}
+use Rattle.sopl_ast.specs.Mistakes.{Entity, Constant, Variable, RangeName, SetName, Scope, entity_of, known_name, unknown_name, no_range, no_condition, of_use, count, bind}
+use Rattle.sopl_ast.specs.Mistakes.{asks_constant, of_number, of_numbers, of_conditions, of_terms, of_factors, of_binders, of_range, bind_dim, bind_dims, of_dim_name, of_dims}
+use Rattle.sopl_ast.specs.Mistakes.{of_init, of_inits, wrong_depths, first_of, of_stage, of_outcomes, of_declaration, declare, of_declarations, declare_all, of_constraint}
+use Rattle.sopl_ast.specs.Mistakes.{of_constraints, of_goal}
 
 -- both say the same of each name
 abbrev pub Same : Scope → Scope → Type 0

@@ -1,7 +1,7 @@
 -- Walks over lists: what is the first mistake so far, with the next element, and at the end.
 use Rattle.std.proofs.Common.{◌≡◌, refl, sym, ap, ◌∙◌, Bool, true, false, ◌||◌, ℕ, ◌+◌, ◌<◌, ◌≤◌, List, [], ◌∷◌, ◌++◌, length, get_or, drop, Option, append_assoc, arith}
 use Rattle.std.proofs.lemmas.List.{at_drop_more, at_drop_all}
-use Rattle.sopl_base.specs.declared.places.Refusal.{Refusal}
+use Rattle.sopl_base.specs.declared.fault.Refusal.{Refusal}
 use Rattle.sopl_ast.specs.declared.operators.MulOp.{MulOp}
 use Rattle.sopl_ast.specs.Tree.{Tree}
 use Rattle.sopl_ast.specs.Lists.{BinderTree, trees, terms, factors, binders}
@@ -93,4 +93,23 @@ not_asked true asks h = refl
 not_asked false asks h = h
 
 -- walks over lists
-pub ruleset walks = (asked, not_asked, counted, earlier_none, earlier_three, earliest_both, numbers_more, numbers_end, conditions_more, conditions_end, terms_more, terms_end, factors_more, factors_end, bind_more, bind_end, binders_more, binders_end)
+pub ruleset walks = (
+  asked,
+  not_asked,
+  counted,
+  earlier_none,
+  earlier_three,
+  earliest_both,
+  numbers_more,
+  numbers_end,
+  conditions_more,
+  conditions_end,
+  terms_more,
+  terms_end,
+  factors_more,
+  factors_end,
+  bind_more,
+  bind_end,
+  binders_more,
+  binders_end,
+)

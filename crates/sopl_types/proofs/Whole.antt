@@ -1,6 +1,6 @@
 -- The mistakes of a whole model.
 use Rattle.std.proofs.Common.{◌≡◌, sym, ap, ◌∙◌, subst, [], ◌++◌, None, Some, rules}
-use Rattle.sopl_base.specs.declared.places.Refusal.{Refusal}
+use Rattle.sopl_base.specs.declared.fault.Refusal.{Refusal}
 use Rattle.sopl_ast.specs.Whole.{ModelTree, conses}
 use Rattle.sopl_ast.specs.Mistakes.{Scope, of_declarations, declare_all, of_goal, of_constraints, of_model, IsWellTyped, IsFirstMistake, IsNoLater}
 use Rattle.sopl_types.specs.Earliest.{earlier_of, earliest}

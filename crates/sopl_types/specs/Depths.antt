@@ -1,6 +1,6 @@
 -- Initial values whose expressions stand in a wrong number of brackets, told by how many brackets may follow.
 use Rattle.std.specs.Prelude.{ℕ, zero, suc, Bool, false, nat_eq, nat_lt, List, [], ◌++◌, Option, None, Some}
-use Rattle.sopl_base.specs.declared.places.Refusal.{Refusal}
+use Rattle.sopl_base.specs.declared.fault.Refusal.{Refusal}
 use Rattle.sopl_ast.specs.Tree.{place_of}
 use Rattle.sopl_ast.specs.Whole.{InitTree, InitTrees, One, Many, no_init, init}
 use Rattle.sopl_ast.specs.Mistakes.{mistake_unless}

@@ -1,6 +1,6 @@
 -- The first of some mistakes: the one with the least place, and of those at one place the one with the least code.
 use Rattle.std.specs.Prelude.{Bool, ◌&&◌, ◌||◌, nat_lt, nat_eq, nat_le, List, [], ◌∷◌, Option, Some, None, if◌then◌else◌}
-use Rattle.sopl_base.specs.declared.places.Refusal.{Refusal}
+use Rattle.sopl_base.specs.declared.fault.Refusal.{Refusal}
 
 -- whether the one mistake counts and not the other
 abbrev pub comes_first : Refusal → Refusal → Bool

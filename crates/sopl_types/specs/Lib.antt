@@ -1,5 +1,4 @@
 pub mod Earliest
 pub mod Known
 pub mod Depths
-pub mod ConsWeight
 pub mod Outcome

@@ -1,6 +1,6 @@
 -- What a refusal of a model says.
-use Rattle.sopl_base.specs.declared.places.Fault.{Fault}
-use Rattle.sopl_base.specs.declared.places.Fault.TheVariants.{Text, Limit, NoMemory}
+use Rattle.sopl_base.specs.declared.fault.Fault.{Fault}
+use Rattle.sopl_base.specs.declared.fault.Fault.TheVariants.{Text, Limit, NoMemory}
 use Rattle.sopl_ast.specs.Whole.{ModelTree}
 use Rattle.sopl_ast.specs.Mistakes.{IsFirstMistake}
 

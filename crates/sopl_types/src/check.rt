@@ -7,7 +7,7 @@ ghost use Rattle.sopl_ast.specs.Whole.{conses};
 ghost use Rattle.sopl_ast.specs.Mistakes.{of_goal, of_constraints, of_model, IsWellTyped};
 ghost use Rattle.sopl_ast.specs.Origin.{IsFromTokens};
 ghost use Rattle.sopl_ast.specs.WholeModel.{goal_tree, whole};
-ghost use Rattle.sopl_base.specs.declared.places.Fault.TheVariants.{NoMemory};
+ghost use Rattle.sopl_base.specs.declared.fault.Fault.TheVariants.{NoMemory};
 ghost use Rattle.sopl_types.specs.Earliest.{earliest};
 ghost use Rattle.sopl_types.specs.Known.{declared_in};
 ghost use Rattle.sopl_types.specs.Outcome.{IsFirstFault};

@@ -2,7 +2,8 @@
 
 ghost use Rattle.std.specs.Prelude.{◌≡◌, ◌++◌, ℕ, List, [], map, length, true, false, OnOk, IfOk};
 ghost use Rattle.sopl_ast.specs.Decls.{declaration};
-ghost use Rattle.sopl_ast.specs.Mistakes.{entity_of, bind_dim, bind_dims, of_dim_name, of_dims, of_range, of_stage, of_outcomes, of_number, of_init, first_of, wrong_depths, of_declaration, of_declarations, declare, declare_all};
+ghost use Rattle.sopl_ast.specs.Mistakes.{entity_of, bind_dim, bind_dims, of_dim_name, of_dims, of_range, of_stage, of_outcomes, of_number, of_init, first_of, wrong_depths};
+ghost use Rattle.sopl_ast.specs.Mistakes.{of_declaration, of_declarations, declare, declare_all};
 ghost use Rattle.sopl_ast.specs.Inits.{init_tree};
 ghost use Rattle.sopl_ast.specs.Ranges.{range_of};
 ghost use Rattle.sopl_types.specs.Earliest.{earliest};

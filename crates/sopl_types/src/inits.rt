@@ -9,10 +9,10 @@ ghost use Rattle.sopl_types.specs.Depths.{wrong_left, wrong_left_parts};
 ghost use Rattle.sopl_types.specs.Earliest.{earliest};
 ghost use Rattle.sopl_types.specs.Known.{known_in};
 
-use crate::mistakes::{DIMENSIONS, earlier, unless};
+use crate::mistakes::{earlier, unless};
 use crate::names::Names;
 use sopl_ast::Init;
-use sopl_base::Refusal;
+use sopl_base::{Refusal, codes};
 use std::alloc::AllocError;
 
 #[tactic(auto, using(crate::proofs::InitWalks::init_walks))]
@@ -60,11 +60,11 @@ fn wrong_inside(left: Option<usize>, value: &Init) -> Option<Refusal>
     ensures { result ≡ earliest (first_of (wrong_left left (init_tree value.now))) }
 {
     match value {
-        Init::One(e) => unless(is_full(left), DIMENSIONS, e.at),
+        Init::One(e) => unless(is_full(left), codes::DIMENSIONS, e.at),
         Init::Many { at, parts } => {
             let parts = parts.as_slice();
             if parts.is_empty() {
-                return unless(has_room(left), DIMENSIONS, *at);
+                return unless(has_room(left), codes::DIMENSIONS, *at);
             }
             wrong_parts(one_less(left), parts)
         }

@@ -10,22 +10,7 @@ ghost use Rattle.sopl_types.specs.Known.{seen};
 
 use crate::names::Entity;
 use sopl_ast::{Expr, Kind};
-use sopl_base::Refusal;
-
-/// The code of a name that is used and not known.
-pub const UNKNOWN: u16 = 105;
-
-/// The code of a name that is declared or bound and known already.
-pub const TWICE: u16 = 106;
-
-/// The code of a name or an expression of the wrong kind.
-pub const KIND: u16 = 107;
-
-/// The code of a wrong number of indices or brackets.
-pub const DIMENSIONS: u16 = 108;
-
-/// The code of a variable where a constant is asked for.
-pub const NOT_CONSTANT: u16 = 109;
+use sopl_base::{Refusal, codes};
 
 /// The earlier of two mistakes, if there are any; at one place the one with the lower code.
 pub fn earlier(a: Option<Refusal>, b: Option<Refusal>) -> Option<Refusal>
@@ -65,7 +50,7 @@ pub fn unless(holds: bool, code: u16, at: usize) -> Option<Refusal>
 pub fn known(entity: Option<Entity>, at: usize) -> Option<Refusal>
     ensures { result ≡ earliest (known_name (option_map seen entity) at) }
 {
-    unless(entity.is_none(), TWICE, at)
+    unless(entity.is_none(), codes::TWICE, at)
 }
 
 /// A name with so many indices, used as a number, where `constant` asks for a constant.
@@ -73,16 +58,16 @@ pub fn misused(constant: bool, entity: Option<Entity>, indices: usize, at: usize
     ensures { result ≡ earliest (of_use constant (option_map seen entity) indices at) }
 {
     match entity {
-        None => unless(false, UNKNOWN, at),
-        Some(Entity::Constant(dims)) => unless(dims == indices, DIMENSIONS, at),
+        None => unless(false, codes::UNKNOWN, at),
+        Some(Entity::Constant(dims)) => unless(dims == indices, codes::DIMENSIONS, at),
         Some(Entity::Variable(dims)) => {
             earlier(
-                unless(dims == indices, DIMENSIONS, at),
-                unless(!constant, NOT_CONSTANT, at),
+                unless(dims == indices, codes::DIMENSIONS, at),
+                unless(!constant, codes::NOT_CONSTANT, at),
             )
         }
-        Some(Entity::RangeName) => unless(false, KIND, at),
-        Some(Entity::SetName) => unless(false, KIND, at),
+        Some(Entity::RangeName) => unless(false, codes::KIND, at),
+        Some(Entity::SetName) => unless(false, codes::KIND, at),
     }
 }
 
@@ -91,11 +76,11 @@ pub fn misused_range(sets: bool, entity: Option<Entity>, at: usize) -> Option<Re
     ensures { result ≡ earliest (unknown_name (option_map seen entity) at ++ no_range sets (option_map seen entity) at) }
 {
     match entity {
-        None => unless(false, UNKNOWN, at),
+        None => unless(false, codes::UNKNOWN, at),
         Some(Entity::RangeName) => None,
-        Some(Entity::SetName) => unless(sets, KIND, at),
-        Some(Entity::Constant(_)) => unless(false, KIND, at),
-        Some(Entity::Variable(_)) => unless(false, KIND, at),
+        Some(Entity::SetName) => unless(sets, codes::KIND, at),
+        Some(Entity::Constant(_)) => unless(false, codes::KIND, at),
+        Some(Entity::Variable(_)) => unless(false, codes::KIND, at),
     }
 }
 
@@ -103,7 +88,7 @@ pub fn misused_range(sets: bool, entity: Option<Entity>, at: usize) -> Option<Re
 pub fn not_condition(e: &Expr) -> Option<Refusal>
     ensures { result ≡ earliest (no_condition e.now) }
 {
-    unless(is_condition(&e.kind), KIND, e.at)
+    unless(is_condition(&e.kind), codes::KIND, e.at)
 }
 
 fn is_condition(kind: &Kind) -> bool

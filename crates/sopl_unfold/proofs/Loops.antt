@@ -1,8 +1,8 @@
 -- Going through declarations, one after the other.
 use Rattle.std.proofs.Common.{◌≡◌, sym, ap, subst, ◌∙◌, ◌⊎◌, ℕ, ◌+◌, ◌<◌, List, ◌∷◌, map, drop, length, get_or, Ok, Err}
 use Rattle.std.proofs.lemmas.List.{drop_more}
-use Rattle.sopl_base.specs.declared.places.Fault.{Fault}
-use Rattle.sopl_base.specs.declared.places.Fault.TheVariants.{NoMemory}
+use Rattle.sopl_base.specs.declared.fault.Fault.{Fault}
+use Rattle.sopl_base.specs.declared.fault.Fault.TheVariants.{NoMemory}
 use Rattle.sopl_ast.specs.declared.decls.Decl.{Decl}
 use Rattle.sopl_ast.specs.Decls.{declaration}
 use Rattle.sopl_ast.specs.Whole.{Declaration}

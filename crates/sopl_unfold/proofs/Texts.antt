@@ -1,8 +1,8 @@
 -- A text from its declarations, its objective and its constraints.
 use Rattle.std.proofs.Common.{◌≡◌, sym, ap, subst, ◌∙◌, ◌⊎◌, inl, inr, ℕ, List, [], ◌∷◌, ◌++◌, map, Result, Ok, Err, IfOk, Vec, Bor}
 use Rattle.std.specs.List.{AllByRecursion}
-use Rattle.sopl_base.specs.declared.places.Fault.{Fault}
-use Rattle.sopl_base.specs.declared.places.Fault.TheVariants.{NoMemory}
+use Rattle.sopl_base.specs.declared.fault.Fault.{Fault}
+use Rattle.sopl_base.specs.declared.fault.Fault.TheVariants.{NoMemory}
 use Rattle.std.specs.declared.alloc.AllocError.{AllocError}
 use Rattle.std.specs.declared.alloc.Global.{Global}
 use Rattle.sopl_ast.specs.declared.whole.Model.{Model}
@@ -13,11 +13,13 @@ use Rattle.sopl_ast.specs.WholeModel.{whole as whole_model}
 use Rattle.sopl_ast.specs.Occurrences.{Occurrence, met}
 use Rattle.sopl_ast.specs.Instances.{Stochastic}
 use Rattle.sopl_ast.specs.Declarations.{Declared, nothing_declared, behind_all, declarations_occurrences}
-use Rattle.sopl_ast.specs.Unfolding.{goal_occurrences, constraints_occurrences, body_occurrences, text_occurrences, problem_of, by_stage, all_conditions, hards_among, chances_among, all_constraint_instances}
+use Rattle.sopl_ast.specs.References.{now_of}
+use Rattle.sopl_ast.specs.Unfolding.{goal_occurrences, constraints_occurrences, body_occurrences, text_occurrences, problem_of, by_stage, all_conditions, hards_among}
+use Rattle.sopl_ast.specs.Unfolding.{chances_among, all_constraint_instances}
 use Rattle.unfold_laws.specs.Passing.{Passes}
 use Rattle.unfold_laws.specs.Bounds.{IsStage, IsBoundedStochastic}
 use Rattle.unfold_laws.proofs.Declared.{declared_bounded}
-use Rattle.unfold_tables.specs.Tables.{now_of, table_known}
+use Rattle.unfold_tables.specs.Tables.{table_known}
 use Rattle.sopl_unfold.specs.declared.ground.Found.{Found}
 use Rattle.sopl_unfold.specs.Shown.{Unfolds}
 use Rattle.sopl_unfold.proofs.Ways.{met_first, stopped_first, passes_so}

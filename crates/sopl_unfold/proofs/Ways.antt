@@ -1,7 +1,7 @@
 -- What is met on a way of several parts.
 use Rattle.std.proofs.Common.{◌≡◌, refl, sym, ap, subst, ◌∙◌, ◌⊎◌, inl, inr, ℕ, List, ◌++◌, Result, Ok, Err, IsOk}
-use Rattle.sopl_base.specs.declared.places.Fault.{Fault}
-use Rattle.sopl_base.specs.declared.places.Fault.TheVariants.{NoMemory}
+use Rattle.sopl_base.specs.declared.fault.Fault.{Fault}
+use Rattle.sopl_base.specs.declared.fault.Fault.TheVariants.{NoMemory}
 use Rattle.sopl_ast.specs.Occurrences.{Occurrence, met}
 use Rattle.unfold_laws.specs.Passing.{Passes}
 use Rattle.unfold_laws.proofs.Passing.{behind, met_append}

@@ -2,7 +2,8 @@
 
 ghost use Rattle.std.specs.Prelude.{◌≡◌, ◌++◌, IfOk, OnOk, OnErr, option_map};
 ghost use Rattle.sopl_ast.specs.Arrays.{array_occurrences};
-ghost use Rattle.sopl_ast.specs.Declarations.{nothing_declared, behind, behind_all, declaration_occurrences, declarations_occurrences, domain_occurrences, outcome_occurrences, stage_occurrences, decisions_of, stochastics_of};
+ghost use Rattle.sopl_ast.specs.Declarations.{nothing_declared, behind, behind_all, declaration_occurrences, declarations_occurrences, domain_occurrences, outcome_occurrences};
+ghost use Rattle.sopl_ast.specs.Declarations.{stage_occurrences, decisions_of, stochastics_of};
 ghost use Rattle.sopl_ast.specs.Decls.{declaration};
 ghost use Rattle.unfold_tables.specs.Walks.{Walks};
 ghost use Rattle.sopl_unfold.specs.Shown.{declared_in};

@@ -1,10 +1,11 @@
 //! The ground problem of a model: what is known behind its declarations, and the instances that it states.
 
 ghost use Rattle.std.specs.Prelude.{◌≡◌, IfOk, map};
+ghost use Rattle.sopl_ast.specs.References.{now_of};
 ghost use Rattle.sopl_ast.specs.Unfolding.{problem_of, text_occurrences};
 ghost use Rattle.sopl_ast.specs.WholeModel.{whole};
 ghost use Rattle.unfold_laws.specs.Passing.{Passes};
-ghost use Rattle.unfold_tables.specs.Tables.{now_of, table_known};
+ghost use Rattle.unfold_tables.specs.Tables.{table_known};
 ghost use Rattle.sopl_unfold.specs.Shown.{Unfolds};
 
 use sopl_ast::Expr;

@@ -1,7 +1,7 @@
 //! Unfolding: a model's declarations, then its objective, then its constraints.
 
 ghost use Rattle.std.specs.Prelude.{◌≡◌, ◌⊎◌, IfOk, IfErr, Err, option_map};
-ghost use Rattle.sopl_base.specs.declared.places.Fault.TheVariants.{NoMemory};
+ghost use Rattle.sopl_base.specs.declared.fault.Fault.TheVariants.{NoMemory};
 ghost use Rattle.sopl_ast.specs.Occurrences.{met};
 ghost use Rattle.sopl_ast.specs.Unfolding.{text_occurrences, goal_occurrences};
 ghost use Rattle.sopl_ast.specs.WholeModel.{whole, goal_tree};

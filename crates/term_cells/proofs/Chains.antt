@@ -68,7 +68,8 @@ left_of_node root all (node.Table t) = refl
 left_at : (root : Box) (all : List Thing) (id : ℕ) (item : Item) → IsAt root all id item → left_mentions root (term_at all id) ≡ told root all (left_in item.node)
 left_at root all id item at = ap (λ (t : Thing). left_mentions root (term_in t)) at.thing ∙ left_of_node root all item.node
 
-pub if_left : (root : Box) (all : List Thing) (id : ℕ) (item : Item) (o : Option ℕ) → IsAt root all id item → o ≡ left_in item.node → IfSome o (λ a. left_mentions root (term_at all id) ≡ mentions root (term_at all a))
+pub if_left : (root : Box) (all : List Thing) (id : ℕ) (item : Item) (o : Option ℕ) → IsAt root all id item → o ≡ left_in item.node
+    → IfSome o (λ a. left_mentions root (term_at all id) ≡ mentions root (term_at all a))
 if_left root all id item None at is = tt
 if_left root all id item (Some a) at is = left_at root all id item at ∙ ap (told root all) (sym is)
 
@@ -80,10 +81,12 @@ pub left_nothing : (root : Box) (all : List Thing) (id : ℕ) → thing_at all i
 left_nothing root all id none = ap (λ (t : Thing). left_mentions root (term_in t)) none
 
 -- the steps down a chain
-pub first_others : (root : Box) (t : rule.Term) (before after : List ℕ) → after ≡ with_cells before (other_mentions root t) → with_cells after (left_mentions root t) ≡ with_cells before (mentions root t)
+pub first_others : (root : Box) (t : rule.Term) (before after : List ℕ) → after ≡ with_cells before (other_mentions root t) → with_cells after (left_mentions root t)
+    ≡ with_cells before (mentions root t)
 first_others root t before after put = ap (λ (s : List ℕ). with_cells s (left_mentions root t)) put ∙ others_first root t before
 
-pub next_others : (root : Box) (s t : rule.Term) (before after all : List ℕ) → left_mentions root s ≡ mentions root t → after ≡ with_cells before (other_mentions root t) → with_cells before (left_mentions root s) ≡ all → with_cells after (left_mentions root t) ≡ all
+pub next_others : (root : Box) (s t : rule.Term) (before after all : List ℕ) → left_mentions root s ≡ mentions root t → after ≡ with_cells before (other_mentions root t)
+    → with_cells before (left_mentions root s) ≡ all → with_cells after (left_mentions root t) ≡ all
 next_others root s t before after all is put so_far = first_others root t before after put ∙ ap (with_cells before) (sym is) ∙ so_far
 
 pub no_left : (root : Box) (t : rule.Term) (set all : List ℕ) → left_mentions root t ≡ [] → with_cells set (left_mentions root t) ≡ all → set ≡ all

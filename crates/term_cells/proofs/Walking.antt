@@ -22,11 +22,13 @@ use Rattle.cell_mentions.specs.Mentions.{mentions, terms_mention, parts_mention,
 use Rattle.term_cells.specs.Cells.{other_mentions, with_cells}
 
 -- what a node mentions, where it is known which node stands at a number
-pub others_of_node : (root : Box) (all : List Thing) (id : ℕ) (item : Item) (node : Node) (before after : List ℕ) → IsAt root all id item → item.node ≡ node → after ≡ with_cells before (other_mentions root (term_in (thing_of all node))) → after ≡ with_cells before (other_mentions root (term_at all id))
+pub others_of_node : (root : Box) (all : List Thing) (id : ℕ) (item : Item) (node : Node) (before after : List ℕ) → IsAt root all id item → item.node ≡ node → after
+    ≡ with_cells before (other_mentions root (term_in (thing_of all node))) → after ≡ with_cells before (other_mentions root (term_at all id))
 others_of_node root all id item node before after at is put =
     put ∙ ap (λ (n : Node). with_cells before (other_mentions root (term_in (thing_of all n)))) (sym is) ∙ ap (λ (t : Thing). with_cells before (other_mentions root (term_in t))) (sym at.thing)
 
-pub cond_of_node : (root : Box) (all : List Thing) (id : ℕ) (item : Item) (node : Node) (before after : List ℕ) → IsAt root all id item → item.node ≡ node → after ≡ with_cells before (cond_mentions root (cond_in (thing_of all node))) → after ≡ with_cells before (cond_mentions root (cond_at all id))
+pub cond_of_node : (root : Box) (all : List Thing) (id : ℕ) (item : Item) (node : Node) (before after : List ℕ) → IsAt root all id item → item.node ≡ node → after
+    ≡ with_cells before (cond_mentions root (cond_in (thing_of all node))) → after ≡ with_cells before (cond_mentions root (cond_at all id))
 cond_of_node root all id item node before after at is put =
     put ∙ ap (λ (n : Node). with_cells before (cond_mentions root (cond_in (thing_of all n)))) (sym is) ∙ ap (λ (t : Thing). with_cells before (cond_mentions root (cond_in t))) (sym at.thing)
 
@@ -49,12 +51,14 @@ of_operation root (Remainder divisor) t set = refl
 of_operation root Size t set = refl
 
 -- the least and the greatest of several mention what these do
-pub of_extreme : (root : Box) (extreme : Extreme) (t : Term) (later : Terms) (before after : List ℕ) → after ≡ with_cells before (mentions root t ++ terms_mention root later) → after ≡ with_cells before (other_mentions root (extreme_term extreme t later))
+pub of_extreme : (root : Box) (extreme : Extreme) (t : Term) (later : Terms) (before after : List ℕ) → after ≡ with_cells before (mentions root t ++ terms_mention root later) → after
+    ≡ with_cells before (other_mentions root (extreme_term extreme t later))
 of_extreme root Least t later before after put = put
 of_extreme root Greatest t later before after put = put
 
 -- one of several more
-pub next_part : (root : Box) (all : List Thing) (before after : List ℕ) (xs : List Signed) (i : ℕ) (x : Signed) → i < length xs → x ≡ get_or xs i x → after ≡ with_cells before (mentions root (term_at all x.term))
+pub next_part : (root : Box) (all : List Thing) (before after : List ℕ) (xs : List Signed) (i : ℕ) (x : Signed) → i < length xs → x ≡ get_or xs i x → after
+    ≡ with_cells before (mentions root (term_at all x.term))
     → with_cells after (parts_mention root (parts_at all (drop (i + 1) xs))) ≡ with_cells before (parts_mention root (parts_at all (drop i xs)))
 next_part root all before after xs i x below at put =
     ap (λ (set : List ℕ). with_cells set (parts_mention root (parts_at all (drop (i + 1) xs)))) put

@@ -1,4 +1,5 @@
 //! The cells that terms and conditions mention.
+//! Its tests stand in `term_tests`.
 #![tactic(auto)]
 
 mod elements;

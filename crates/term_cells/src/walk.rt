@@ -46,7 +46,8 @@ impl<'a> Nodes<'a> {
     fn left(&self, id: u32) -> Option<u32>
         requires built { IsBuilt (box_in self.now.root) self.now.items.now }
         ensures below { IfSome result (λ left. left < id) }
-        ensures left { IfSome result (λ left. left_mentions (box_in self.now.root) (term_at (things self.now.items.now) id) ≡ mentions (box_in self.now.root) (term_at (things self.now.items.now) left)) }
+        ensures left { IfSome result (λ left. left_mentions (box_in self.now.root) (term_at (things self.now.items.now) id)
+            ≡ mentions (box_in self.now.root) (term_at (things self.now.items.now) left)) }
         ensures none { IfNone result (left_mentions (box_in self.now.root) (term_at (things self.now.items.now) id) ≡ []) }
     {
         let item = item_at(self.items, id)?;
@@ -134,7 +135,8 @@ impl<'a> Nodes<'a> {
         requires built { IsBuilt (box_in self.now.root) self.now.items.now }
         requires left { a < limit }
         requires right { b < limit }
-        ensures { OnOk result (cells.new.keys ≡ with_cells cells.old.keys (mentions (box_in self.now.root) (term_at (things self.now.items.now) a) ++ mentions (box_in self.now.root) (term_at (things self.now.items.now) b))) }
+        ensures { OnOk result (cells.new.keys ≡ with_cells cells.old.keys (mentions (box_in self.now.root) (term_at (things self.now.items.now) a)
+            ++ mentions (box_in self.now.root) (term_at (things self.now.items.now) b))) }
     {
         self.term(a, cells)?;
         self.term(b, cells)
@@ -153,7 +155,8 @@ impl<'a> Nodes<'a> {
         requires built { IsBuilt (box_in self.now.root) self.now.items.now }
         requires first { first < limit }
         requires below { AllBelow limit later.now }
-        ensures { OnOk result (cells.new.keys ≡ with_cells cells.old.keys (mentions (box_in self.now.root) (term_at (things self.now.items.now) first) ++ terms_mention (box_in self.now.root) (terms_at (things self.now.items.now) later.now))) }
+        ensures { OnOk result (cells.new.keys ≡ with_cells cells.old.keys (mentions (box_in self.now.root) (term_at (things self.now.items.now) first)
+            ++ terms_mention (box_in self.now.root) (terms_at (things self.now.items.now) later.now))) }
     {
         self.term(first, cells)?;
         self.terms(limit, later, cells)
@@ -173,7 +176,8 @@ impl<'a> Nodes<'a> {
         requires built { IsBuilt (box_in self.now.root) self.now.items.now }
         requires below { AllBelow limit at.now }
         requires form { form_of form.now ≡ rule.form (box_in self.now.root) (term.Element (table_at (things self.now.items.now) table) (terms_at (things self.now.items.now) at.now)) }
-        ensures { OnOk result (cells.new.keys ≡ with_cells cells.old.keys (mentions (box_in self.now.root) (term.Element (table_at (things self.now.items.now) table) (terms_at (things self.now.items.now) at.now)))) }
+        ensures { OnOk result (cells.new.keys ≡ with_cells cells.old.keys
+            (mentions (box_in self.now.root) (term.Element (table_at (things self.now.items.now) table) (terms_at (things self.now.items.now) at.now)))) }
     {
         self.named(form, table, cells)?;
         self.terms(limit, at, cells)
@@ -183,7 +187,8 @@ impl<'a> Nodes<'a> {
     #[tactic(auto, using(crate::proofs::Putting::of_form, crate::proofs::Putting::of_table, crate::proofs::Putting::of_no_table))]
     fn named(&self, form: &Form, table: u32, cells: &mut BTreeSet<u32>) -> Result<(), AllocError>
         requires built { IsBuilt (box_in self.now.root) self.now.items.now }
-        ensures { OnOk result (cells.new.keys ≡ with_cells cells.old.keys (if (form_of form.now).plain then form_cells (form_of form.now).cells else table_mentions (table_at (things self.now.items.now) table))) }
+        ensures { OnOk result (cells.new.keys ≡ with_cells cells.old.keys
+            (if (form_of form.now).plain then form_cells (form_of form.now).cells else table_mentions (table_at (things self.now.items.now) table))) }
     {
         if form.plain {
             return put_form(form, cells);
@@ -254,7 +259,8 @@ impl<'a> Nodes<'a> {
         requires built { IsBuilt (box_in self.now.root) self.now.items.now }
         requires left { a < limit }
         requires right { c < limit }
-        ensures { OnOk result (cells.new.keys ≡ with_cells cells.old.keys (cond_mentions (box_in self.now.root) (cond_at (things self.now.items.now) a) ++ cond_mentions (box_in self.now.root) (cond_at (things self.now.items.now) c))) }
+        ensures { OnOk result (cells.new.keys ≡ with_cells cells.old.keys (cond_mentions (box_in self.now.root) (cond_at (things self.now.items.now) a)
+            ++ cond_mentions (box_in self.now.root) (cond_at (things self.now.items.now) c))) }
     {
         self.cond(a, cells)?;
         self.cond(c, cells)

@@ -36,7 +36,10 @@ cell_interval root b cell is_box inside =
     ∙ plus_zero (ends.scaled (pos 1) e)
     ∙ once e (within_cell b root cell is_box inside).ordered
 
-pub cell_step : (root b : Box) (all : List Thing) (nodes : List ℕ) (xs : List WideCoefficient) (i : ℕ) (d : WideCoefficient) (node : ℕ) (list next : List Atom) (atom : Atom) (result : ends.Ends) → AreCells root all nodes → IsBox root → Inside b root → i < length xs → node ≡ get_or nodes (get_or xs i d).cell 0 → (get_or xs i d).cell < length nodes → next ≡ list ++ atom ∷ [] → atom ≡ record { k = (get_or xs i d).k; term = node } → ends.plus (listed_ends root b all list) (cells_ends b (wide_cells (drop i xs))) ≡ result → ends.plus (listed_ends root b all next) (cells_ends b (wide_cells (drop (i + 1) xs))) ≡ result
+pub cell_step : (root b : Box) (all : List Thing) (nodes : List ℕ) (xs : List WideCoefficient) (i : ℕ) (d : WideCoefficient) (node : ℕ) (list next : List Atom) (atom : Atom) (result : ends.Ends)
+    → AreCells root all nodes → IsBox root → Inside b root → i < length xs → node ≡ get_or nodes (get_or xs i d).cell 0 → (get_or xs i d).cell < length nodes → next ≡ list ++ atom ∷ []
+    → atom ≡ record { k = (get_or xs i d).k; term = node } → ends.plus (listed_ends root b all list) (cells_ends b (wide_cells (drop i xs))) ≡ result
+    → ends.plus (listed_ends root b all next) (cells_ends b (wide_cells (drop (i + 1) xs))) ≡ result
 cell_step root b all nodes xs i d node list next atom result are is_box inside below node_is there next_is atom_is before =
     let x : WideCoefficient = get_or xs i d in
     let rest : ends.Ends = cells_ends b (wide_cells (drop (i + 1) xs)) in
@@ -52,7 +55,8 @@ cell_step root b all nodes xs i d node list next atom result are is_box inside b
     ∙ ap (ends.plus (listed_ends root b all list)) (sym (next_cells b xs i x below (get_or_default xs i d x below)))
     ∙ before
 
-pub cell_skip : (root b : Box) (all : List Thing) (nodes : List ℕ) (xs : List WideCoefficient) (i : ℕ) (d : WideCoefficient) (list result : ends.Ends) → AreCells root all nodes → Inside b root → i < length xs → length nodes ≤ (get_or xs i d).cell → ends.plus list (cells_ends b (wide_cells (drop i xs))) ≡ result → ends.plus list (cells_ends b (wide_cells (drop (i + 1) xs))) ≡ result
+pub cell_skip : (root b : Box) (all : List Thing) (nodes : List ℕ) (xs : List WideCoefficient) (i : ℕ) (d : WideCoefficient) (list result : ends.Ends) → AreCells root all nodes → Inside b root
+    → i < length xs → length nodes ≤ (get_or xs i d).cell → ends.plus list (cells_ends b (wide_cells (drop i xs))) ≡ result → ends.plus list (cells_ends b (wide_cells (drop (i + 1) xs))) ≡ result
 cell_skip root b all nodes xs i d list result are inside below past before =
     let x : WideCoefficient = get_or xs i d in
     let rest : ends.Ends = cells_ends b (wide_cells (drop (i + 1) xs)) in
@@ -76,6 +80,7 @@ node_exists items node cell is =
     no_cell : (cell : ℕ) → ¬ term_in nothing ≡ Cell cell
     no_cell cell e = cc
 
-pub cell_exists : (items : List Item) (nodes : List ℕ) (x : WideCoefficient) (node : ℕ) (list next : List Atom) (atom : Atom) (root : Box) → AreCells root (things items) nodes → node ≡ get_or nodes x.cell 0 → x.cell < length nodes → next ≡ list ++ atom ∷ [] → atom ≡ record { k = x.k; term = node } → AtomsExist (length items) list → AtomsExist (length items) next
+pub cell_exists : (items : List Item) (nodes : List ℕ) (x : WideCoefficient) (node : ℕ) (list next : List Atom) (atom : Atom) (root : Box) → AreCells root (things items) nodes → node
+    ≡ get_or nodes x.cell 0 → x.cell < length nodes → next ≡ list ++ atom ∷ [] → atom ≡ record { k = x.k; term = node } → AtomsExist (length items) list → AtomsExist (length items) next
 cell_exists items nodes x node list next atom root are node_is there next_is atom_is all =
     atom_exists (length items) list next atom x.k node all (node_exists items node x.cell (ap (term_at (things items)) node_is ∙ are.is_cell x.cell there)) next_is atom_is

@@ -1,5 +1,6 @@
 -- What a list of so many times each of several terms is, as it grows.
-use Rattle.std.proofs.Common.{◌≡◌, ℕ, ◌+◌, ◌*◌, ◌<◌, ◌≤◌, ◌^◌, zero, suc, ℤ, pos, ◌*ℤ◌, ◌≤ℤ◌, unsigned_abs, Bool, true, false, if◌then◌else◌, List, [], ◌∷◌, ◌++◌, map, length, get_or, drop, Option, Some, None, arith, refl, ap, subst, sym, ◌∙◌}
+use Rattle.std.proofs.Common.{◌≡◌, ℕ, ◌+◌, ◌*◌, ◌<◌, ◌≤◌, ◌^◌, zero, suc, ℤ, pos, ◌*ℤ◌, ◌≤ℤ◌, unsigned_abs, Bool, true, false, if◌then◌else◌, List, [], ◌∷◌, ◌++◌, map, length}
+use Rattle.std.proofs.Common.{get_or, drop, Option, Some, None, arith, refl, ap, subst, sym, ◌∙◌}
 use Rattle.std.proofs.lemmas.Int.{ints, clamps, unsigned_abs-mul}
 use Rattle.std.proofs.lemmas.List.{at_drop_all, get_or_default}
 use Rattle.std.proofs.Math.Nat.{mul-le-mul_left, mul_assoc}
@@ -38,7 +39,8 @@ use Rattle.term_goals.proofs.Summing.{zero_plus, clear_scaled}
 use Rattle.term_goals.proofs.Leaves.{scaled_plus, scaled_twice, scaled_zero, plus_zero, plus_assoc, leaf_interval, weighs, times_other}
 
 -- one more at the end
-pub listed_more : (root b : Box) (all : List Thing) (xs : List Atom) (a : Atom) → listed_ends root b all (xs ++ a ∷ []) ≡ ends.plus (listed_ends root b all xs) (ends.scaled a.k (interval Near root b (term_at all a.term)))
+pub listed_more : (root b : Box) (all : List Thing) (xs : List Atom) (a : Atom) → listed_ends root b all (xs ++ a ∷ [])
+    ≡ ends.plus (listed_ends root b all xs) (ends.scaled a.k (interval Near root b (term_at all a.term)))
 listed_more root b all [] a =
     let here = ends.scaled a.k (interval Near root b (term_at all a.term)) in
     plus_zero here ∙ sym (zero_plus here)
@@ -46,7 +48,8 @@ listed_more root b all (x ∷ xs) a =
     let first = ends.scaled x.k (interval Near root b (term_at all x.term)) in
     ap (ends.plus first) (listed_more root b all xs a) ∙ sym (plus_assoc first (listed_ends root b all xs) (ends.scaled a.k (interval Near root b (term_at all a.term))))
 
-pub leaf_added : (root b : Box) (all : List Thing) (xs ys : List Atom) (a : Atom) (k : ℤ) (id : ℕ) → form root (term_at all id) ≡ atom_form → ys ≡ xs ++ a ∷ [] → a ≡ record { k = k; term = id } → listed_ends root b all ys ≡ ends.plus (listed_ends root b all xs) (ends.scaled k (atoms Near root b (term_at all id)))
+pub leaf_added : (root b : Box) (all : List Thing) (xs ys : List Atom) (a : Atom) (k : ℤ) (id : ℕ) → form root (term_at all id) ≡ atom_form → ys ≡ xs ++ a ∷ [] → a ≡ record { k = k; term = id }
+    → listed_ends root b all ys ≡ ends.plus (listed_ends root b all xs) (ends.scaled k (atoms Near root b (term_at all id)))
 leaf_added root b all xs ys a k id leaf is a_is =
     ap (listed_ends root b all) (is ∙ ap (λ (x : Atom). xs ++ x ∷ []) a_is)
     ∙ listed_more root b all xs (record { k = k; term = id })
@@ -56,7 +59,8 @@ leaf_added root b all xs ys a k id leaf is a_is =
 clear_added : (l a : ends.Ends) (k : ℤ) → IsClear a → l ≡ ends.plus l (ends.scaled k a)
 clear_added l a k clear = sym (plus_zero l) ∙ ap (ends.plus l) (sym (clear_scaled k a clear))
 
-pub none_added : (root b : Box) (all : List Thing) (xs : List Atom) (k : ℤ) (id : ℕ) → thing_at all id ≡ nothing → listed_ends root b all xs ≡ ends.plus (listed_ends root b all xs) (ends.scaled k (atoms Near root b (term_at all id)))
+pub none_added : (root b : Box) (all : List Thing) (xs : List Atom) (k : ℤ) (id : ℕ) → thing_at all id ≡ nothing → listed_ends root b all xs
+    ≡ ends.plus (listed_ends root b all xs) (ends.scaled k (atoms Near root b (term_at all id)))
 none_added root b all xs k id none =
     subst (λ (t : Thing). listed_ends root b all xs ≡ ends.plus (listed_ends root b all xs) (ends.scaled k (atoms Near root b (term_in t)))) (sym none)
     (clear_added (listed_ends root b all xs) (ends.exactly (pos 0)) k (record { low = refl; high = refl }))
@@ -65,7 +69,9 @@ pub plain_form : (root : Box) (all : List Thing) (id : ℕ) (item : Item) → Is
 plain_form root all id item at =
     ap (λ (f : built.Facts). f.form.plain) at.kept ∙ ap (λ (t : Thing). (form root (term_in t)).plain) (sym at.thing)
 
-pub plain_added : (here : Here) (b : Box) (xs : List Atom) (k : ℤ) (id : ℕ) (item : Item) → IsReady here → IsAt (box_in here.root) (things here.items.now) id item → item.facts.form.plain ≡ true → Inside b (box_in here.root) → listed_ends (box_in here.root) b (things here.items.now) xs ≡ ends.plus (listed_ends (box_in here.root) b (things here.items.now) xs) (ends.scaled k (atoms Near (box_in here.root) b (term_at (things here.items.now) id)))
+pub plain_added : (here : Here) (b : Box) (xs : List Atom) (k : ℤ) (id : ℕ) (item : Item) → IsReady here → IsAt (box_in here.root) (things here.items.now) id item → item.facts.form.plain
+    ≡ true → Inside b (box_in here.root) → listed_ends (box_in here.root) b (things here.items.now) xs
+    ≡ ends.plus (listed_ends (box_in here.root) b (things here.items.now) xs) (ends.scaled k (atoms Near (box_in here.root) b (term_at (things here.items.now) id)))
 plain_added here b xs k id item ready at plain inside =
     let root = box_in here.root in
     let all = things here.items.now in
@@ -90,7 +96,8 @@ item_leaf None other = refl
 
 element_leaf : (table : term.Table) (fs : List Form) → (element_form table fs).plain ≡ false → element_form table fs ≡ atom_form
 element_leaf table fs other =
-    by_bool (λ b. (if b then item_form (item_at table (map (λ (f : Form). f.constant) fs)) else atom_form).plain ≡ false → (if b then item_form (item_at table (map (λ (f : Form). f.constant) fs)) else atom_form) ≡ atom_form) (list_all is_constant fs)
+    by_bool (λ b. (if b then item_form (item_at table (map (λ (f : Form). f.constant) fs)) else atom_form).plain ≡ false
+    → (if b then item_form (item_at table (map (λ (f : Form). f.constant) fs)) else atom_form) ≡ atom_form) (list_all is_constant fs)
     (λ met plain. item_leaf (item_at table (map (λ (f : Form). f.constant) fs)) plain) (λ unmet plain. refl) other
 
 leaf_of : (root : Box) (all : List Thing) (x : Node) → is_leaf x ≡ true → (form root (term_in (thing_of all x))).plain ≡ false → form root (term_in (thing_of all x)) ≡ atom_form
@@ -113,7 +120,8 @@ leaf_of root all (node.Any conds) leaf other = cc
 leaf_of root all (node.Implies a c) leaf other = cc
 leaf_of root all (node.Table t) leaf other = cc
 
-pub leaf_form : (root : Box) (all : List Thing) (id : ℕ) (item : Item) (x : Node) → IsAt root all id item → item.node ≡ x → is_leaf x ≡ true → item.facts.form.plain ≡ false → form root (term_at all id) ≡ atom_form
+pub leaf_form : (root : Box) (all : List Thing) (id : ℕ) (item : Item) (x : Node) → IsAt root all id item → item.node ≡ x → is_leaf x ≡ true → item.facts.form.plain ≡ false
+    → form root (term_at all id) ≡ atom_form
 leaf_form root all id item x at is leaf other =
     let here : term_at all id ≡ term_in (thing_of all x) = ap term_in at.thing ∙ ap (λ (n : Node). term_in (thing_of all n)) is in
     ap (form root) here ∙ leaf_of root all x leaf (ap (λ (t : term.Term). (form root t).plain) (sym here) ∙ sym (plain_form root all id item at) ∙ other)
@@ -139,20 +147,26 @@ part_weight root all (y ∷ xs) zero x below at =
     omega (arith, same)
 part_weight root all (y ∷ xs) (suc i) x below at = omega (arith, part_weight root all xs i x (omega (arith, below)) at)
 
-pub part_room : (root : Box) (all : List Thing) (xs : List Signed) (i : ℕ) (d : Signed) (k m : ℤ) → i < length xs → m ≡ k *ℤ sign (get_or xs i d).subtracted → unsigned_abs k * sum_weight root (parts_at all xs) < 2 ^ 127 → unsigned_abs m * atoms_weight root (term_at all (get_or xs i d).term) < 2 ^ 127
+pub part_room : (root : Box) (all : List Thing) (xs : List Signed) (i : ℕ) (d : Signed) (k m : ℤ) → i < length xs → m ≡ k *ℤ sign (get_or xs i d).subtracted
+    → unsigned_abs k * sum_weight root (parts_at all xs) < 2 ^ 127 → unsigned_abs m * atoms_weight root (term_at all (get_or xs i d).term) < 2 ^ 127
 part_room root all xs i d k m below is room =
     let x : Signed = get_or xs i d in
     let n : ℕ = atoms_weight root (term_at all x.term) in
-    let size : unsigned_abs m ≡ unsigned_abs k = ap (λ (z : ℤ). unsigned_abs z) is ∙ unsigned_abs-mul k (sign x.subtracted) ∙ ap (λ (n : ℕ). unsigned_abs k * n) (sign_size x.subtracted) ∙ omega arith in
+    let size : unsigned_abs m ≡ unsigned_abs k = ap (λ (z : ℤ). unsigned_abs z) is ∙ unsigned_abs-mul k (sign x.subtracted) ∙ ap (λ (n : ℕ). unsigned_abs k * n) (sign_size x.subtracted)
+    ∙ omega arith in
     let same : unsigned_abs m * n ≡ unsigned_abs k * n = ap (λ (u : ℕ). u * n) size in
     omega (arith, same, mul-le-mul_left (unsigned_abs k) (part_weight root all xs i x below (get_or_default xs i d x below)), room)
 
 pub signed_small : (k m : ℤ) (subtracted : Bool) → m ≡ sign subtracted → unsigned_abs k < 2 ^ 127 → unsigned_abs (k *ℤ m) < 2 ^ 127
 signed_small k m subtracted is small =
-    let size : unsigned_abs (k *ℤ m) ≡ unsigned_abs k = unsigned_abs-mul k m ∙ ap (λ (z : ℤ). unsigned_abs k * unsigned_abs z) is ∙ ap (λ (n : ℕ). unsigned_abs k * n) (sign_size subtracted) ∙ omega arith in
+    let size : unsigned_abs (k *ℤ m) ≡ unsigned_abs k = unsigned_abs-mul k m ∙ ap (λ (z : ℤ). unsigned_abs k * unsigned_abs z) is ∙ ap (λ (n : ℕ). unsigned_abs k * n) (sign_size subtracted)
+    ∙ omega arith in
     omega (arith, size, small)
 
-pub part_step : (here : Here) (b : Box) (xs : List Signed) (i : ℕ) (d : Signed) (k m : ℤ) (list next result : ends.Ends) → IsReady here → Inside b (box_in here.root) → i < length xs → m ≡ k *ℤ sign (get_or xs i d).subtracted → next ≡ ends.plus list (ends.scaled m (atoms Near (box_in here.root) b (term_at (things here.items.now) (get_or xs i d).term))) → ends.plus list (ends.scaled k (sum_atoms Near (box_in here.root) b (parts_at (things here.items.now) (drop i xs)))) ≡ result → ends.plus next (ends.scaled k (sum_atoms Near (box_in here.root) b (parts_at (things here.items.now) (drop (i + 1) xs)))) ≡ result
+pub part_step : (here : Here) (b : Box) (xs : List Signed) (i : ℕ) (d : Signed) (k m : ℤ) (list next result : ends.Ends) → IsReady here → Inside b (box_in here.root) → i < length xs
+    → m ≡ k *ℤ sign (get_or xs i d).subtracted → next ≡ ends.plus list (ends.scaled m (atoms Near (box_in here.root) b (term_at (things here.items.now) (get_or xs i d).term)))
+    → ends.plus list (ends.scaled k (sum_atoms Near (box_in here.root) b (parts_at (things here.items.now) (drop i xs)))) ≡ result
+    → ends.plus next (ends.scaled k (sum_atoms Near (box_in here.root) b (parts_at (things here.items.now) (drop (i + 1) xs)))) ≡ result
 part_step here b xs i d k m list next result ready inside below m_is next_is before =
     let root = box_in here.root in
     let all = things here.items.now in
@@ -170,7 +184,8 @@ part_step here b xs i d k m list next result ready inside below m_is next_is bef
     ∙ ap (λ (e : ends.Ends). ends.plus list (ends.scaled k e)) (sym is)
     ∙ before
 
-pub parts_done : (root b : Box) (all : List Thing) (xs : List Signed) (i : ℕ) (k : ℤ) (list result : ends.Ends) → length xs ≤ i → ends.plus list (ends.scaled k (sum_atoms Near root b (parts_at all (drop i xs)))) ≡ result → list ≡ result
+pub parts_done : (root b : Box) (all : List Thing) (xs : List Signed) (i : ℕ) (k : ℤ) (list result : ends.Ends) → length xs ≤ i
+    → ends.plus list (ends.scaled k (sum_atoms Near root b (parts_at all (drop i xs)))) ≡ result → list ≡ result
 parts_done root b all xs i k list result past before =
     sym (plus_zero list) ∙ ap (ends.plus list) (sym (scaled_zero k))
     ∙ ap (λ (e : ends.Ends). ends.plus list (ends.scaled k e)) (sym (at_drop_all (λ ys. sum_atoms Near root b (parts_at all ys)) xs i past))
@@ -207,42 +222,53 @@ times_room k c n some room =
     (omega (arith, size, room), omega (arith, size, room, more))
 
 -- how often the other operand is taken has room, by itself and with what it weighs
-pub left_room : (root : Box) (s t whole : term.Term) (k : ℤ) → whole ≡ term.Product s t → is_constant (form root s) ≡ true → (form root whole).plain ≡ false → unsigned_abs k * atoms_weight root whole < 2 ^ 127 → (unsigned_abs (k *ℤ (form root s).constant) * atoms_weight root t < 2 ^ 127) × (unsigned_abs (k *ℤ (form root s).constant) < 2 ^ 127)
+pub left_room : (root : Box) (s t whole : term.Term) (k : ℤ) → whole ≡ term.Product s t → is_constant (form root s) ≡ true → (form root whole).plain ≡ false
+    → unsigned_abs k * atoms_weight root whole < 2 ^ 127 → (unsigned_abs (k *ℤ (form root s).constant) * atoms_weight root t < 2 ^ 127) × (unsigned_abs (k *ℤ (form root s).constant) < 2 ^ 127)
 left_room root s t whole k is left other room =
     let plain : (times_form (form root s).constant (form root t)).plain ≡ false = ap (λ (f : Form). f.plain) (sym (ap (form root) is ∙ form_left (form root s) (form root t) left)) ∙ other in
-    let weight : atoms_weight root whole ≡ unsigned_abs (form root s).constant * atoms_weight root t = ap (atoms_weight root) is ∙ weight_left (form root s) (form root t) (atoms_weight root s) (atoms_weight root t) (atoms Wide root root (term.Product s t)) left in
+    let weight : atoms_weight root whole ≡ unsigned_abs (form root s).constant * atoms_weight root t = ap (atoms_weight root) is
+    ∙ weight_left (form root s) (form root t) (atoms_weight root s) (atoms_weight root t) (atoms Wide root root (term.Product s t)) left in
     times_room k (form root s).constant (atoms_weight root t) (weighs root t (times_other (form root s).constant (form root t) plain).0) (subst (λ (n : ℕ). unsigned_abs k * n < 2 ^ 127) weight room)
 
-pub right_room : (root : Box) (s t whole : term.Term) (k : ℤ) → whole ≡ term.Product s t → is_constant (form root s) ≡ false → is_constant (form root t) ≡ true → (form root whole).plain ≡ false → unsigned_abs k * atoms_weight root whole < 2 ^ 127 → (unsigned_abs (k *ℤ (form root t).constant) * atoms_weight root s < 2 ^ 127) × (unsigned_abs (k *ℤ (form root t).constant) < 2 ^ 127)
+pub right_room : (root : Box) (s t whole : term.Term) (k : ℤ) → whole ≡ term.Product s t → is_constant (form root s) ≡ false → is_constant (form root t) ≡ true → (form root whole).plain
+    ≡ false → unsigned_abs k * atoms_weight root whole < 2 ^ 127 → (unsigned_abs (k *ℤ (form root t).constant) * atoms_weight root s < 2 ^ 127) × (unsigned_abs (k *ℤ (form root t).constant) < 2 ^ 127)
 right_room root s t whole k is left right other room =
     let plain : (times_form (form root t).constant (form root s)).plain ≡ false = ap (λ (f : Form). f.plain) (sym (ap (form root) is ∙ form_right (form root s) (form root t) left right)) ∙ other in
-    let weight : atoms_weight root whole ≡ unsigned_abs (form root t).constant * atoms_weight root s = ap (atoms_weight root) is ∙ weight_right (form root s) (form root t) (atoms_weight root s) (atoms_weight root t) (atoms Wide root root (term.Product s t)) left right in
+    let weight : atoms_weight root whole ≡ unsigned_abs (form root t).constant * atoms_weight root s = ap (atoms_weight root) is
+    ∙ weight_right (form root s) (form root t) (atoms_weight root s) (atoms_weight root t) (atoms Wide root root (term.Product s t)) left right in
     times_room k (form root t).constant (atoms_weight root s) (weighs root s (times_other (form root t).constant (form root s) plain).0) (subst (λ (n : ℕ). unsigned_abs k * n < 2 ^ 127) weight room)
 
-pub left_is : (root b : Box) (s t whole : term.Term) (k : ℤ) → whole ≡ term.Product s t → is_constant (form root s) ≡ true → ends.scaled (k *ℤ (form root s).constant) (atoms Near root b t) ≡ ends.scaled k (atoms Near root b whole)
+pub left_is : (root b : Box) (s t whole : term.Term) (k : ℤ) → whole ≡ term.Product s t → is_constant (form root s) ≡ true → ends.scaled (k *ℤ (form root s).constant) (atoms Near root b t)
+    ≡ ends.scaled k (atoms Near root b whole)
 left_is root b s t whole k is left =
     sym (scaled_twice k (form root s).constant (atoms Near root b t))
     ∙ ap (ends.scaled k) (sym (ap (atoms Near root b) is ∙ product_left b (form root s) (form root t) (atoms Near root b s) (atoms Near root b t) left))
 
-pub right_is : (root b : Box) (s t whole : term.Term) (k : ℤ) → whole ≡ term.Product s t → is_constant (form root s) ≡ false → is_constant (form root t) ≡ true → ends.scaled (k *ℤ (form root t).constant) (atoms Near root b s) ≡ ends.scaled k (atoms Near root b whole)
+pub right_is : (root b : Box) (s t whole : term.Term) (k : ℤ) → whole ≡ term.Product s t → is_constant (form root s) ≡ false → is_constant (form root t) ≡ true
+    → ends.scaled (k *ℤ (form root t).constant) (atoms Near root b s) ≡ ends.scaled k (atoms Near root b whole)
 right_is root b s t whole k is left right =
     sym (scaled_twice k (form root t).constant (atoms Near root b s))
     ∙ ap (ends.scaled k) (sym (ap (atoms Near root b) is ∙ product_right b (form root s) (form root t) (atoms Near root b s) (atoms Near root b t) left right))
 
-pub small_at : (root : Box) (all : List Thing) (id : ℕ) (item : Item) (k : ℤ) → IsAt root all id item → item.facts.form.plain ≡ false → unsigned_abs k * atoms_weight root (term_at all id) < 2 ^ 127 → unsigned_abs k < 2 ^ 127
+pub small_at : (root : Box) (all : List Thing) (id : ℕ) (item : Item) (k : ℤ) → IsAt root all id item → item.facts.form.plain ≡ false → unsigned_abs k * atoms_weight root (term_at all id) < 2 ^ 127
+    → unsigned_abs k < 2 ^ 127
 small_at root all id item k at other room =
     let some = weighs root (term_at all id) (other_at root all id item at other) in
     omega (arith, room, mul-le-mul_left (unsigned_abs k) some)
 
 -- all atoms of a sum
-pub atom_room : (root : Box) (all : List Thing) (xs : List Atom) (i : ℕ) (d : Atom) (k : ℤ) → i < length xs → k ≡ (get_or xs i d).k → all_weight root all xs < 2 ^ 127 → unsigned_abs k * atoms_weight root (term_at all (get_or xs i d).term) < 2 ^ 127
+pub atom_room : (root : Box) (all : List Thing) (xs : List Atom) (i : ℕ) (d : Atom) (k : ℤ) → i < length xs → k ≡ (get_or xs i d).k → all_weight root all xs < 2 ^ 127
+    → unsigned_abs k * atoms_weight root (term_at all (get_or xs i d).term) < 2 ^ 127
 atom_room root all [] i d k below is room = let empty : ⊥ = omega (arith, below) in elim empty [ ]
 atom_room root all (x ∷ xs) zero d k below is room =
-    let same : unsigned_abs k * atoms_weight root (term_at all x.term) ≡ unsigned_abs x.k * atoms_weight root (term_at all x.term) = ap (λ (z : ℤ). unsigned_abs z * atoms_weight root (term_at all x.term)) is in
+    let same : unsigned_abs k * atoms_weight root (term_at all x.term)
+    ≡ unsigned_abs x.k * atoms_weight root (term_at all x.term) = ap (λ (z : ℤ). unsigned_abs z * atoms_weight root (term_at all x.term)) is in
     omega (arith, same, room)
 atom_room root all (x ∷ xs) (suc i) d k below is room = atom_room root all xs i d k (omega (arith, below)) is (omega (arith, room))
 
-pub atom_step : (root b : Box) (all : List Thing) (xs : List Atom) (i : ℕ) (d : Atom) (k : ℤ) (list next result : ends.Ends) → i < length xs → k ≡ (get_or xs i d).k → next ≡ ends.plus list (ends.scaled k (atoms Near root b (term_at all (get_or xs i d).term))) → ends.plus list (atoms_ends root b all (drop i xs)) ≡ result → ends.plus next (atoms_ends root b all (drop (i + 1) xs)) ≡ result
+pub atom_step : (root b : Box) (all : List Thing) (xs : List Atom) (i : ℕ) (d : Atom) (k : ℤ) (list next result : ends.Ends) → i < length xs → k ≡ (get_or xs i d).k → next
+    ≡ ends.plus list (ends.scaled k (atoms Near root b (term_at all (get_or xs i d).term))) → ends.plus list (atoms_ends root b all (drop i xs)) ≡ result
+    → ends.plus next (atoms_ends root b all (drop (i + 1) xs)) ≡ result
 atom_step root b all xs i d k list next result below k_is next_is before =
     let x : Atom = get_or xs i d in
     let a : ends.Ends = atoms Near root b (term_at all x.term) in

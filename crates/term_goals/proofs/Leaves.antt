@@ -38,11 +38,13 @@ scaled_plus k a c a_ordered c_ordered =
       | inl positive ↦
           let first = up k a.low a.high positive a_ordered in
           let second = up k c.low c.high positive c_ordered in
-          same_ends (ends.scaled k (ends.plus a c)) (ends.plus (ends.scaled k a) (ends.scaled k c)) (omega (arith, ints, clamps, low, high, first, second)) (omega (arith, ints, clamps, low, high, first, second))
+          same_ends (ends.scaled k (ends.plus a c)) (ends.plus (ends.scaled k a) (ends.scaled k c)) (omega (arith, ints, clamps, low, high, first, second))
+          (omega (arith, ints, clamps, low, high, first, second))
       | inr negative ↦
           let first = down k a.low a.high negative a_ordered in
           let second = down k c.low c.high negative c_ordered in
-          same_ends (ends.scaled k (ends.plus a c)) (ends.plus (ends.scaled k a) (ends.scaled k c)) (omega (arith, ints, clamps, low, high, first, second)) (omega (arith, ints, clamps, low, high, first, second))
+          same_ends (ends.scaled k (ends.plus a c)) (ends.plus (ends.scaled k a) (ends.scaled k c)) (omega (arith, ints, clamps, low, high, first, second))
+          (omega (arith, ints, clamps, low, high, first, second))
     ]
 
 between_turned : (x y : ℤ) → ends.between x y ≡ ends.between y x
@@ -111,12 +113,14 @@ one_times a b p q = omega (arith, mul-le-mul_left a q, p)
 
 product_weighs : (root : Box) (f g : Form) (m n : ℕ) (wide : ends.Ends) → (product_form f g).plain ≡ false → (f.plain ≡ false → 1 ≤ m) → (g.plain ≡ false → 1 ≤ n) → 1 ≤ product_weight f g m n wide
 product_weighs root f g m n wide =
-    by_bool (λ c. (if c then times_form f.constant g else if is_constant g then times_form g.constant f else atom_form).plain ≡ false → (f.plain ≡ false → 1 ≤ m) → (g.plain ≡ false → 1 ≤ n) → 1 ≤ (if c then unsigned_abs f.constant * n else if is_constant g then unsigned_abs g.constant * m else weight_of wide)) (is_constant f)
+    by_bool (λ c. (if c then times_form f.constant g else if is_constant g then times_form g.constant f else atom_form).plain ≡ false → (f.plain ≡ false → 1 ≤ m) → (g.plain ≡ false → 1 ≤ n)
+    → 1 ≤ (if c then unsigned_abs f.constant * n else if is_constant g then unsigned_abs g.constant * m else weight_of wide)) (is_constant f)
     (λ constant other left right.
     let both_other = times_other f.constant g other in
     one_times (unsigned_abs f.constant) n (size_not_zero f.constant both_other.1) (right both_other.0))
     (λ first.
-    by_bool (λ c. (if c then times_form g.constant f else atom_form).plain ≡ false → (f.plain ≡ false → 1 ≤ m) → (g.plain ≡ false → 1 ≤ n) → 1 ≤ (if c then unsigned_abs g.constant * m else weight_of wide)) (is_constant g)
+    by_bool (λ c. (if c then times_form g.constant f else atom_form).plain ≡ false → (f.plain ≡ false → 1 ≤ m) → (g.plain ≡ false → 1 ≤ n)
+    → 1 ≤ (if c then unsigned_abs g.constant * m else weight_of wide)) (is_constant g)
     (λ constant other left right.
     let both_other = times_other g.constant f other in
     one_times (unsigned_abs g.constant) m (size_not_zero g.constant both_other.1) (left both_other.0))

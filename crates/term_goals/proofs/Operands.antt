@@ -89,15 +89,18 @@ pub bare_product : (root : Box) (t : term.Term) (next : Option Atom) → IfNone 
 bare_product root t None leaf = of_leaf root t leaf
 bare_product root t (Some next) leaf = tt
 
-pub bare_leaf : (root : Box) (all : List Thing) (id : ℕ) (item : Item) (a c : ℕ) → IsAt root all id item → item.node ≡ node.Product a c → item.facts.form.plain ≡ false → IsBare root (term_at all id) → form root (term_at all id) ≡ atom_form
+pub bare_leaf : (root : Box) (all : List Thing) (id : ℕ) (item : Item) (a c : ℕ) → IsAt root all id item → item.node ≡ node.Product a c → item.facts.form.plain ≡ false
+    → IsBare root (term_at all id) → form root (term_at all id) ≡ atom_form
 bare_leaf root all id item a c at is other bare =
     let here = term_is root all id item (node.Product a c) at is in
     let leaf = subst (IsBare root) here bare (ap (λ (t : term.Term). (form root t).plain) (sym here) ∙ other_at root all id item at other) in
     ap (form root) here ∙ leaf
 
 -- the other operand of a product with a number
-pub left_operand : (root : Box) (all : List Thing) (before next : Atom) (a c : ℕ) (z : ℤ) → c < before.term → term_at all before.term ≡ term.Product (term_at all a) (term_at all c) → is_constant (form root (term_at all a)) ≡ true → (form root (term_at all before.term)).plain ≡ false
-    → unsigned_abs before.k * atoms_weight root (term_at all before.term) < 2 ^ 127 → z ≡ (form root (term_at all a)).constant → next ≡ record { k = before.k *ℤ z; term = c } → IsOperand root all before next
+pub left_operand : (root : Box) (all : List Thing) (before next : Atom) (a c : ℕ) (z : ℤ) → c < before.term → term_at all before.term ≡ term.Product (term_at all a) (term_at all c)
+    → is_constant (form root (term_at all a)) ≡ true → (form root (term_at all before.term)).plain ≡ false
+    → unsigned_abs before.k * atoms_weight root (term_at all before.term) < 2 ^ 127 → z ≡ (form root (term_at all a)).constant → next ≡ record { k = before.k *ℤ z; term = c }
+    → IsOperand root all before next
 left_operand root all before next a c z below is left other room z_is next_is =
     let d = (form root (term_at all a)).constant in
     let same : next ≡ record { k = before.k *ℤ d; term = c } = next_is ∙ ap (λ (y : ℤ). record { k = before.k *ℤ y; term = c }) z_is in
@@ -108,8 +111,10 @@ left_operand root all before next a c z below is left other room z_is next_is =
       sum = λ b. left_is root b (term_at all a) (term_at all c) (term_at all before.term) before.k is left;
     })
 
-pub right_operand : (root : Box) (all : List Thing) (before next : Atom) (a c : ℕ) (z : ℤ) → a < before.term → term_at all before.term ≡ term.Product (term_at all a) (term_at all c) → is_constant (form root (term_at all a)) ≡ false → is_constant (form root (term_at all c)) ≡ true → (form root (term_at all before.term)).plain ≡ false
-    → unsigned_abs before.k * atoms_weight root (term_at all before.term) < 2 ^ 127 → z ≡ (form root (term_at all c)).constant → next ≡ record { k = before.k *ℤ z; term = a } → IsOperand root all before next
+pub right_operand : (root : Box) (all : List Thing) (before next : Atom) (a c : ℕ) (z : ℤ) → a < before.term → term_at all before.term ≡ term.Product (term_at all a) (term_at all c)
+    → is_constant (form root (term_at all a)) ≡ false → is_constant (form root (term_at all c)) ≡ true → (form root (term_at all before.term)).plain ≡ false
+    → unsigned_abs before.k * atoms_weight root (term_at all before.term) < 2 ^ 127 → z ≡ (form root (term_at all c)).constant → next ≡ record { k = before.k *ℤ z; term = a }
+    → IsOperand root all before next
 right_operand root all before next a c z below is left right other room z_is next_is =
     let d = (form root (term_at all c)).constant in
     let same : next ≡ record { k = before.k *ℤ d; term = a } = next_is ∙ ap (λ (y : ℤ). record { k = before.k *ℤ y; term = a }) z_is in

@@ -38,7 +38,8 @@ wide_fit_at k a n bounds room = record {
 }
 
 -- the cells
-pub next_cells : (b : Box) (xs : List WideCoefficient) (i : ℕ) (x : WideCoefficient) → i < length xs → x ≡ get_or xs i x → cells_ends b (wide_cells (drop i xs)) ≡ ends.plus (ends.scaled x.k (ends.cell_ends b x.cell)) (cells_ends b (wide_cells (drop (i + 1) xs)))
+pub next_cells : (b : Box) (xs : List WideCoefficient) (i : ℕ) (x : WideCoefficient) → i < length xs → x ≡ get_or xs i x → cells_ends b (wide_cells (drop i xs))
+    ≡ ends.plus (ends.scaled x.k (ends.cell_ends b x.cell)) (cells_ends b (wide_cells (drop (i + 1) xs)))
 next_cells b xs i x below at =
     at_drop_more (λ ys. cells_ends b (wide_cells ys)) xs i x below
     ∙ ap (λ (y : WideCoefficient). ends.plus (ends.scaled y.k (ends.cell_ends b y.cell)) (cells_ends b (wide_cells (drop (i + 1) xs)))) (sym at)
@@ -55,15 +56,19 @@ cells_lighter root zero xs = omega arith
 cells_lighter root (suc i) [] = omega arith
 cells_lighter root (suc i) (x ∷ xs) = omega (arith, cells_lighter root i xs)
 
-pub times_cell_fit : (here : Here) (xs : List WideCoefficient) (i : ℕ) (d : WideCoefficient) → IsReady here → cells_weight (box_in here.root) (wide_cells xs) < 2 ^ 127 → 0 < i → i ≤ length xs → IsWideFit (ends_at (get_or xs (i - 1) d).k (ends.cell_ends (box_in here.view) (get_or xs (i - 1) d).cell))
+pub times_cell_fit : (here : Here) (xs : List WideCoefficient) (i : ℕ) (d : WideCoefficient) → IsReady here → cells_weight (box_in here.root) (wide_cells xs) < 2 ^ 127 → 0 < i → i ≤ length xs
+    → IsWideFit (ends_at (get_or xs (i - 1) d).k (ends.cell_ends (box_in here.view) (get_or xs (i - 1) d).cell))
 times_cell_fit here xs i d ready room positive most =
     let root = box_in here.root in
     let x : WideCoefficient = get_or xs (i - 1) d in
     wide_fit_at x.k (ends.cell_ends (box_in here.view) x.cell) (weight_of (ends.cell_ends root x.cell))
-    (bounds_within (ends.cell_ends (box_in here.view) x.cell) (ends.cell_ends root x.cell) (weight_of (ends.cell_ends root x.cell)) (within_cell (box_in here.view) root x.cell ready.root_is_box ready.inside) (bounds_weight (ends.cell_ends root x.cell)))
+    (bounds_within (ends.cell_ends (box_in here.view) x.cell) (ends.cell_ends root x.cell) (weight_of (ends.cell_ends root x.cell))
+    (within_cell (box_in here.view) root x.cell ready.root_is_box ready.inside) (bounds_weight (ends.cell_ends root x.cell)))
     (times_back root xs i d room positive most)
 
-pub cells_fit : (here : Here) (xs : List WideCoefficient) (i : ℕ) (d : WideCoefficient) (times sum : ends.Ends) → IsReady here → cells_weight (box_in here.root) (wide_cells xs) < 2 ^ 127 → 0 < i → i ≤ length xs → times ≡ ends.scaled (get_or xs (i - 1) d).k (ends.cell_ends (box_in here.view) (get_or xs (i - 1) d).cell) → sum ≡ cells_ends (box_in here.view) (wide_cells (drop i xs)) → IsWideFit (ends.plus times sum)
+pub cells_fit : (here : Here) (xs : List WideCoefficient) (i : ℕ) (d : WideCoefficient) (times sum : ends.Ends) → IsReady here → cells_weight (box_in here.root) (wide_cells xs) < 2 ^ 127
+    → 0 < i → i ≤ length xs → times ≡ ends.scaled (get_or xs (i - 1) d).k (ends.cell_ends (box_in here.view) (get_or xs (i - 1) d).cell) → sum ≡ cells_ends (box_in here.view) (wide_cells (drop i xs))
+    → IsWideFit (ends.plus times sum)
 cells_fit here xs i d times sum ready room positive most times_is sum_is =
     let b = box_in here.view in
     let there : i - 1 < length xs = omega (arith, positive, most) in
@@ -76,7 +81,8 @@ cells_fit here xs i d times sum ready room positive most times_is sum_is =
     ∙ ap (λ (e : ends.Ends). ends.plus (ends.scaled x.k (ends.cell_ends b x.cell)) e) (sum_is ∙ ap (λ (j : ℕ). cells_ends b (wide_cells (drop j xs))) (sym again))
     ∙ sym next in
     subst IsWideFit (sym same)
-    (wide_fit (cells_ends b cells) (cells_weight (box_in here.root) cells) (cells_bounds (box_in here.root) b cells ready.root_is_box ready.inside) (omega (arith, cells_lighter (box_in here.root) (i - 1) xs, room)))
+    (wide_fit (cells_ends b cells) (cells_weight (box_in here.root) cells) (cells_bounds (box_in here.root) b cells ready.root_is_box ready.inside)
+    (omega (arith, cells_lighter (box_in here.root) (i - 1) xs, room)))
 
 pub all_cells : (b : Box) (xs : List WideCoefficient) (i : ℕ) (r : ends.Ends) → i ≤ 0 → r ≡ cells_ends b (wide_cells (drop i xs)) → r ≡ cells_ends b (wide_cells xs)
 all_cells b xs i r none is =
@@ -84,7 +90,8 @@ all_cells b xs i r none is =
     is ∙ ap (λ (j : ℕ). cells_ends b (wide_cells (drop j xs))) at_zero
 
 -- what is no cell
-pub next_atoms : (root b : Box) (all : List Thing) (xs : List Atom) (i : ℕ) (x : Atom) → i < length xs → x ≡ get_or xs i x → atoms_ends root b all (drop i xs) ≡ ends.plus (ends.scaled x.k (atoms Near root b (term_at all x.term))) (atoms_ends root b all (drop (i + 1) xs))
+pub next_atoms : (root b : Box) (all : List Thing) (xs : List Atom) (i : ℕ) (x : Atom) → i < length xs → x ≡ get_or xs i x → atoms_ends root b all (drop i xs)
+    ≡ ends.plus (ends.scaled x.k (atoms Near root b (term_at all x.term))) (atoms_ends root b all (drop (i + 1) xs))
 next_atoms root b all xs i x below at =
     at_drop_more (λ ys. atoms_ends root b all ys) xs i x below
     ∙ ap (λ (y : Atom). ends.plus (ends.scaled y.k (atoms Near root b (term_at all y.term))) (atoms_ends root b all (drop (i + 1) xs))) (sym at)
@@ -92,7 +99,8 @@ next_atoms root b all xs i x below at =
 pub no_atoms : (root b : Box) (all : List Thing) (xs : List Atom) (i : ℕ) → length xs ≤ i → atoms_ends root b all (drop i xs) ≡ atoms_ends root b all []
 no_atoms root b all xs i past = at_drop_all (λ ys. atoms_ends root b all ys) xs i past
 
-next_all_weight : (root : Box) (all : List Thing) (xs : List Atom) (i : ℕ) (x : Atom) → i < length xs → x ≡ get_or xs i x → all_weight root all (drop i xs) ≡ unsigned_abs x.k * atoms_weight root (term_at all x.term) + all_weight root all (drop (i + 1) xs)
+next_all_weight : (root : Box) (all : List Thing) (xs : List Atom) (i : ℕ) (x : Atom) → i < length xs → x ≡ get_or xs i x → all_weight root all (drop i xs)
+    ≡ unsigned_abs x.k * atoms_weight root (term_at all x.term) + all_weight root all (drop (i + 1) xs)
 next_all_weight root all xs i x below at =
     at_drop_more (λ ys. all_weight root all ys) xs i x below
     ∙ ap (λ (y : Atom). unsigned_abs y.k * atoms_weight root (term_at all y.term) + all_weight root all (drop (i + 1) xs)) (sym at)
@@ -102,11 +110,13 @@ atoms_lighter root all zero xs = omega arith
 atoms_lighter root all (suc i) [] = omega arith
 atoms_lighter root all (suc i) (x ∷ xs) = omega (arith, atoms_lighter root all i xs)
 
-atom_bounds : (here : Here) (id : ℕ) → IsReady here → Bounds (atoms Near (box_in here.root) (box_in here.view) (term_at (things here.items.now) id)) (atoms_weight (box_in here.root) (term_at (things here.items.now) id))
+atom_bounds : (here : Here) (id : ℕ) → IsReady here → Bounds (atoms Near (box_in here.root) (box_in here.view) (term_at (things here.items.now) id))
+    (atoms_weight (box_in here.root) (term_at (things here.items.now) id))
 atom_bounds here id ready =
     near_bounds (box_in here.root) (box_in here.view) (term_at (things here.items.now) id) ready.root_is_box ready.inside (small_term (box_in here.root) here.items.now id ready.built).proper
 
-atoms_bounds : (here : Here) (xs : List Atom) → IsReady here → Bounds (atoms_ends (box_in here.root) (box_in here.view) (things here.items.now) xs) (all_weight (box_in here.root) (things here.items.now) xs)
+atoms_bounds : (here : Here) (xs : List Atom) → IsReady here
+    → Bounds (atoms_ends (box_in here.root) (box_in here.view) (things here.items.now) xs) (all_weight (box_in here.root) (things here.items.now) xs)
 atoms_bounds here [] ready = bounds_zero 0
 atoms_bounds here (x ∷ xs) ready =
     let a = atoms Near (box_in here.root) (box_in here.view) (term_at (things here.items.now) x.term) in
@@ -114,7 +124,8 @@ atoms_bounds here (x ∷ xs) ready =
     bounds_plus (ends.scaled x.k a) (atoms_ends (box_in here.root) (box_in here.view) (things here.items.now) xs) (unsigned_abs x.k * n) (all_weight (box_in here.root) (things here.items.now) xs)
     (bounds_scaled x.k a n (atom_bounds here x.term ready)) (atoms_bounds here xs ready)
 
-pub times_atom_fit : (here : Here) (xs : List Atom) (i : ℕ) (d : Atom) → IsReady here → all_weight (box_in here.root) (things here.items.now) xs < 2 ^ 127 → 0 < i → i ≤ length xs → IsWideFit (ends_at (get_or xs (i - 1) d).k (atoms Near (box_in here.root) (box_in here.view) (term_at (things here.items.now) (get_or xs (i - 1) d).term)))
+pub times_atom_fit : (here : Here) (xs : List Atom) (i : ℕ) (d : Atom) → IsReady here → all_weight (box_in here.root) (things here.items.now) xs < 2 ^ 127 → 0 < i → i ≤ length xs
+    → IsWideFit (ends_at (get_or xs (i - 1) d).k (atoms Near (box_in here.root) (box_in here.view) (term_at (things here.items.now) (get_or xs (i - 1) d).term)))
 times_atom_fit here xs i d ready room positive most =
     let root = box_in here.root in
     let all = things here.items.now in
@@ -123,7 +134,9 @@ times_atom_fit here xs i d ready room positive most =
     wide_fit_at x.k (atoms Near root (box_in here.view) (term_at all x.term)) (atoms_weight root (term_at all x.term)) (atom_bounds here x.term ready)
     (omega (arith, room, next_all_weight root all xs (i - 1) x there (get_or_default xs (i - 1) d x there), atoms_lighter root all (i - 1) xs))
 
-pub atoms_fit : (here : Here) (xs : List Atom) (i : ℕ) (d : Atom) (times sum : ends.Ends) → IsReady here → all_weight (box_in here.root) (things here.items.now) xs < 2 ^ 127 → 0 < i → i ≤ length xs → times ≡ ends.scaled (get_or xs (i - 1) d).k (atoms Near (box_in here.root) (box_in here.view) (term_at (things here.items.now) (get_or xs (i - 1) d).term)) → sum ≡ atoms_ends (box_in here.root) (box_in here.view) (things here.items.now) (drop i xs) → IsWideFit (ends.plus times sum)
+pub atoms_fit : (here : Here) (xs : List Atom) (i : ℕ) (d : Atom) (times sum : ends.Ends) → IsReady here → all_weight (box_in here.root) (things here.items.now) xs < 2 ^ 127 → 0 < i
+    → i ≤ length xs → times ≡ ends.scaled (get_or xs (i - 1) d).k (atoms Near (box_in here.root) (box_in here.view) (term_at (things here.items.now) (get_or xs (i - 1) d).term)) → sum
+    ≡ atoms_ends (box_in here.root) (box_in here.view) (things here.items.now) (drop i xs) → IsWideFit (ends.plus times sum)
 atoms_fit here xs i d times sum ready room positive most times_is sum_is =
     let root = box_in here.root in
     let b = box_in here.view in
@@ -146,17 +159,25 @@ all_atoms root b all xs i r none is =
     is ∙ ap (λ (j : ℕ). atoms_ends root b all (drop j xs)) at_zero
 
 -- the whole sum
-others_bounds : (here : Here) (s : Summed) → IsReady here → Bounds (ends.plus (cells_ends (box_in here.view) (wide_cells s.form.cells.items)) (atoms_ends (box_in here.root) (box_in here.view) (things here.items.now) s.atoms.items)) (cells_weight (box_in here.root) (wide_cells s.form.cells.items) + all_weight (box_in here.root) (things here.items.now) s.atoms.items)
+others_bounds : (here : Here) (s : Summed) → IsReady here → Bounds
+    (ends.plus (cells_ends (box_in here.view) (wide_cells s.form.cells.items)) (atoms_ends (box_in here.root) (box_in here.view) (things here.items.now) s.atoms.items))
+    (cells_weight (box_in here.root) (wide_cells s.form.cells.items) + all_weight (box_in here.root) (things here.items.now) s.atoms.items)
 others_bounds here s ready =
-    bounds_plus (cells_ends (box_in here.view) (wide_cells s.form.cells.items)) (atoms_ends (box_in here.root) (box_in here.view) (things here.items.now) s.atoms.items) (cells_weight (box_in here.root) (wide_cells s.form.cells.items)) (all_weight (box_in here.root) (things here.items.now) s.atoms.items)
+    bounds_plus (cells_ends (box_in here.view) (wide_cells s.form.cells.items)) (atoms_ends (box_in here.root) (box_in here.view) (things here.items.now) s.atoms.items)
+    (cells_weight (box_in here.root) (wide_cells s.form.cells.items)) (all_weight (box_in here.root) (things here.items.now) s.atoms.items)
     (cells_bounds (box_in here.root) (box_in here.view) (wide_cells s.form.cells.items) ready.root_is_box ready.inside) (atoms_bounds here s.atoms.items ready)
 
-pub others_fit : (here : Here) (s : Summed) (cells others : ends.Ends) → IsReady here → HasRoom (box_in here.root) (things here.items.now) s → cells ≡ cells_ends (box_in here.view) (wide_cells s.form.cells.items) → others ≡ atoms_ends (box_in here.root) (box_in here.view) (things here.items.now) s.atoms.items → IsWideFit (ends.plus cells others)
+pub others_fit : (here : Here) (s : Summed) (cells others : ends.Ends) → IsReady here → HasRoom (box_in here.root) (things here.items.now) s → cells
+    ≡ cells_ends (box_in here.view) (wide_cells s.form.cells.items) → others ≡ atoms_ends (box_in here.root) (box_in here.view) (things here.items.now) s.atoms.items
+    → IsWideFit (ends.plus cells others)
 others_fit here s cells others ready room cells_is others_is =
     subst IsWideFit (sym (ap (λ (e : ends.Ends). ends.plus e others) cells_is ∙ ap (ends.plus (cells_ends (box_in here.view) (wide_cells s.form.cells.items))) others_is))
-    (wide_fit (ends.plus (cells_ends (box_in here.view) (wide_cells s.form.cells.items)) (atoms_ends (box_in here.root) (box_in here.view) (things here.items.now) s.atoms.items)) (cells_weight (box_in here.root) (wide_cells s.form.cells.items) + all_weight (box_in here.root) (things here.items.now) s.atoms.items) (others_bounds here s ready) (omega (arith, room)))
+    (wide_fit (ends.plus (cells_ends (box_in here.view) (wide_cells s.form.cells.items)) (atoms_ends (box_in here.root) (box_in here.view) (things here.items.now) s.atoms.items))
+    (cells_weight (box_in here.root) (wide_cells s.form.cells.items) + all_weight (box_in here.root) (things here.items.now) s.atoms.items) (others_bounds here s ready) (omega (arith, room)))
 
-pub whole_fit : (here : Here) (s : Summed) (constant others : ends.Ends) → IsReady here → HasRoom (box_in here.root) (things here.items.now) s → constant ≡ ends.exactly s.form.constant → others ≡ ends.plus (cells_ends (box_in here.view) (wide_cells s.form.cells.items)) (atoms_ends (box_in here.root) (box_in here.view) (things here.items.now) s.atoms.items) → IsWideFit (ends.plus constant others)
+pub whole_fit : (here : Here) (s : Summed) (constant others : ends.Ends) → IsReady here → HasRoom (box_in here.root) (things here.items.now) s → constant ≡ ends.exactly s.form.constant
+    → others ≡ ends.plus (cells_ends (box_in here.view) (wide_cells s.form.cells.items)) (atoms_ends (box_in here.root) (box_in here.view) (things here.items.now) s.atoms.items)
+    → IsWideFit (ends.plus constant others)
 whole_fit here s constant others ready room constant_is others_is =
     let rest : ends.Ends = ends.plus (cells_ends (box_in here.view) (wide_cells s.form.cells.items)) (atoms_ends (box_in here.root) (box_in here.view) (things here.items.now) s.atoms.items) in
     let n : ℕ = cells_weight (box_in here.root) (wide_cells s.form.cells.items) + all_weight (box_in here.root) (things here.items.now) s.atoms.items in

@@ -1,5 +1,6 @@
 -- Weights of scenarios and sizes of terms, step by step from the last scenario to the first.
-use Rattle.std.proofs.Common.{◌≡◌, ℕ, ◌+◌, ◌-◌, ◌*◌, ◌<◌, ◌≤◌, ◌^◌, zero, suc, max, ℤ, pos, negsuc, ◌+ℤ◌, ◌*ℤ◌, ◌≤ℤ◌, ◌<ℤ◌, unsigned_abs, List, [], ◌∷◌, length, get_or, drop, arith, refl, ap, sym, ◌∙◌}
+use Rattle.std.proofs.Common.{◌≡◌, ℕ, ◌+◌, ◌-◌, ◌*◌, ◌<◌, ◌≤◌, ◌^◌, zero, suc, max, ℤ, pos, negsuc, ◌+ℤ◌, ◌*ℤ◌, ◌≤ℤ◌, ◌<ℤ◌, unsigned_abs, List, [], ◌∷◌, length, get_or, drop}
+use Rattle.std.proofs.Common.{arith, refl, ap, sym, ◌∙◌}
 use Rattle.std.specs.Int.{w128, saturate_signed}
 use Rattle.std.specs.List.{AllByRecursion}
 use Rattle.std.proofs.lemmas.Int.{ints}
@@ -59,7 +60,8 @@ total_room ws i w sum are below at is =
     omega (arith, later, next_sum ws i w below at, sum_drop i ws, sum_most ws are)
 
 -- sizes
-pub next_greatest : (root : Box) (all : List Thing) (ids : List ℕ) (i id : ℕ) → i < length ids → id ≡ get_or ids i id → greatest_size root (terms_of all (drop i ids)) ≡ max (size root (term_at all id)) (greatest_size root (terms_of all (drop (i + 1) ids)))
+pub next_greatest : (root : Box) (all : List Thing) (ids : List ℕ) (i id : ℕ) → i < length ids → id ≡ get_or ids i id → greatest_size root (terms_of all (drop i ids))
+    ≡ max (size root (term_at all id)) (greatest_size root (terms_of all (drop (i + 1) ids)))
 next_greatest root all ids i id below at =
     at_drop_more (λ ys. greatest_size root (terms_of all ys)) ids i id below
     ∙ ap (λ (y : ℕ). max (size root (term_at all y)) (greatest_size root (terms_of all (drop (i + 1) ids)))) (sym at)

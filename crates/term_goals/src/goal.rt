@@ -10,7 +10,8 @@ ghost use Rattle.term_nodes.specs.Built.{AllBelow};
 ghost use Rattle.term_nodes.specs.Seen.{IsReady};
 ghost use Rattle.term_nodes.specs.Things.{Thing, things};
 ghost use Rattle.term_goals.specs.Wide.{wide_ends};
-ghost use Rattle.term_goals.specs.Goals.{AreCells, AreWeights, AtomsExist, HasRoom, IsMeasured, IsSoundGoal, IsSummed, IsWeighted, asked_of, goal_of, constant_of, goal_size, listed_ends, others, terms_of};
+ghost use Rattle.term_goals.specs.Goals.{AreCells, AreWeights, AtomsExist, HasRoom, IsMeasured, IsSoundGoal, IsSummed, IsWeighted, asked_of, goal_of, constant_of, goal_size};
+ghost use Rattle.term_goals.specs.Goals.{listed_ends, others, terms_of};
 
 use crate::listing::listed;
 use crate::sizes::{measured, scenario_weight};
@@ -196,7 +197,10 @@ impl Goal {
         requires ready { IsReady here.now }
         requires sound { IsSoundGoal (box_in here.now.root) (things here.now.items.now) self.now }
         requires nodes { AreCells (box_in here.now.root) (things here.now.items.now) nodes.now }
-        ensures sum { (weights : List ℤ) → IsWeighted (box_in here.now.root) (things here.now.items.now) weights self.now → (goal_of (things here.now.items.now) self.now).worst ≡ false → (b : Box) → Inside b (box_in here.now.root) → IfOk result (λ list. ends.plus (ends.exactly (constant_of self.now)) (listed_ends (box_in here.now.root) b (things here.now.items.now) list.items) ≡ expected_ends (box_in here.now.root) b weights (goal_of (things here.now.items.now) self.now).terms) }
+        ensures sum { (weights : List ℤ) → IsWeighted (box_in here.now.root) (things here.now.items.now) weights self.now → (goal_of (things here.now.items.now) self.now).worst ≡ false
+            → (b : Box) → Inside b (box_in here.now.root) → IfOk result
+            (λ list. ends.plus (ends.exactly (constant_of self.now)) (listed_ends (box_in here.now.root) b (things here.now.items.now) list.items)
+            ≡ expected_ends (box_in here.now.root) b weights (goal_of (things here.now.items.now) self.now).terms) }
         ensures exist { IfOk result (λ list. AtomsExist (length here.now.items.now) list.items) }
     {
         match &self.summed {
@@ -210,7 +214,8 @@ impl Goal {
     pub fn ends(&self, here: &Here) -> WideEnds
         requires ready { IsReady here.now }
         requires sound { IsSoundGoal (box_in here.now.root) (things here.now.items.now) self.now }
-        ensures { (weights : List ℤ) → IsWeighted (box_in here.now.root) (things here.now.items.now) weights self.now → wide_ends result ≡ goal_ends_of (box_in here.now.root) (box_in here.now.view) weights (goal_of (things here.now.items.now) self.now) }
+        ensures { (weights : List ℤ) → IsWeighted (box_in here.now.root) (things here.now.items.now) weights self.now → wide_ends result
+            ≡ goal_ends_of (box_in here.now.root) (box_in here.now.view) weights (goal_of (things here.now.items.now) self.now) }
     {
         match &self.summed {
             Some(summed) => summed.ends(here),

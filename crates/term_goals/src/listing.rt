@@ -33,7 +33,9 @@ fn product(a: &WideFactor, b: &Factor) -> WideFactor
 fn add_leaf(list: &mut Vec<Atom>, here: &Here, atom: &Atom) -> Result<(), AllocError>
     requires exists { atom.now.term < length here.now.items.now }
     requires leaf { rule.form (box_in here.now.root) (term_at (things here.now.items.now) atom.now.term) ≡ forms.atom_form }
-    ensures sum { (b : Box) → OnOk result (listed_ends (box_in here.now.root) b (things here.now.items.now) list.new.items ≡ ends.plus (listed_ends (box_in here.now.root) b (things here.now.items.now) list.old.items) (ends.scaled atom.now.k (rule.atoms rule.Near (box_in here.now.root) b (term_at (things here.now.items.now) atom.now.term)))) }
+    ensures sum { (b : Box) → OnOk result (listed_ends (box_in here.now.root) b (things here.now.items.now) list.new.items
+        ≡ ends.plus (listed_ends (box_in here.now.root) b (things here.now.items.now) list.old.items)
+        (ends.scaled atom.now.k (rule.atoms rule.Near (box_in here.now.root) b (term_at (things here.now.items.now) atom.now.term)))) }
     ensures exist { OnOk result (AtomsExist (length here.now.items.now) list.old.items → AtomsExist (length here.now.items.now) list.new.items) }
 {
     list.push(*atom)?;
@@ -101,7 +103,10 @@ fn operand(here: &Here, atom: &Atom) -> Option<Atom>
 fn add(list: &mut Vec<Atom>, here: &Here, times: &WideFactor, id: u32) -> Result<(), AllocError>
     requires ready { IsReady here.now }
     requires room { unsigned_abs times.now.k * atoms_weight (box_in here.now.root) (term_at (things here.now.items.now) id) < 2 ^ 127 }
-    ensures sum { (b : Box) → Inside b (box_in here.now.root) → OnOk result (listed_ends (box_in here.now.root) b (things here.now.items.now) list.new.items ≡ ends.plus (listed_ends (box_in here.now.root) b (things here.now.items.now) list.old.items) (ends.scaled times.now.k (rule.atoms rule.Near (box_in here.now.root) b (term_at (things here.now.items.now) id)))) }
+    ensures sum { (b : Box) → Inside b (box_in here.now.root)
+        → OnOk result (listed_ends (box_in here.now.root) b (things here.now.items.now) list.new.items
+        ≡ ends.plus (listed_ends (box_in here.now.root) b (things here.now.items.now) list.old.items)
+        (ends.scaled times.now.k (rule.atoms rule.Near (box_in here.now.root) b (term_at (things here.now.items.now) id)))) }
     ensures exist { OnOk result (AtomsExist (length here.now.items.now) list.old.items → AtomsExist (length here.now.items.now) list.new.items) }
 {
     let mut atom = Atom::times(times, id);
@@ -118,7 +123,10 @@ fn add_bare(list: &mut Vec<Atom>, here: &Here, atom: &Atom) -> Result<(), AllocE
     requires ready { IsReady here.now }
     requires room { unsigned_abs atom.now.k * atoms_weight (box_in here.now.root) (term_at (things here.now.items.now) atom.now.term) < 2 ^ 127 }
     requires bare { IsBare (box_in here.now.root) (term_at (things here.now.items.now) atom.now.term) }
-    ensures sum { (b : Box) → Inside b (box_in here.now.root) → OnOk result (listed_ends (box_in here.now.root) b (things here.now.items.now) list.new.items ≡ ends.plus (listed_ends (box_in here.now.root) b (things here.now.items.now) list.old.items) (ends.scaled atom.now.k (rule.atoms rule.Near (box_in here.now.root) b (term_at (things here.now.items.now) atom.now.term)))) }
+    ensures sum { (b : Box) → Inside b (box_in here.now.root)
+        → OnOk result (listed_ends (box_in here.now.root) b (things here.now.items.now) list.new.items
+        ≡ ends.plus (listed_ends (box_in here.now.root) b (things here.now.items.now) list.old.items)
+        (ends.scaled atom.now.k (rule.atoms rule.Near (box_in here.now.root) b (term_at (things here.now.items.now) atom.now.term)))) }
     ensures exist { OnOk result (AtomsExist (length here.now.items.now) list.old.items → AtomsExist (length here.now.items.now) list.new.items) }
 {
     let Some(item) = item_at(here.items, atom.term) else {
@@ -158,7 +166,10 @@ fn add_parts(
     requires below { PartsBelow limit parts.now }
     requires small { unsigned_abs times.now.k < 2 ^ 127 }
     requires room { unsigned_abs times.now.k * sum_weight (box_in here.now.root) (parts_at (things here.now.items.now) parts.now) < 2 ^ 127 }
-    ensures sum { (b : Box) → Inside b (box_in here.now.root) → OnOk result (listed_ends (box_in here.now.root) b (things here.now.items.now) list.new.items ≡ ends.plus (listed_ends (box_in here.now.root) b (things here.now.items.now) list.old.items) (ends.scaled times.now.k (rule.sum_atoms rule.Near (box_in here.now.root) b (parts_at (things here.now.items.now) parts.now)))) }
+    ensures sum { (b : Box) → Inside b (box_in here.now.root)
+        → OnOk result (listed_ends (box_in here.now.root) b (things here.now.items.now) list.new.items
+        ≡ ends.plus (listed_ends (box_in here.now.root) b (things here.now.items.now) list.old.items)
+        (ends.scaled times.now.k (rule.sum_atoms rule.Near (box_in here.now.root) b (parts_at (things here.now.items.now) parts.now)))) }
     ensures exist { OnOk result (AtomsExist (length here.now.items.now) list.old.items → AtomsExist (length here.now.items.now) list.new.items) }
 {
     for part in parts {
@@ -172,7 +183,9 @@ fn add_parts(
 fn add_atoms(list: &mut Vec<Atom>, here: &Here, atoms: &[Atom]) -> Result<(), AllocError>
     requires ready { IsReady here.now }
     requires room { all_weight (box_in here.now.root) (things here.now.items.now) atoms.now < 2 ^ 127 }
-    ensures sum { (b : Box) → Inside b (box_in here.now.root) → OnOk result (listed_ends (box_in here.now.root) b (things here.now.items.now) list.new.items ≡ ends.plus (listed_ends (box_in here.now.root) b (things here.now.items.now) list.old.items) (atoms_ends (box_in here.now.root) b (things here.now.items.now) atoms.now)) }
+    ensures sum { (b : Box) → Inside b (box_in here.now.root)
+        → OnOk result (listed_ends (box_in here.now.root) b (things here.now.items.now) list.new.items
+        ≡ ends.plus (listed_ends (box_in here.now.root) b (things here.now.items.now) list.old.items) (atoms_ends (box_in here.now.root) b (things here.now.items.now) atoms.now)) }
     ensures exist { OnOk result (AtomsExist (length here.now.items.now) list.old.items → AtomsExist (length here.now.items.now) list.new.items) }
 {
     for atom in atoms {
@@ -210,7 +223,9 @@ fn add_cells(
 ) -> Result<(), AllocError>
     requires ready { IsReady here.now }
     requires nodes { AreCells (box_in here.now.root) (things here.now.items.now) nodes.now }
-    ensures sum { (b : Box) → Inside b (box_in here.now.root) → OnOk result (listed_ends (box_in here.now.root) b (things here.now.items.now) list.new.items ≡ ends.plus (listed_ends (box_in here.now.root) b (things here.now.items.now) list.old.items) (forms.cells_ends b (wide_cells cells.now))) }
+    ensures sum { (b : Box) → Inside b (box_in here.now.root)
+        → OnOk result (listed_ends (box_in here.now.root) b (things here.now.items.now) list.new.items
+        ≡ ends.plus (listed_ends (box_in here.now.root) b (things here.now.items.now) list.old.items) (forms.cells_ends b (wide_cells cells.now))) }
     ensures exist { OnOk result (AtomsExist (length here.now.items.now) list.old.items → AtomsExist (length here.now.items.now) list.new.items) }
 {
     for cell in cells {
@@ -232,7 +247,9 @@ pub(crate) fn listed(
     requires ready { IsReady here.now }
     requires nodes { AreCells (box_in here.now.root) (things here.now.items.now) nodes.now }
     requires room { HasRoom (box_in here.now.root) (things here.now.items.now) summed.now }
-    ensures sum { (b : Box) → Inside b (box_in here.now.root) → IfOk result (λ list. listed_ends (box_in here.now.root) b (things here.now.items.now) list.items ≡ ends.plus (forms.cells_ends b (wide_cells summed.now.form.cells.items)) (atoms_ends (box_in here.now.root) b (things here.now.items.now) summed.now.atoms.items)) }
+    ensures sum { (b : Box) → Inside b (box_in here.now.root)
+        → IfOk result (λ list. listed_ends (box_in here.now.root) b (things here.now.items.now) list.items
+        ≡ ends.plus (forms.cells_ends b (wide_cells summed.now.form.cells.items)) (atoms_ends (box_in here.now.root) b (things here.now.items.now) summed.now.atoms.items)) }
     ensures exist { IfOk result (λ list. AtomsExist (length here.now.items.now) list.items) }
 {
     let mut list = Vec::new(alloc);

@@ -10,13 +10,10 @@ ghost use Rattle.term_nodes.specs.Seen.{IsReady};
 ghost use Rattle.term_nodes.specs.Things.{term_at, things};
 ghost use Rattle.term_goals.specs.Goals.{AreWeights, IsMeasured, goal_size, terms_of};
 
-use sopl_base::{Excess, Fault};
+use sopl_base::{Excess, Fault, codes, limits};
 use std::alloc::{AllocError, Global};
 use term_nodes::{Here, form_at};
 use term_rules::WideFactor;
-
-/// The greatest size of an expected objective.
-const MOST: i128 = 1 << 126;
 
 /// The weight of a scenario.
 pub(crate) fn scenario_weight(weights: &[i128], scenario: usize) -> WideFactor
@@ -101,11 +98,11 @@ fn measured_product(a: &WideFactor, b: &WideFactor) -> Result<(), Fault>
     ensures { IsMeasured false (a.now.k *ℤ b.now.k) result }
 {
     let size = a.k.saturating_mul(b.k);
-    if size > MOST {
+    if size > limits::GOAL_SIZE {
         return Err(Fault::Limit(Excess {
-            code: 207,
+            code: codes::TERM_SIZE,
             counted: size,
-            limit: MOST,
+            limit: limits::GOAL_SIZE,
         }));
     }
     Ok(())

@@ -110,7 +110,8 @@ impl Summed {
     pub(crate) fn ends(&self, here: &Here) -> WideEnds
         requires ready { IsReady here.now }
         requires room { HasRoom (box_in here.now.root) (things here.now.items.now) self.now }
-        ensures { wide_ends result ≡ forms.whole (box_in here.now.view) (wide_form self.now.form) (atoms_ends (box_in here.now.root) (box_in here.now.view) (things here.now.items.now) self.now.atoms.items) }
+        ensures { wide_ends result ≡ forms.whole (box_in here.now.view) (wide_form self.now.form)
+            (atoms_ends (box_in here.now.root) (box_in here.now.view) (things here.now.items.now) self.now.atoms.items) }
     {
         let constant = constant_ends(&self.form);
         let cells = cells_ends(here, self.form.cells.as_slice());

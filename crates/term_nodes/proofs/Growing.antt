@@ -58,7 +58,8 @@ conds_stay all more n (id ∷ ids) most below =
     ap (λ (c : rule.Cond). rule.condition c (conds_at (all ++ more ∷ []) ids)) (cond_stays all more n id most below.0)
     ∙ ap (rule.condition (cond_at all id)) (conds_stay all more n ids most below.1)
 
-two_terms : (make : rule.Term → rule.Term → Thing) (all : List Thing) (more : Thing) (n a b : ℕ) → n ≤ length all → a < n → b < n → make (term_at (all ++ more ∷ []) a) (term_at (all ++ more ∷ []) b) ≡ make (term_at all a) (term_at all b)
+two_terms : (make : rule.Term → rule.Term → Thing) (all : List Thing) (more : Thing) (n a b : ℕ) → n ≤ length all → a < n → b < n → make (term_at (all ++ more ∷ []) a) (term_at (all ++ more ∷ []) b)
+    ≡ make (term_at all a) (term_at all b)
 two_terms make all more n a b most left right =
     ap (λ (t : rule.Term). make t (term_at (all ++ more ∷ []) b)) (term_stays all more n a most left)
     ∙ ap (make (term_at all a)) (term_stays all more n b most right)

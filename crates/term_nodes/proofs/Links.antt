@@ -106,7 +106,8 @@ if_left root all id item None at is = tt
 if_left root all id item (Some a) at is = left_is root all id item a at (sym is)
 
 -- one step more
-pub one_step : (all : List Thing) (top id left n : ℕ) → term_at all id ≡ steps_down n (term_at all top) → term_at all left ≡ left_operand (term_at all id) → term_at all left ≡ steps_down (n + 1) (term_at all top)
+pub one_step : (all : List Thing) (top id left n : ℕ) → term_at all id ≡ steps_down n (term_at all top) → term_at all left ≡ left_operand (term_at all id) → term_at all left
+    ≡ steps_down (n + 1) (term_at all top)
 one_step all top id left n reached is =
     let more : suc n ≡ n + 1 = omega arith in
     is ∙ ap left_operand reached ∙ ap (λ (k : ℕ). steps_down k (term_at all top)) more
@@ -120,12 +121,14 @@ behind (suc m) n t =
     let more : suc m + n ≡ suc (m + n) = omega arith in
     ap (λ (k : ℕ). steps_down k t) more ∙ ap left_operand (behind m n t)
 
-pub further : (all : List Thing) (top middle n half : ℕ) → half ≤ n → term_at all middle ≡ steps_down half (term_at all top) → steps_down (n - half) (term_at all middle) ≡ steps_down n (term_at all top)
+pub further : (all : List Thing) (top middle n half : ℕ) → half ≤ n → term_at all middle ≡ steps_down half (term_at all top) → steps_down (n - half) (term_at all middle)
+    ≡ steps_down n (term_at all top)
 further all top middle n half within is =
     let whole : n - half + half ≡ n = omega (arith, within) in
     ap (steps_down (n - half)) is ∙ sym (behind (n - half) half (term_at all top)) ∙ ap (λ (k : ℕ). steps_down k (term_at all top)) whole
 
-pub from_left : (all : List Thing) (top left bottom n : ℕ) → term_at all left ≡ left_operand (term_at all top) → term_at all bottom ≡ steps_down n (term_at all left) → term_at all bottom ≡ steps_down (n + 1) (term_at all top)
+pub from_left : (all : List Thing) (top left bottom n : ℕ) → term_at all left ≡ left_operand (term_at all top) → term_at all bottom ≡ steps_down n (term_at all left) → term_at all bottom
+    ≡ steps_down (n + 1) (term_at all top)
 from_left all top left bottom n is reached =
     reached ∙ ap (steps_down n) is ∙ sym (behind n 1 (term_at all top))
 
@@ -133,26 +136,32 @@ from_left all top left bottom n is reached =
 pub product_operand : (root : Box) (all : List Thing) (id : ℕ) (item : Item) (a b : ℕ) → IsAt root all id item → item.node ≡ node.Product a b → term_at all a ≡ left_operand (term_at all id)
 product_operand root all id item a b at is = left_is root all id item a at (ap left_in is)
 
-pub operation_operand : (root : Box) (all : List Thing) (id : ℕ) (item : Item) (op : Operation) (a : ℕ) → IsAt root all id item → item.node ≡ node.Operation op a → term_at all a ≡ left_operand (term_at all id)
+pub operation_operand : (root : Box) (all : List Thing) (id : ℕ) (item : Item) (op : Operation) (a : ℕ) → IsAt root all id item → item.node ≡ node.Operation op a → term_at all a
+    ≡ left_operand (term_at all id)
 operation_operand root all id item op a at is = left_is root all id item a at (ap left_in is)
 
-pub product_below : (root b : Box) (all : List Thing) (id : ℕ) (item : Item) (x y : ℕ) (s : Sight) → IsAt root all id item → item.node ≡ node.Product x y → s ≡ sight root b (left_operand (term_at all id)) → s ≡ sight root b (term_at all x)
+pub product_below : (root b : Box) (all : List Thing) (id : ℕ) (item : Item) (x y : ℕ) (s : Sight) → IsAt root all id item → item.node ≡ node.Product x y → s
+    ≡ sight root b (left_operand (term_at all id)) → s ≡ sight root b (term_at all x)
 product_below root b all id item x y s at is seen = seen ∙ ap (sight root b) (sym (product_operand root all id item x y at is))
 
-pub operation_below : (root b : Box) (all : List Thing) (id : ℕ) (item : Item) (op : Operation) (x : ℕ) (s : Sight) → IsAt root all id item → item.node ≡ node.Operation op x → s ≡ sight root b (left_operand (term_at all id)) → s ≡ sight root b (term_at all x)
+pub operation_below : (root b : Box) (all : List Thing) (id : ℕ) (item : Item) (op : Operation) (x : ℕ) (s : Sight) → IsAt root all id item → item.node ≡ node.Operation op x → s
+    ≡ sight root b (left_operand (term_at all id)) → s ≡ sight root b (term_at all x)
 operation_below root b all id item op x s at is seen = seen ∙ ap (sight root b) (sym (operation_operand root all id item op x at is))
 
-pub no_operand : (root b : Box) (all : List Thing) (id : ℕ) (item : Item) (n : Node) (s : Sight) → IsAt root all id item → item.node ≡ n → left_in n ≡ None → s ≡ sight root b (left_operand (term_at all id)) → s ≡ sight root b (term_at all id)
+pub no_operand : (root b : Box) (all : List Thing) (id : ℕ) (item : Item) (n : Node) (s : Sight) → IsAt root all id item → item.node ≡ n → left_in n ≡ None → s
+    ≡ sight root b (left_operand (term_at all id)) → s ≡ sight root b (term_at all id)
 no_operand root b all id item n s at is none seen = seen ∙ ap (sight root b) (sym (left_none root all id item at (ap left_in is ∙ none)))
 
 pub nothing_there : (root b : Box) (all : List Thing) (id : ℕ) (s : Sight) → thing_at all id ≡ nothing → s ≡ sight root b (left_operand (term_at all id)) → s ≡ sight root b (term_at all id)
 nothing_there root b all id s none seen = seen ∙ ap (sight root b) (sym (left_nothing all id none))
 
 -- the sight of what is reached
-pub reached_sight : (root b : Box) (all : List Thing) (top id n : ℕ) (s : Sight) → s ≡ sight root b (term_at all id) → term_at all id ≡ steps_down n (term_at all top) → s ≡ sight root b (steps_down n (term_at all top))
+pub reached_sight : (root b : Box) (all : List Thing) (top id n : ℕ) (s : Sight) → s ≡ sight root b (term_at all id) → term_at all id ≡ steps_down n (term_at all top) → s
+    ≡ sight root b (steps_down n (term_at all top))
 reached_sight root b all top id n s seen reached = seen ∙ ap (sight root b) reached
 
-pub further_sight : (root b : Box) (all : List Thing) (top middle n half : ℕ) (s : Sight) → half ≤ n → term_at all middle ≡ steps_down half (term_at all top) → s ≡ sight root b (steps_down n (term_at all top)) → s ≡ sight root b (steps_down (n - half) (term_at all middle))
+pub further_sight : (root b : Box) (all : List Thing) (top middle n half : ℕ) (s : Sight) → half ≤ n → term_at all middle ≡ steps_down half (term_at all top) → s
+    ≡ sight root b (steps_down n (term_at all top)) → s ≡ sight root b (steps_down (n - half) (term_at all middle))
 further_sight root b all top middle n half s within is seen = seen ∙ ap (sight root b) (sym (further all top middle n half within is))
 
 pub no_steps : (root b : Box) (t : rule.Term) (n : ℕ) (s : Sight) → n ≡ 0 → s ≡ sight root b (steps_down n t) → s ≡ sight root b t

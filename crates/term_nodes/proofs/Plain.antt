@@ -37,17 +37,20 @@ clear_sight a m clear always =
     ∙ ap (λ (z : ℤ). record { ends = ends.ends (pos 0) z; mark = m }) clear.high
     ∙ ap (λ (n : Defined). record { ends = ends.exactly (pos 0); mark = n }) always
 
-pub plain_sight : (root b : Box) (t : Term) → IsBox root → Inside b root → IsProper t → (form root t).plain ≡ true → mark Wide root root t ≡ Always → sight root b t ≡ record { ends = ends.exactly (pos 0); mark = Always }
+pub plain_sight : (root b : Box) (t : Term) → IsBox root → Inside b root → IsProper t → (form root t).plain ≡ true → mark Wide root root t ≡ Always → sight root b t
+    ≡ record { ends = ends.exactly (pos 0); mark = Always }
 plain_sight root b t is_box inside proper plain always =
     let sharper : Sharper (mark Near root b t) (mark Wide root root t) = (narrow Near root b root t is_box inside proper).sharper in
     clear_sight (atoms Near root b t) (mark Near root b t) ((read Near root b b.lows t inside.is_box (lows_in b inside.is_box) proper).clear plain)
     (always_of (mark Near root b t) (subst (Sharper (mark Near root b t)) always sharper))
 
-pub plain_seen : (here : Here) (id : _) (item : Item) → IsReady here → IsAt (box_in here.root) (things here.items.now) id item → (item.facts.form.plain && is_always item.facts.wide_mark) ≡ true → sight (box_in here.root) (box_in here.view) (term_at (things here.items.now) id) ≡ record { ends = ends.exactly (pos 0); mark = Always }
+pub plain_seen : (here : Here) (id : _) (item : Item) → IsReady here → IsAt (box_in here.root) (things here.items.now) id item → (item.facts.form.plain && is_always item.facts.wide_mark)
+    ≡ true → sight (box_in here.root) (box_in here.view) (term_at (things here.items.now) id) ≡ record { ends = ends.exactly (pos 0); mark = Always }
 plain_seen here id item ready at plain =
     let root = box_in here.root in
     let t : Term = term_in (thing_of (things here.items.now) item.node) in
     let cells : (form root t).plain ≡ true = sym (ap (λ (f : built.Facts). f.form.plain) at.kept) ∙ and_first item.facts.form.plain (is_always item.facts.wide_mark) plain in
-    let always : mark Wide root root t ≡ Always = sym (ap (λ (f : built.Facts). f.wide_mark) at.kept) ∙ is_always_of item.facts.wide_mark (and_second item.facts.form.plain (is_always item.facts.wide_mark) plain) in
+    let always : mark Wide root root t ≡ Always = sym (ap (λ (f : built.Facts). f.wide_mark) at.kept)
+    ∙ is_always_of item.facts.wide_mark (and_second item.facts.form.plain (is_always item.facts.wide_mark) plain) in
     ap (λ (thing : Thing). sight root (box_in here.view) (term_in thing)) at.thing
     ∙ plain_sight root (box_in here.view) t ready.root_is_box ready.inside at.sound.term.proper cells always

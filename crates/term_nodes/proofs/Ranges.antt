@@ -30,7 +30,8 @@ range_small here id ready =
     let b = box_in here.view in
     let t = term_at (things here.items.now) id in
     let sound = small_term root here.items.now id ready.built in
-    let bounds = bounds_within (interval Near root b t) (interval Wide root root t) (size root t) (intervals_narrow Near root b root t ready.root_is_box ready.inside sound.proper) (bounded_whole root t sound.proper) in
+    let bounds = bounds_within (interval Near root b t) (interval Wide root root t) (size root t) (intervals_narrow Near root b root t ready.root_is_box ready.inside sound.proper)
+    (bounded_whole root t sound.proper) in
     record { low = omega (arith, bounds.low, sound.small); high = omega (arith, bounds.high, sound.small) }
 
 pub operation_small : (here : Here) (id : ℕ) (a : ends.Ends) → IsReady here → a ≡ interval Near (box_in here.root) (box_in here.view) (term_at (things here.items.now) id) → IsSmall a
@@ -47,39 +48,48 @@ same_sight a c m n p q = (ap (λ (e : ends.Ends). record { ends = e; mark = m })
 operation_folds : (root : Box) (op : Operation) (t : rule.Term) → (form root (operation_term op t)).plain ≡ folds (form root t ∷ []) (mark Near root root t)
 operation_folds root op t = ap (λ f. f.plain) (operation_form root op t) ∙ folded_plain (folds (form root t ∷ []) (mark Near root root t)) (made_of op (form root t).constant)
 
-operation_seen : (root b : Box) (op : Operation) (t : rule.Term) (plain : Bool) (a : ends.Ends) (m : Defined) → plain ≡ (form root (operation_term op t)).plain → a ≡ unless_folded plain (made op (interval Near root b t)) → m ≡ mark Near root b t → (◌≡◌ {A = Sight}) (record { ends = a; mark = m }) (sight root b (operation_term op t))
+operation_seen : (root b : Box) (op : Operation) (t : rule.Term) (plain : Bool) (a : ends.Ends) (m : Defined) → plain ≡ (form root (operation_term op t)).plain → a
+    ≡ unless_folded plain (made op (interval Near root b t)) → m ≡ mark Near root b t → (◌≡◌ {A = Sight}) (record { ends = a; mark = m }) (sight root b (operation_term op t))
 operation_seen root b op t plain a m plain_is is marked =
     same_sight a (atoms Near root b (operation_term op t)) m (mark Near root b (operation_term op t))
     (is ∙ ap (λ (f : Bool). unless_folded f (made op (interval Near root b t))) (plain_is ∙ operation_folds root op t) ∙ sym (operation_atoms Near root b op t))
     (marked ∙ sym (operation_mark Near root b op t))
 
-pub operation_folded : (root b : Box) (op : Operation) (t : rule.Term) (plain : Bool) (a : ends.Ends) (m : Defined) → plain ≡ (form root (operation_term op t)).plain → plain ≡ true → a ≡ ends.exactly (pos 0) → m ≡ mark Near root b t → (◌≡◌ {A = Sight}) (record { ends = a; mark = m }) (sight root b (operation_term op t))
+pub operation_folded : (root b : Box) (op : Operation) (t : rule.Term) (plain : Bool) (a : ends.Ends) (m : Defined) → plain ≡ (form root (operation_term op t)).plain → plain ≡ true → a
+    ≡ ends.exactly (pos 0) → m ≡ mark Near root b t → (◌≡◌ {A = Sight}) (record { ends = a; mark = m }) (sight root b (operation_term op t))
 operation_folded root b op t plain a m plain_is met zero marked =
     operation_seen root b op t plain a m plain_is (zero ∙ ap (λ (f : Bool). unless_folded f (made op (interval Near root b t))) (sym met)) marked
 
-pub operation_alone : (root b : Box) (op : Operation) (t : rule.Term) (plain : Bool) (a : ends.Ends) (m : Defined) → plain ≡ (form root (operation_term op t)).plain → plain ≡ false → a ≡ made op (interval Near root b t) → m ≡ mark Near root b t → (◌≡◌ {A = Sight}) (record { ends = a; mark = m }) (sight root b (operation_term op t))
+pub operation_alone : (root b : Box) (op : Operation) (t : rule.Term) (plain : Bool) (a : ends.Ends) (m : Defined) → plain ≡ (form root (operation_term op t)).plain → plain ≡ false → a
+    ≡ made op (interval Near root b t) → m ≡ mark Near root b t → (◌≡◌ {A = Sight}) (record { ends = a; mark = m }) (sight root b (operation_term op t))
 operation_alone root b op t plain a m plain_is unmet is marked =
     operation_seen root b op t plain a m plain_is (is ∙ ap (λ (f : Bool). unless_folded f (made op (interval Near root b t))) (sym unmet)) marked
 
 -- the same for the least and the greatest
-extreme_folds : (root : Box) (e : Extreme) (t : rule.Term) (later : rule.Terms) → (form root (extreme_term e t later)).plain ≡ folds (form root t ∷ forms root later) (both (mark Near root root t) (all_marks (marks Near root root later)))
+extreme_folds : (root : Box) (e : Extreme) (t : rule.Term) (later : rule.Terms) → (form root (extreme_term e t later)).plain
+    ≡ folds (form root t ∷ forms root later) (both (mark Near root root t) (all_marks (marks Near root root later)))
 extreme_folds root e t later =
     ap (λ f. f.plain) (extreme_form root e t later)
     ∙ folded_plain (folds (form root t ∷ forms root later) (both (mark Near root root t) (all_marks (marks Near root root later)))) (chosen (chosen_by e) (form root t) (forms root later))
 
-extreme_seen : (root b : Box) (e : Extreme) (t : rule.Term) (later : rule.Terms) (plain : Bool) (a : ends.Ends) (m : Defined) → plain ≡ (form root (extreme_term e t later)).plain → a ≡ unless_folded plain (extreme_range Near root b e t later).ends → m ≡ (extreme_range Near root b e t later).mark → (◌≡◌ {A = Sight}) (record { ends = a; mark = m }) (sight root b (extreme_term e t later))
+extreme_seen : (root b : Box) (e : Extreme) (t : rule.Term) (later : rule.Terms) (plain : Bool) (a : ends.Ends) (m : Defined) → plain ≡ (form root (extreme_term e t later)).plain → a
+    ≡ unless_folded plain (extreme_range Near root b e t later).ends → m ≡ (extreme_range Near root b e t later).mark
+    → (◌≡◌ {A = Sight}) (record { ends = a; mark = m }) (sight root b (extreme_term e t later))
 extreme_seen root b e t later plain a m plain_is is marked =
     same_sight a (atoms Near root b (extreme_term e t later)) m (mark Near root b (extreme_term e t later))
     (is ∙ ap (λ (f : Bool). unless_folded f (extreme_range Near root b e t later).ends) (plain_is ∙ extreme_folds root e t later) ∙ sym (extreme_atoms Near root b e t later))
     (marked ∙ sym (extreme_mark Near root b e t later))
 
-pub extreme_folded : (root b : Box) (e : Extreme) (t : rule.Term) (later : rule.Terms) (plain : Bool) (a : ends.Ends) (r : Sight) → plain ≡ (form root (extreme_term e t later)).plain → plain ≡ true → a ≡ ends.exactly (pos 0) → r ≡ extreme_range Near root b e t later → (◌≡◌ {A = Sight}) (record { ends = a; mark = r.mark }) (sight root b (extreme_term e t later))
+pub extreme_folded : (root b : Box) (e : Extreme) (t : rule.Term) (later : rule.Terms) (plain : Bool) (a : ends.Ends) (r : Sight) → plain ≡ (form root (extreme_term e t later)).plain
+    → plain ≡ true → a ≡ ends.exactly (pos 0) → r ≡ extreme_range Near root b e t later → (◌≡◌ {A = Sight}) (record { ends = a; mark = r.mark }) (sight root b (extreme_term e t later))
 extreme_folded root b e t later plain a r plain_is met zero is =
     extreme_seen root b e t later plain a r.mark plain_is (zero ∙ ap (λ (f : Bool). unless_folded f (extreme_range Near root b e t later).ends) (sym met)) (ap (λ (s : Sight). s.mark) is)
 
-pub extreme_alone : (root b : Box) (e : Extreme) (t : rule.Term) (later : rule.Terms) (plain : Bool) (r : Sight) → plain ≡ (form root (extreme_term e t later)).plain → plain ≡ false → r ≡ extreme_range Near root b e t later → r ≡ sight root b (extreme_term e t later)
+pub extreme_alone : (root b : Box) (e : Extreme) (t : rule.Term) (later : rule.Terms) (plain : Bool) (r : Sight) → plain ≡ (form root (extreme_term e t later)).plain → plain ≡ false
+    → r ≡ extreme_range Near root b e t later → r ≡ sight root b (extreme_term e t later)
 extreme_alone root b e t later plain r plain_is unmet is =
-    is ∙ extreme_seen root b e t later plain (extreme_range Near root b e t later).ends (extreme_range Near root b e t later).mark plain_is (ap (λ (f : Bool). unless_folded f (extreme_range Near root b e t later).ends) (sym unmet)) refl
+    is ∙ extreme_seen root b e t later plain (extreme_range Near root b e t later).ends (extreme_range Near root b e t later).mark plain_is
+    (ap (λ (f : Bool). unless_folded f (extreme_range Near root b e t later).ends) (sym unmet)) refl
 
 -- one after the other is taken, from the first to the last
 abbrev pub taken : Reading → Box → Box → Extreme → ends.Ends → Defined → rule.Terms → Sight
@@ -100,19 +110,25 @@ both_grouped Maybe Maybe Always = refl
 both_grouped Maybe Always k = refl
 both_grouped Always n k = refl
 
-taken_all : (reading : Reading) (root b : Box) (e : Extreme) (a : ends.Ends) (m : Defined) (ts : rule.Terms) → taken reading root b e a m ts ≡ record { ends = fold (picked e) a (intervals reading root b ts); mark = both m (all_marks (marks reading root b ts)) }
+taken_all : (reading : Reading) (root b : Box) (e : Extreme) (a : ends.Ends) (m : Defined) (ts : rule.Terms) → taken reading root b e a m ts
+    ≡ record { ends = fold (picked e) a (intervals reading root b ts); mark = both m (all_marks (marks reading root b ts)) }
 taken_all reading root b e a m rule.no_term = ap (λ (n : Defined). record { ends = a; mark = n }) (sym (both_always m))
 taken_all reading root b e a m (rule.term t later) =
     taken_all reading root b e (picked e a (interval reading root b t)) (both m (mark reading root b t)) later
-    ∙ ap (λ (n : Defined). record { ends = fold (picked e) (picked e a (interval reading root b t)) (intervals reading root b later); mark = n }) (both_grouped m (mark reading root b t) (all_marks (marks reading root b later)))
+    ∙ ap (λ (n : Defined). record { ends = fold (picked e) (picked e a (interval reading root b t)) (intervals reading root b later); mark = n })
+    (both_grouped m (mark reading root b t) (all_marks (marks reading root b later)))
 
-pub taken_is : (reading : Reading) (root b : Box) (e : Extreme) (t : rule.Term) (later : rule.Terms) → taken reading root b e (interval reading root b t) (mark reading root b t) later ≡ extreme_range reading root b e t later
+pub taken_is : (reading : Reading) (root b : Box) (e : Extreme) (t : rule.Term) (later : rule.Terms) → taken reading root b e (interval reading root b t) (mark reading root b t) later
+    ≡ extreme_range reading root b e t later
 taken_is reading root b e t later = taken_all reading root b e (interval reading root b t) (mark reading root b t) later
 
-pub next_taken : (reading : Reading) (root b : Box) (e : Extreme) (a : ends.Ends) (m : Defined) (all : List Thing) (xs : List ℕ) (i x : ℕ) → i < length xs → x ≡ get_or xs i x → taken reading root b e a m (terms_at all (drop i xs)) ≡ taken reading root b e (picked e a (interval reading root b (term_at all x))) (both m (mark reading root b (term_at all x))) (terms_at all (drop (i + 1) xs))
+pub next_taken : (reading : Reading) (root b : Box) (e : Extreme) (a : ends.Ends) (m : Defined) (all : List Thing) (xs : List ℕ) (i x : ℕ) → i < length xs → x ≡ get_or xs i x
+    → taken reading root b e a m (terms_at all (drop i xs)) ≡ taken reading root b e (picked e a (interval reading root b (term_at all x))) (both m (mark reading root b (term_at all x)))
+    (terms_at all (drop (i + 1) xs))
 next_taken reading root b e a m all xs i x below at =
     at_drop_more (λ ys. taken reading root b e a m (terms_at all ys)) xs i x below
     ∙ ap (λ (y : ℕ). taken reading root b e (picked e a (interval reading root b (term_at all y))) (both m (mark reading root b (term_at all y))) (terms_at all (drop (i + 1) xs))) (sym at)
 
-pub none_taken : (reading : Reading) (root b : Box) (e : Extreme) (a : ends.Ends) (m : Defined) (all : List Thing) (xs : List ℕ) (i : ℕ) → length xs ≤ i → taken reading root b e a m (terms_at all (drop i xs)) ≡ record { ends = a; mark = m }
+pub none_taken : (reading : Reading) (root b : Box) (e : Extreme) (a : ends.Ends) (m : Defined) (all : List Thing) (xs : List ℕ) (i : ℕ) → length xs ≤ i
+    → taken reading root b e a m (terms_at all (drop i xs)) ≡ record { ends = a; mark = m }
 none_taken reading root b e a m all xs i past = at_drop_all (λ ys. taken reading root b e a m (terms_at all ys)) xs i past

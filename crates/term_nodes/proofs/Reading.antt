@@ -25,27 +25,32 @@ nothing_past items id past = get_or_past (things items) id nothing (omega (arith
 pub is_at : (root : Box) (items : List Item) (id : ℕ) (item : Item) → IsBuilt root items → id < length items → item ≡ get_or items id item → IsAt root (things items) id item
 is_at root items id item all below at = all.each id item below at
 
-pub form_is : (root : Box) (items : List Item) (id : ℕ) (item : Item) → IsBuilt root items → id < length items → item ≡ get_or items id item → form_of item.facts.form ≡ form root (term_at (things items) id)
+pub form_is : (root : Box) (items : List Item) (id : ℕ) (item : Item) → IsBuilt root items → id < length items → item ≡ get_or items id item → form_of item.facts.form
+    ≡ form root (term_at (things items) id)
 form_is root items id item all below at =
     let here = all.each id item below at in
     ap (λ (f : built.Facts). f.form) here.kept ∙ ap (λ (t : Thing). form root (term_in t)) (sym here.thing)
 
-pub truth_is : (root : Box) (items : List Item) (id : ℕ) (item : Item) → IsBuilt root items → id < length items → item ≡ get_or items id item → item.facts.truth ≡ truth Wide root root (cond_at (things items) id)
+pub truth_is : (root : Box) (items : List Item) (id : ℕ) (item : Item) → IsBuilt root items → id < length items → item ≡ get_or items id item → item.facts.truth
+    ≡ truth Wide root root (cond_at (things items) id)
 truth_is root items id item all below at =
     let here = all.each id item below at in
     ap (λ (f : built.Facts). f.truth) here.kept ∙ ap (λ (t : Thing). truth Wide root root (cond_in t)) (sym here.thing)
 
-pub wide_is : (root : Box) (items : List Item) (id : ℕ) (item : Item) → IsBuilt root items → id < length items → item ≡ get_or items id item → (◌≡◌ {A = Sight}) (record { ends = ends_of item.facts.wide; mark = item.facts.wide_mark }) (wide_sight root (term_at (things items) id))
+pub wide_is : (root : Box) (items : List Item) (id : ℕ) (item : Item) → IsBuilt root items → id < length items → item ≡ get_or items id item
+    → (◌≡◌ {A = Sight}) (record { ends = ends_of item.facts.wide; mark = item.facts.wide_mark }) (wide_sight root (term_at (things items) id))
 wide_is root items id item all below at =
     let here = all.each id item below at in
     (ap (λ (f : built.Facts). record { ends = f.wide; mark = f.wide_mark }) here.kept) ∙ ap (λ (t : Thing). wide_sight root (term_in t)) (sym here.thing)
 
-pub weight_is : (root : Box) (items : List Item) (id : ℕ) (item : Item) → IsBuilt root items → id < length items → item ≡ get_or items id item → item.facts.weight ≡ atoms_weight root (term_at (things items) id)
+pub weight_is : (root : Box) (items : List Item) (id : ℕ) (item : Item) → IsBuilt root items → id < length items → item ≡ get_or items id item → item.facts.weight
+    ≡ atoms_weight root (term_at (things items) id)
 weight_is root items id item all below at =
     let here = all.each id item below at in
     ap (λ (f : built.Facts). f.weight) here.kept ∙ ap (λ (t : Thing). atoms_weight root (term_in t)) (sym here.thing)
 
-pub mark_is : (root : Box) (items : List Item) (id : ℕ) (item : Item) → IsBuilt root items → id < length items → item ≡ get_or items id item → item.facts.mark ≡ mark Near root root (term_at (things items) id)
+pub mark_is : (root : Box) (items : List Item) (id : ℕ) (item : Item) → IsBuilt root items → id < length items → item ≡ get_or items id item → item.facts.mark
+    ≡ mark Near root root (term_at (things items) id)
 mark_is root items id item all below at =
     let here = all.each id item below at in
     ap (λ (f : built.Facts). f.mark) here.kept ∙ ap (λ (t : Thing). mark Near root root (term_in t)) (sym here.thing)

@@ -67,7 +67,8 @@ near_bounds root b t is_box inside proper =
 
 near_parts : (root b : Box) (parts : Parts) → IsBox root → Inside b root → AreProperParts parts → Bounds (sum_atoms Near root b parts) (sum_weight root parts)
 near_parts root b parts is_box inside proper =
-    bounds_within (sum_atoms Near root b parts) (sum_atoms Wide root root parts) (sum_weight root parts) (narrow_parts Near root b root parts is_box inside proper).within (bounded_parts root parts proper)
+    bounds_within (sum_atoms Near root b parts) (sum_atoms Wide root root parts) (sum_weight root parts) (narrow_parts Near root b root parts is_box inside proper).within
+    (bounded_parts root parts proper)
 
 drop_proper : (all : List Thing) (i : ℕ) (parts : List Signed) → AreProperParts (parts_at all parts) → AreProperParts (parts_at all (drop i parts))
 drop_proper all zero parts proper = proper
@@ -86,10 +87,13 @@ times_fit here subtracted id ready =
     let sound = small_term (box_in here.root) here.items.now id ready.built in
     fit_at (forms.sign subtracted) (atoms Near (box_in here.root) (box_in here.view) t) (atoms_weight (box_in here.root) t)
     (near_bounds (box_in here.root) (box_in here.view) t ready.root_is_box ready.inside sound.proper)
-    (let once : unsigned_abs (forms.sign subtracted) * atoms_weight (box_in here.root) t ≡ 1 * atoms_weight (box_in here.root) t = ap (λ (n : ℕ). n * atoms_weight (box_in here.root) t) (sign_size subtracted) in
+    (let once : unsigned_abs (forms.sign subtracted) * atoms_weight (box_in here.root) t
+    ≡ 1 * atoms_weight (box_in here.root) t = ap (λ (n : ℕ). n * atoms_weight (box_in here.root) t) (sign_size subtracted) in
     omega (arith, once, sound.small))
 
-pub sum_fit : (here : Here) (xs : List Signed) (i : ℕ) (x : Signed) → IsReady here → IsSoundTerm (box_in here.root) (Sum (parts_at (things here.items.now) xs)) → i < length xs → x ≡ get_or xs i x → IsFit (ends.plus (ends.scaled (forms.sign x.subtracted) (atoms Near (box_in here.root) (box_in here.view) (term_at (things here.items.now) x.term))) (sum_atoms Near (box_in here.root) (box_in here.view) (parts_at (things here.items.now) (drop (i + 1) xs))))
+pub sum_fit : (here : Here) (xs : List Signed) (i : ℕ) (x : Signed) → IsReady here → IsSoundTerm (box_in here.root) (Sum (parts_at (things here.items.now) xs)) → i < length xs → x
+    ≡ get_or xs i x → IsFit (ends.plus (ends.scaled (forms.sign x.subtracted) (atoms Near (box_in here.root) (box_in here.view) (term_at (things here.items.now) x.term)))
+    (sum_atoms Near (box_in here.root) (box_in here.view) (parts_at (things here.items.now) (drop (i + 1) xs))))
 sum_fit here xs i x ready sound below at =
     let root = box_in here.root in
     let b = box_in here.view in
@@ -100,17 +104,24 @@ sum_fit here xs i x ready sound below at =
     (omega (arith, drop_lighter root all i xs, sound.small)))
 
 -- a product
-pub sized_form : (root : Box) (t : Term) (f : Form) → form_of f ≡ form root t → size root t ≤ 2 ^ 40 → unsigned_abs f.constant + (cells_weight root (cells_of f.cells.items) + atoms_weight root t) < 2 ^ 63
+pub sized_form : (root : Box) (t : Term) (f : Form) → form_of f ≡ form root t → size root t ≤ 2 ^ 40
+    → unsigned_abs f.constant + (cells_weight root (cells_of f.cells.items) + atoms_weight root t) < 2 ^ 63
 sized_form root t f is small =
-    let same : unsigned_abs f.constant + cells_weight root (cells_of f.cells.items) ≡ unsigned_abs (form root t).constant + cells_weight root (form root t).cells = ap (λ (g : forms.Form). unsigned_abs g.constant + cells_weight root g.cells) is in
+    let same : unsigned_abs f.constant + cells_weight root (cells_of f.cells.items)
+    ≡ unsigned_abs (form root t).constant + cells_weight root (form root t).cells = ap (λ (g : forms.Form). unsigned_abs g.constant + cells_weight root g.cells) is in
     omega (arith, same, small)
 
-product_same : (root b : Box) (s t : Term) (f g : Form) (n : ℕ) → form_of f ≡ form root s → form_of g ≡ form root t → Bounds (product_atoms b (form root s) (form root t) (atoms Near root b s) (atoms Near root b t)) n → Bounds (product_atoms b (form_of f) (form_of g) (atoms Near root b s) (atoms Near root b t)) n
+product_same : (root b : Box) (s t : Term) (f g : Form) (n : ℕ) → form_of f ≡ form root s → form_of g ≡ form root t
+    → Bounds (product_atoms b (form root s) (form root t) (atoms Near root b s) (atoms Near root b t)) n
+    → Bounds (product_atoms b (form_of f) (form_of g) (atoms Near root b s) (atoms Near root b t)) n
 product_same root b s t f g n left right bounds =
     subst (λ (h : forms.Form). Bounds (product_atoms b h (form_of g) (atoms Near root b s) (atoms Near root b t)) n) (sym left)
     (subst (λ (h : forms.Form). Bounds (product_atoms b (form root s) h (atoms Near root b s) (atoms Near root b t)) n) (sym right) bounds)
 
-pub product_fit : (here : Here) (x y : ℕ) (f g : Form) → IsReady here → form_of f ≡ form (box_in here.root) (term_at (things here.items.now) x) → form_of g ≡ form (box_in here.root) (term_at (things here.items.now) y) → IsSoundTerm (box_in here.root) (Product (term_at (things here.items.now) x) (term_at (things here.items.now) y)) → ProductFits (box_in here.view) f g (atoms Near (box_in here.root) (box_in here.view) (term_at (things here.items.now) x)) (atoms Near (box_in here.root) (box_in here.view) (term_at (things here.items.now) y))
+pub product_fit : (here : Here) (x y : ℕ) (f g : Form) → IsReady here → form_of f ≡ form (box_in here.root) (term_at (things here.items.now) x) → form_of g
+    ≡ form (box_in here.root) (term_at (things here.items.now) y) → IsSoundTerm (box_in here.root) (Product (term_at (things here.items.now) x) (term_at (things here.items.now) y))
+    → ProductFits (box_in here.view) f g (atoms Near (box_in here.root) (box_in here.view) (term_at (things here.items.now) x))
+    (atoms Near (box_in here.root) (box_in here.view) (term_at (things here.items.now) y))
 product_fit here x y f g ready left right sound =
     let root = box_in here.root in
     let b = box_in here.view in
@@ -125,16 +136,32 @@ product_fit here x y f g ready left right sound =
     (product_same root b s t f g (atoms_weight root (Product s t)) left right whole) (omega (arith, sound.small))
 
 -- a comparison
-pub difference_light : (root : Box) (s t : Term) (f : Form) → form_of f ≡ forms.plus_form (negsuc 0) (form root s) (form root t) → size root s ≤ 2 ^ 40 → size root t ≤ 2 ^ 40 → unsigned_abs f.constant + (cells_weight root (cells_of f.cells.items) + (atoms_weight root s + atoms_weight root t)) < 2 ^ 63
+pub difference_light : (root : Box) (s t : Term) (f : Form) → form_of f ≡ forms.plus_form (negsuc 0) (form root s) (form root t) → size root s ≤ 2 ^ 40 → size root t ≤ 2 ^ 40
+    → unsigned_abs f.constant + (cells_weight root (cells_of f.cells.items) + (atoms_weight root s + atoms_weight root t)) < 2 ^ 63
 difference_light root s t f is s_small t_small =
     let d = forms.plus_form (negsuc 0) (form root s) (form root t) in
-    let same : unsigned_abs f.constant + cells_weight root (cells_of f.cells.items) ≡ unsigned_abs d.constant + cells_weight root d.cells = ap (λ (g : forms.Form). unsigned_abs g.constant + cells_weight root g.cells) is in
+    let same : unsigned_abs f.constant + cells_weight root (cells_of f.cells.items)
+    ≡ unsigned_abs d.constant + cells_weight root d.cells = ap (λ (g : forms.Form). unsigned_abs g.constant + cells_weight root g.cells) is in
     let w : ℕ → ℕ = λ cell. weight_of (ends.cell_ends root cell) in
     let cells = combined_weighted w (negsuc 0) (form root s).cells (form root t).cells in
     let constant = plus_size (form root s).constant (negsuc 0 *ℤ (form root t).constant) in
-    omega (arith, same, cells, constant, unsigned_abs-mul (negsuc 0) (form root t).constant, cells_weighted root d.cells, cells_weighted root (form root s).cells, cells_weighted root (form root t).cells, s_small, t_small)
+    omega (
+      arith,
+      same,
+      cells,
+      constant,
+      unsigned_abs-mul (negsuc 0) (form root t).constant,
+      cells_weighted root d.cells,
+      cells_weighted root (form root s).cells,
+      cells_weighted root (form root t).cells,
+      s_small,
+      t_small,
+    )
 
-pub difference_fit : (here : Here) (x y : ℕ) (f : Form) → IsReady here → form_of f ≡ forms.plus_form (negsuc 0) (form (box_in here.root) (term_at (things here.items.now) x)) (form (box_in here.root) (term_at (things here.items.now) y)) → DifferenceFits (box_in here.view) f (atoms Near (box_in here.root) (box_in here.view) (term_at (things here.items.now) x)) (atoms Near (box_in here.root) (box_in here.view) (term_at (things here.items.now) y))
+pub difference_fit : (here : Here) (x y : ℕ) (f : Form) → IsReady here → form_of f
+    ≡ forms.plus_form (negsuc 0) (form (box_in here.root) (term_at (things here.items.now) x)) (form (box_in here.root) (term_at (things here.items.now) y))
+    → DifferenceFits (box_in here.view) f (atoms Near (box_in here.root) (box_in here.view) (term_at (things here.items.now) x))
+    (atoms Near (box_in here.root) (box_in here.view) (term_at (things here.items.now) y))
 difference_fit here x y f ready is =
     let root = box_in here.root in
     let b = box_in here.view in
@@ -146,28 +173,38 @@ difference_fit here x y f ready is =
     (near_bounds root b s ready.root_is_box ready.inside s_sound.proper) (near_bounds root b t ready.root_is_box ready.inside t_sound.proper)
     (difference_light root s t f is s_sound.small t_sound.small)
 
-pub difference_seen : (here : Here) (x y : ℕ) (f : Form) (l r : own.Sight) → IsReady here → form_of f ≡ forms.plus_form (negsuc 0) (form (box_in here.root) (term_at (things here.items.now) x)) (form (box_in here.root) (term_at (things here.items.now) y)) → sight_of l ≡ sight (box_in here.root) (box_in here.view) (term_at (things here.items.now) x) → sight_of r ≡ sight (box_in here.root) (box_in here.view) (term_at (things here.items.now) y) → DifferenceFits (box_in here.view) f (ends_of l.ends) (ends_of r.ends)
+pub difference_seen : (here : Here) (x y : ℕ) (f : Form) (l r : own.Sight) → IsReady here → form_of f
+    ≡ forms.plus_form (negsuc 0) (form (box_in here.root) (term_at (things here.items.now) x)) (form (box_in here.root) (term_at (things here.items.now) y)) → sight_of l
+    ≡ sight (box_in here.root) (box_in here.view) (term_at (things here.items.now) x) → sight_of r ≡ sight (box_in here.root) (box_in here.view) (term_at (things here.items.now) y)
+    → DifferenceFits (box_in here.view) f (ends_of l.ends) (ends_of r.ends)
 difference_seen here x y f l r ready is left right =
     subst (λ (a : ends.Ends). DifferenceFits (box_in here.view) f a (ends_of r.ends)) (sym (ap (λ (s : Sight). s.ends) left))
     (subst (λ (a : ends.Ends). DifferenceFits (box_in here.view) f (atoms Near (box_in here.root) (box_in here.view) (term_at (things here.items.now) x)) a) (sym (ap (λ (s : Sight). s.ends) right))
     (difference_fit here x y f ready is))
 
-pub times_seen : (here : Here) (subtracted : _) (id : ℕ) (s : own.Sight) → IsReady here → sight_of s ≡ sight (box_in here.root) (box_in here.view) (term_at (things here.items.now) id) → IsFit (ends_at (forms.sign subtracted) (ends_of s.ends))
+pub times_seen : (here : Here) (subtracted : _) (id : ℕ) (s : own.Sight) → IsReady here → sight_of s ≡ sight (box_in here.root) (box_in here.view) (term_at (things here.items.now) id)
+    → IsFit (ends_at (forms.sign subtracted) (ends_of s.ends))
 times_seen here subtracted id s ready is =
     subst (λ (a : ends.Ends). IsFit (ends_at (forms.sign subtracted) a)) (sym (ap (λ (s : Sight). s.ends) is)) (times_fit here subtracted id ready)
 
-pub sum_seen : (here : Here) (xs : List Signed) (i : ℕ) (d : Signed) (part sum : own.Sight) → IsReady here → IsSoundTerm (box_in here.root) (Sum (parts_at (things here.items.now) xs)) → 0 < i → i ≤ length xs → sight_of part ≡ sight (box_in here.root) (box_in here.view) (term_at (things here.items.now) (get_or xs (i - 1) d).term) → sight_of sum ≡ sum_sight (box_in here.root) (box_in here.view) (parts_at (things here.items.now) (drop i xs)) → IsFit (ends.plus (ends.scaled (forms.sign (get_or xs (i - 1) d).subtracted) (ends_of part.ends)) (ends_of sum.ends))
+pub sum_seen : (here : Here) (xs : List Signed) (i : ℕ) (d : Signed) (part sum : own.Sight) → IsReady here → IsSoundTerm (box_in here.root) (Sum (parts_at (things here.items.now) xs))
+    → 0 < i → i ≤ length xs → sight_of part ≡ sight (box_in here.root) (box_in here.view) (term_at (things here.items.now) (get_or xs (i - 1) d).term) → sight_of sum
+    ≡ sum_sight (box_in here.root) (box_in here.view) (parts_at (things here.items.now) (drop i xs))
+    → IsFit (ends.plus (ends.scaled (forms.sign (get_or xs (i - 1) d).subtracted) (ends_of part.ends)) (ends_of sum.ends))
 sum_seen here xs i d part sum ready sound positive most first later =
     let there : i - 1 < length xs = omega (arith, positive, most) in
     let again : i - 1 + 1 ≡ i = omega (arith, positive) in
     let x : Signed = get_or xs (i - 1) d in
     let fits = sum_fit here xs (i - 1) x ready sound there (get_or_default xs (i - 1) d x there) in
-    let here_fits = subst (λ (j : ℕ). IsFit (ends.plus (ends.scaled (forms.sign x.subtracted) (atoms Near (box_in here.root) (box_in here.view) (term_at (things here.items.now) x.term))) (sum_atoms Near (box_in here.root) (box_in here.view) (parts_at (things here.items.now) (drop j xs))))) again fits in
+    let here_fits = subst (λ (j : ℕ). IsFit (ends.plus (ends.scaled (forms.sign x.subtracted) (atoms Near (box_in here.root) (box_in here.view) (term_at (things here.items.now) x.term)))
+    (sum_atoms Near (box_in here.root) (box_in here.view) (parts_at (things here.items.now) (drop j xs))))) again fits in
     subst (λ (a : ends.Ends). IsFit (ends.plus (ends.scaled (forms.sign x.subtracted) a) (ends_of sum.ends))) (sym (ap (λ (s : Sight). s.ends) first))
-    (subst (λ (a : ends.Ends). IsFit (ends.plus (ends.scaled (forms.sign x.subtracted) (atoms Near (box_in here.root) (box_in here.view) (term_at (things here.items.now) x.term))) a)) (sym (ap (λ (s : Sight). s.ends) later)) here_fits)
+    (subst (λ (a : ends.Ends). IsFit (ends.plus (ends.scaled (forms.sign x.subtracted) (atoms Near (box_in here.root) (box_in here.view) (term_at (things here.items.now) x.term))) a))
+    (sym (ap (λ (s : Sight). s.ends) later)) here_fits)
 
 -- the whole interval of a term
-pub range_fit : (here : Here) (id : ℕ) (f : Form) (s : own.Sight) → IsReady here → form_of f ≡ form (box_in here.root) (term_at (things here.items.now) id) → sight_of s ≡ sight (box_in here.root) (box_in here.view) (term_at (things here.items.now) id) → WholeFits (box_in here.view) f (ends_of s.ends)
+pub range_fit : (here : Here) (id : ℕ) (f : Form) (s : own.Sight) → IsReady here → form_of f ≡ form (box_in here.root) (term_at (things here.items.now) id) → sight_of s
+    ≡ sight (box_in here.root) (box_in here.view) (term_at (things here.items.now) id) → WholeFits (box_in here.view) f (ends_of s.ends)
 range_fit here id f s ready is seen =
     let root = box_in here.root in
     let t = term_at (things here.items.now) id in

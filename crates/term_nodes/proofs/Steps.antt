@@ -17,11 +17,13 @@ use Rattle.term_nodes.specs.Built.{Facts, IsAt, IsBelow, IsSound, IsRight, Parts
 use Rattle.term_nodes.specs.Seen.{Sight, sight, sum_sight}
 
 -- what is known where it is known which node stands at a number
-pub seen_at : (root b : Box) (all : List Thing) (id : ℕ) (item : Item) (node : Node) (r : Sight) → IsAt root all id item → item.node ≡ node → r ≡ sight root b (term_in (thing_of all node)) → r ≡ sight root b (term_at all id)
+pub seen_at : (root b : Box) (all : List Thing) (id : ℕ) (item : Item) (node : Node) (r : Sight) → IsAt root all id item → item.node ≡ node → r ≡ sight root b (term_in (thing_of all node))
+    → r ≡ sight root b (term_at all id)
 seen_at root b all id item node r at is seen =
     seen ∙ ap (λ (n : Node). sight root b (term_in (thing_of all n))) (sym is) ∙ ap (λ (t : Thing). sight root b (term_in t)) (sym at.thing)
 
-pub truth_at : (root b : Box) (all : List Thing) (id : ℕ) (item : Item) (node : Node) (r : Truth) → IsAt root all id item → item.node ≡ node → r ≡ truth Near root b (cond_in (thing_of all node)) → r ≡ truth Near root b (cond_at all id)
+pub truth_at : (root b : Box) (all : List Thing) (id : ℕ) (item : Item) (node : Node) (r : Truth) → IsAt root all id item → item.node ≡ node → r ≡ truth Near root b (cond_in (thing_of all node))
+    → r ≡ truth Near root b (cond_at all id)
 truth_at root b all id item node r at is seen =
     seen ∙ ap (λ (n : Node). truth Near root b (cond_in (thing_of all n))) (sym is) ∙ ap (λ (t : Thing). truth Near root b (cond_in t)) (sym at.thing)
 
@@ -42,7 +44,8 @@ pub table_is : (root : Box) (all : List Thing) (id : ℕ) (item : Item) (node : 
 table_is root all id item node t at is found =
     found ∙ ap (λ (n : Node). table_in (thing_of all n)) (sym is) ∙ ap table_in (sym at.thing)
 
-pub next_seen_marks : (reading : Reading) (root b : Box) (all : List Thing) (xs : List ℕ) (i x : ℕ) → i < length xs → x ≡ get_or xs i x → all_marks (marks reading root b (terms_at all (drop i xs))) ≡ both (mark reading root b (term_at all x)) (all_marks (marks reading root b (terms_at all (drop (i + 1) xs))))
+pub next_seen_marks : (reading : Reading) (root b : Box) (all : List Thing) (xs : List ℕ) (i x : ℕ) → i < length xs → x ≡ get_or xs i x → all_marks (marks reading root b (terms_at all (drop i xs)))
+    ≡ both (mark reading root b (term_at all x)) (all_marks (marks reading root b (terms_at all (drop (i + 1) xs))))
 next_seen_marks reading root b all xs i x below at =
     at_drop_more (λ ys. all_marks (marks reading root b (terms_at all ys))) xs i x below
     ∙ ap (λ (y : ℕ). both (mark reading root b (term_at all y)) (all_marks (marks reading root b (terms_at all (drop (i + 1) xs))))) (sym at)
@@ -51,10 +54,19 @@ pub no_seen_marks : (reading : Reading) (root b : Box) (all : List Thing) (xs : 
 no_seen_marks reading root b all xs i past = at_drop_all (λ ys. all_marks (marks reading root b (terms_at all ys))) xs i past
 
 -- the parts of a sum
-pub next_part : (root b : Box) (all : List Thing) (xs : List Signed) (i : ℕ) (x : Signed) → i < length xs → x ≡ get_or xs i x → sum_sight root b (parts_at all (drop i xs)) ≡ record { ends = ends.plus (ends.scaled (sign x.subtracted) (atoms Near root b (term_at all x.term))) (sum_atoms Near root b (parts_at all (drop (i + 1) xs))); mark = both (mark Near root b (term_at all x.term)) (sum_sight root b (parts_at all (drop (i + 1) xs))).mark }
+pub next_part : (root b : Box) (all : List Thing) (xs : List Signed) (i : ℕ) (x : Signed) → i < length xs → x ≡ get_or xs i x → sum_sight root b (parts_at all (drop i xs))
+    ≡ record {
+      ends = ends.plus (ends.scaled (sign x.subtracted) (atoms Near root b (term_at all x.term))) (sum_atoms Near root b (parts_at all (drop (i + 1) xs)));
+      mark =
+          both (mark Near root b (term_at all x.term)) (sum_sight root b (parts_at all (drop (i + 1) xs))).mark;
+    }
 next_part root b all xs i x below at =
     at_drop_more (λ ys. sum_sight root b (parts_at all ys)) xs i x below
-    ∙ ap (λ (y : Signed). record { ends = ends.plus (ends.scaled (sign y.subtracted) (atoms Near root b (term_at all y.term))) (sum_atoms Near root b (parts_at all (drop (i + 1) xs))); mark = both (mark Near root b (term_at all y.term)) (sum_sight root b (parts_at all (drop (i + 1) xs))).mark }) (sym at)
+    ∙ ap (λ (y : Signed). record {
+      ends = ends.plus (ends.scaled (sign y.subtracted) (atoms Near root b (term_at all y.term))) (sum_atoms Near root b (parts_at all (drop (i + 1) xs)));
+      mark =
+          both (mark Near root b (term_at all y.term)) (sum_sight root b (parts_at all (drop (i + 1) xs))).mark;
+    }) (sym at)
 
 pub no_parts : (root b : Box) (all : List Thing) (xs : List Signed) (i : ℕ) → length xs ≤ i → sum_sight root b (parts_at all (drop i xs)) ≡ sum_sight root b (parts_at all [])
 no_parts root b all xs i past = at_drop_all (λ ys. sum_sight root b (parts_at all ys)) xs i past
@@ -65,20 +77,24 @@ part_below limit (y ∷ ys) zero x below there at = subst (λ (p : Signed). p.te
 part_below limit (y ∷ ys) (suc i) x below there at = part_below limit ys i x below.1 (omega (arith, there)) at
 
 -- conditions
-pub next_all : (reading : Reading) (root b : Box) (all : List Thing) (xs : List ℕ) (i x : ℕ) → i < length xs → x ≡ get_or xs i x → all_truth reading root b (conds_at all (drop i xs)) ≡ and_truth (truth reading root b (cond_at all x)) (all_truth reading root b (conds_at all (drop (i + 1) xs)))
+pub next_all : (reading : Reading) (root b : Box) (all : List Thing) (xs : List ℕ) (i x : ℕ) → i < length xs → x ≡ get_or xs i x → all_truth reading root b (conds_at all (drop i xs))
+    ≡ and_truth (truth reading root b (cond_at all x)) (all_truth reading root b (conds_at all (drop (i + 1) xs)))
 next_all reading root b all xs i x below at =
     at_drop_more (λ ys. all_truth reading root b (conds_at all ys)) xs i x below
     ∙ ap (λ (y : ℕ). and_truth (truth reading root b (cond_at all y)) (all_truth reading root b (conds_at all (drop (i + 1) xs)))) (sym at)
 
-pub next_any : (reading : Reading) (root b : Box) (all : List Thing) (xs : List ℕ) (i x : ℕ) → i < length xs → x ≡ get_or xs i x → any_truth reading root b (conds_at all (drop i xs)) ≡ or_truth (truth reading root b (cond_at all x)) (any_truth reading root b (conds_at all (drop (i + 1) xs)))
+pub next_any : (reading : Reading) (root b : Box) (all : List Thing) (xs : List ℕ) (i x : ℕ) → i < length xs → x ≡ get_or xs i x → any_truth reading root b (conds_at all (drop i xs))
+    ≡ or_truth (truth reading root b (cond_at all x)) (any_truth reading root b (conds_at all (drop (i + 1) xs)))
 next_any reading root b all xs i x below at =
     at_drop_more (λ ys. any_truth reading root b (conds_at all ys)) xs i x below
     ∙ ap (λ (y : ℕ). or_truth (truth reading root b (cond_at all y)) (any_truth reading root b (conds_at all (drop (i + 1) xs)))) (sym at)
 
-pub none_all : (reading : Reading) (root b : Box) (all : List Thing) (xs : List ℕ) (i : ℕ) → length xs ≤ i → all_truth reading root b (conds_at all (drop i xs)) ≡ all_truth reading root b (conds_at all [])
+pub none_all : (reading : Reading) (root b : Box) (all : List Thing) (xs : List ℕ) (i : ℕ) → length xs ≤ i → all_truth reading root b (conds_at all (drop i xs))
+    ≡ all_truth reading root b (conds_at all [])
 none_all reading root b all xs i past = at_drop_all (λ ys. all_truth reading root b (conds_at all ys)) xs i past
 
-pub none_any : (reading : Reading) (root b : Box) (all : List Thing) (xs : List ℕ) (i : ℕ) → length xs ≤ i → any_truth reading root b (conds_at all (drop i xs)) ≡ any_truth reading root b (conds_at all [])
+pub none_any : (reading : Reading) (root b : Box) (all : List Thing) (xs : List ℕ) (i : ℕ) → length xs ≤ i → any_truth reading root b (conds_at all (drop i xs))
+    ≡ any_truth reading root b (conds_at all [])
 none_any reading root b all xs i past = at_drop_all (λ ys. any_truth reading root b (conds_at all ys)) xs i past
 
 pub cond_below : (limit : ℕ) (xs : List ℕ) (i x : ℕ) → AllBelow limit xs → i < length xs → x ≡ get_or xs i x → x < limit

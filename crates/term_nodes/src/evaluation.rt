@@ -298,7 +298,8 @@ impl<'a> Here<'a> {
         requires first { first < limit }
         requires below { AllBelow limit later.now }
         requires plain { plain ≡ (rule.form (box_in self.now.root) (extreme_term extreme (term_at (things self.now.items.now) first) (terms_at (things self.now.items.now) later.now))).plain }
-        ensures { sight_of result ≡ sight (box_in self.now.root) (box_in self.now.view) (extreme_term extreme (term_at (things self.now.items.now) first) (terms_at (things self.now.items.now) later.now)) }
+        ensures { sight_of result ≡ sight (box_in self.now.root) (box_in self.now.view)
+            (extreme_term extreme (term_at (things self.now.items.now) first) (terms_at (things self.now.items.now) later.now)) }
     {
         let range = self.extreme_range(limit, extreme, first, later);
         if plain {
@@ -318,7 +319,8 @@ impl<'a> Here<'a> {
         requires exists { limit < length self.now.items.now }
         requires first { first < limit }
         requires below { AllBelow limit later.now }
-        ensures { sight_of result ≡ extreme_range rule.Near (box_in self.now.root) (box_in self.now.view) extreme (term_at (things self.now.items.now) first) (terms_at (things self.now.items.now) later.now) }
+        ensures { sight_of result ≡ extreme_range rule.Near (box_in self.now.root) (box_in self.now.view) extreme (term_at (things self.now.items.now) first)
+            (terms_at (things self.now.items.now) later.now) }
     {
         let mut taken = self.range(first);
         for id in later {
@@ -362,7 +364,9 @@ impl<'a> Here<'a> {
         requires ready { IsReady self.now }
         requires exists { limit ≤ length self.now.items.now }
         requires below { AllBelow limit at.now }
-        ensures { sight_of result ≡ element_sight (box_in self.now.view) (table_at (things self.now.items.now) table) (marks.both (marks.all_marks (rule.marks rule.Near (box_in self.now.root) (box_in self.now.view) (terms_at (things self.now.items.now) at.now))) mark) (rule.intervals rule.Near (box_in self.now.root) (box_in self.now.view) (terms_at (things self.now.items.now) at.now) ++ ranges_of behind.now) }
+        ensures { sight_of result ≡ element_sight (box_in self.now.view) (table_at (things self.now.items.now) table)
+            (marks.both (marks.all_marks (rule.marks rule.Near (box_in self.now.root) (box_in self.now.view) (terms_at (things self.now.items.now) at.now))) mark)
+            (rule.intervals rule.Near (box_in self.now.root) (box_in self.now.view) (terms_at (things self.now.items.now) at.now) ++ ranges_of behind.now) }
     {
         let Some((last, before)) = at.split_last() else {
             return self.element_within(table, mark, behind);
@@ -441,8 +445,10 @@ impl<'a> Here<'a> {
         requires exists { limit < length self.now.items.now }
         requires left { comparison.now.left < limit }
         requires right { comparison.now.right < limit }
-        requires difference { form_of comparison.now.form ≡ forms.plus_form (negsuc 0) (rule.form (box_in self.now.root) (term_at (things self.now.items.now) comparison.now.left)) (rule.form (box_in self.now.root) (term_at (things self.now.items.now) comparison.now.right)) }
-        ensures { result ≡ rule.truth rule.Near (box_in self.now.root) (box_in self.now.view) (term.Compare comparison.now.op (term_at (things self.now.items.now) comparison.now.left) (term_at (things self.now.items.now) comparison.now.right)) }
+        requires difference { form_of comparison.now.form ≡ forms.plus_form (negsuc 0) (rule.form (box_in self.now.root) (term_at (things self.now.items.now) comparison.now.left))
+            (rule.form (box_in self.now.root) (term_at (things self.now.items.now) comparison.now.right)) }
+        ensures { result ≡ rule.truth rule.Near (box_in self.now.root) (box_in self.now.view)
+            (term.Compare comparison.now.op (term_at (things self.now.items.now) comparison.now.left) (term_at (things self.now.items.now) comparison.now.right)) }
     {
         let left = self.seen(comparison.left);
         let right = self.seen(comparison.right);

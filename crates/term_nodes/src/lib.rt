@@ -1,4 +1,5 @@
 //! Terms and conditions over cells as nodes of one vector, with what is known of each of them, and what they are over a box.
+//! Its tests stand in `term_tests`.
 #![tactic(auto)]
 
 mod chains;

@@ -34,8 +34,11 @@ constant_interval reading root b t is_box proper constant =
     constant_whole b (form root t) (atoms reading root b t) constant
     ((read reading root b b.lows t is_box (lows_in b is_box) proper).clear (constant_plain (form root t) constant))
 
-pub constant_intervals : (reading : Reading) (root b : Box) (ts : Terms) → IsBox b → AreProper ts → list_all is_constant (forms root ts) ≡ true → intervals reading root b ts ≡ map ends.exactly (map (λ (f : Form). f.constant) (forms root ts))
+pub constant_intervals : (reading : Reading) (root b : Box) (ts : Terms) → IsBox b → AreProper ts → list_all is_constant (forms root ts) ≡ true → intervals reading root b ts
+    ≡ map ends.exactly (map (λ (f : Form). f.constant) (forms root ts))
 constant_intervals reading root b no_term is_box proper all = refl
 constant_intervals reading root b (term t later) is_box proper all =
-    ap (λ (a : ends.Ends). a ∷ intervals reading root b later) (constant_interval reading root b t is_box proper.0 (and_first (is_constant (form root t)) (list_all is_constant (forms root later)) all))
-    ∙ ap (λ (es : List ends.Ends). ends.exactly (form root t).constant ∷ es) (constant_intervals reading root b later is_box proper.1 (and_second (is_constant (form root t)) (list_all is_constant (forms root later)) all))
+    ap (λ (a : ends.Ends). a ∷ intervals reading root b later)
+    (constant_interval reading root b t is_box proper.0 (and_first (is_constant (form root t)) (list_all is_constant (forms root later)) all))
+    ∙ ap (λ (es : List ends.Ends). ends.exactly (form root t).constant ∷ es)
+    (constant_intervals reading root b later is_box proper.1 (and_second (is_constant (form root t)) (list_all is_constant (forms root later)) all))

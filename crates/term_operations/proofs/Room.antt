@@ -34,8 +34,10 @@ divides (pos (suc n)) nonzero small = omega arith
 divides (negsuc n) nonzero small = omega (arith, small)
 
 -- what the code's `/` and `%` give
-pub quotient_is : (x y : ℤ) → unsigned_abs x ≤ 2 ^ 40 → unsigned_abs y ≤ 2 ^ 40 → cast_signed w64 (cast_unsigned w64 (int_div (cast_signed w64 (cast_unsigned w64 x)) (cast_signed w64 (cast_unsigned w64 y)))) ≡ int_div x y
+pub quotient_is : (x y : ℤ) → unsigned_abs x ≤ 2 ^ 40 → unsigned_abs y ≤ 2 ^ 40
+    → cast_signed w64 (cast_unsigned w64 (int_div (cast_signed w64 (cast_unsigned w64 x)) (cast_signed w64 (cast_unsigned w64 y)))) ≡ int_div x y
 quotient_is x y x_small y_small = quot_is w64 x y (small_fits x x_small) (small_fits y y_small) (quotient_fits x y x_small)
 
-pub remainder_is : (x y : ℤ) → unsigned_abs x ≤ 2 ^ 40 → unsigned_abs y ≤ 2 ^ 40 → cast_signed w64 (cast_unsigned w64 (int_rem (cast_signed w64 (cast_unsigned w64 x)) (cast_signed w64 (cast_unsigned w64 y)))) ≡ int_rem x y
+pub remainder_is : (x y : ℤ) → unsigned_abs x ≤ 2 ^ 40 → unsigned_abs y ≤ 2 ^ 40
+    → cast_signed w64 (cast_unsigned w64 (int_rem (cast_signed w64 (cast_unsigned w64 x)) (cast_signed w64 (cast_unsigned w64 y)))) ≡ int_rem x y
 remainder_is x y x_small y_small = rem_is w64 x y (small_fits x x_small) (small_fits y y_small)

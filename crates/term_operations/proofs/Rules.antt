@@ -25,7 +25,8 @@ operation_form root (Quotient divisor) t = refl
 operation_form root (Remainder divisor) t = refl
 operation_form root Size t = refl
 
-pub operation_atoms : (reading : Reading) (root b : Box) (op : Operation) (t : Term) → atoms reading root b (operation_term op t) ≡ unless_folded (folds (form root t ∷ []) (mark Near root root t)) (made op (interval reading root b t))
+pub operation_atoms : (reading : Reading) (root b : Box) (op : Operation) (t : Term) → atoms reading root b (operation_term op t)
+    ≡ unless_folded (folds (form root t ∷ []) (mark Near root root t)) (made op (interval reading root b t))
 operation_atoms reading root b (Quotient divisor) t = refl
 operation_atoms reading root b (Remainder divisor) t = refl
 operation_atoms reading root b Size t = refl
@@ -46,19 +47,24 @@ operation_proper (Remainder divisor) t proper = proper
 operation_proper Size t proper = proper
 
 -- extremes
-pub extreme_form : (root : Box) (e : Extreme) (t : Term) (later : Terms) → form root (extreme_term e t later) ≡ folded (folds (form root t ∷ forms root later) (both (mark Near root root t) (all_marks (marks Near root root later)))) (chosen (chosen_by e) (form root t) (forms root later))
+pub extreme_form : (root : Box) (e : Extreme) (t : Term) (later : Terms) → form root (extreme_term e t later)
+    ≡ folded (folds (form root t ∷ forms root later) (both (mark Near root root t) (all_marks (marks Near root root later)))) (chosen (chosen_by e) (form root t) (forms root later))
 extreme_form root Least t later = refl
 extreme_form root Greatest t later = refl
 
-pub extreme_atoms : (reading : Reading) (root b : Box) (e : Extreme) (t : Term) (later : Terms) → atoms reading root b (extreme_term e t later) ≡ unless_folded (folds (form root t ∷ forms root later) (both (mark Near root root t) (all_marks (marks Near root root later)))) (fold (picked e) (interval reading root b t) (intervals reading root b later))
+pub extreme_atoms : (reading : Reading) (root b : Box) (e : Extreme) (t : Term) (later : Terms) → atoms reading root b (extreme_term e t later)
+    ≡ unless_folded (folds (form root t ∷ forms root later) (both (mark Near root root t) (all_marks (marks Near root root later))))
+    (fold (picked e) (interval reading root b t) (intervals reading root b later))
 extreme_atoms reading root b Least t later = refl
 extreme_atoms reading root b Greatest t later = refl
 
-pub extreme_mark : (reading : Reading) (root b : Box) (e : Extreme) (t : Term) (later : Terms) → mark reading root b (extreme_term e t later) ≡ both (mark reading root b t) (all_marks (marks reading root b later))
+pub extreme_mark : (reading : Reading) (root b : Box) (e : Extreme) (t : Term) (later : Terms) → mark reading root b (extreme_term e t later)
+    ≡ both (mark reading root b t) (all_marks (marks reading root b later))
 extreme_mark reading root b Least t later = refl
 extreme_mark reading root b Greatest t later = refl
 
-pub extreme_weight : (root : Box) (e : Extreme) (t : Term) (later : Terms) → atoms_weight root (extreme_term e t later) ≡ alone_weight (form root (extreme_term e t later)) (atoms Wide root root (extreme_term e t later))
+pub extreme_weight : (root : Box) (e : Extreme) (t : Term) (later : Terms) → atoms_weight root (extreme_term e t later)
+    ≡ alone_weight (form root (extreme_term e t later)) (atoms Wide root root (extreme_term e t later))
 extreme_weight root Least t later = refl
 extreme_weight root Greatest t later = refl
 
@@ -85,6 +91,7 @@ fold_exactly e z (y ∷ ys) =
     ap (λ (a : Ends). fold (picked e) a (map exactly ys)) (picked_exactly e z y) ∙ fold_exactly e (chosen_by e z y) ys
 
 -- the weight of what folds to a number, or is an atom
-pub folded_size : (root : Box) (fold : Bool) (z : ℤ) (a : Ends) → unsigned_abs (folded fold z).constant + cells_weight root (folded fold z).cells + alone_weight (folded fold z) (unless_folded fold a) ≡ if fold then unsigned_abs z else weight_of a
+pub folded_size : (root : Box) (fold : Bool) (z : ℤ) (a : Ends) → unsigned_abs (folded fold z).constant + cells_weight root (folded fold z).cells + alone_weight (folded fold z) (unless_folded fold a)
+    ≡ if fold then unsigned_abs z else weight_of a
 folded_size root true z a = omega arith
 folded_size root false z a = omega arith

@@ -2,7 +2,7 @@
 use Rattle.std.proofs.Common.{◌≡◌, ◌∙◌, refl, ap, sym, arith, ℕ, ◌<◌, negsuc, Bool, true, false, ◌&&◌, List, length, [], ◌∷◌, Option, Some, None, option_map, if◌then◌else◌, get_or, inl, inr}
 use Rattle.std.proofs.lemmas.Bool.{cases_lt}
 use Rattle.std.proofs.lemmas.List.{get_or_default}
-use Rattle.sopl_base.specs.declared.places.CmpOp.{CmpOp}
+use Rattle.sopl_base.specs.declared.comparison.CmpOp.{CmpOp}
 use Rattle.box_rules.proofs.FormValues.{by_bool}
 use Rattle.term_nodes.proofs.Reading.{nothing_past}
 use Rattle.term_program.specs.declared.program.Program.{Program}
@@ -64,12 +64,14 @@ nothing_compared all id none = ap (λ (t : Thing). is_comparison (cond_in t)) no
 
 -- the linear comparison
 module _ (root : Box) (all : List Thing) (id : ℕ) (c : Comparison) (there : IsComparison root all id c) where
-  chosen : (b : Bool) → is_linear_pair root (term_at all c.left) (term_at all c.right) ≡ b → linear_in root (cond_at all id) ≡ (if b then Some (record { op = c.op; form = forms.plus_form (negsuc 0) (form root (term_at all c.left)) (form root (term_at all c.right)) }) else None)
+  chosen : (b : Bool) → is_linear_pair root (term_at all c.left) (term_at all c.right) ≡ b → linear_in root (cond_at all id)
+      ≡ (if b then Some (record { op = c.op; form = forms.plus_form (negsuc 0) (form root (term_at all c.left)) (form root (term_at all c.right)) }) else None)
   chosen b is =
       ap (linear_in root) there.is
       ∙ ap (λ (t : Bool). if t then Some (record { op = c.op; form = forms.plus_form (negsuc 0) (form root (term_at all c.left)) (form root (term_at all c.right)) }) else None) is
 
-  pub linear_there : c.form.plain ≡ true → true ≡ is_always (both (mark Near root root (term_at all c.left)) (mark Near root root (term_at all c.right))) → linear_in root (cond_at all id) ≡ Some (difference_of c)
+  pub linear_there : c.form.plain ≡ true → true ≡ is_always (both (mark Near root root (term_at all c.left)) (mark Near root root (term_at all c.right))) → linear_in root (cond_at all id)
+      ≡ Some (difference_of c)
   linear_there is always =
       chosen true (ap (λ (f : forms.Form). f.plain && is_always (both (mark Near root root (term_at all c.left)) (mark Near root root (term_at all c.right)))) (sym there.form)
       ∙ ap (λ (p : Bool). p && is_always (both (mark Near root root (term_at all c.left)) (mark Near root root (term_at all c.right)))) is ∙ sym always)

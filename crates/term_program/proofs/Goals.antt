@@ -1,9 +1,10 @@
 -- What is asked of an objective over a box.
-use Rattle.std.proofs.Common.{◌≡◌, ◌∙◌, refl, ap, sym, subst, arith, ℕ, zero, suc, ◌<◌, ◌≤◌, ℤ, pos, Bool, false, if◌then◌else◌, List, [], ◌∷◌, length, get_or, Option, Some, None, IfSome, IfNone, option_map, slice_get}
+use Rattle.std.proofs.Common.{◌≡◌, ◌∙◌, refl, ap, sym, subst, arith, ℕ, zero, suc, ◌<◌, ◌≤◌, ℤ, pos, Bool, false, if◌then◌else◌, List, [], ◌∷◌, length, get_or, Option, Some, None}
+use Rattle.std.proofs.Common.{IfSome, IfNone, option_map, slice_get}
 use Rattle.std.proofs.lemmas.Option.{slice_get-map, slice_get_read, slice_get_past}
 use Rattle.std.specs.Option.{option_map_or}
-use Rattle.sopl_base.specs.declared.places.Direction.{Direction}
-use Rattle.sopl_base.specs.declared.places.Direction.TheVariants.{Nothing}
+use Rattle.sopl_base.specs.declared.direction.Direction.{Direction}
+use Rattle.sopl_base.specs.declared.direction.Direction.TheVariants.{Nothing}
 use Rattle.box_problem.specs.Box.{Box, Inside}
 use Rattle.box_rules.specs.Rules.{Near, mark}
 use Rattle.box_rules.specs.Terms.{Term}
@@ -30,7 +31,8 @@ term_exists n (y ∷ ys) zero x all there at = subst (λ (p : ℕ). p < n) (sym 
 term_exists n (y ∷ ys) (suc i) x all there at = term_exists n ys i x all.1 (omega (arith, there)) at
 
 -- over the same root and things
-pub ends_of_goal : (root view b c : Box) (things all : List Thing) (weights : List ℤ) (g : Goal) (ends : Ends) → root ≡ b → view ≡ c → things ≡ all → ends ≡ goal_ends_of root view weights (goal_of things g) → ends ≡ goal_ends_of b c weights (goal_of all g)
+pub ends_of_goal : (root view b c : Box) (things all : List Thing) (weights : List ℤ) (g : Goal) (ends : Ends) → root ≡ b → view ≡ c → things ≡ all → ends
+    ≡ goal_ends_of root view weights (goal_of things g) → ends ≡ goal_ends_of b c weights (goal_of all g)
 ends_of_goal root view b c things all weights g ends root_is view_is things_are is =
     is ∙ ap (λ (r : Box). goal_ends_of r view weights (goal_of things g)) root_is
     ∙ ap (λ (v : Box). goal_ends_of b v weights (goal_of things g)) view_is
@@ -52,29 +54,39 @@ module _ (p : Program) (g : Goal) (is : p.goal ≡ Some g) where
       ap (λ (b : Bool). if b then pos 1 else p.draft.whole) (tells (things_in p)) ∙ sym (of_kept (λ goal. if goal.worst then pos 1 else p.draft.whole) (pos 1))
 
 -- the constant of what is summed
-constant_of_sum : (root : Box) (all : List Thing) (weights : List ℤ) (ids : List ℕ) (s : Option Summed) → IfSome s (IsSummed root all weights ids) → is_none s ≡ false → option_map_or (λ (x : Summed). x.form.constant) s (pos 0) ≡ (expected_form root weights (terms_of all ids)).constant
+constant_of_sum : (root : Box) (all : List Thing) (weights : List ℤ) (ids : List ℕ) (s : Option Summed) → IfSome s (IsSummed root all weights ids) → is_none s ≡ false
+    → option_map_or (λ (x : Summed). x.form.constant) s (pos 0) ≡ (expected_form root weights (terms_of all ids)).constant
 constant_of_sum root all weights ids (Some s) is expected = ap (λ (f : Form). f.constant) is.form
 constant_of_sum root all weights ids None is expected = cc
 
-pub constant_kept : (p : Program) (g : Goal) (z : ℤ) → p.goal ≡ Some g → IsMade p → option_map_or (λ (goal : GoalTerms). goal.worst) (problem_in p).goal false ≡ false → z ≡ constant_of g → z ≡ (summed_form (root_in p) (problem_in p)).constant
+pub constant_kept : (p : Program) (g : Goal) (z : ℤ) → p.goal ≡ Some g → IsMade p → option_map_or (λ (goal : GoalTerms). goal.worst) (problem_in p).goal false ≡ false → z ≡ constant_of g
+    → z ≡ (summed_form (root_in p) (problem_in p)).constant
 constant_kept p g z is made expected tells =
     tells
-    ∙ constant_of_sum (root_in p) (things_in p) p.draft.weights.items g.terms.items g.summed (subst (λ (o : Option Goal). IfSome o (IsGoalOf p.draft)) is made.goal).weighted.summed (sym (of_kept p g is (λ goal. goal.worst) false) ∙ expected)
-    ∙ sym (ap (λ (o : Option Goal). (option_map_or (λ (goal : GoalTerms). expected_form (root_in p) p.draft.weights.items goal.terms) (option_map (goal_of (things_in p)) o) (number_form (pos 0))).constant) is)
+    ∙ constant_of_sum (root_in p) (things_in p) p.draft.weights.items g.terms.items g.summed (subst (λ (o : Option Goal). IfSome o (IsGoalOf p.draft)) is made.goal).weighted.summed
+    (sym (of_kept p g is (λ goal. goal.worst) false) ∙ expected)
+    ∙ sym (ap (λ (o : Option Goal). (option_map_or (λ (goal : GoalTerms). expected_form (root_in p) p.draft.weights.items goal.terms) (option_map (goal_of (things_in p)) o)
+    (number_form (pos 0))).constant) is)
 
 -- the atoms of what is summed
 module _ (d : Draft) (g : Goal) (draft : IsDraft d) (of : IsGoalOf d g) (root : Box) (all : List Thing) (root_is : root ≡ draft_root d) (all_is : all ≡ draft_things d) where
-  ended : (b : Box) → (goal_of (draft_things d) g).worst ≡ false → expected_ends (draft_root d) b d.weights.items (goal_of (draft_things d) g).terms ≡ goal_ends_of (draft_root d) b d.weights.items (goal_of (draft_things d) g)
-  ended b expected = sym (ap (λ (w : Bool). if w then worst_ends g.direction (draft_root d) b (terms_of (draft_things d) g.terms.items) else expected_ends (draft_root d) b d.weights.items (terms_of (draft_things d) g.terms.items)) expected)
+  ended : (b : Box) → (goal_of (draft_things d) g).worst ≡ false → expected_ends (draft_root d) b d.weights.items (goal_of (draft_things d) g).terms
+      ≡ goal_ends_of (draft_root d) b d.weights.items (goal_of (draft_things d) g)
+  ended b expected = sym (ap (λ (w : Bool). if w then worst_ends g.direction (draft_root d) b (terms_of (draft_things d) g.terms.items) else expected_ends (draft_root d) b d.weights.items
+      (terms_of (draft_things d) g.terms.items)) expected)
 
   pub atoms_sum :
       (atoms : List Atom)
-      → ((weights : List ℤ) → IsWeighted root all weights g → (goal_of all g).worst ≡ false → (b : Box) → Inside b root → plus (exactly (constant_of g)) (listed_ends root b all atoms) ≡ expected_ends root b weights (goal_of all g).terms)
+      → ((weights : List ℤ) → IsWeighted root all weights g → (goal_of all g).worst ≡ false → (b : Box) → Inside b root → plus (exactly (constant_of g)) (listed_ends root b all atoms)
+      ≡ expected_ends root b weights (goal_of all g).terms)
       → AtomsExist (length (draft_things d)) atoms → AreAtomsOf d g atoms
   atoms_sum atoms each exist =
-      let moved : (weights : List ℤ) → IsWeighted (draft_root d) (draft_things d) weights g → (goal_of (draft_things d) g).worst ≡ false → (b : Box) → Inside b (draft_root d) → plus (exactly (constant_of g)) (listed_ends (draft_root d) b (draft_things d) atoms) ≡ expected_ends (draft_root d) b weights (goal_of (draft_things d) g).terms =
-      subst (λ (ts : List Thing). (weights : List ℤ) → IsWeighted (draft_root d) ts weights g → (goal_of ts g).worst ≡ false → (b : Box) → Inside b (draft_root d) → plus (exactly (constant_of g)) (listed_ends (draft_root d) b ts atoms) ≡ expected_ends (draft_root d) b weights (goal_of ts g).terms) all_is
-      (subst (λ (r : Box). (weights : List ℤ) → IsWeighted r all weights g → (goal_of all g).worst ≡ false → (b : Box) → Inside b r → plus (exactly (constant_of g)) (listed_ends r b all atoms) ≡ expected_ends r b weights (goal_of all g).terms) root_is each) in
+      let moved : (weights : List ℤ) → IsWeighted (draft_root d) (draft_things d) weights g → (goal_of (draft_things d) g).worst ≡ false → (b : Box) → Inside b (draft_root d)
+      → plus (exactly (constant_of g)) (listed_ends (draft_root d) b (draft_things d) atoms) ≡ expected_ends (draft_root d) b weights (goal_of (draft_things d) g).terms =
+      subst (λ (ts : List Thing). (weights : List ℤ) → IsWeighted (draft_root d) ts weights g → (goal_of ts g).worst ≡ false → (b : Box) → Inside b (draft_root d)
+      → plus (exactly (constant_of g)) (listed_ends (draft_root d) b ts atoms) ≡ expected_ends (draft_root d) b weights (goal_of ts g).terms) all_is
+      (subst (λ (r : Box). (weights : List ℤ) → IsWeighted r all weights g → (goal_of all g).worst ≡ false → (b : Box) → Inside b r → plus (exactly (constant_of g)) (listed_ends r b all atoms)
+      ≡ expected_ends r b weights (goal_of all g).terms) root_is each) in
       record {
         sum = λ expected b inside. moved d.weights.items of.weighted expected b inside ∙ ended b expected;
         exist = exist;
@@ -83,7 +95,8 @@ module _ (d : Draft) (g : Goal) (draft : IsDraft d) (of : IsGoalOf d g) (root : 
 there : {A : Type 0} (P : A → Type 0) (o : Option A) (x : A) → o ≡ Some x → IfSome o P → P x
 there P o x is all = subst (λ (p : Option _). IfSome p P) is all
 
-atoms_by : (p : Program) (o : Option Goal) → p.goal ≡ o → IsMade p → option_map_or (λ (goal : GoalTerms). goal.worst) (problem_in p).goal false ≡ false → (b : Box) → Inside b (root_in p) → plus (exactly (summed_form (root_in p) (problem_in p)).constant) (listed_ends (root_in p) b (things_in p) p.atoms.items) ≡ goal_ends (root_in p) b (problem_in p)
+atoms_by : (p : Program) (o : Option Goal) → p.goal ≡ o → IsMade p → option_map_or (λ (goal : GoalTerms). goal.worst) (problem_in p).goal false ≡ false → (b : Box) → Inside b (root_in p)
+    → plus (exactly (summed_form (root_in p) (problem_in p)).constant) (listed_ends (root_in p) b (things_in p) p.atoms.items) ≡ goal_ends (root_in p) b (problem_in p)
 atoms_by p (Some g) is made expected b inside =
     ap (λ (z : ℤ). plus (exactly z) (listed_ends (root_in p) b (things_in p) p.atoms.items)) (sym (constant_kept p g (constant_of g) is made expected refl))
     ∙ (there (λ (h : Goal). AreAtomsOf p.draft h p.atoms.items) p.goal g is made.atoms).sum (sym (of_kept p g is (λ goal. goal.worst) false) ∙ expected) b inside
@@ -94,7 +107,8 @@ atoms_by p None is made expected b inside =
     ∙ ap (λ (o : Option Goal). plus (exactly (summed_form (root_in p) (with_goal (draft_problem p.draft) (option_map (goal_of (things_in p)) o))).constant) (exactly (pos 0))) is
     ∙ sym (ap (λ (o : Option Goal). goal_ends (root_in p) b (with_goal (draft_problem p.draft) (option_map (goal_of (things_in p)) o))) is)
 
-pub atoms_kept : (p : Program) → IsMade p → option_map_or (λ (goal : GoalTerms). goal.worst) (problem_in p).goal false ≡ false → (b : Box) → Inside b (root_in p) → plus (exactly (summed_form (root_in p) (problem_in p)).constant) (listed_ends (root_in p) b (things_in p) p.atoms.items) ≡ goal_ends (root_in p) b (problem_in p)
+pub atoms_kept : (p : Program) → IsMade p → option_map_or (λ (goal : GoalTerms). goal.worst) (problem_in p).goal false ≡ false → (b : Box) → Inside b (root_in p)
+    → plus (exactly (summed_form (root_in p) (problem_in p)).constant) (listed_ends (root_in p) b (things_in p) p.atoms.items) ≡ goal_ends (root_in p) b (problem_in p)
 atoms_kept p made expected b inside = atoms_by p p.goal refl made expected b inside
 
 exist_by : (p : Program) (o : Option Goal) → p.goal ≡ o → IsMade p → AtomsExist (length (things_in p)) p.atoms.items
@@ -107,12 +121,16 @@ pub atoms_exist : (p : Program) → IsMade p → AtomsExist (length (things_in p
 atoms_exist p made = exist_by p p.goal refl made
 
 -- the terms of an objective in a scenario
-pub never_there : (root b : Box) (all : List Thing) (g : Goal) (ids : List ℕ) (i x : ℕ) → ids ≡ g.terms.items → i < length ids → x ≡ get_or ids i x → is_never (mark Near root b (term_at all x)) ≡ option_map_or (λ term. is_never (mark Near root b term)) (slice_get (goal_of all g).terms i) false
+pub never_there : (root b : Box) (all : List Thing) (g : Goal) (ids : List ℕ) (i x : ℕ) → ids ≡ g.terms.items → i < length ids → x ≡ get_or ids i x → is_never (mark Near root b (term_at all x))
+    ≡ option_map_or (λ term. is_never (mark Near root b term)) (slice_get (goal_of all g).terms i) false
 never_there root b all g ids i x listed below at =
     sym (ap (λ (ts : List Term). option_map_or (λ term. is_never (mark Near root b term)) (slice_get ts i) false) (sym (ap (terms_of all) listed))
-    ∙ ap (λ (o : Option Term). option_map_or (λ term. is_never (mark Near root b term)) o false) (slice_get-map (term_at all) ids i ∙ ap (λ (o : Option ℕ). option_map (term_at all) o) (slice_get_read ids (length ids) i x refl below at)))
+    ∙ ap (λ (o : Option Term). option_map_or (λ term. is_never (mark Near root b term)) o false) (slice_get-map (term_at all) ids i
+    ∙ ap (λ (o : Option ℕ). option_map (term_at all) o) (slice_get_read ids (length ids) i x refl below at)))
 
-pub never_missing : (root b : Box) (all : List Thing) (g : Goal) (ids : List ℕ) (i : ℕ) → ids ≡ g.terms.items → length ids ≤ i → false ≡ option_map_or (λ term. is_never (mark Near root b term)) (slice_get (goal_of all g).terms i) false
+pub never_missing : (root b : Box) (all : List Thing) (g : Goal) (ids : List ℕ) (i : ℕ) → ids ≡ g.terms.items → length ids ≤ i → false
+    ≡ option_map_or (λ term. is_never (mark Near root b term)) (slice_get (goal_of all g).terms i) false
 never_missing root b all g ids i listed past =
     sym (ap (λ (ts : List Term). option_map_or (λ term. is_never (mark Near root b term)) (slice_get ts i) false) (sym (ap (terms_of all) listed))
-    ∙ ap (λ (o : Option Term). option_map_or (λ term. is_never (mark Near root b term)) o false) (slice_get-map (term_at all) ids i ∙ ap (λ (o : Option ℕ). option_map (term_at all) o) (slice_get_past ids i past)))
+    ∙ ap (λ (o : Option Term). option_map_or (λ term. is_never (mark Near root b term)) o false) (slice_get-map (term_at all) ids i
+    ∙ ap (λ (o : Option ℕ). option_map (term_at all) o) (slice_get_past ids i past)))

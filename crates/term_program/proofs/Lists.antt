@@ -1,5 +1,6 @@
 -- Cells that are kept.
-use Rattle.std.proofs.Common.{◌≡◌, ◌∙◌, refl, ap, sym, subst, arith, ℕ, zero, suc, ◌+◌, ◌<◌, ◌≤◌, Bool, true, false, cond, List, [], ◌∷◌, ◌++◌, length, get_or, take, Option, Some, None, IfSome, IsTrue, is_some, Vec, Global, Contains, ◌↔◌, slice_get}
+use Rattle.std.proofs.Common.{◌≡◌, ◌∙◌, refl, ap, sym, subst, arith, ℕ, zero, suc, ◌+◌, ◌<◌, ◌≤◌, Bool, true, false, cond, List, [], ◌∷◌, ◌++◌, length, get_or, take, Option, Some}
+use Rattle.std.proofs.Common.{None, IfSome, IsTrue, is_some, Vec, Global, Contains, ◌↔◌, slice_get}
 use Rattle.std.specs.BTreeMap.{BTreeMap, get, get_by, is_at}
 use Rattle.std.specs.List.{AllByRecursion, flat_map}
 use Rattle.std.specs.FinMap.{nat_cmp-IsAntisymmetric}
@@ -53,13 +54,15 @@ list_read m id cells f all is = subst (λ (o : Option (Vec ℕ Global)). IfSome 
 module _ (root b : Box) (all others : List Thing) (id : ℕ) (cells : List ℕ) (root_is : b ≡ root) (things_are : others ≡ all) where
   pub cond_listed : ((cell : ℕ) → Contains cells cell ↔ Contains (cond_mentions b (cond_at others id)) cell) → IsStrictlyIncreasing cells → IsListOf (cond_lists root all id) cells
   cond_listed each ascends = record {
-    mentions = subst (λ (xs : List ℕ). (cell : ℕ) → Contains cells cell ↔ Contains xs cell) (ap (λ (r : Box). cond_lists r others id) root_is ∙ ap (λ (ts : List Thing). cond_lists root ts id) things_are) each;
+    mentions = subst (λ (xs : List ℕ). (cell : ℕ) → Contains cells cell ↔ Contains xs cell) (ap (λ (r : Box). cond_lists r others id) root_is
+        ∙ ap (λ (ts : List Thing). cond_lists root ts id) things_are) each;
     ascending = ascends;
   }
 
   pub term_listed : ((cell : ℕ) → Contains cells cell ↔ Contains (mentions b (term_at others id)) cell) → IsStrictlyIncreasing cells → IsListOf (term_lists root all id) cells
   term_listed each ascends = record {
-    mentions = subst (λ (xs : List ℕ). (cell : ℕ) → Contains cells cell ↔ Contains xs cell) (ap (λ (r : Box). term_lists r others id) root_is ∙ ap (λ (ts : List Thing). term_lists root ts id) things_are) each;
+    mentions = subst (λ (xs : List ℕ). (cell : ℕ) → Contains cells cell ↔ Contains xs cell) (ap (λ (r : Box). term_lists r others id) root_is
+        ∙ ap (λ (ts : List Thing). term_lists root ts id) things_are) each;
     ascending = ascends;
   }
 
@@ -74,7 +77,8 @@ module _ (f : ℕ → List ℕ) (a : Mentions) where
   pub gained_one : (b : Mentions) (id : ℕ) → AreLists f b → ((other : ℕ) → IsTrue (HasList a other) → IsTrue (HasList b other)) → IsTrue (HasList b id) → Gained f a b (id ∷ [])
   gained_one b id all stays there = record { lists = all; stays = stays; there = (there, tt) }
 
-pub all_stay : (b c : Mentions) (ids : List ℕ) → ((id : ℕ) → IsTrue (HasList b id) → IsTrue (HasList c id)) → AllByRecursion (λ id. IsTrue (HasList b id)) ids → AllByRecursion (λ id. IsTrue (HasList c id)) ids
+pub all_stay : (b c : Mentions) (ids : List ℕ) → ((id : ℕ) → IsTrue (HasList b id) → IsTrue (HasList c id)) → AllByRecursion (λ id. IsTrue (HasList b id)) ids
+    → AllByRecursion (λ id. IsTrue (HasList c id)) ids
 all_stay b c [] stays all = tt
 all_stay b c (id ∷ ids) stays all = (stays id all.0, all_stay b c ids stays all.1)
 
@@ -116,19 +120,22 @@ all_taken [] (suc i) past = refl
 all_taken (x ∷ xs) zero past = absurd (omega (arith, past))
 all_taken (x ∷ xs) (suc i) past = ap (λ ys. x ∷ ys) (all_taken xs i (omega (arith, past)))
 
-next : {A : Type 0} (g : A → List ℕ) (f : ℕ → List ℕ) (a b c : Mentions) (xs : List A) (i : ℕ) (x : A) → i < length xs → x ≡ get_or xs i x → Gained f a b (flat_map g (take i xs)) → Gained f b c (g x) → Gained f a c (flat_map g (take (i + 1) xs))
+next : {A : Type 0} (g : A → List ℕ) (f : ℕ → List ℕ) (a b c : Mentions) (xs : List A) (i : ℕ) (x : A) → i < length xs → x ≡ get_or xs i x → Gained f a b (flat_map g (take i xs))
+    → Gained f b c (g x) → Gained f a c (flat_map g (take (i + 1) xs))
 next g f a b c xs i x below at one two = subst (Gained f a c) (sym (taken g xs i x below at)) (gained_both f a b c (flat_map g (take i xs)) (g x) one two)
 
 whole : {A : Type 0} (g : A → List ℕ) (f : ℕ → List ℕ) (a b : Mentions) (xs : List A) (i : ℕ) → length xs ≤ i → Gained f a b (flat_map g (take i xs)) → Gained f a b (flat_map g xs)
 whole g f a b xs i past all = subst (λ ys. Gained f a b (flat_map g ys)) (all_taken xs i past) all
 
-pub hards_next : (f : ℕ → List ℕ) (a b c : Mentions) (hards : List Conditions) (i : ℕ) (x : Conditions) → i < length hards → x ≡ get_or hards i x → Gained f a b (hard_ids (take i hards)) → Gained f b c x.ids.items → Gained f a c (hard_ids (take (i + 1) hards))
+pub hards_next : (f : ℕ → List ℕ) (a b c : Mentions) (hards : List Conditions) (i : ℕ) (x : Conditions) → i < length hards → x ≡ get_or hards i x → Gained f a b (hard_ids (take i hards))
+    → Gained f b c x.ids.items → Gained f a c (hard_ids (take (i + 1) hards))
 hards_next f a b c hards i x below at one two = next (λ (h : Conditions). h.ids.items) f a b c hards i x below at one two
 
 pub hards_all : (f : ℕ → List ℕ) (a b : Mentions) (hards : List Conditions) (i : ℕ) → length hards ≤ i → Gained f a b (hard_ids (take i hards)) → Gained f a b (hard_ids hards)
 hards_all f a b hards i past all = whole (λ (h : Conditions). h.ids.items) f a b hards i past all
 
-pub chances_next : (f : ℕ → List ℕ) (a b c : Mentions) (chances : List ChanceConditions) (i : ℕ) (x : ChanceConditions) → i < length chances → x ≡ get_or chances i x → Gained f a b (chance_ids (take i chances)) → Gained f b c x.conditions.ids.items → Gained f a c (chance_ids (take (i + 1) chances))
+pub chances_next : (f : ℕ → List ℕ) (a b c : Mentions) (chances : List ChanceConditions) (i : ℕ) (x : ChanceConditions) → i < length chances → x ≡ get_or chances i x
+    → Gained f a b (chance_ids (take i chances)) → Gained f b c x.conditions.ids.items → Gained f a c (chance_ids (take (i + 1) chances))
 chances_next f a b c chances i x below at one two = next (λ (h : ChanceConditions). h.conditions.ids.items) f a b c chances i x below at one two
 
 pub chances_all : (f : ℕ → List ℕ) (a b : Mentions) (chances : List ChanceConditions) (i : ℕ) → length chances ≤ i → Gained f a b (chance_ids (take i chances)) → Gained f a b (chance_ids chances)
@@ -143,7 +150,8 @@ take_suc (y ∷ ys) (suc i) x below at = ap (λ zs. y ∷ zs) (take_suc ys i x (
 take_more : (xs : List ℕ) (i x : ℕ) → i < length xs → x ≡ get_or xs i x → take (i + 1) xs ≡ take i xs ++ x ∷ []
 take_more xs i x below at = subst (λ (n : ℕ). take n xs ≡ take i xs ++ x ∷ []) (one_more i) (take_suc xs i x below at)
 
-pub gained_next : (f : ℕ → List ℕ) (a b c : Mentions) (ids : List ℕ) (i x : ℕ) → i < length ids → x ≡ get_or ids i x → Gained f a b (take i ids) → Gained f b c (x ∷ []) → Gained f a c (take (i + 1) ids)
+pub gained_next : (f : ℕ → List ℕ) (a b c : Mentions) (ids : List ℕ) (i x : ℕ) → i < length ids → x ≡ get_or ids i x → Gained f a b (take i ids) → Gained f b c (x ∷ [])
+    → Gained f a c (take (i + 1) ids)
 gained_next f a b c ids i x below at one two = subst (Gained f a c) (sym (take_more ids i x below at)) (gained_both f a b c (take i ids) (x ∷ []) one two)
 
 pub gained_all : (f : ℕ → List ℕ) (a b : Mentions) (ids : List ℕ) (i : ℕ) → length ids ≤ i → Gained f a b (take i ids) → Gained f a b ids
@@ -158,7 +166,8 @@ mapped_suc (y ∷ ys) (suc i) x below at = ap (λ zs. y.term ∷ zs) (mapped_suc
 mapped_more : (xs : List Atom) (i : ℕ) (x : Atom) → i < length xs → x ≡ get_or xs i x → atom_ids (take (i + 1) xs) ≡ atom_ids (take i xs) ++ x.term ∷ []
 mapped_more xs i x below at = subst (λ (n : ℕ). atom_ids (take n xs) ≡ atom_ids (take i xs) ++ x.term ∷ []) (one_more i) (mapped_suc xs i x below at)
 
-pub atoms_next : (f : ℕ → List ℕ) (a b c : Mentions) (atoms : List Atom) (i : ℕ) (x : Atom) → i < length atoms → x ≡ get_or atoms i x → Gained f a b (atom_ids (take i atoms)) → Gained f b c (x.term ∷ []) → Gained f a c (atom_ids (take (i + 1) atoms))
+pub atoms_next : (f : ℕ → List ℕ) (a b c : Mentions) (atoms : List Atom) (i : ℕ) (x : Atom) → i < length atoms → x ≡ get_or atoms i x → Gained f a b (atom_ids (take i atoms))
+    → Gained f b c (x.term ∷ []) → Gained f a c (atom_ids (take (i + 1) atoms))
 atoms_next f a b c atoms i x below at one two = subst (Gained f a c) (sym (mapped_more atoms i x below at)) (gained_both f a b c (atom_ids (take i atoms)) (x.term ∷ []) one two)
 
 pub atoms_all : (f : ℕ → List ℕ) (a b : Mentions) (atoms : List Atom) (i : ℕ) → length atoms ≤ i → Gained f a b (atom_ids (take i atoms)) → Gained f a b (atom_ids atoms)
@@ -198,5 +207,6 @@ module _ (P : ℕ → Type 0) where
   pub hard_listed : (hards : List Conditions) (i s : ℕ) (c : Conditions) (x : ℕ) → AllByRecursion P (hard_ids hards) → slice_get hards i ≡ Some c → slice_get c.ids.items s ≡ Some x → P x
   hard_listed hards i s c x all there is = all_found c.ids.items s x (all_of (λ (h : Conditions). h.ids.items) hards i c all there) is
 
-  pub chance_listed : (chances : List ChanceConditions) (i s : ℕ) (c : ChanceConditions) (x : ℕ) → AllByRecursion P (chance_ids chances) → slice_get chances i ≡ Some c → slice_get c.conditions.ids.items s ≡ Some x → P x
+  pub chance_listed : (chances : List ChanceConditions) (i s : ℕ) (c : ChanceConditions) (x : ℕ) → AllByRecursion P (chance_ids chances) → slice_get chances i ≡ Some c
+      → slice_get c.conditions.ids.items s ≡ Some x → P x
   chance_listed chances i s c x all there is = all_found c.conditions.ids.items s x (all_of (λ (h : ChanceConditions). h.conditions.ids.items) chances i c all there) is

@@ -14,9 +14,11 @@ use Rattle.term_program.specs.declared.program.Program.{Program}
 use Rattle.term_program.specs.Programs.{IsMade, root_in, things_in}
 
 -- over a box inside the root
-ordered_in : (p : Program) (id : ℕ) (b : Box) → IsMade p → Inside b (root_in p) → (interval Near (root_in p) b (term_at (things_in p) id)).low ≤ℤ (interval Near (root_in p) b (term_at (things_in p) id)).high
+ordered_in : (p : Program) (id : ℕ) (b : Box) → IsMade p → Inside b (root_in p)
+    → (interval Near (root_in p) b (term_at (things_in p) id)).low ≤ℤ (interval Near (root_in p) b (term_at (things_in p) id)).high
 ordered_in p id b made inside =
-    (intervals_narrow Near (root_in p) b (root_in p) (term_at (things_in p) id) made.draft.store.root_is_box inside (terms_proper (root_in p) p.draft.store.items.items (id ∷ []) made.draft.store.built).0).ordered
+    (intervals_narrow Near (root_in p) b (root_in p) (term_at (things_in p) id) made.draft.store.root_is_box inside
+    (terms_proper (root_in p) p.draft.store.items.items (id ∷ []) made.draft.store.built).0).ordered
 
 same_order : (a c : Ends) → a ≡ c → c.low ≤ℤ c.high → a.low ≤ℤ a.high
 same_order a c is ordered = subst (λ (e : Ends). e.low ≤ℤ e.high) (sym is) ordered
@@ -24,5 +26,6 @@ same_order a c is ordered = subst (λ (e : Ends). e.low ≤ℤ e.high) (sym is) 
 pub ordered_over : (p : Program) (id : ℕ) (b : Box) (seen : own.Ends) → IsMade p → Inside b (root_in p) → ends_of seen ≡ interval Near (root_in p) b (term_at (things_in p) id) → seen.low ≤ℤ seen.high
 ordered_over p id b seen made inside is = same_order (ends_of seen) (interval Near (root_in p) b (term_at (things_in p) id)) is (ordered_in p id b made inside)
 
-pub ordered_part : (p : Program) (id : ℕ) (b : Box) (part : Part) (seen : own.Ends) → IsMade p → Inside b (root_in p) → IsPart (root_in p) part → ends_of seen ≡ interval Near (root_in p) (with_part b (Some part)) (term_at (things_in p) id) → seen.low ≤ℤ seen.high
+pub ordered_part : (p : Program) (id : ℕ) (b : Box) (part : Part) (seen : own.Ends) → IsMade p → Inside b (root_in p) → IsPart (root_in p) part → ends_of seen
+    ≡ interval Near (root_in p) (with_part b (Some part)) (term_at (things_in p) id) → seen.low ≤ℤ seen.high
 ordered_part p id b part seen made inside is_part is = ordered_over p id (with_part b (Some part)) seen made (part_inside (root_in p) b part inside is_part) is

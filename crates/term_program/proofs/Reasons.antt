@@ -1,5 +1,6 @@
 -- The constraint that a reason names.
-use Rattle.std.proofs.Common.{◌≡◌, ◌∙◌, refl, ap, sym, subst, arith, ℕ, ◌<◌, zero, suc, ℤ, ◌*ℤ◌, ◌≤ℤ◌, Bool, true, false, not, ◌↔◌, IsTrue, int_lt, List, [], ◌∷◌, map, length, Option, Some, None, option_map, slice_get}
+use Rattle.std.proofs.Common.{◌≡◌, ◌∙◌, refl, ap, sym, subst, arith, ℕ, ◌<◌, zero, suc, ℤ, ◌*ℤ◌, ◌≤ℤ◌, Bool, true, false, not, ◌↔◌, IsTrue, int_lt, List, [], ◌∷◌, map, length}
+use Rattle.std.proofs.Common.{Option, Some, None, option_map, slice_get}
 use Rattle.std.proofs.lemmas.Int.{ints}
 use Rattle.std.proofs.lemmas.List.{length-map}
 use Rattle.std.proofs.lemmas.Option.{slice_get-map}
@@ -21,25 +22,33 @@ use Rattle.term_program.specs.Drafts.{HasConditions, IsThreshold, conditions_of,
 abbrev falls : Box → Box → Option Cond → Bool
 falls root b o = option_map_or (λ condition. is_false (truth Near root b condition)) o false
 
-pub hard_there : (root b : Box) (things : List Thing) (hards : List Conditions) (i s : ℕ) (c : Conditions) → slice_get hards i ≡ Some c → falls root b (slice_get (conditions_of things c) s) ≡ falls root b (option_and_then (λ conditions. slice_get conditions s) (slice_get (map (conditions_of things) hards) i))
+pub hard_there : (root b : Box) (things : List Thing) (hards : List Conditions) (i s : ℕ) (c : Conditions) → slice_get hards i ≡ Some c → falls root b (slice_get (conditions_of things c) s)
+    ≡ falls root b (option_and_then (λ conditions. slice_get conditions s) (slice_get (map (conditions_of things) hards) i))
 hard_there root b things hards i s c is =
-    sym (ap (λ (o : Option (List Cond)). falls root b (option_and_then (λ conditions. slice_get conditions s) o)) (slice_get-map (conditions_of things) hards i ∙ ap (λ (o : Option Conditions). option_map (conditions_of things) o) is))
+    sym (ap (λ (o : Option (List Cond)). falls root b (option_and_then (λ conditions. slice_get conditions s) o)) (slice_get-map (conditions_of things) hards i
+    ∙ ap (λ (o : Option Conditions). option_map (conditions_of things) o) is))
 
-pub hard_missing : (root b : Box) (things : List Thing) (hards : List Conditions) (i s : ℕ) → slice_get hards i ≡ None → false ≡ falls root b (option_and_then (λ conditions. slice_get conditions s) (slice_get (map (conditions_of things) hards) i))
+pub hard_missing : (root b : Box) (things : List Thing) (hards : List Conditions) (i s : ℕ) → slice_get hards i ≡ None → false
+    ≡ falls root b (option_and_then (λ conditions. slice_get conditions s) (slice_get (map (conditions_of things) hards) i))
 hard_missing root b things hards i s is =
-    sym (ap (λ (o : Option (List Cond)). falls root b (option_and_then (λ conditions. slice_get conditions s) o)) (slice_get-map (conditions_of things) hards i ∙ ap (λ (o : Option Conditions). option_map (conditions_of things) o) is))
+    sym (ap (λ (o : Option (List Cond)). falls root b (option_and_then (λ conditions. slice_get conditions s) o)) (slice_get-map (conditions_of things) hards i
+    ∙ ap (λ (o : Option Conditions). option_map (conditions_of things) o) is))
 
 -- chance constraints
 abbrev fewer : Box → Box → List ℤ → ℤ → ChanceTerms → Bool
 fewer root b weights whole chance = int_lt (chance.q *ℤ weight_left root b weights chance.conditions) (chance.p *ℤ whole)
 
-pub chance_there : (root b : Box) (things : List Thing) (weights : List ℤ) (whole : ℤ) (chances : List ChanceConditions) (i : ℕ) (c : ChanceConditions) → slice_get chances i ≡ Some c → fewer root b weights whole (chance_of things c) ≡ option_map_or (fewer root b weights whole) (slice_get (map (chance_of things) chances) i) false
+pub chance_there : (root b : Box) (things : List Thing) (weights : List ℤ) (whole : ℤ) (chances : List ChanceConditions) (i : ℕ) (c : ChanceConditions) → slice_get chances i ≡ Some c
+    → fewer root b weights whole (chance_of things c) ≡ option_map_or (fewer root b weights whole) (slice_get (map (chance_of things) chances) i) false
 chance_there root b things weights whole chances i c is =
-    sym (ap (λ (o : Option ChanceTerms). option_map_or (fewer root b weights whole) o false) (slice_get-map (chance_of things) chances i ∙ ap (λ (o : Option ChanceConditions). option_map (chance_of things) o) is))
+    sym (ap (λ (o : Option ChanceTerms). option_map_or (fewer root b weights whole) o false) (slice_get-map (chance_of things) chances i
+    ∙ ap (λ (o : Option ChanceConditions). option_map (chance_of things) o) is))
 
-pub chance_missing : (root b : Box) (things : List Thing) (weights : List ℤ) (whole : ℤ) (chances : List ChanceConditions) (i : ℕ) → slice_get chances i ≡ None → false ≡ option_map_or (fewer root b weights whole) (slice_get (map (chance_of things) chances) i) false
+pub chance_missing : (root b : Box) (things : List Thing) (weights : List ℤ) (whole : ℤ) (chances : List ChanceConditions) (i : ℕ) → slice_get chances i ≡ None → false
+    ≡ option_map_or (fewer root b weights whole) (slice_get (map (chance_of things) chances) i) false
 chance_missing root b things weights whole chances i is =
-    sym (ap (λ (o : Option ChanceTerms). option_map_or (fewer root b weights whole) o false) (slice_get-map (chance_of things) chances i ∙ ap (λ (o : Option ChanceConditions). option_map (chance_of things) o) is))
+    sym (ap (λ (o : Option ChanceTerms). option_map_or (fewer root b weights whole) o false) (slice_get-map (chance_of things) chances i
+    ∙ ap (λ (o : Option ChanceConditions). option_map (chance_of things) o) is))
 
 -- what all are, each is that is there
 each_there : {A : Type 0} (P : A → Type 0) (xs : List A) (i : ℕ) (x : A) → AllByRecursion P xs → slice_get xs i ≡ Some x → P x
@@ -53,9 +62,11 @@ each_there P (y ∷ ys) (suc i) x all is = each_there P ys i x all.1 is
 pub threshold_at : (chances : List ChanceConditions) (i : ℕ) (c : ChanceConditions) → AllByRecursion IsThreshold chances → slice_get chances i ≡ Some c → IsThreshold c
 threshold_at chances i c all is = each_there IsThreshold chances i c all is
 
-pub chance_each : (terms : ProblemTerms) (things : List Thing) (chances : List ChanceConditions) (i : ℕ) (c : ChanceConditions) → AllByRecursion (IsChance terms) (map (chance_of things) chances) → slice_get chances i ≡ Some c → length c.conditions.ids.items ≡ length terms.weights
+pub chance_each : (terms : ProblemTerms) (things : List Thing) (chances : List ChanceConditions) (i : ℕ) (c : ChanceConditions) → AllByRecursion (IsChance terms) (map (chance_of things) chances)
+    → slice_get chances i ≡ Some c → length c.conditions.ids.items ≡ length terms.weights
 chance_each terms things [] i c all is = cc
-chance_each terms things (x ∷ xs) zero c all is = sym (length-map c.conditions.ids.items _) ∙ subst (λ (y : ChanceConditions). length (conditions_of things y.conditions) ≡ length terms.weights) (same x c is) all.0.each
+chance_each terms things (x ∷ xs) zero c all is = sym (length-map c.conditions.ids.items _)
+    ∙ subst (λ (y : ChanceConditions). length (conditions_of things y.conditions) ≡ length terms.weights) (same x c is) all.0.each
   where
     same : (x c : ChanceConditions) → Some x ≡ Some c → x ≡ c
     same x c e = cc
@@ -73,17 +84,22 @@ unreached false a b tells =
 
 -- the condition of a constraint in a scenario
 module _ (things : List Thing) (i s x : ℕ) where
-  pub hard_at : (hards : List Conditions) (c : Conditions) → slice_get hards i ≡ Some c → slice_get c.ids.items s ≡ Some x → option_and_then (λ conditions. slice_get conditions s) (slice_get (map (conditions_of things) hards) i) ≡ Some (cond_at things x)
+  pub hard_at : (hards : List Conditions) (c : Conditions) → slice_get hards i ≡ Some c → slice_get c.ids.items s ≡ Some x
+      → option_and_then (λ conditions. slice_get conditions s) (slice_get (map (conditions_of things) hards) i) ≡ Some (cond_at things x)
   hard_at hards c there is =
-      ap (λ (o : Option (List Cond)). option_and_then (λ conditions. slice_get conditions s) o) (slice_get-map (conditions_of things) hards i ∙ ap (λ (o : Option Conditions). option_map (conditions_of things) o) there)
+      ap (λ (o : Option (List Cond)). option_and_then (λ conditions. slice_get conditions s) o) (slice_get-map (conditions_of things) hards i
+      ∙ ap (λ (o : Option Conditions). option_map (conditions_of things) o) there)
       ∙ slice_get-map (cond_at things) c.ids.items s ∙ ap (λ (o : Option ℕ). option_map (cond_at things) o) is
 
-  pub chance_at : (chances : List ChanceConditions) (c : ChanceConditions) → slice_get chances i ≡ Some c → slice_get c.conditions.ids.items s ≡ Some x → option_and_then (λ (chance : ChanceTerms). slice_get chance.conditions s) (slice_get (map (chance_of things) chances) i) ≡ Some (cond_at things x)
+  pub chance_at : (chances : List ChanceConditions) (c : ChanceConditions) → slice_get chances i ≡ Some c → slice_get c.conditions.ids.items s ≡ Some x
+      → option_and_then (λ (chance : ChanceTerms). slice_get chance.conditions s) (slice_get (map (chance_of things) chances) i) ≡ Some (cond_at things x)
   chance_at chances c there is =
-      ap (λ (o : Option ChanceTerms). option_and_then (λ (chance : ChanceTerms). slice_get chance.conditions s) o) (slice_get-map (chance_of things) chances i ∙ ap (λ (o : Option ChanceConditions). option_map (chance_of things) o) there)
+      ap (λ (o : Option ChanceTerms). option_and_then (λ (chance : ChanceTerms). slice_get chance.conditions s) o) (slice_get-map (chance_of things) chances i
+      ∙ ap (λ (o : Option ChanceConditions). option_map (chance_of things) o) there)
       ∙ slice_get-map (cond_at things) c.conditions.ids.items s ∙ ap (λ (o : Option ℕ). option_map (cond_at things) o) is
 
-pub hard_each : (things : List Thing) (hards : List Conditions) (i n : ℕ) (c : Conditions) → AllByRecursion (λ (conditions : List Cond). length conditions ≡ n) (map (conditions_of things) hards) → slice_get hards i ≡ Some c → length c.ids.items ≡ n
+pub hard_each : (things : List Thing) (hards : List Conditions) (i n : ℕ) (c : Conditions) → AllByRecursion (λ (conditions : List Cond). length conditions ≡ n) (map (conditions_of things) hards)
+    → slice_get hards i ≡ Some c → length c.ids.items ≡ n
 hard_each things [] i n c all is = cc
 hard_each things (x ∷ xs) zero n c all is =
     sym (length-map c.ids.items (cond_at things)) ∙ subst (λ (y : Conditions). length (conditions_of things y) ≡ n) (same x c is) all.0
@@ -97,7 +113,8 @@ module _ (n : ℕ) where
   pub hard_exist : (hards : List Conditions) (i : ℕ) (c : Conditions) → AllByRecursion (HasConditions n) hards → slice_get hards i ≡ Some c → HasConditions n c
   hard_exist hards i c all is = each_there (HasConditions n) hards i c all is
 
-  pub chance_exist : (chances : List ChanceConditions) (i : ℕ) (c : ChanceConditions) → AllByRecursion (λ (c : ChanceConditions). HasConditions n c.conditions) chances → slice_get chances i ≡ Some c → HasConditions n c.conditions
+  pub chance_exist : (chances : List ChanceConditions) (i : ℕ) (c : ChanceConditions) → AllByRecursion (λ (c : ChanceConditions). HasConditions n c.conditions) chances → slice_get chances i
+      ≡ Some c → HasConditions n c.conditions
   chance_exist chances i c all is = each_there (λ (c : ChanceConditions). HasConditions n c.conditions) chances i c all is
 
   pub condition_exists : (ids : List ℕ) (i x : ℕ) → AllBelow n ids → slice_get ids i ≡ Some x → x < n

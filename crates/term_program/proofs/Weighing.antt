@@ -1,5 +1,6 @@
 -- The weight of the scenarios in which a condition is not False.
-use Rattle.std.proofs.Common.{◌≡◌, ◌∙◌, refl, sym, subst, arith, ℕ, ◌+◌, ◌<◌, ◌≤◌, zero, suc, ℤ, pos, negsuc, ◌+ℤ◌, ◌≤ℤ◌, ◌^◌, Bool, true, false, List, [], ◌∷◌, map, length, get_or, drop, if◌then◌else◌}
+use Rattle.std.proofs.Common.{◌≡◌, ◌∙◌, refl, sym, subst, arith, ℕ, ◌+◌, ◌<◌, ◌≤◌, zero, suc, ℤ, pos, negsuc, ◌+ℤ◌, ◌≤ℤ◌, ◌^◌, Bool, true, false, List, [], ◌∷◌, map, length}
+use Rattle.std.proofs.Common.{get_or, drop, if◌then◌else◌}
 use Rattle.std.proofs.lemmas.Int.{ints, fits_signed_from_abs}
 use Rattle.std.proofs.lemmas.List.{at_drop_more, at_drop_all}
 use Rattle.std.specs.List.{AllByRecursion}
@@ -69,13 +70,15 @@ left_step root b w ws c cs =
 abbrev pub closed_at : Box → Box → List Thing → List ℕ → ℕ → Bool
 closed_at root b all ids i = is_false (truth Near root b (cond_at all (get_or ids i 0)))
 
-pub next_left : (root b : Box) (all : List Thing) (ws : List ℤ) (ids : List ℕ) (i : ℕ) → i < length ids → length ids ≡ length ws → weight_left root b (drop i ws) (map (cond_at all) (drop i ids)) ≡ kept (closed_at root b all ids i) (get_or ws i (pos 0)) +ℤ weight_left root b (drop (i + 1) ws) (map (cond_at all) (drop (i + 1) ids))
+pub next_left : (root b : Box) (all : List Thing) (ws : List ℤ) (ids : List ℕ) (i : ℕ) → i < length ids → length ids ≡ length ws → weight_left root b (drop i ws) (map (cond_at all) (drop i ids))
+    ≡ kept (closed_at root b all ids i) (get_or ws i (pos 0)) +ℤ weight_left root b (drop (i + 1) ws) (map (cond_at all) (drop (i + 1) ids))
 next_left root b all ws ids i below each =
     at_drop_more (λ vs. weight_left root b vs (map (cond_at all) (drop i ids))) ws i (pos 0) (omega (arith, below, each))
     ∙ at_drop_more (λ ys. weight_left root b (get_or ws i (pos 0) ∷ drop (i + 1) ws) (map (cond_at all) ys)) ids i 0 below
     ∙ left_step root b (get_or ws i (pos 0)) (drop (i + 1) ws) (cond_at all (get_or ids i 0)) (map (cond_at all) (drop (i + 1) ids))
 
-pub none_left : (root b : Box) (all : List Thing) (ws : List ℤ) (ids : List ℕ) (i : ℕ) → length ids ≤ i → length ids ≡ length ws → weight_left root b (drop i ws) (map (cond_at all) (drop i ids)) ≡ pos 0
+pub none_left : (root b : Box) (all : List Thing) (ws : List ℤ) (ids : List ℕ) (i : ℕ) → length ids ≤ i → length ids ≡ length ws
+    → weight_left root b (drop i ws) (map (cond_at all) (drop i ids)) ≡ pos 0
 none_left root b all ws ids i past each =
     at_drop_all (λ vs. weight_left root b vs (map (cond_at all) (drop i ids))) ws i (omega (arith, past, each))
 
@@ -92,7 +95,8 @@ kept_down : (t : Bool) (w : ℤ) → pos 1 ≤ℤ w → kept t w ≤ℤ w
 kept_down true w up = omega (arith, ints, up)
 kept_down false w up = omega (arith, ints)
 
-pub sum_fits : (root b : Box) (all : List Thing) (ws : List ℤ) (ids : List ℕ) (whole : ℤ) (i : ℕ) (sum : ℤ) → Weighs ws → whole ≡ total ws → whole ≤ℤ pos (2 ^ 100) → length ids ≡ length ws → i < length ids → sum ≡ weight_left root b (drop (i + 1) ws) (map (cond_at all) (drop (i + 1) ids)) → FitsSigned w128 (kept (closed_at root b all ids i) (get_or ws i (pos 0)) +ℤ sum)
+pub sum_fits : (root b : Box) (all : List Thing) (ws : List ℤ) (ids : List ℕ) (whole : ℤ) (i : ℕ) (sum : ℤ) → Weighs ws → whole ≡ total ws → whole ≤ℤ pos (2 ^ 100) → length ids ≡ length ws
+    → i < length ids → sum ≡ weight_left root b (drop (i + 1) ws) (map (cond_at all) (drop (i + 1) ids)) → FitsSigned w128 (kept (closed_at root b all ids i) (get_or ws i (pos 0)) +ℤ sum)
 sum_fits root b all ws ids whole i sum weighs is light each below left =
     let there : i < length ws = omega (arith, below, each) in
     let w = at_weighs ws i weighs there in

@@ -1,6 +1,6 @@
 -- The linear form of a comparison.
 use Rattle.std.specs.Prelude.{◌≡◌, ℕ, ◌<◌, negsuc, Bool, true, false, ◌&&◌, List, length, Option, Some, None, if◌then◌else◌}
-use Rattle.sopl_base.specs.declared.places.CmpOp.{CmpOp}
+use Rattle.sopl_base.specs.declared.comparison.CmpOp.{CmpOp}
 use Rattle.box_problem.specs.Box.{Box}
 use Rattle.box_rules.specs.Forms as forms
 use Rattle.box_rules.specs.Marks.{both, is_always}

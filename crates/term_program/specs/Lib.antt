@@ -2,4 +2,3 @@ pub mod Drafts
 pub mod Mentions
 pub mod Programs
 pub mod Comparisons
-pub mod OnePoint

@@ -1,6 +1,6 @@
 -- Which problem in terms a program is.
 use Rattle.std.specs.Prelude.{◌≡◌, ℕ, pos, ℤ, Bool, if◌then◌else◌, List, [], IfSome, IfNone, IsTrue, Option, option_map}
-use Rattle.sopl_base.specs.declared.places.Interval.{Interval}
+use Rattle.sopl_base.specs.declared.interval.Interval.{Interval}
 use Rattle.box_problem.specs.Box.{Box, with_low, with_high}
 use Rattle.box_rules.specs.Ends.{Ends, ends}
 use Rattle.std.specs.Option.{option_map_or}

@@ -4,7 +4,7 @@ ghost use Rattle.std.specs.Prelude.{◌≡◌, ◌≤◌, ◌≤ℤ◌, ◌<◌,
 ghost use Rattle.std.specs.Int.{w128};
 ghost use Rattle.std.specs.Int.RustNames.{FitsSigned};
 ghost use Rattle.std.specs.Option.{option_map_or};
-ghost use Rattle.sopl_base.specs.declared.places.Reason.TheVariants.{Bound, Chance, Hard, Undefined};
+ghost use Rattle.sopl_base.specs.declared.reason.Reason.TheVariants.{Bound, Chance, Hard, Undefined};
 ghost use Rattle.box_problem.specs.Box.{Inside, high, low};
 ghost use Rattle.box_rules.specs.Globals.{total};
 ghost use Rattle.box_rules.specs.Rules as rule;
@@ -62,7 +62,8 @@ impl Program {
     fn false_in(&self, conditions: &Conditions, scenario: u32, view: &BoxView) -> bool
         requires made { IsMade self.now }
         requires inside { Inside (box_in view.now) (root_in self.now) }
-        ensures { result ≡ option_map_or (λ condition. is_false (rule.truth rule.Near (root_in self.now) (box_in view.now) condition)) (slice_get (conditions_of (things_in self.now) conditions.now) scenario) false }
+        ensures { result ≡ option_map_or (λ condition. is_false (rule.truth rule.Near (root_in self.now) (box_in view.now) condition))
+            (slice_get (conditions_of (things_in self.now) conditions.now) scenario) false }
     {
         match conditions.ids.get(scenario as usize) {
             Some(cond) => self.is_false(*cond, view),
@@ -89,7 +90,8 @@ impl Program {
         requires inside { Inside (box_in view.now) (root_in self.now) }
         requires exists { scenario < length conditions.now.ids.items }
         requires each { length conditions.now.ids.items ≡ length self.now.draft.weights.items }
-        ensures { result.sum ≡ kept (is_false (rule.truth rule.Near (root_in self.now) (box_in view.now) (cond_at (things_in self.now) (get_or conditions.now.ids.items scenario 0)))) (get_or self.now.draft.weights.items scenario (pos 0)) }
+        ensures { result.sum ≡ kept (is_false (rule.truth rule.Near (root_in self.now) (box_in view.now) (cond_at (things_in self.now) (get_or conditions.now.ids.items scenario 0))))
+            (get_or self.now.draft.weights.items scenario (pos 0)) }
     {
         if self.is_false(conditions.ids[scenario], view) {
             return Weight { sum: 0 };
@@ -122,7 +124,8 @@ impl Program {
         requires inside { Inside (box_in view.now) (root_in self.now) }
         requires threshold { IsThreshold chance.now }
         requires each { length chance.now.conditions.ids.items ≡ length self.now.draft.weights.items }
-        ensures { result ≡ int_lt (chance.now.q *ℤ weight_left (root_in self.now) (box_in view.now) (problem_in self.now).weights (conditions_of (things_in self.now) chance.now.conditions)) (chance.now.p *ℤ (problem_in self.now).whole) }
+        ensures { result ≡ int_lt (chance.now.q *ℤ weight_left (root_in self.now) (box_in view.now) (problem_in self.now).weights (conditions_of (things_in self.now) chance.now.conditions))
+            (chance.now.p *ℤ (problem_in self.now).whole) }
     {
         let left = self.weight_left(&chance.conditions, view);
         !reaches(left.sum, self.draft.whole, chance.p, chance.q)

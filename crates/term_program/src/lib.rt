@@ -1,4 +1,5 @@
 //! A compiled problem: terms and conditions over cells, with no syntax, and what they are over the box of a store.
+//! Its tests stand in `term_tests`.
 #![tactic(auto)]
 
 mod closing;
@@ -6,7 +7,6 @@ mod draft;
 mod ids;
 mod mentions;
 mod over;
-mod points;
 mod program;
 mod shapes;
 
@@ -15,6 +15,5 @@ pub use draft::{ChanceConditions, Conditions, Draft};
 pub use ids::{CondId, TermId};
 pub use mentions::{Mentioned, Mentions};
 pub use over::{Range, goal_ends, goal_ends_in, kleene, kleene_in, range_in, range_of};
-pub use points::{end_at, refuted_at};
 pub use program::Program;
 pub use shapes::Form;

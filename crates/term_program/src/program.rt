@@ -250,7 +250,9 @@ impl Program {
     pub fn goal_atoms(&self) -> &[Atom]
         requires made { IsMade self.now }
         requires expected { option_map_or (λ goal. goal.worst) (problem_in self.now).goal false ≡ false }
-        ensures sum { (b : Box) → Inside b (root_in self.now) → plus (exactly (summed_form (root_in self.now) (problem_in self.now)).constant) (listed_ends (root_in self.now) b (things_in self.now) result.now) ≡ goal_ends (root_in self.now) b (problem_in self.now) }
+        ensures sum { (b : Box) → Inside b (root_in self.now)
+            → plus (exactly (summed_form (root_in self.now) (problem_in self.now)).constant) (listed_ends (root_in self.now) b (things_in self.now) result.now)
+            ≡ goal_ends (root_in self.now) b (problem_in self.now) }
         ensures exist { AtomsExist (length (things_in self.now)) result.now }
         ensures listed { AllByRecursion (IsListedTerm self.now) (atom_ids result.now) }
     {

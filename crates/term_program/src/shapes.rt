@@ -41,7 +41,8 @@ impl Program {
         requires made { IsMade self.now }
         requires left { left < length (things_in self.now) }
         requires right { right < length (things_in self.now) }
-        ensures { result ≡ is_always (marks.both (rule.mark rule.Near (root_in self.now) (root_in self.now) (term_at (things_in self.now) left)) (rule.mark rule.Near (root_in self.now) (root_in self.now) (term_at (things_in self.now) right))) }
+        ensures { result ≡ is_always (marks.both (rule.mark rule.Near (root_in self.now) (root_in self.now) (term_at (things_in self.now) left))
+            (rule.mark rule.Near (root_in self.now) (root_in self.now) (term_at (things_in self.now) right))) }
     {
         match both(self.root_mark(left), self.root_mark(right)) {
             Defined::Never => false,

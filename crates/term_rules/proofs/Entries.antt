@@ -92,7 +92,9 @@ put_here cell k v es above =
 put_entry_by : (cell : ℕ) (k : ℤ) (es : List (ℕ × ℤ)) → Ascends es → nonzero (insert_entry nat_cmp es cell (unwrap_or (lookup (is_at (nat_cmp cell)) es) (pos 0) +ℤ k)) ≡ put cell k (nonzero es)
 put_entry_by cell k [] asc = ap (λ z. unless_zero cell z []) (zero_plus k)
 put_entry_by cell k (e ∷ es) asc =
-    by_ordering (λ o. nonzero (match_ordering o ((cell, unwrap_or (if is_eq o then Some e.1 else lookup (is_at (nat_cmp cell)) es) (pos 0) +ℤ k) ∷ e ∷ es) ((e.0, unwrap_or (if is_eq o then Some e.1 else lookup (is_at (nat_cmp cell)) es) (pos 0) +ℤ k) ∷ es) (e ∷ insert_entry nat_cmp es cell (unwrap_or (if is_eq o then Some e.1 else lookup (is_at (nat_cmp cell)) es) (pos 0) +ℤ k))) ≡ put cell k (nonzero (e ∷ es)))
+    by_ordering (λ o. nonzero (match_ordering o ((cell, unwrap_or (if is_eq o then Some e.1 else lookup (is_at (nat_cmp cell)) es) (pos 0) +ℤ k) ∷ e ∷ es)
+    ((e.0, unwrap_or (if is_eq o then Some e.1 else lookup (is_at (nat_cmp cell)) es) (pos 0) +ℤ k) ∷ es)
+    (e ∷ insert_entry nat_cmp es cell (unwrap_or (if is_eq o then Some e.1 else lookup (is_at (nat_cmp cell)) es) (pos 0) +ℤ k))) ≡ put cell k (nonzero (e ∷ es)))
     (nat_cmp cell e.0)
     (λ less.
     let before = is_less cell e.0 less in
@@ -104,7 +106,8 @@ put_entry_by cell k (e ∷ es) asc =
     subst (λ (n : ℕ). unless_zero e.0 (e.1 +ℤ k) (nonzero es) ≡ put n k (unless_zero e.0 e.1 (nonzero es))) (sym same) (put_here e.0 k e.1 es asc.0))
     (λ greater. ap (unless_zero e.0 e.1) (put_entry_by cell k es asc.1) ∙ sym (put_behind cell k e.0 e.1 (nonzero es) (is_greater cell e.0 greater)))
 
-pub put_entry : (cell : ℕ) (k : ℤ) (es : List (ℕ × ℤ)) → IsStrictlySortedBy nat_cmp (keys_of es) → nonzero (insert_entry nat_cmp es cell (unwrap_or (lookup (is_at (nat_cmp cell)) es) (pos 0) +ℤ k)) ≡ put cell k (nonzero es)
+pub put_entry : (cell : ℕ) (k : ℤ) (es : List (ℕ × ℤ)) → IsStrictlySortedBy nat_cmp (keys_of es) → nonzero (insert_entry nat_cmp es cell (unwrap_or (lookup (is_at (nat_cmp cell)) es) (pos 0) +ℤ k))
+    ≡ put cell k (nonzero es)
 put_entry cell k es sorted = put_entry_by cell k es (ascends es sorted)
 
 -- no number in the tree is larger than all of them
@@ -124,5 +127,6 @@ value_mass cell (e ∷ es) =
 pub nonzero_entries : (es : List (ℕ × ℤ)) → wide_cells (map coefficient_at (filter is_there es)) ≡ nonzero es
 nonzero_entries [] = refl
 nonzero_entries (e ∷ es) =
-    by_bool (λ zero. wide_cells (map coefficient_at (if not zero then e ∷ filter is_there es else filter is_there es)) ≡ (if zero then nonzero es else record { cell = e.0; k = e.1 } ∷ nonzero es)) (int_eq e.1 (pos 0))
+    by_bool (λ zero. wide_cells (map coefficient_at (if not zero then e ∷ filter is_there es else filter is_there es)) ≡ (if zero then nonzero es else record { cell = e.0; k = e.1 } ∷ nonzero es))
+    (int_eq e.1 (pos 0))
     (λ zero. nonzero_entries es) (λ other. ap (λ cells. record { cell = e.0; k = e.1 } ∷ cells) (nonzero_entries es))

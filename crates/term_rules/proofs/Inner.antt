@@ -25,7 +25,8 @@ set_low root b part c inside is there =
 
 set_high : (root b : Box) (part : Part) (c : ℕ) → Inside b root → IsPart root part → c < length b.lows → high (with_part b (Some part)) c ≤ℤ high root c
 set_high root b part c inside is there =
-    at_set (λ n z. z ≤ℤ high root n) b.highs part.cell part.ends.high c (omega (arith, there, inside.is_box.paired)) (λ same. subst (λ (n : ℕ). part.ends.high ≤ℤ high root n) (sym same) is.to_high) (inside.to_high c there)
+    at_set (λ n z. z ≤ℤ high root n) b.highs part.cell part.ends.high c (omega (arith, there, inside.is_box.paired)) (λ same. subst (λ (n : ℕ). part.ends.high ≤ℤ high root n) (sym same) is.to_high)
+    (inside.to_high c there)
 
 set_ordered : (root b : Box) (part : Part) (c : ℕ) → Inside b root → IsPart root part → c < length b.lows → low (with_part b (Some part)) c ≤ℤ high (with_part b (Some part)) c
 set_ordered root b part c inside is there =
@@ -33,7 +34,8 @@ set_ordered root b part c inside is there =
       | inl same ↦
           let here : part.cell < length b.lows = subst (λ (n : ℕ). n < length b.lows) same there in
           let lower : low (with_part b (Some part)) c ≡ part.ends.low = ap (low (with_part b (Some part))) same ∙ get_or-set_same b.lows part.cell part.ends.low (pos 0) here in
-          let upper : high (with_part b (Some part)) c ≡ part.ends.high = ap (high (with_part b (Some part))) same ∙ get_or-set_same b.highs part.cell part.ends.high (pos 0) (omega (arith, here, inside.is_box.paired)) in
+          let upper : high (with_part b (Some part)) c ≡ part.ends.high = ap (high (with_part b (Some part))) same
+          ∙ get_or-set_same b.highs part.cell part.ends.high (pos 0) (omega (arith, here, inside.is_box.paired)) in
           omega (arith, ints, lower, upper, is.ordered)
       | inr apart ↦
           let lower : low (with_part b (Some part)) c ≡ low b c = get_or-set_other b.lows part.cell c part.ends.low (pos 0) apart in

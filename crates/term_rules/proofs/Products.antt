@@ -15,8 +15,10 @@ hull_bounds x y z w n p q r s =
     let z_small = small z n r in
     let w_small = small w n s in
     record {
-      low = sized (rule.hull (rule.between x y) (rule.between z w)).low n (omega (arith, ints, clamps, x_small.0, y_small.0, z_small.0, w_small.0)) (omega (arith, ints, clamps, x_small.1, y_small.1, z_small.1, w_small.1));
-      high = sized (rule.hull (rule.between x y) (rule.between z w)).high n (omega (arith, ints, clamps, x_small.0, y_small.0, z_small.0, w_small.0)) (omega (arith, ints, clamps, x_small.1, y_small.1, z_small.1, w_small.1));
+      low = sized (rule.hull (rule.between x y) (rule.between z w)).low n (omega (arith, ints, clamps, x_small.0, y_small.0, z_small.0, w_small.0))
+          (omega (arith, ints, clamps, x_small.1, y_small.1, z_small.1, w_small.1));
+      high = sized (rule.hull (rule.between x y) (rule.between z w)).high n (omega (arith, ints, clamps, x_small.0, y_small.0, z_small.0, w_small.0))
+          (omega (arith, ints, clamps, x_small.1, y_small.1, z_small.1, w_small.1));
     }
 
 four_bounds : (x y z w : ℤ) (n : ℕ) → Bounds (rule.hull (rule.between x y) (rule.between z w)) n → (unsigned_abs x ≤ n) × (unsigned_abs y ≤ n) × (unsigned_abs z ≤ n) × (unsigned_abs w ≤ n)

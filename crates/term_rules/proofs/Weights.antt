@@ -1,5 +1,6 @@
 -- How large the numbers of sums of forms get.
-use Rattle.std.proofs.Common.{◌≡◌, ℕ, ◌+◌, ◌*◌, ◌-◌, ◌<◌, ◌≤◌, ◌^◌, zero, suc, nat_lt, nat_eq, ℤ, pos, negsuc, ◌+ℤ◌, ◌*ℤ◌, unsigned_abs, List, [], ◌∷◌, length, get_or, drop, arith, SFits, FitsSigned, to_z, of_z, refl, ap, subst, sym, ◌∙◌, if◌then◌else◌}
+use Rattle.std.proofs.Common.{◌≡◌, ℕ, ◌+◌, ◌*◌, ◌-◌, ◌<◌, ◌≤◌, ◌^◌, zero, suc, nat_lt, nat_eq, ℤ, pos, negsuc, ◌+ℤ◌, ◌*ℤ◌, unsigned_abs, List, [], ◌∷◌, length, get_or, drop, arith}
+use Rattle.std.proofs.Common.{SFits, FitsSigned, to_z, of_z, refl, ap, subst, sym, ◌∙◌, if◌then◌else◌}
 use Rattle.std.proofs.lemmas.Int.{ints, unsigned_abs-mul, to_z-of_z, fits_signed_from_abs}
 use Rattle.std.proofs.lemmas.List.{at_drop_more, get_or_default}
 use Rattle.std.proofs.Math.Nat.{mul-le-mul_right, mul-le-mul_left, mul_assoc}
@@ -49,8 +50,15 @@ put_weighted w cell k (c ∷ later) =
 pub combined_weighted : (w : ℕ → ℕ) (factor : ℤ) (cells others : List Coefficient) → weighted w (combined factor cells others) ≤ weighted w cells + unsigned_abs factor * weighted w others
 combined_weighted w factor cells [] = omega arith
 combined_weighted w factor cells (c ∷ later) =
-    let here : unsigned_abs (factor *ℤ c.k) * w c.cell ≡ unsigned_abs factor * (unsigned_abs c.k * w c.cell) = ap (λ (n : ℕ). n * w c.cell) (unsigned_abs-mul factor c.k) ∙ mul_assoc (unsigned_abs factor) (unsigned_abs c.k) (w c.cell) in
-    omega (arith, put_weighted w c.cell (factor *ℤ c.k) (combined factor cells later), combined_weighted w factor cells later, here, spread_left (unsigned_abs factor) (unsigned_abs c.k * w c.cell) (weighted w later))
+    let here : unsigned_abs (factor *ℤ c.k) * w c.cell ≡ unsigned_abs factor * (unsigned_abs c.k * w c.cell) = ap (λ (n : ℕ). n * w c.cell) (unsigned_abs-mul factor c.k)
+    ∙ mul_assoc (unsigned_abs factor) (unsigned_abs c.k) (w c.cell) in
+    omega (
+      arith,
+      put_weighted w c.cell (factor *ℤ c.k) (combined factor cells later),
+      combined_weighted w factor cells later,
+      here,
+      spread_left (unsigned_abs factor) (unsigned_abs c.k * w c.cell) (weighted w later),
+    )
 
 -- what is left from a coefficient on is no more than all
 pub weighted_drop : (w : ℕ → ℕ) (i : ℕ) (xs : List own.Coefficient) → weighted w (cells_of (drop i xs)) ≤ weighted w (cells_of xs)
@@ -58,22 +66,27 @@ weighted_drop w zero xs = omega arith
 weighted_drop w (suc i) [] = omega arith
 weighted_drop w (suc i) (x ∷ xs) = omega (arith, weighted_drop w i xs)
 
-pub weighted_next : (w : ℕ → ℕ) (xs : List own.Coefficient) (i : ℕ) (x : own.Coefficient) → i < length xs → x ≡ get_or xs i x → weighted w (cells_of (drop i xs)) ≡ unsigned_abs x.k * w x.cell + weighted w (cells_of (drop (i + 1) xs))
+pub weighted_next : (w : ℕ → ℕ) (xs : List own.Coefficient) (i : ℕ) (x : own.Coefficient) → i < length xs → x ≡ get_or xs i x → weighted w (cells_of (drop i xs))
+    ≡ unsigned_abs x.k * w x.cell + weighted w (cells_of (drop (i + 1) xs))
 weighted_next w xs i x below at =
     at_drop_more (λ ys. weighted w (cells_of ys)) xs i x below
     ∙ ap (λ (y : own.Coefficient). unsigned_abs y.k * w y.cell + weighted w (cells_of (drop (i + 1) xs))) (sym at)
 
 -- so there is room for each step of a sum where there is room for all of it
-pub room_at : (factor : ℤ) (base : List Coefficient) (xs : List own.Coefficient) (i : ℕ) (x : own.Coefficient) → i < length xs → x ≡ get_or xs i x → mass base + unsigned_abs factor * mass (cells_of xs) < 2 ^ 127 → mass (combined factor base (cells_of (drop (i + 1) xs))) + unsigned_abs (factor *ℤ x.k) < 2 ^ 127
+pub room_at : (factor : ℤ) (base : List Coefficient) (xs : List own.Coefficient) (i : ℕ) (x : own.Coefficient) → i < length xs → x ≡ get_or xs i x
+    → mass base + unsigned_abs factor * mass (cells_of xs) < 2 ^ 127 → mass (combined factor base (cells_of (drop (i + 1) xs))) + unsigned_abs (factor *ℤ x.k) < 2 ^ 127
 room_at factor base xs i x below at room =
     let far = combined_weighted (λ cell. 1) factor base (cells_of (drop (i + 1) xs)) in
     let next = weighted_next (λ cell. 1) xs i x below at in
     let most : unsigned_abs factor * mass (cells_of (drop i xs)) ≤ unsigned_abs factor * mass (cells_of xs) = mul-le-mul_left (unsigned_abs factor) (weighted_drop (λ cell. 1) i xs) in
-    let parts : unsigned_abs factor * mass (cells_of (drop i xs)) ≡ unsigned_abs factor * (unsigned_abs x.k * 1) + unsigned_abs factor * mass (cells_of (drop (i + 1) xs)) = ap (λ (n : ℕ). unsigned_abs factor * n) next ∙ spread_left (unsigned_abs factor) (unsigned_abs x.k * 1) (mass (cells_of (drop (i + 1) xs))) in
+    let parts : unsigned_abs factor * mass (cells_of (drop i xs))
+    ≡ unsigned_abs factor * (unsigned_abs x.k * 1) + unsigned_abs factor * mass (cells_of (drop (i + 1) xs)) = ap (λ (n : ℕ). unsigned_abs factor * n) next
+    ∙ spread_left (unsigned_abs factor) (unsigned_abs x.k * 1) (mass (cells_of (drop (i + 1) xs))) in
     let once : unsigned_abs factor * (unsigned_abs x.k * 1) ≡ unsigned_abs factor * unsigned_abs x.k = ap (λ (n : ℕ). unsigned_abs factor * n) (omega arith) in
     omega (arith, far, most, parts, once, unsigned_abs-mul factor x.k, room)
 
-pub next_combined : (factor : ℤ) (base : List Coefficient) (xs : List own.Coefficient) (i : ℕ) (x : own.Coefficient) → i < length xs → x ≡ get_or xs i x → combined factor base (cells_of (drop i xs)) ≡ put x.cell (factor *ℤ x.k) (combined factor base (cells_of (drop (i + 1) xs)))
+pub next_combined : (factor : ℤ) (base : List Coefficient) (xs : List own.Coefficient) (i : ℕ) (x : own.Coefficient) → i < length xs → x ≡ get_or xs i x → combined factor base (cells_of (drop i xs))
+    ≡ put x.cell (factor *ℤ x.k) (combined factor base (cells_of (drop (i + 1) xs)))
 next_combined factor base xs i x below at =
     at_drop_more (λ ys. combined factor base (cells_of ys)) xs i x below
     ∙ ap (λ (y : own.Coefficient). put y.cell (factor *ℤ y.k) (combined factor base (cells_of (drop (i + 1) xs)))) (sym at)
@@ -107,7 +120,8 @@ room_for_cells f g factor room =
     omega (arith, spread_left (unsigned_abs factor) (unsigned_abs g.constant) (mass g.cells), room)
 
 -- the same for a loop that counts down
-pub room_back : (factor : ℤ) (base : List Coefficient) (xs : List own.Coefficient) (i : ℕ) (d : own.Coefficient) → 0 < i → i ≤ length xs → mass base + unsigned_abs factor * mass (cells_of xs) < 2 ^ 127 → mass (combined factor base (cells_of (drop i xs))) + unsigned_abs (factor *ℤ (get_or xs (i - 1) d).k) < 2 ^ 127
+pub room_back : (factor : ℤ) (base : List Coefficient) (xs : List own.Coefficient) (i : ℕ) (d : own.Coefficient) → 0 < i → i ≤ length xs
+    → mass base + unsigned_abs factor * mass (cells_of xs) < 2 ^ 127 → mass (combined factor base (cells_of (drop i xs))) + unsigned_abs (factor *ℤ (get_or xs (i - 1) d).k) < 2 ^ 127
 room_back factor base xs i d positive most room =
     let below : i - 1 < length xs = omega (arith, positive, most) in
     let again : i - 1 + 1 ≡ i = omega (arith, positive) in

@@ -1,4 +1,5 @@
 //! The rules on boxes as they are reckoned: intervals, marks, truths and linear forms, each as its definition says.
+//! Its tests stand in `term_tests`.
 #![tactic(auto)]
 
 mod combinations;

@@ -4,7 +4,7 @@ use Rattle.std.proofs.lemmas.Bool.{cases_lt}
 use Rattle.std.proofs.lemmas.List.{get_or_default}
 use Rattle.box_problem.specs.Box.{Box, IsBox, box_of}
 use Rattle.box_problem.proofs.Boxes.{intervals_make_a_box}
-use Rattle.sopl_base.specs.declared.places.Interval.{Interval}
+use Rattle.sopl_base.specs.declared.interval.Interval.{Interval}
 use Rattle.box_rules.specs.Terms as rule
 use Rattle.box_rules.specs.Marks.{opposite, or_truth, truth_ends}
 use Rattle.box_rules.specs.Rules.{Wide, truth, all_truth, any_truth}
@@ -42,7 +42,8 @@ propers_at root items (id ∷ ids) all = (proper_at root items id all, propers_a
 pub sound_cond : (root : Box) (c : rule.Cond) → IsProperCond c → IsSound root (a_cond c)
 sound_cond root c proper = record { term = nothing_small root; cond = proper; table = no_table_is }
 
-pub new_not : (root : Box) (items : List Item) (c : ℕ) (facts : own.Facts) → IsBuilt root items → c < length items → kept facts ≡ of_truth (opposite (truth Wide root root (cond_at (things items) c))) → IsNew root items (record { node = node.Not c; facts = facts })
+pub new_not : (root : Box) (items : List Item) (c : ℕ) (facts : own.Facts) → IsBuilt root items → c < length items → kept facts ≡ of_truth (opposite (truth Wide root root (cond_at (things items) c)))
+    → IsNew root items (record { node = node.Not c; facts = facts })
 new_not root items c facts all there is = record {
   below = there;
   kept = is;
@@ -50,7 +51,9 @@ new_not root items c facts all there is = record {
   right = tt;
 }
 
-pub new_implies : (root : Box) (items : List Item) (a c : ℕ) (facts : own.Facts) → IsBuilt root items → a < length items → c < length items → kept facts ≡ of_truth (or_truth (opposite (truth Wide root root (cond_at (things items) a))) (truth Wide root root (cond_at (things items) c))) → IsNew root items (record { node = node.Implies a c; facts = facts })
+pub new_implies : (root : Box) (items : List Item) (a c : ℕ) (facts : own.Facts) → IsBuilt root items → a < length items → c < length items → kept facts
+    ≡ of_truth (or_truth (opposite (truth Wide root root (cond_at (things items) a))) (truth Wide root root (cond_at (things items) c)))
+    → IsNew root items (record { node = node.Implies a c; facts = facts })
 new_implies root items a c facts all left right is = record {
   below = (left, right);
   kept = is;
@@ -58,7 +61,8 @@ new_implies root items a c facts all left right is = record {
   right = tt;
 }
 
-pub new_all : (root : Box) (items : List Item) (conds : Vec ℕ Global) (facts : own.Facts) → IsBuilt root items → AllBelow (length items) conds.items → kept facts ≡ of_truth (all_truth Wide root root (conds_at (things items) conds.items)) → IsNew root items (record { node = node.All conds; facts = facts })
+pub new_all : (root : Box) (items : List Item) (conds : Vec ℕ Global) (facts : own.Facts) → IsBuilt root items → AllBelow (length items) conds.items → kept facts
+    ≡ of_truth (all_truth Wide root root (conds_at (things items) conds.items)) → IsNew root items (record { node = node.All conds; facts = facts })
 new_all root items conds facts all there is = record {
   below = there;
   kept = is;
@@ -66,7 +70,8 @@ new_all root items conds facts all there is = record {
   right = tt;
 }
 
-pub new_any : (root : Box) (items : List Item) (conds : Vec ℕ Global) (facts : own.Facts) → IsBuilt root items → AllBelow (length items) conds.items → kept facts ≡ of_truth (any_truth Wide root root (conds_at (things items) conds.items)) → IsNew root items (record { node = node.Any conds; facts = facts })
+pub new_any : (root : Box) (items : List Item) (conds : Vec ℕ Global) (facts : own.Facts) → IsBuilt root items → AllBelow (length items) conds.items → kept facts
+    ≡ of_truth (any_truth Wide root root (conds_at (things items) conds.items)) → IsNew root items (record { node = node.Any conds; facts = facts })
 new_any root items conds facts all there is = record {
   below = there;
   kept = is;
@@ -94,7 +99,8 @@ made_box roots lows highs lows_are highs_are =
     (subst (λ (ys : List ℤ). IsBox (record { lows = (box_of roots).lows; highs = ys })) (sym highs_are) (intervals_make_a_box roots))
 
 -- new terms
-pub new_term : (root : Box) (items : List Item) (n : Node) (facts : own.Facts) (t : rule.Term) → thing_of (things items) n ≡ a_term t → IsBelow (length items) n → kept facts ≡ facts_of root (a_term t) → IsProper t → size root t ≤ 2 ^ 40 → IsRight root (things items) n → IsNew root items (record { node = n; facts = facts })
+pub new_term : (root : Box) (items : List Item) (n : Node) (facts : own.Facts) (t : rule.Term) → thing_of (things items) n ≡ a_term t → IsBelow (length items) n → kept facts
+    ≡ facts_of root (a_term t) → IsProper t → size root t ≤ 2 ^ 40 → IsRight root (things items) n → IsNew root items (record { node = n; facts = facts })
 new_term root items n facts t thing below is proper small right = record {
   below = below;
   kept = is ∙ ap (facts_of root) (sym thing);
@@ -105,14 +111,16 @@ new_term root items n facts t thing below is proper small right = record {
 pub constant_size : (root : Box) (z : ℤ) → size root (rule.Constant z) ≡ unsigned_abs z
 constant_size root z = omega arith
 
-pub new_constant : (root : Box) (items : List Item) (z : ℤ) (facts : own.Facts) → kept facts ≡ of_form (number_form z) → unsigned_abs z ≤ 2 ^ 40 → IsNew root items (record { node = node.Constant z; facts = facts })
+pub new_constant : (root : Box) (items : List Item) (z : ℤ) (facts : own.Facts) → kept facts ≡ of_form (number_form z) → unsigned_abs z ≤ 2 ^ 40
+    → IsNew root items (record { node = node.Constant z; facts = facts })
 new_constant root items z facts is small =
     new_term root items (node.Constant z) facts (rule.Constant z) refl tt is tt (omega (arith, constant_size root z, small)) tt
 
 pub cell_size : (root : Box) (cell : ℕ) → size root (rule.Cell cell) ≡ weight_of (cell_ends root cell)
 cell_size root cell = omega arith
 
-pub new_cell : (root : Box) (items : List Item) (cell : ℕ) (facts : own.Facts) → kept facts ≡ of_form (cell_form cell) → weight_of (cell_ends root cell) ≤ 2 ^ 40 → IsNew root items (record { node = node.Cell cell; facts = facts })
+pub new_cell : (root : Box) (items : List Item) (cell : ℕ) (facts : own.Facts) → kept facts ≡ of_form (cell_form cell) → weight_of (cell_ends root cell) ≤ 2 ^ 40
+    → IsNew root items (record { node = node.Cell cell; facts = facts })
 new_cell root items cell facts is small =
     new_term root items (node.Cell cell) facts (rule.Cell cell) refl tt is tt (omega (arith, cell_size root cell, small)) tt
 
@@ -124,8 +132,10 @@ truth_weight True = refl
 pub number_size : (root : Box) (c : rule.Cond) → size root (rule.Number c) ≡ 1
 number_size root c = omega (arith, truth_weight (truth Wide root root c))
 
-pub new_number : (root : Box) (items : List Item) (c : ℕ) (facts : own.Facts) → IsBuilt root items → c < length items → kept facts ≡ of_atom (truth Wide root root (cond_at (things items) c)) → IsNew root items (record { node = node.Number c; facts = facts })
+pub new_number : (root : Box) (items : List Item) (c : ℕ) (facts : own.Facts) → IsBuilt root items → c < length items → kept facts ≡ of_atom (truth Wide root root (cond_at (things items) c))
+    → IsNew root items (record { node = node.Number c; facts = facts })
 new_number root items c facts all there is =
     new_term root items (node.Number c) facts (rule.Number (cond_at (things items) c)) refl there
-    (is ∙ ap (λ (w : ℕ). record { form = atom_form; mark = Always; wide_mark = Always; wide = truth_ends (truth Wide root root (cond_at (things items) c)); weight = w; truth = True }) (sym (truth_weight (truth Wide root root (cond_at (things items) c)))))
+    (is ∙ ap (λ (w : ℕ). record { form = atom_form; mark = Always; wide_mark = Always; wide = truth_ends (truth Wide root root (cond_at (things items) c)); weight = w; truth = True })
+    (sym (truth_weight (truth Wide root root (cond_at (things items) c)))))
     (proper_at root items c all) (omega (arith, number_size root (cond_at (things items) c))) tt

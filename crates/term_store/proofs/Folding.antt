@@ -18,7 +18,8 @@ use Rattle.term_operations.specs.declared.extremes.Extreme.{Extreme}
 use Rattle.term_operations.specs.declared.operations.Operation.{Operation}
 use Rattle.term_operations.specs.Made.{IsPossible, IsSmall, operation_term, extreme_term, made, made_of, chosen_by, picked}
 use Rattle.term_operations.proofs.Constants.{constant_interval, constant_intervals}
-use Rattle.term_operations.proofs.Rules.{operation_form, operation_atoms, operation_mark, operation_weight, operation_proper, extreme_form, extreme_atoms, extreme_mark, extreme_weight, extreme_proper, made_exactly, fold_exactly, folded_size}
+use Rattle.term_operations.proofs.Rules.{operation_form, operation_atoms, operation_mark, operation_weight, operation_proper, extreme_form, extreme_atoms, extreme_mark}
+use Rattle.term_operations.proofs.Rules.{extreme_weight, extreme_proper, made_exactly, fold_exactly, folded_size}
 use Rattle.term_nodes.specs.declared.nodes.Node.TheVariants as node
 use Rattle.term_nodes.specs.declared.items.Item.{Item}
 use Rattle.term_nodes.specs.declared.items.Facts as facts
@@ -42,7 +43,8 @@ wide_small root items id a all is =
 abbrev pub known : Form → Defined → Defined → ends.Ends → ℕ → Facts
 known f near far a weight = record { form = f; mark = near; wide_mark = far; wide = a; weight = weight; truth = True }
 
-module _ (root : Box) (t : rule.Term) (folds_it : Bool) (z : ℤ) (a : ends.Ends) (is_form : form root t ≡ folded folds_it z) (is_atoms : atoms Wide root root t ≡ unless_folded folds_it a) (is_weight : atoms_weight root t ≡ alone_weight (form root t) (atoms Wide root root t)) (is_number : folds_it ≡ true → z ≡ a.high) where
+module _ (root : Box) (t : rule.Term) (folds_it : Bool) (z : ℤ) (a : ends.Ends) (is_form : form root t ≡ folded folds_it z) (is_atoms : atoms Wide root root t
+    ≡ unless_folded folds_it a) (is_weight : atoms_weight root t ≡ alone_weight (form root t) (atoms Wide root root t)) (is_number : folds_it ≡ true → z ≡ a.high) where
   folded_same : (b : Bool) (x y : ℤ) → (b ≡ true → x ≡ y) → folded b x ≡ folded b y
   folded_same true x y same = ap number_form (same refl)
   folded_same false x y same = refl
@@ -74,21 +76,30 @@ module _ (root : Box) (t : rule.Term) (folds_it : Bool) (z : ℤ) (a : ends.Ends
       )
 
 -- what is made of one number
-operation_number : (root : Box) (op : Operation) (t : rule.Term) → IsBox root → IsProper t → folds (form root t ∷ []) (mark Near root root t) ≡ true → made_of op (form root t).constant ≡ (made op (interval Wide root root t)).high
+operation_number : (root : Box) (op : Operation) (t : rule.Term) → IsBox root → IsProper t → folds (form root t ∷ []) (mark Near root root t) ≡ true → made_of op (form root t).constant
+    ≡ (made op (interval Wide root root t)).high
 operation_number root op t is_box proper fold_it =
     let constant : is_constant (form root t) ≡ true = and_first (is_constant (form root t)) true (and_first (is_constant (form root t) && true) (is_always (mark Near root root t)) fold_it) in
     sym (ap (λ (e : ends.Ends). (made op e).high) (constant_interval Wide root root t is_box proper constant) ∙ made_exactly op (form root t).constant)
 
-pub operation_facts : (root : Box) (op : Operation) (t : rule.Term) → IsBox root → IsProper t → of_folded (folds (form root t ∷ []) (mark Near root root t)) (mark Near root root t) (record { ends = made op (interval Wide root root t); mark = mark Wide root root t }) ≡ facts_of root (a_term (operation_term op t))
+pub operation_facts : (root : Box) (op : Operation) (t : rule.Term) → IsBox root → IsProper t
+    → of_folded (folds (form root t ∷ []) (mark Near root root t)) (mark Near root root t) (record { ends = made op (interval Wide root root t); mark = mark Wide root root t })
+    ≡ facts_of root (a_term (operation_term op t))
 operation_facts root op t is_box proper =
-    facts_are root (operation_term op t) (folds (form root t ∷ []) (mark Near root root t)) (made_of op (form root t).constant) (made op (interval Wide root root t)) (operation_form root op t) (operation_atoms Wide root root op t) (operation_weight root op t) (operation_number root op t is_box proper)
+    facts_are root (operation_term op t) (folds (form root t ∷ []) (mark Near root root t)) (made_of op (form root t).constant) (made op (interval Wide root root t)) (operation_form root op t)
+    (operation_atoms Wide root root op t) (operation_weight root op t) (operation_number root op t is_box proper)
     (mark Near root root t) (mark Wide root root t) (operation_mark Near root root op t) (operation_mark Wide root root op t)
 
-pub operation_size : (root : Box) (op : Operation) (t : rule.Term) → IsBox root → IsProper t → size_of_folded (folds (form root t ∷ []) (mark Near root root t)) (made op (interval Wide root root t)) ≡ size root (operation_term op t)
+pub operation_size : (root : Box) (op : Operation) (t : rule.Term) → IsBox root → IsProper t → size_of_folded (folds (form root t ∷ []) (mark Near root root t)) (made op (interval Wide root root t))
+    ≡ size root (operation_term op t)
 operation_size root op t is_box proper =
-    size_is root (operation_term op t) (folds (form root t ∷ []) (mark Near root root t)) (made_of op (form root t).constant) (made op (interval Wide root root t)) (operation_form root op t) (operation_atoms Wide root root op t) (operation_weight root op t) (operation_number root op t is_box proper)
+    size_is root (operation_term op t) (folds (form root t ∷ []) (mark Near root root t)) (made_of op (form root t).constant) (made op (interval Wide root root t)) (operation_form root op t)
+    (operation_atoms Wide root root op t) (operation_weight root op t) (operation_number root op t is_box proper)
 
-pub operation_kept : (root : Box) (items : List Item) (op : Operation) (id : ℕ) (b : Bool) (m : Defined) (s : Sight) → IsBox root → IsBuilt root items → b ≡ folds (form root (term_at (things items) id) ∷ []) (mark Near root root (term_at (things items) id)) → m ≡ mark Near root root (term_at (things items) id) → s ≡ record { ends = made op (interval Wide root root (term_at (things items) id)); mark = mark Wide root root (term_at (things items) id) } → of_folded b m s ≡ facts_of root (a_term (operation_term op (term_at (things items) id)))
+pub operation_kept : (root : Box) (items : List Item) (op : Operation) (id : ℕ) (b : Bool) (m : Defined) (s : Sight) → IsBox root → IsBuilt root items → b
+    ≡ folds (form root (term_at (things items) id) ∷ []) (mark Near root root (term_at (things items) id)) → m ≡ mark Near root root (term_at (things items) id) → s
+    ≡ record { ends = made op (interval Wide root root (term_at (things items) id)); mark = mark Wide root root (term_at (things items) id) } → of_folded b m s
+    ≡ facts_of root (a_term (operation_term op (term_at (things items) id)))
 operation_kept root items op id b m s is_box all b_is m_is s_is =
     let t = term_at (things items) id in
     ap (λ (x : Bool). of_folded x m s) b_is
@@ -96,19 +107,27 @@ operation_kept root items op id b m s is_box all b_is m_is s_is =
     ∙ ap (of_folded (folds (form root t ∷ []) (mark Near root root t)) (mark Near root root t)) s_is
     ∙ operation_facts root op t is_box (small_term root items id all).proper
 
-pub operation_measured : (root : Box) (items : List Item) (op : Operation) (id : ℕ) (b : Bool) (s : Sight) → IsBox root → IsBuilt root items → b ≡ folds (form root (term_at (things items) id) ∷ []) (mark Near root root (term_at (things items) id)) → s ≡ record { ends = made op (interval Wide root root (term_at (things items) id)); mark = mark Wide root root (term_at (things items) id) } → size_of_folded b s.ends ≡ size root (operation_term op (term_at (things items) id))
+pub operation_measured : (root : Box) (items : List Item) (op : Operation) (id : ℕ) (b : Bool) (s : Sight) → IsBox root → IsBuilt root items → b
+    ≡ folds (form root (term_at (things items) id) ∷ []) (mark Near root root (term_at (things items) id)) → s
+    ≡ record { ends = made op (interval Wide root root (term_at (things items) id)); mark = mark Wide root root (term_at (things items) id) } → size_of_folded b s.ends
+    ≡ size root (operation_term op (term_at (things items) id))
 operation_measured root items op id b s is_box all b_is s_is =
     let t = term_at (things items) id in
     ap (λ (x : Bool). size_of_folded x s.ends) b_is
     ∙ ap (λ (x : Sight). size_of_folded (folds (form root t ∷ []) (mark Near root root t)) x.ends) s_is
     ∙ operation_size root op t is_box (small_term root items id all).proper
 
-pub new_operation : (root : Box) (items : List Item) (op : Operation) (id : ℕ) (f : facts.Facts) → IsBuilt root items → id < length items → IsPossible op → kept f ≡ facts_of root (a_term (operation_term op (term_at (things items) id))) → size root (operation_term op (term_at (things items) id)) ≤ 2 ^ 40 → IsNew root items (record { node = node.Operation op id; facts = f })
+pub new_operation : (root : Box) (items : List Item) (op : Operation) (id : ℕ) (f : facts.Facts) → IsBuilt root items → id < length items → IsPossible op → kept f
+    ≡ facts_of root (a_term (operation_term op (term_at (things items) id))) → size root (operation_term op (term_at (things items) id)) ≤ 2 ^ 40
+    → IsNew root items (record { node = node.Operation op id; facts = f })
 new_operation root items op id f all there possible is small =
-    new_term root items (node.Operation op id) f (operation_term op (term_at (things items) id)) refl there is (operation_proper op (term_at (things items) id) (small_term root items id all).proper) small possible
+    new_term root items (node.Operation op id) f (operation_term op (term_at (things items) id)) refl there is (operation_proper op (term_at (things items) id) (small_term root items id all).proper)
+    small possible
 
 -- the least and the greatest of several
-extreme_number : (root : Box) (e : Extreme) (t : rule.Term) (later : rule.Terms) → IsBox root → IsProper t → AreProper later → folds (form root t ∷ forms root later) (both (mark Near root root t) (all_marks (marks Near root root later))) ≡ true → chosen (chosen_by e) (form root t) (forms root later) ≡ (extreme_range Wide root root e t later).ends.high
+extreme_number : (root : Box) (e : Extreme) (t : rule.Term) (later : rule.Terms) → IsBox root → IsProper t → AreProper later
+    → folds (form root t ∷ forms root later) (both (mark Near root root t) (all_marks (marks Near root root later))) ≡ true → chosen (chosen_by e) (form root t) (forms root later)
+    ≡ (extreme_range Wide root root e t later).ends.high
 extreme_number root e t later is_box proper others fold_it =
     let all = and_first (is_constant (form root t) && list_all is_constant (forms root later)) (is_always (both (mark Near root root t) (all_marks (marks Near root root later)))) fold_it in
     let first = constant_interval Wide root root t is_box proper (and_first (is_constant (form root t)) (list_all is_constant (forms root later)) all) in
@@ -120,19 +139,32 @@ extreme_number root e t later is_box proper others fold_it =
     ∙ ap (λ (a : ends.Ends). a.high) (fold_exactly e (form root t).constant numbers)
     )
 
-pub extreme_facts : (root : Box) (e : Extreme) (t : rule.Term) (later : rule.Terms) → IsBox root → IsProper t → AreProper later → of_folded (folds (form root t ∷ forms root later) (both (mark Near root root t) (all_marks (marks Near root root later)))) (both (mark Near root root t) (all_marks (marks Near root root later))) (extreme_range Wide root root e t later) ≡ facts_of root (a_term (extreme_term e t later))
+pub extreme_facts : (root : Box) (e : Extreme) (t : rule.Term) (later : rule.Terms) → IsBox root → IsProper t → AreProper later
+    → of_folded (folds (form root t ∷ forms root later) (both (mark Near root root t) (all_marks (marks Near root root later)))) (both (mark Near root root t) (all_marks (marks Near root root later)))
+    (extreme_range Wide root root e t later) ≡ facts_of root (a_term (extreme_term e t later))
 extreme_facts root e t later is_box proper others =
-    facts_are root (extreme_term e t later) (folds (form root t ∷ forms root later) (both (mark Near root root t) (all_marks (marks Near root root later)))) (chosen (chosen_by e) (form root t) (forms root later)) (extreme_range Wide root root e t later).ends (extreme_form root e t later) (extreme_atoms Wide root root e t later) (extreme_weight root e t later) (extreme_number root e t later is_box proper others)
-    (both (mark Near root root t) (all_marks (marks Near root root later))) (extreme_range Wide root root e t later).mark (extreme_mark Near root root e t later) (extreme_mark Wide root root e t later)
+    facts_are root (extreme_term e t later) (folds (form root t ∷ forms root later) (both (mark Near root root t) (all_marks (marks Near root root later))))
+    (chosen (chosen_by e) (form root t) (forms root later)) (extreme_range Wide root root e t later).ends (extreme_form root e t later) (extreme_atoms Wide root root e t later)
+    (extreme_weight root e t later) (extreme_number root e t later is_box proper others)
+    (both (mark Near root root t) (all_marks (marks Near root root later))) (extreme_range Wide root root e t later).mark (extreme_mark Near root root e t later)
+    (extreme_mark Wide root root e t later)
 
-pub extreme_size : (root : Box) (e : Extreme) (t : rule.Term) (later : rule.Terms) → IsBox root → IsProper t → AreProper later → size_of_folded (folds (form root t ∷ forms root later) (both (mark Near root root t) (all_marks (marks Near root root later)))) (extreme_range Wide root root e t later).ends ≡ size root (extreme_term e t later)
+pub extreme_size : (root : Box) (e : Extreme) (t : rule.Term) (later : rule.Terms) → IsBox root → IsProper t → AreProper later
+    → size_of_folded (folds (form root t ∷ forms root later) (both (mark Near root root t) (all_marks (marks Near root root later)))) (extreme_range Wide root root e t later).ends
+    ≡ size root (extreme_term e t later)
 extreme_size root e t later is_box proper others =
-    size_is root (extreme_term e t later) (folds (form root t ∷ forms root later) (both (mark Near root root t) (all_marks (marks Near root root later)))) (chosen (chosen_by e) (form root t) (forms root later)) (extreme_range Wide root root e t later).ends (extreme_form root e t later) (extreme_atoms Wide root root e t later) (extreme_weight root e t later) (extreme_number root e t later is_box proper others)
+    size_is root (extreme_term e t later) (folds (form root t ∷ forms root later) (both (mark Near root root t) (all_marks (marks Near root root later))))
+    (chosen (chosen_by e) (form root t) (forms root later)) (extreme_range Wide root root e t later).ends (extreme_form root e t later) (extreme_atoms Wide root root e t later)
+    (extreme_weight root e t later) (extreme_number root e t later is_box proper others)
 
 abbrev all_fold : Box → rule.Term → rule.Terms → Bool
 all_fold root t later = folds (form root t ∷ forms root later) (both (mark Near root root t) (all_marks (marks Near root root later)))
 
-pub extreme_kept : (root : Box) (items : List Item) (e : Extreme) (first : ℕ) (later : List ℕ) (b : Bool) (m : Defined) (s : Sight) → IsBox root → IsBuilt root items → b ≡ all_fold root (term_at (things items) first) (terms_at (things items) later) → m ≡ both (mark Near root root (term_at (things items) first)) (all_marks (marks Near root root (terms_at (things items) later))) → s ≡ extreme_range Wide root root e (term_at (things items) first) (terms_at (things items) later) → of_folded b m s ≡ facts_of root (a_term (extreme_term e (term_at (things items) first) (terms_at (things items) later)))
+pub extreme_kept : (root : Box) (items : List Item) (e : Extreme) (first : ℕ) (later : List ℕ) (b : Bool) (m : Defined) (s : Sight) → IsBox root → IsBuilt root items → b
+    ≡ all_fold root (term_at (things items) first) (terms_at (things items) later) → m
+    ≡ both (mark Near root root (term_at (things items) first)) (all_marks (marks Near root root (terms_at (things items) later))) → s
+    ≡ extreme_range Wide root root e (term_at (things items) first) (terms_at (things items) later) → of_folded b m s
+    ≡ facts_of root (a_term (extreme_term e (term_at (things items) first) (terms_at (things items) later)))
 extreme_kept root items e first later b m s is_box all b_is m_is s_is =
     let t = term_at (things items) first in
     let ts = terms_at (things items) later in
@@ -141,7 +173,9 @@ extreme_kept root items e first later b m s is_box all b_is m_is s_is =
     ∙ ap (of_folded (all_fold root t ts) (both (mark Near root root t) (all_marks (marks Near root root ts)))) s_is
     ∙ extreme_facts root e t ts is_box (small_term root items first all).proper (terms_proper root items later all)
 
-pub extreme_measured : (root : Box) (items : List Item) (e : Extreme) (first : ℕ) (later : List ℕ) (b : Bool) (s : Sight) → IsBox root → IsBuilt root items → b ≡ all_fold root (term_at (things items) first) (terms_at (things items) later) → s ≡ extreme_range Wide root root e (term_at (things items) first) (terms_at (things items) later) → size_of_folded b s.ends ≡ size root (extreme_term e (term_at (things items) first) (terms_at (things items) later))
+pub extreme_measured : (root : Box) (items : List Item) (e : Extreme) (first : ℕ) (later : List ℕ) (b : Bool) (s : Sight) → IsBox root → IsBuilt root items → b
+    ≡ all_fold root (term_at (things items) first) (terms_at (things items) later) → s ≡ extreme_range Wide root root e (term_at (things items) first) (terms_at (things items) later)
+    → size_of_folded b s.ends ≡ size root (extreme_term e (term_at (things items) first) (terms_at (things items) later))
 extreme_measured root items e first later b s is_box all b_is s_is =
     let t = term_at (things items) first in
     let ts = terms_at (things items) later in
@@ -149,14 +183,18 @@ extreme_measured root items e first later b s is_box all b_is s_is =
     ∙ ap (λ (x : Sight). size_of_folded (all_fold root t ts) x.ends) s_is
     ∙ extreme_size root e t ts is_box (small_term root items first all).proper (terms_proper root items later all)
 
-pub new_extreme : (root : Box) (items : List Item) (e : Extreme) (first : ℕ) (later : List ℕ) (list : Vec ℕ Global) (f : facts.Facts) → IsBuilt root items → first < length items → AllBelow (length items) later → list.items ≡ later → kept f ≡ facts_of root (a_term (extreme_term e (term_at (things items) first) (terms_at (things items) later))) → size root (extreme_term e (term_at (things items) first) (terms_at (things items) later)) ≤ 2 ^ 40 → IsNew root items (record { node = node.Extreme e first list; facts = f })
+pub new_extreme : (root : Box) (items : List Item) (e : Extreme) (first : ℕ) (later : List ℕ) (list : Vec ℕ Global) (f : facts.Facts) → IsBuilt root items → first < length items
+    → AllBelow (length items) later → list.items ≡ later → kept f ≡ facts_of root (a_term (extreme_term e (term_at (things items) first) (terms_at (things items) later)))
+    → size root (extreme_term e (term_at (things items) first) (terms_at (things items) later)) ≤ 2 ^ 40 → IsNew root items (record { node = node.Extreme e first list; facts = f })
 new_extreme root items e first later list f all there below same is small =
-    new_term root items (node.Extreme e first list) f (extreme_term e (term_at (things items) first) (terms_at (things items) later)) (ap (λ (ids : List ℕ). a_term (extreme_term e (term_at (things items) first) (terms_at (things items) ids))) same)
+    new_term root items (node.Extreme e first list) f (extreme_term e (term_at (things items) first) (terms_at (things items) later))
+    (ap (λ (ids : List ℕ). a_term (extreme_term e (term_at (things items) first) (terms_at (things items) ids))) same)
     (there, subst (AllBelow (length items)) (sym same) below) is
     (extreme_proper e (term_at (things items) first) (terms_at (things items) later) (small_term root items first all).proper (terms_proper root items later all)) small tt
 
 -- steps over several terms
-pub next_constants : (root : Box) (all : List Thing) (xs : List ℕ) (i x : ℕ) → i < length xs → x ≡ get_or xs i x → list_all is_constant (forms root (terms_at all (drop i xs))) ≡ (is_constant (form root (term_at all x)) && list_all is_constant (forms root (terms_at all (drop (i + 1) xs))))
+pub next_constants : (root : Box) (all : List Thing) (xs : List ℕ) (i x : ℕ) → i < length xs → x ≡ get_or xs i x → list_all is_constant (forms root (terms_at all (drop i xs)))
+    ≡ (is_constant (form root (term_at all x)) && list_all is_constant (forms root (terms_at all (drop (i + 1) xs))))
 next_constants root all xs i x below at =
     at_drop_more (λ ys. list_all is_constant (forms root (terms_at all ys))) xs i x below
     ∙ ap (λ (y : ℕ). is_constant (form root (term_at all y)) && list_all is_constant (forms root (terms_at all (drop (i + 1) xs)))) (sym at)
@@ -164,7 +202,8 @@ next_constants root all xs i x below at =
 pub no_constants : (root : Box) (all : List Thing) (xs : List ℕ) (i : ℕ) → length xs ≤ i → list_all is_constant (forms root (terms_at all (drop i xs))) ≡ true
 no_constants root all xs i past = at_drop_all (λ ys. list_all is_constant (forms root (terms_at all ys))) xs i past
 
-pub next_marks : (root : Box) (m : Defined) (all : List Thing) (xs : List ℕ) (i x : ℕ) → i < length xs → x ≡ get_or xs i x → both m (all_marks (marks Near root root (terms_at all (drop i xs)))) ≡ both (both m (mark Near root root (term_at all x))) (all_marks (marks Near root root (terms_at all (drop (i + 1) xs))))
+pub next_marks : (root : Box) (m : Defined) (all : List Thing) (xs : List ℕ) (i x : ℕ) → i < length xs → x ≡ get_or xs i x → both m (all_marks (marks Near root root (terms_at all (drop i xs))))
+    ≡ both (both m (mark Near root root (term_at all x))) (all_marks (marks Near root root (terms_at all (drop (i + 1) xs))))
 next_marks root m all xs i x below at =
     at_drop_more (λ ys. both m (all_marks (marks Near root root (terms_at all ys)))) xs i x below
     ∙ ap (λ (y : ℕ). both m (both (mark Near root root (term_at all y)) (all_marks (marks Near root root (terms_at all (drop (i + 1) xs)))))) (sym at)

@@ -1,5 +1,6 @@
 -- What is known of elements of arrays is right.
-use Rattle.std.proofs.Common.{◌≡◌, ℕ, ◌+◌, ◌<◌, ◌≤◌, ◌^◌, ℤ, pos, Bool, true, false, if◌then◌else◌, List, map, [], ◌∷◌, ◌++◌, length, get_or, drop, Option, None, Vec, Global, append_assoc, append-nil, refl, ap, subst, sym, ◌∙◌}
+use Rattle.std.proofs.Common.{◌≡◌, ℕ, ◌+◌, ◌<◌, ◌≤◌, ◌^◌, ℤ, pos, Bool, true, false, if◌then◌else◌, List, map, [], ◌∷◌, ◌++◌, length, get_or, drop, Option, None, Vec, Global}
+use Rattle.std.proofs.Common.{append_assoc, append-nil, refl, ap, subst, sym, ◌∙◌}
 use Rattle.std.specs.List.{list_all}
 use Rattle.std.proofs.lemmas.List.{at_drop_more, at_drop_all}
 use Rattle.box_problem.specs.Box.{Box}
@@ -44,18 +45,21 @@ numbers root ts = map (λ (f : Form). f.constant) (forms root ts)
 pub no_numbers_form : (table : rule.Table) (fs : List Form) → list_all is_constant fs ≡ false → item_form None ≡ element_form table fs
 no_numbers_form table fs some = sym (ap (λ (b : Bool). if b then item_form (item_at table (map (λ (f : Form). f.constant) fs)) else atom_form) some)
 
-pub numbers_form : (table : rule.Table) (fs : List Form) (v : Option rule.Item) → list_all is_constant fs ≡ true → v ≡ item_at table (map (λ (f : Form). f.constant) fs) → item_form v ≡ element_form table fs
+pub numbers_form : (table : rule.Table) (fs : List Form) (v : Option rule.Item) → list_all is_constant fs ≡ true → v ≡ item_at table (map (λ (f : Form). f.constant) fs) → item_form v
+    ≡ element_form table fs
 numbers_form table fs v all found =
     ap item_form found ∙ sym (ap (λ (b : Bool). if b then item_form (item_at table (map (λ (f : Form). f.constant) fs)) else atom_form) all)
 
 -- the mark of an element by the wide reading, one index after the other
-pub no_wide : (root b : Box) (here all : List Thing) (table : ℕ) (at : List ℕ) (m : Defined) (es : List ends.Ends) (r : Sight) → length at ≡ 0 → r ≡ element_sight b (table_at here table) m es → here ≡ all → r.mark ≡ (behind Wide root root all at m es (table_at all table)).mark
+pub no_wide : (root b : Box) (here all : List Thing) (table : ℕ) (at : List ℕ) (m : Defined) (es : List ends.Ends) (r : Sight) → length at ≡ 0 → r ≡ element_sight b (table_at here table) m es
+    → here ≡ all → r.mark ≡ (behind Wide root root all at m es (table_at all table)).mark
 no_wide root b here all table at m es r none is same =
     ap (λ (s : Sight). s.mark) is
     ∙ ap (λ (ts : List Thing). element_mark (table_at ts table) m es) same
     ∙ ap (λ (s : Sight). s.mark) (no_index Wide root root all at m es (table_at all table) none)
 
-pub last_wide : (root : Box) (all : List Thing) (table : ℕ) (at xs : List ℕ) (x : ℕ) (m n : Defined) (es : List ends.Ends) (r : Sight) → at ≡ xs ++ x ∷ [] → r ≡ range Wide root root (term_at all x) → n ≡ (behind Wide root root all xs (both r.mark m) (r.ends ∷ es) (table_at all table)).mark → n ≡ (behind Wide root root all at m es (table_at all table)).mark
+pub last_wide : (root : Box) (all : List Thing) (table : ℕ) (at xs : List ℕ) (x : ℕ) (m n : Defined) (es : List ends.Ends) (r : Sight) → at ≡ xs ++ x ∷ [] → r ≡ range Wide root root (term_at all x)
+    → n ≡ (behind Wide root root all xs (both r.mark m) (r.ends ∷ es) (table_at all table)).mark → n ≡ (behind Wide root root all at m es (table_at all table)).mark
 last_wide root all table at xs x m n es r is seen later =
     later
     ∙ ap (λ (s : Sight). (behind Wide root root all xs (both s.mark m) (s.ends ∷ es) (table_at all table)).mark) seen
@@ -68,7 +72,8 @@ module _ (root : Box) (table : rule.Table) (ts : rule.Terms) (is_table : IsTable
       ap (λ (f : Form). unless_folded f.plain (element_ends Wide root (intervals Wide root root ts) table)) (sym none)
       ∙ ap ends.hull_of (all_read root table is_table.complete)
 
-  pub any_kept : (near : Defined) (wide : Sight) → near ≡ mark Near root root (rule.Element table ts) → wide ≡ any_element root table ts → of_folded false near wide ≡ facts_of root (a_term (rule.Element table ts))
+  pub any_kept : (near : Defined) (wide : Sight) → near ≡ mark Near root root (rule.Element table ts) → wide ≡ any_element root table ts → of_folded false near wide
+      ≡ facts_of root (a_term (rule.Element table ts))
   any_kept near wide is_near is_wide =
       ap (of_folded false near) is_wide
       ∙ facts_are root (rule.Element table ts) false (pos 0) (any_element root table ts).ends (sym none) any_atoms refl (λ same. absurd (cc))
@@ -80,25 +85,31 @@ module _ (root : Box) (table : rule.Table) (ts : rule.Terms) (is_table : IsTable
       ∙ size_is root (rule.Element table ts) false (pos 0) (any_element root table ts).ends (sym none) any_atoms refl (λ same. absurd (cc))
 
 -- the hull of all elements of an array
-pub hull_found : (b : Box) (t : own.Table) (table : rule.Table) (a : ends.Ends) → table_of t ≡ table → a ≡ ends.hull_of (map (item_ends b) (items_of t.elements.items)) → a ≡ ends.hull_of (map (item_ends b) table.items)
+pub hull_found : (b : Box) (t : own.Table) (table : rule.Table) (a : ends.Ends) → table_of t ≡ table → a ≡ ends.hull_of (map (item_ends b) (items_of t.elements.items)) → a
+    ≡ ends.hull_of (map (item_ends b) table.items)
 hull_found b t table a found hull = hull ∙ ap (λ (u : rule.Table). ends.hull_of (map (item_ends b) u.items)) found
 
 pub hull_missing : (b : Box) (table : rule.Table) (a : ends.Ends) → no_table ≡ table → a ≡ ends.exactly (pos 0) → a ≡ ends.hull_of (map (item_ends b) table.items)
 hull_missing b table a missing zero = zero ∙ ap (λ (u : rule.Table). ends.hull_of (map (item_ends b) u.items)) missing
 
 -- an array as it is kept
-pub seen_table : (root : Box) (items others : List Item) (table : ℕ) (t : rule.Table) → others ≡ items → IsBuilt root items → ((r : Box) → IsBuilt r others → t ≡ table_at (things others) table) → t ≡ table_at (things items) table
+pub seen_table : (root : Box) (items others : List Item) (table : ℕ) (t : rule.Table) → others ≡ items → IsBuilt root items → ((r : Box) → IsBuilt r others → t ≡ table_at (things others) table)
+    → t ≡ table_at (things items) table
 seen_table root items others table t same all found =
     found root (subst (IsBuilt root) (sym same) all) ∙ ap (λ (xs : List Item). table_at (things xs) table) same
 
-pub new_element : (root : Box) (items : List Item) (table : ℕ) (at : List ℕ) (list : Vec ℕ Global) (f : facts.Facts) → IsBuilt root items → table < length items → AllBelow (length items) at → list.items ≡ at → kept f ≡ facts_of root (a_term (rule.Element (table_at (things items) table) (terms_at (things items) at))) → size root (rule.Element (table_at (things items) table) (terms_at (things items) at)) ≤ 2 ^ 40 → IsNew root items (record { node = node.Element table list; facts = f })
+pub new_element : (root : Box) (items : List Item) (table : ℕ) (at : List ℕ) (list : Vec ℕ Global) (f : facts.Facts) → IsBuilt root items → table < length items → AllBelow (length items) at
+    → list.items ≡ at → kept f ≡ facts_of root (a_term (rule.Element (table_at (things items) table) (terms_at (things items) at)))
+    → size root (rule.Element (table_at (things items) table) (terms_at (things items) at)) ≤ 2 ^ 40 → IsNew root items (record { node = node.Element table list; facts = f })
 new_element root items table at list f all there below same is small =
-    new_term root items (node.Element table list) f (rule.Element (table_at (things items) table) (terms_at (things items) at)) (ap (λ (ids : List ℕ). a_term (rule.Element (table_at (things items) table) (terms_at (things items) ids))) same)
+    new_term root items (node.Element table list) f (rule.Element (table_at (things items) table) (terms_at (things items) at))
+    (ap (λ (ids : List ℕ). a_term (rule.Element (table_at (things items) table) (terms_at (things items) ids))) same)
     (there, subst (AllBelow (length items)) (sym same) below) is
     (table_proper root items table all, terms_proper root items at all) small tt
 
 -- steps over the indices
-pub next_numbers : (root : Box) (made : List ℤ) (all : List Thing) (xs : List ℕ) (i x : ℕ) → i < length xs → x ≡ get_or xs i x → made ++ numbers root (terms_at all (drop i xs)) ≡ (made ++ (form root (term_at all x)).constant ∷ []) ++ numbers root (terms_at all (drop (i + 1) xs))
+pub next_numbers : (root : Box) (made : List ℤ) (all : List Thing) (xs : List ℕ) (i x : ℕ) → i < length xs → x ≡ get_or xs i x → made ++ numbers root (terms_at all (drop i xs))
+    ≡ (made ++ (form root (term_at all x)).constant ∷ []) ++ numbers root (terms_at all (drop (i + 1) xs))
 next_numbers root made all xs i x below at =
     at_drop_more (λ ys. made ++ numbers root (terms_at all ys)) xs i x below
     ∙ ap (λ (y : ℕ). made ++ (form root (term_at all y)).constant ∷ numbers root (terms_at all (drop (i + 1) xs))) (sym at)

@@ -1,5 +1,6 @@
 -- An element whose indices are numbers, and an index of the array's, is as defined as its indices.
-use Rattle.std.proofs.Common.{◌≡◌, ◌⊎◌, inl, inr, ℕ, ◌+◌, ◌<◌, ◌≤◌, ℤ, Bool, true, false, ◌||◌, if◌then◌else◌, List, [], ◌∷◌, ◌++◌, map, length, get_or, drop, Option, Some, arith, refl, ap, subst, sym, ◌∙◌}
+use Rattle.std.proofs.Common.{◌≡◌, ◌⊎◌, inl, inr, ℕ, ◌+◌, ◌<◌, ◌≤◌, ℤ, Bool, true, false, ◌||◌, if◌then◌else◌, List, [], ◌∷◌, ◌++◌, map, length, get_or, drop, Option, Some, arith}
+use Rattle.std.proofs.Common.{refl, ap, subst, sym, ◌∙◌}
 use Rattle.std.specs.List.{filter, flat_map, list_all, list_any}
 use Rattle.std.specs.Int.{int_gap}
 use Rattle.std.specs.Ordering.{int_eq}
@@ -31,7 +32,8 @@ use Rattle.term_nodes.specs.Built.{Facts, facts_of}
 use Rattle.term_store.specs.Atoms.{of_item}
 
 -- an index that has an item is one of the array's
-has_index : (test : List ℤ → Bool) (lists : List (List ℤ)) (items : List rule.Item) (item : rule.Item) (xs : List ℤ) → Has (filter (λ (e : Entry). test e.index) (paired lists items)) item xs → Mem xs lists
+has_index : (test : List ℤ → Bool) (lists : List (List ℤ)) (items : List rule.Item) (item : rule.Item) (xs : List ℤ) → Has (filter (λ (e : Entry). test e.index) (paired lists items)) item xs
+    → Mem xs lists
 has_index test [] items item xs some = some
 has_index test (ys ∷ lists) [] item xs some = absurd some
 has_index test (ys ∷ lists) (i ∷ items) item xs some =
@@ -182,7 +184,8 @@ module _ (root : Box) (table : rule.Table) (ts : rule.Terms) (item : rule.Item) 
       ∙ ap (λ (f : Form). facts_with f (mark Near root root (rule.Element table ts)) (mark Wide root root (rule.Element table ts))) known
 
 -- steps over the indices
-pub next_wide : (root : Box) (m : Defined) (all : List Thing) (xs : List ℕ) (i x : ℕ) → i < length xs → x ≡ get_or xs i x → both m (all_marks (marks Wide root root (terms_at all (drop i xs)))) ≡ both (both m (mark Wide root root (term_at all x))) (all_marks (marks Wide root root (terms_at all (drop (i + 1) xs))))
+pub next_wide : (root : Box) (m : Defined) (all : List Thing) (xs : List ℕ) (i x : ℕ) → i < length xs → x ≡ get_or xs i x → both m (all_marks (marks Wide root root (terms_at all (drop i xs))))
+    ≡ both (both m (mark Wide root root (term_at all x))) (all_marks (marks Wide root root (terms_at all (drop (i + 1) xs))))
 next_wide root m all xs i x below at =
     at_drop_more (λ ys. both m (all_marks (marks Wide root root (terms_at all ys)))) xs i x below
     ∙ ap (λ (y : ℕ). both m (both (mark Wide root root (term_at all y)) (all_marks (marks Wide root root (terms_at all (drop (i + 1) xs)))))) (sym at)

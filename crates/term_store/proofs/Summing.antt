@@ -28,7 +28,8 @@ use Rattle.term_nodes.proofs.Ready.{drop_lighter, small_term}
 use Rattle.term_store.proofs.Adding.{new_term}
 
 -- marks
-pub next_mark : (root : Box) (all : List Thing) (xs : List Signed) (i : ℕ) (x : Signed) → i < length xs → x ≡ get_or xs i x → sum_mark Near root root (parts_at all (drop i xs)) ≡ both (mark Near root root (term_at all x.term)) (sum_mark Near root root (parts_at all (drop (i + 1) xs)))
+pub next_mark : (root : Box) (all : List Thing) (xs : List Signed) (i : ℕ) (x : Signed) → i < length xs → x ≡ get_or xs i x → sum_mark Near root root (parts_at all (drop i xs))
+    ≡ both (mark Near root root (term_at all x.term)) (sum_mark Near root root (parts_at all (drop (i + 1) xs)))
 next_mark root all xs i x below at =
     at_drop_more (λ ys. sum_mark Near root root (parts_at all ys)) xs i x below
     ∙ ap (λ (y : Signed). both (mark Near root root (term_at all y.term)) (sum_mark Near root root (parts_at all (drop (i + 1) xs)))) (sym at)
@@ -37,10 +38,18 @@ pub no_mark : (root : Box) (all : List Thing) (xs : List Signed) (i : ℕ) → l
 no_mark root all xs i past = at_drop_all (λ ys. sum_mark Near root root (parts_at all ys)) xs i past
 
 -- by the wide reading
-pub next_wide : (root : Box) (all : List Thing) (xs : List Signed) (i : ℕ) (x : Signed) → i < length xs → x ≡ get_or xs i x → wide_sum root (parts_at all (drop i xs)) ≡ record { ends = ends.plus (ends.scaled (forms.sign x.subtracted) (atoms Wide root root (term_at all x.term))) (sum_atoms Wide root root (parts_at all (drop (i + 1) xs))); mark = both (mark Wide root root (term_at all x.term)) (wide_sum root (parts_at all (drop (i + 1) xs))).mark }
+pub next_wide : (root : Box) (all : List Thing) (xs : List Signed) (i : ℕ) (x : Signed) → i < length xs → x ≡ get_or xs i x → wide_sum root (parts_at all (drop i xs))
+    ≡ record {
+      ends = ends.plus (ends.scaled (forms.sign x.subtracted) (atoms Wide root root (term_at all x.term))) (sum_atoms Wide root root (parts_at all (drop (i + 1) xs)));
+      mark =
+          both (mark Wide root root (term_at all x.term)) (wide_sum root (parts_at all (drop (i + 1) xs))).mark;
+    }
 next_wide root all xs i x below at =
     at_drop_more (λ ys. wide_sum root (parts_at all ys)) xs i x below
-    ∙ ap (λ (y : Signed). record { ends = ends.plus (ends.scaled (forms.sign y.subtracted) (atoms Wide root root (term_at all y.term))) (sum_atoms Wide root root (parts_at all (drop (i + 1) xs))); mark = both (mark Wide root root (term_at all y.term)) (wide_sum root (parts_at all (drop (i + 1) xs))).mark }) (sym at)
+    ∙ ap (λ (y : Signed). record {
+      ends = ends.plus (ends.scaled (forms.sign y.subtracted) (atoms Wide root root (term_at all y.term))) (sum_atoms Wide root root (parts_at all (drop (i + 1) xs)));
+      mark = both (mark Wide root root (term_at all y.term)) (wide_sum root (parts_at all (drop (i + 1) xs))).mark;
+    }) (sym at)
 
 pub no_wide : (root : Box) (all : List Thing) (xs : List Signed) (i : ℕ) → length xs ≤ i → wide_sum root (parts_at all (drop i xs)) ≡ wide_sum root (parts_at all [])
 no_wide root all xs i past = at_drop_all (λ ys. wide_sum root (parts_at all ys)) xs i past
@@ -54,7 +63,8 @@ parts_proper : (root : Box) (items : List Item) (xs : List Signed) → IsBuilt r
 parts_proper root items [] all = tt
 parts_proper root items (x ∷ xs) all = ((small_term root items x.term all).proper, parts_proper root items xs all)
 
-pub wide_times_fit : (root : Box) (items : List Item) (subtracted : _) (id : ℕ) (s : seen.Sight) → IsBuilt root items → sight_of s ≡ wide_sight root (term_at (things items) id) → IsFit (ends_at (forms.sign subtracted) (ends_of s.ends))
+pub wide_times_fit : (root : Box) (items : List Item) (subtracted : _) (id : ℕ) (s : seen.Sight) → IsBuilt root items → sight_of s ≡ wide_sight root (term_at (things items) id)
+    → IsFit (ends_at (forms.sign subtracted) (ends_of s.ends))
 wide_times_fit root items subtracted id s all is =
     let t = term_at (things items) id in
     let sound = small_term root items id all in
@@ -62,7 +72,9 @@ wide_times_fit root items subtracted id s all is =
     subst (λ (a : ends.Ends). IsFit (ends_at (forms.sign subtracted) a)) (sym (ap (λ (s : Sight). s.ends) is))
     (fit_at (forms.sign subtracted) (atoms Wide root root t) (atoms_weight root t) (bounded root t sound.proper) (omega (arith, once, sound.small)))
 
-pub wide_sum_fit : (root : Box) (items : List Item) (xs : List Signed) (i : ℕ) (d : Signed) (part sum : seen.Sight) → IsBuilt root items → sum_weight root (parts_at (things items) xs) ≤ 2 ^ 40 → 0 < i → i ≤ length xs → sight_of part ≡ wide_sight root (term_at (things items) (get_or xs (i - 1) d).term) → sight_of sum ≡ wide_sum root (parts_at (things items) (drop i xs)) → IsFit (ends.plus (ends.scaled (forms.sign (get_or xs (i - 1) d).subtracted) (ends_of part.ends)) (ends_of sum.ends))
+pub wide_sum_fit : (root : Box) (items : List Item) (xs : List Signed) (i : ℕ) (d : Signed) (part sum : seen.Sight) → IsBuilt root items → sum_weight root (parts_at (things items) xs) ≤ 2 ^ 40
+    → 0 < i → i ≤ length xs → sight_of part ≡ wide_sight root (term_at (things items) (get_or xs (i - 1) d).term) → sight_of sum ≡ wide_sum root (parts_at (things items) (drop i xs))
+    → IsFit (ends.plus (ends.scaled (forms.sign (get_or xs (i - 1) d).subtracted) (ends_of part.ends)) (ends_of sum.ends))
 wide_sum_fit root items xs i d part sum all small positive most first later =
     let there : i - 1 < length xs = omega (arith, positive, most) in
     let again : i - 1 + 1 ≡ i = omega (arith, positive) in
@@ -70,14 +82,17 @@ wide_sum_fit root items xs i d part sum all small positive most first later =
     let ts : List Thing = things items in
     let parts : rule.Parts = parts_at ts (drop (i - 1) xs) in
     let next = next_wide root ts xs (i - 1) x there (get_or_default xs (i - 1) d x there) in
-    let fits : IsFit (sum_atoms Wide root root parts) = fit (sum_atoms Wide root root parts) (sum_weight root parts) (bounded_parts root parts (parts_proper root items (drop (i - 1) xs) all)) (omega (arith, drop_lighter root ts (i - 1) xs, small)) in
+    let fits : IsFit (sum_atoms Wide root root parts) = fit (sum_atoms Wide root root parts) (sum_weight root parts) (bounded_parts root parts (parts_proper root items (drop (i - 1) xs) all))
+    (omega (arith, drop_lighter root ts (i - 1) xs, small)) in
     let here_fits = subst IsFit (ap (λ (s : Sight). s.ends) next) fits in
-    let moved = subst (λ (j : ℕ). IsFit (ends.plus (ends.scaled (forms.sign x.subtracted) (atoms Wide root root (term_at ts x.term))) (sum_atoms Wide root root (parts_at ts (drop j xs))))) again here_fits in
+    let moved = subst (λ (j : ℕ). IsFit (ends.plus (ends.scaled (forms.sign x.subtracted) (atoms Wide root root (term_at ts x.term))) (sum_atoms Wide root root (parts_at ts (drop j xs)))))
+    again here_fits in
     subst (λ (a : ends.Ends). IsFit (ends.plus (ends.scaled (forms.sign x.subtracted) a) (ends_of sum.ends))) (sym (ap (λ (s : Sight). s.ends) first))
     (subst (λ (a : ends.Ends). IsFit (ends.plus (ends.scaled (forms.sign x.subtracted) (atoms Wide root root (term_at ts x.term))) a)) (sym (ap (λ (s : Sight). s.ends) later)) moved)
 
 -- forms
-pub next_sum : (root : Box) (all : List Thing) (xs : List Signed) (i : ℕ) (x : Signed) → i < length xs → x ≡ get_or xs i x → sum_form root (parts_at all (drop i xs)) ≡ forms.plus_form (forms.sign x.subtracted) (sum_form root (parts_at all (drop (i + 1) xs))) (form root (term_at all x.term))
+pub next_sum : (root : Box) (all : List Thing) (xs : List Signed) (i : ℕ) (x : Signed) → i < length xs → x ≡ get_or xs i x → sum_form root (parts_at all (drop i xs))
+    ≡ forms.plus_form (forms.sign x.subtracted) (sum_form root (parts_at all (drop (i + 1) xs))) (form root (term_at all x.term))
 next_sum root all xs i x below at =
     at_drop_more (λ ys. sum_form root (parts_at all ys)) xs i x below
     ∙ ap (λ (y : Signed). forms.plus_form (forms.sign y.subtracted) (sum_form root (parts_at all (drop (i + 1) xs))) (form root (term_at all y.term))) (sym at)
@@ -88,15 +103,23 @@ large w f = unsigned_abs f.constant + weighted w f.cells
 
 pub plus_large : (w : ℕ → ℕ) (factor : ℤ) (f g : forms.Form) → large w (forms.plus_form factor f g) ≤ large w f + unsigned_abs factor * large w g
 plus_large w factor f g =
-    omega (arith, plus_size f.constant (factor *ℤ g.constant), unsigned_abs-mul factor g.constant, combined_weighted w factor f.cells g.cells, spread_left (unsigned_abs factor) (unsigned_abs g.constant) (weighted w g.cells))
+    omega (
+      arith,
+      plus_size f.constant (factor *ℤ g.constant),
+      unsigned_abs-mul factor g.constant,
+      combined_weighted w factor f.cells g.cells,
+      spread_left (unsigned_abs factor) (unsigned_abs g.constant) (weighted w g.cells),
+    )
 
 pub weight_large : (root : Box) (f : forms.Form) → weight_in root f ≡ unsigned_abs f.constant + weighted (λ cell. weight_of (ends.cell_ends root cell)) f.cells
 weight_large root f = omega (arith, cells_weighted root f.cells)
 
-sum_large : (w : ℕ → ℕ) (root : Box) (items : List Item) (xs : List Signed) → ((id : ℕ) → large w (form root (term_at (things items) id)) ≤ 2 ^ 40) → large w (sum_form root (parts_at (things items) xs)) ≤ length xs * 2 ^ 40
+sum_large : (w : ℕ → ℕ) (root : Box) (items : List Item) (xs : List Signed) → ((id : ℕ) → large w (form root (term_at (things items) id)) ≤ 2 ^ 40)
+    → large w (sum_form root (parts_at (things items) xs)) ≤ length xs * 2 ^ 40
 sum_large w root items [] each = omega arith
 sum_large w root items (x ∷ xs) each =
-    let once : unsigned_abs (forms.sign x.subtracted) * large w (form root (term_at (things items) x.term)) ≡ 1 * large w (form root (term_at (things items) x.term)) = ap (λ (n : ℕ). n * large w (form root (term_at (things items) x.term))) (sign_size x.subtracted) in
+    let once : unsigned_abs (forms.sign x.subtracted) * large w (form root (term_at (things items) x.term))
+    ≡ 1 * large w (form root (term_at (things items) x.term)) = ap (λ (n : ℕ). n * large w (form root (term_at (things items) x.term))) (sign_size x.subtracted) in
     omega (arith, plus_large w (forms.sign x.subtracted) (sum_form root (parts_at (things items) xs)) (form root (term_at (things items) x.term)), once, each x.term, sum_large w root items xs each)
 
 pub form_light : (root : Box) (items : List Item) (id : ℕ) → IsBuilt root items → weight_in root (form root (term_at (things items) id)) ≤ 2 ^ 40
@@ -105,7 +128,11 @@ form_light root items id all = omega (arith, (small_term root items id all).smal
 sum_light : (root : Box) (items : List Item) (xs : List Signed) → IsBuilt root items → weight_in root (sum_form root (parts_at (things items) xs)) ≤ length xs * 2 ^ 40
 sum_light root items xs all =
     let w : ℕ → ℕ = λ cell. weight_of (ends.cell_ends root cell) in
-    omega (arith, sum_large w root items xs (λ id. omega (arith, weight_large root (form root (term_at (things items) id)), form_light root items id all)), weight_large root (sum_form root (parts_at (things items) xs)))
+    omega (
+      arith,
+      sum_large w root items xs (λ id. omega (arith, weight_large root (form root (term_at (things items) id)), form_light root items id all)),
+      weight_large root (sum_form root (parts_at (things items) xs)),
+    )
 
 pub mass_light : (root : Box) (f : forms.Form) → mass_of f ≤ weight_in root f
 mass_light root f = omega (arith, mass_weight root f.cells)
@@ -119,27 +146,43 @@ length_drop_le zero xs = omega arith
 length_drop_le (suc i) [] = omega arith
 length_drop_le (suc i) (x ∷ xs) = omega (arith, length_drop_le i xs)
 
-pub part_room : (root : Box) (items : List Item) (xs : List Signed) (i id : ℕ) (k : ℤ) (sum g : forms.Form) → IsBuilt root items → length xs < 2 ^ 64 → unsigned_abs k ≡ 1 → sum ≡ sum_form root (parts_at (things items) (drop i xs)) → g ≡ form root (term_at (things items) id) → mass_of sum + unsigned_abs k * mass_of g < 2 ^ 127
+pub part_room : (root : Box) (items : List Item) (xs : List Signed) (i id : ℕ) (k : ℤ) (sum g : forms.Form) → IsBuilt root items → length xs < 2 ^ 64 → unsigned_abs k ≡ 1 → sum
+    ≡ sum_form root (parts_at (things items) (drop i xs)) → g ≡ form root (term_at (things items) id) → mass_of sum + unsigned_abs k * mass_of g < 2 ^ 127
 part_room root items xs i id k sum g all few one sum_is is =
     let once : unsigned_abs k * mass_of g ≡ 1 * mass_of g = ap (λ (n : ℕ). n * mass_of g) one in
     let light = sum_light root items (drop i xs) all in
-    omega (arith, once, ap mass_of sum_is, ap mass_of is, mass_light root (sum_form root (parts_at (things items) (drop i xs))), light, length_drop_le i xs, mass_light root (form root (term_at (things items) id)), form_light root items id all, few)
+    omega (
+      arith,
+      once,
+      ap mass_of sum_is,
+      ap mass_of is,
+      mass_light root (sum_form root (parts_at (things items) (drop i xs))),
+      light,
+      length_drop_le i xs,
+      mass_light root (form root (term_at (things items) id)),
+      form_light root items id all,
+      few,
+    )
 
-pub weight_room : (root : Box) (items : List Item) (xs : List Signed) (f : forms.Form) (weight : ℕ) → IsBuilt root items → length xs < 2 ^ 64 → f ≡ sum_form root (parts_at (things items) xs) → weight ≡ sum_weight root (parts_at (things items) xs) → weight_in root f + weight < 2 ^ 127
+pub weight_room : (root : Box) (items : List Item) (xs : List Signed) (f : forms.Form) (weight : ℕ) → IsBuilt root items → length xs < 2 ^ 64 → f ≡ sum_form root (parts_at (things items) xs)
+    → weight ≡ sum_weight root (parts_at (things items) xs) → weight_in root f + weight < 2 ^ 127
 weight_room root items xs f weight all few is weight_is =
     omega (arith, ap (weight_in root) is, weight_is, sum_light root items xs all, atoms_light root items xs all, few)
 
-pub sum_size : (root : Box) (items : List Item) (xs : List Signed) (f : forms.Form) (weight : ℕ) → f ≡ sum_form root (parts_at (things items) xs) → weight ≡ sum_weight root (parts_at (things items) xs) → weight_in root f + weight ≡ size root (rule.Sum (parts_at (things items) xs))
+pub sum_size : (root : Box) (items : List Item) (xs : List Signed) (f : forms.Form) (weight : ℕ) → f ≡ sum_form root (parts_at (things items) xs) → weight
+    ≡ sum_weight root (parts_at (things items) xs) → weight_in root f + weight ≡ size root (rule.Sum (parts_at (things items) xs))
 sum_size root items xs f weight is weight_is = omega (arith, ap (weight_in root) is, weight_is)
 
 pub form_small : (root : Box) (f : forms.Form) (weight : ℕ) → weight_in root f + weight ≤ 2 ^ 40 → mass_of f < 2 ^ 63
 form_small root f weight small = omega (arith, mass_light root f, small)
 
-pub sum_room_at : (root : Box) (items : List Item) (xs : List Signed) (i : ℕ) (id sum here : ℕ) → IsBuilt root items → length xs < 2 ^ 64 → sum ≡ sum_weight root (parts_at (things items) (drop i xs)) → here ≡ atoms_weight root (term_at (things items) id) → sum + here < 2 ^ 127
+pub sum_room_at : (root : Box) (items : List Item) (xs : List Signed) (i : ℕ) (id sum here : ℕ) → IsBuilt root items → length xs < 2 ^ 64 → sum ≡ sum_weight root (parts_at (things items) (drop i xs))
+    → here ≡ atoms_weight root (term_at (things items) id) → sum + here < 2 ^ 127
 sum_room_at root items xs i id sum here all few is here_is =
     omega (arith, is, here_is, atoms_light root items (drop i xs) all, length_drop_le i xs, (small_term root items id all).small, few)
 
-pub next_weight : (root : Box) (all : List Thing) (xs : List Signed) (i : ℕ) (x : Signed) → i < length xs → x ≡ get_or xs i x → sum_weight root (parts_at all (drop i xs)) ≡ atoms_weight root (term_at all x.term) + sum_weight root (parts_at all (drop (i + 1) xs))
+pub next_weight : (root : Box) (all : List Thing) (xs : List Signed) (i : ℕ) (x : Signed) → i < length xs → x ≡ get_or xs i x → sum_weight root (parts_at all (drop i xs))
+    ≡ atoms_weight root (term_at all x.term) + sum_weight root (parts_at all (drop (i + 1) xs))
 next_weight root all xs i x below at =
     at_drop_more (λ ys. sum_weight root (parts_at all ys)) xs i x below
     ∙ ap (λ (y : Signed). atoms_weight root (term_at all y.term) + sum_weight root (parts_at all (drop (i + 1) xs))) (sym at)
@@ -147,7 +190,8 @@ next_weight root all xs i x below at =
 pub no_sum_weight : (root : Box) (all : List Thing) (xs : List Signed) (i : ℕ) → length xs ≤ i → sum_weight root (parts_at all (drop i xs)) ≡ 0
 no_sum_weight root all xs i past = at_drop_all (λ ys. sum_weight root (parts_at all ys)) xs i past
 
-pub new_sum : (root : Box) (items : List Item) (xs : List Signed) (list : Vec Signed Global) (f : facts.Facts) → IsBuilt root items → PartsBelow (length items) xs → list.items ≡ xs → kept f ≡ facts_of root (a_term (rule.Sum (parts_at (things items) xs))) → size root (rule.Sum (parts_at (things items) xs)) ≤ 2 ^ 40 → IsNew root items (record { node = node.Sum list; facts = f })
+pub new_sum : (root : Box) (items : List Item) (xs : List Signed) (list : Vec Signed Global) (f : facts.Facts) → IsBuilt root items → PartsBelow (length items) xs → list.items ≡ xs → kept f
+    ≡ facts_of root (a_term (rule.Sum (parts_at (things items) xs))) → size root (rule.Sum (parts_at (things items) xs)) ≤ 2 ^ 40 → IsNew root items (record { node = node.Sum list; facts = f })
 new_sum root items xs list f all below same is small =
     new_term root items (node.Sum list) f (rule.Sum (parts_at (things items) xs)) (ap (λ (ys : List Signed). a_term (rule.Sum (parts_at (things items) ys))) same)
     (subst (PartsBelow (length items)) (sym same) below) is (parts_proper root items xs all) small tt

@@ -1,7 +1,7 @@
 -- What a store of terms and conditions stands for.
 use Rattle.std.specs.Prelude.{◌≡◌, ◌⊎◌, ◌<◌, ◌≤◌, ◌^◌, pos, ℕ, Result, Ok, Err, List, [], ◌∷◌, ◌++◌, length}
-use Rattle.sopl_base.specs.declared.places.Fault.{Fault}
-use Rattle.sopl_base.specs.declared.places.Fault.TheVariants.{Limit, NoMemory}
+use Rattle.sopl_base.specs.declared.fault.Fault.{Fault}
+use Rattle.sopl_base.specs.declared.fault.Fault.TheVariants.{Limit, NoMemory}
 use Rattle.box_problem.specs.Box.{Box, IsBox}
 use Rattle.term_store.specs.declared.store.TermStore.{TermStore}
 use Rattle.term_nodes.specs.Things.{Thing, things}

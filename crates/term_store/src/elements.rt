@@ -112,7 +112,8 @@ impl TermStore {
     fn element_known(&self, table: u32, at: &[u32]) -> Result<Option<Element>, AllocError>
         requires sound { IsSoundStore self.now }
         requires exist { AllBelow (length self.now.items.items) at.now }
-        ensures { IfOk result (λ found. rule.item_form (option_map item_of found) ≡ rule.element_form (table_at (all self.now) table) (rule.forms (root_of self.now) (terms_at (all self.now) at.now))) }
+        ensures { IfOk result (λ found. rule.item_form (option_map item_of found)
+            ≡ rule.element_form (table_at (all self.now) table) (rule.forms (root_of self.now) (terms_at (all self.now) at.now))) }
     {
         if !self.all_constant(at) {
             return Ok(None);
@@ -150,7 +151,9 @@ impl TermStore {
     fn element_wide_mark(&self, table: u32, at: &[u32], mark: Defined, behind: &Ranges) -> Defined
         requires sound { IsSoundStore self.now }
         requires exist { AllBelow (length self.now.items.items) at.now }
-        ensures { result ≡ rule.element_mark (table_at (all self.now) table) (marks.both (marks.all_marks (rule.marks rule.Wide (root_of self.now) (root_of self.now) (terms_at (all self.now) at.now))) mark) (rule.intervals rule.Wide (root_of self.now) (root_of self.now) (terms_at (all self.now) at.now) ++ ranges_of behind.now) }
+        ensures { result ≡ rule.element_mark (table_at (all self.now) table)
+            (marks.both (marks.all_marks (rule.marks rule.Wide (root_of self.now) (root_of self.now) (terms_at (all self.now) at.now))) mark)
+            (rule.intervals rule.Wide (root_of self.now) (root_of self.now) (terms_at (all self.now) at.now) ++ ranges_of behind.now) }
     {
         let Some((last, before)) = at.split_last() else {
             let root = self.root();

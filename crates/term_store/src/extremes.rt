@@ -26,7 +26,8 @@ impl TermStore {
         requires sound { IsSoundStore self.now }
         requires first { first < length self.now.items.items }
         requires exist { AllBelow (length self.now.items.items) later.now }
-        ensures { result ≡ marks.both (rule.mark rule.Near (root_of self.now) (root_of self.now) (term_at (all self.now) first)) (marks.all_marks (rule.marks rule.Near (root_of self.now) (root_of self.now) (terms_at (all self.now) later.now))) }
+        ensures { result ≡ marks.both (rule.mark rule.Near (root_of self.now) (root_of self.now) (term_at (all self.now) first))
+            (marks.all_marks (rule.marks rule.Near (root_of self.now) (root_of self.now) (terms_at (all self.now) later.now))) }
     {
         let mut mark = self.mark_known(first);
         for id in later {
@@ -41,7 +42,9 @@ impl TermStore {
         requires sound { IsSoundStore self.now }
         requires first { first < length self.now.items.items }
         requires exist { AllBelow (length self.now.items.items) later.now }
-        ensures { result ≡ rule.folds (rule.form (root_of self.now) (term_at (all self.now) first) ∷ rule.forms (root_of self.now) (terms_at (all self.now) later.now)) (marks.both (rule.mark rule.Near (root_of self.now) (root_of self.now) (term_at (all self.now) first)) (marks.all_marks (rule.marks rule.Near (root_of self.now) (root_of self.now) (terms_at (all self.now) later.now)))) }
+        ensures { result ≡ rule.folds (rule.form (root_of self.now) (term_at (all self.now) first) ∷ rule.forms (root_of self.now) (terms_at (all self.now) later.now))
+            (marks.both (rule.mark rule.Near (root_of self.now) (root_of self.now) (term_at (all self.now) first))
+            (marks.all_marks (rule.marks rule.Near (root_of self.now) (root_of self.now) (terms_at (all self.now) later.now)))) }
     {
         if !self.form_known(first).is_constant() {
             return false;

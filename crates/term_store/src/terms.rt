@@ -12,13 +12,10 @@ ghost use Rattle.term_store.specs.Stores.{IsAdded, IsMeasured, IsSoundStore, all
 
 use crate::store::TermStore;
 use box_rules::{Defined, Truth};
-use sopl_base::{Excess, Fault};
+use sopl_base::{Excess, Fault, codes, limits};
 use std::alloc::{AllocError, Global};
 use term_nodes::{Facts, Node};
 use term_rules::{BoxView, Coefficient, Ends, Factor, Form, truth_ends, weight_of};
-
-/// The greatest size of a term.
-const MOST: u128 = 1 << 40;
 
 /// The refusal of a term of this size.
 fn too_large(size: u128) -> Fault
@@ -26,9 +23,9 @@ fn too_large(size: u128) -> Fault
     ensures { result ≡ too_large size }
 {
     Fault::Limit(Excess {
-        code: 207,
+        code: codes::TERM_SIZE,
         counted: size as i128,
-        limit: MOST as i128,
+        limit: limits::TERM_SIZE as i128,
     })
 }
 
@@ -37,7 +34,7 @@ pub(crate) fn measured(size: u128) -> Result<(), Fault>
     requires room { size < 2 ^ 127 }
     ensures { IsMeasured size result }
 {
-    if size > MOST {
+    if size > limits::TERM_SIZE {
         return Err(too_large(size));
     }
     Ok(())

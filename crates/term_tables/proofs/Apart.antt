@@ -42,7 +42,8 @@ all_apart (xs ∷ lists) none =
     AllPairs-cons (λ (p q : List ℤ). ¬ p ≡ q) xs lists (apart_from xs lists (and_first (not (list_any (same_index xs) lists)) (none_twice lists) none))
     (all_apart lists (and_second (not (list_any (same_index xs) lists)) (none_twice lists) none))
 
-pub table_is : (table : Table) (sets : List (List ℤ)) → sets_of table.sets.items ≡ sets → length table.elements.items ≡ length (indices sets) → none_twice (indices sets) ≡ true → IsTable (table_of table)
+pub table_is : (table : Table) (sets : List (List ℤ)) → sets_of table.sets.items ≡ sets → length table.elements.items ≡ length (indices sets) → none_twice (indices sets) ≡ true
+    → IsTable (table_of table)
 table_is table sets is complete apart = record {
   complete = length-map table.elements.items item_of ∙ complete ∙ sym (ap (λ (ss : List (List ℤ)). length (indices ss)) is);
   distinct = subst (λ (ss : List (List ℤ)). AllPairs (λ (p q : List ℤ). ¬ p ≡ q) (indices ss)) (sym is) (all_apart (indices sets) apart);
@@ -52,6 +53,8 @@ table_is table sets is complete apart = record {
 pub empty_is : (table : Table) (set : Vec ℤ Global) → table.sets.items ≡ set ∷ [] → set.items ≡ [] → length table.elements.items ≡ 0 → IsTable (table_of table)
 empty_is table set sets numbers none = table_is table ([] ∷ []) (ap sets_of sets ∙ ap (λ (s : List ℤ). s ∷ []) numbers) none refl
 
-pub grid_is : (table : Table) (rows columns : Vec ℤ Global) → table.sets.items ≡ rows ∷ columns ∷ [] → rows.items ≡ pos 1 ∷ pos 3 ∷ [] → columns.items ≡ pos 2 ∷ pos 5 ∷ pos 7 ∷ [] → length table.elements.items ≡ 6 → IsTable (table_of table)
+pub grid_is : (table : Table) (rows columns : Vec ℤ Global) → table.sets.items ≡ rows ∷ columns ∷ [] → rows.items ≡ pos 1 ∷ pos 3 ∷ [] → columns.items ≡ pos 2 ∷ pos 5 ∷ pos 7 ∷ []
+    → length table.elements.items ≡ 6 → IsTable (table_of table)
 grid_is table rows columns sets first second six =
-    table_is table ((pos 1 ∷ pos 3 ∷ []) ∷ (pos 2 ∷ pos 5 ∷ pos 7 ∷ []) ∷ []) (ap sets_of sets ∙ ap (λ (s : List ℤ). s ∷ columns.items ∷ []) first ∙ ap (λ (s : List ℤ). (pos 1 ∷ pos 3 ∷ []) ∷ s ∷ []) second) six refl
+    table_is table ((pos 1 ∷ pos 3 ∷ []) ∷ (pos 2 ∷ pos 5 ∷ pos 7 ∷ []) ∷ []) (ap sets_of sets ∙ ap (λ (s : List ℤ). s ∷ columns.items ∷ []) first
+    ∙ ap (λ (s : List ℤ). (pos 1 ∷ pos 3 ∷ []) ∷ s ∷ []) second) six refl

@@ -1,5 +1,6 @@
 -- The item at an index, one dimension after the other.
-use Rattle.std.proofs.Common.{◌≡◌, ℕ, zero, suc, ◌+◌, ◌*◌, ◌<◌, ◌≤◌, ℤ, Bool, true, false, ◌&&◌, List, [], ◌∷◌, ◌++◌, map, length, get_or, take, drop, Option, Some, None, option_map, if◌then◌else◌, arith, refl, ap, sym, ◌∙◌, length-append, Vec, Global, ◌/◌, ◌%◌, mul_comm, zero-mul, div-add-mod'}
+use Rattle.std.proofs.Common.{◌≡◌, ℕ, zero, suc, ◌+◌, ◌*◌, ◌<◌, ◌≤◌, ℤ, Bool, true, false, ◌&&◌, List, [], ◌∷◌, ◌++◌, map, length, get_or, take, drop, Option, Some, None}
+use Rattle.std.proofs.Common.{option_map, if◌then◌else◌, arith, refl, ap, sym, ◌∙◌, length-append, Vec, Global, ◌/◌, ◌%◌, mul_comm, zero-mul, div-add-mod'}
 use Rattle.std.proofs.lemmas.Nat.{div-mul-add}
 use Rattle.std.specs.List.{flat_map}
 use Rattle.std.specs.Ordering.{int_eq}
@@ -45,7 +46,8 @@ found_later (e ∷ es) fs index is =
     (λ same here. absurd (cc)) (λ other here. found_later es fs index here) is
 
 -- the indices under a number
-under_it : (here number : ℤ) (rest : List ℤ) (lists : List (List ℤ)) (items : List Item) → int_eq here number ≡ true → item_in (paired (under here lists) items) (number ∷ rest) ≡ item_in (paired lists items) rest
+under_it : (here number : ℤ) (rest : List ℤ) (lists : List (List ℤ)) (items : List Item) → int_eq here number ≡ true → item_in (paired (under here lists) items) (number ∷ rest)
+    ≡ item_in (paired lists items) rest
 under_it here number rest [] items same = refl
 under_it here number rest (xs ∷ lists) [] same = refl
 under_it here number rest (xs ∷ lists) (item ∷ items) same =
@@ -68,7 +70,8 @@ no_item rest (xs ∷ lists) (item ∷ items) (another ∷ others) complete none 
     by_bool (λ b. (if b then Some item else item_in (paired lists items) rest) ≡ None → (if b then Some another else item_in (paired lists others) rest) ≡ None) (same_index xs rest)
     (λ same here. absurd (cc)) (λ other here. no_item rest lists items others (omega (arith, complete)) here) none
 
-none_under : (here number : ℤ) (rest : List ℤ) (lists : List (List ℤ)) (items others : List Item) → length items ≡ length lists → item_in (paired lists items) rest ≡ None → item_in (paired (under here lists) others) (number ∷ rest) ≡ None
+none_under : (here number : ℤ) (rest : List ℤ) (lists : List (List ℤ)) (items others : List Item) → length items ≡ length lists → item_in (paired lists items) rest ≡ None
+    → item_in (paired (under here lists) others) (number ∷ rest) ≡ None
 none_under here number rest lists items others complete none =
     by_bool (λ b. int_eq here number ≡ b → item_in (paired (under here lists) others) (number ∷ rest) ≡ None) (int_eq here number)
     (λ met same. under_it here number rest lists others same ∙ no_item rest lists items others complete none)
@@ -78,7 +81,8 @@ none_under here number rest lists items others complete none =
 left : (n w : ℕ) (items : List Item) → length items ≡ suc n * w → length (drop w items) ≡ n * w
 left n w items complete = omega (arith, length-drop w items, complete)
 
-none_under_all : (number : ℤ) (rest : List ℤ) (set : List ℤ) (lists : List (List ℤ)) (items others : List Item) → length items ≡ length lists → item_in (paired lists items) rest ≡ None → length others ≡ length set * length lists → item_in (paired (all_under set lists) others) (number ∷ rest) ≡ None
+none_under_all : (number : ℤ) (rest : List ℤ) (set : List ℤ) (lists : List (List ℤ)) (items others : List Item) → length items ≡ length lists → item_in (paired lists items) rest ≡ None
+    → length others ≡ length set * length lists → item_in (paired (all_under set lists) others) (number ∷ rest) ≡ None
 none_under_all number rest [] lists items others complete none all = refl
 none_under_all number rest (here ∷ set) lists items others complete none all =
     let width = length_under here lists in
@@ -97,26 +101,34 @@ by_found : (P : Option Item → Type 0) (v : Option Item) → (v ≡ None → P 
 by_found P None missing found = missing refl
 by_found P (Some item) missing found = found item refl
 
-here_found : (here number : ℤ) (rest : List ℤ) (set : List ℤ) (lists : List (List ℤ)) (items : List Item) → int_eq here number ≡ true → length items ≡ suc (length set) * length lists → item_in (paired (under here lists) (take (length lists) items) ++ paired (all_under set lists) (drop (length lists) items)) (number ∷ rest) ≡ item_in (paired lists (take (length lists) items)) rest
+here_found : (here number : ℤ) (rest : List ℤ) (set : List ℤ) (lists : List (List ℤ)) (items : List Item) → int_eq here number ≡ true → length items ≡ suc (length set) * length lists
+    → item_in (paired (under here lists) (take (length lists) items) ++ paired (all_under set lists) (drop (length lists) items)) (number ∷ rest)
+    ≡ item_in (paired lists (take (length lists) items)) rest
 here_found here number rest set lists items same complete =
     let first = under_it here number rest lists (take (length lists) items) same in
-    by_found (λ v. item_in (paired lists (take (length lists) items)) rest ≡ v → item_in (paired (under here lists) (take (length lists) items) ++ paired (all_under set lists) (drop (length lists) items)) (number ∷ rest) ≡ v) (item_in (paired lists (take (length lists) items)) rest)
+    by_found (λ v. item_in (paired lists (take (length lists) items)) rest ≡ v
+    → item_in (paired (under here lists) (take (length lists) items) ++ paired (all_under set lists) (drop (length lists) items)) (number ∷ rest)
+    ≡ v) (item_in (paired lists (take (length lists) items)) rest)
     (λ missing is.
     found_later (paired (under here lists) (take (length lists) items)) (paired (all_under set lists) (drop (length lists) items)) (number ∷ rest) (first ∙ is)
-    ∙ none_under_all number rest set lists (take (length lists) items) (drop (length lists) items) (length-take-le (length lists) items (omega (arith, complete))) is (left (length set) (length lists) items complete))
+    ∙ none_under_all number rest set lists (take (length lists) items) (drop (length lists) items) (length-take-le (length lists) items (omega (arith, complete))) is
+    (left (length set) (length lists) items complete))
     (λ item found is. found_first (paired (under here lists) (take (length lists) items)) (paired (all_under set lists) (drop (length lists) items)) (number ∷ rest) item (first ∙ is))
     refl
 
-pub look_is : (number : ℤ) (rest : List ℤ) (set : List ℤ) (lists : List (List ℤ)) (items : List Item) → length items ≡ length set * length lists → item_in (paired (all_under set lists) items) (number ∷ rest) ≡ look lists rest (block number set (length lists) items)
+pub look_is : (number : ℤ) (rest : List ℤ) (set : List ℤ) (lists : List (List ℤ)) (items : List Item) → length items ≡ length set * length lists
+    → item_in (paired (all_under set lists) items) (number ∷ rest) ≡ look lists rest (block number set (length lists) items)
 look_is number rest [] lists items complete = refl
 look_is number rest (here ∷ set) lists items complete =
     let width = length_under here lists in
     ap (λ (es : List Entry). item_in es (number ∷ rest)) (paired_append (under here lists) (all_under set lists) items (omega (arith, width, complete)))
     ∙ ap (λ (n : ℕ). item_in (paired (under here lists) (take n items) ++ paired (all_under set lists) (drop n items)) (number ∷ rest)) width
-    ∙ by_bool (λ b. int_eq here number ≡ b → item_in (paired (under here lists) (take (length lists) items) ++ paired (all_under set lists) (drop (length lists) items)) (number ∷ rest) ≡ look lists rest (if b then Some (take (length lists) items) else block number set (length lists) (drop (length lists) items))) (int_eq here number)
+    ∙ by_bool (λ b. int_eq here number ≡ b → item_in (paired (under here lists) (take (length lists) items) ++ paired (all_under set lists) (drop (length lists) items)) (number ∷ rest)
+    ≡ look lists rest (if b then Some (take (length lists) items) else block number set (length lists) (drop (length lists) items))) (int_eq here number)
     (λ met same. here_found here number rest set lists items same complete)
     (λ unmet other.
-    found_later (paired (under here lists) (take (length lists) items)) (paired (all_under set lists) (drop (length lists) items)) (number ∷ rest) (under_another here number rest lists (take (length lists) items) other)
+    found_later (paired (under here lists) (take (length lists) items)) (paired (all_under set lists) (drop (length lists) items)) (number ∷ rest)
+    (under_another here number rest lists (take (length lists) items) other)
     ∙ look_is number rest set lists (drop (length lists) items) (left (length set) (length lists) items complete)) refl
 
 -- an index that ends too early is none
@@ -163,12 +175,14 @@ items_drop (suc n) (x ∷ xs) = items_drop n xs
 pub block_items : (number : ℤ) (set : List ℤ) (width : ℕ) (xs : List Element) → option_map items_of (block number set width xs) ≡ block number set width (items_of xs)
 block_items number [] width xs = refl
 block_items number (here ∷ set) width xs =
-    by_bool (λ b. option_map items_of (if b then Some (take width xs) else block number set width (drop width xs)) ≡ (if b then Some (take width (items_of xs)) else block number set width (drop width (items_of xs)))) (int_eq here number)
+    by_bool (λ b. option_map items_of (if b then Some (take width xs) else block number set width (drop width xs))
+    ≡ (if b then Some (take width (items_of xs)) else block number set width (drop width (items_of xs)))) (int_eq here number)
     (λ same. ap (λ (is : List Item). Some is) (items_take width xs))
     (λ other. block_items number set width (drop width xs) ∙ ap (block number set width) (items_drop width xs))
 
 -- steps over the numbers of a set
-pub next_block : (number : ℤ) (width : ℕ) (ys : List Element) (xs : List ℤ) (i : ℕ) (x : ℤ) → i < length xs → x ≡ get_or xs i x → block number (drop i xs) width ys ≡ if int_eq x number then Some (take width ys) else block number (drop (i + 1) xs) width (drop width ys)
+pub next_block : (number : ℤ) (width : ℕ) (ys : List Element) (xs : List ℤ) (i : ℕ) (x : ℤ) → i < length xs → x ≡ get_or xs i x → block number (drop i xs) width ys
+    ≡ if int_eq x number then Some (take width ys) else block number (drop (i + 1) xs) width (drop width ys)
 next_block number width ys xs i x below at =
     at_drop_more (λ zs. block number zs width ys) xs i x below
     ∙ ap (λ (z : ℤ). if int_eq z number then Some (take width ys) else block number (drop (i + 1) xs) width (drop width ys)) (sym at)
@@ -176,7 +190,9 @@ next_block number width ys xs i x below at =
 pub no_block : (number : ℤ) (width : ℕ) (ys : List Element) (xs : List ℤ) (i : ℕ) → length xs ≤ i → block number (drop i xs) width ys ≡ None
 no_block number width ys xs i past = at_drop_all (λ zs. block number zs width ys) xs i past
 
-pub next_left : (number : ℤ) (set : List ℤ) (width : ℕ) (elements left later : List Element) (i : ℕ) (here : ℤ) → i < length set → here ≡ get_or set i here → int_eq here number ≡ false → later ≡ drop width left → length later + width ≡ length left → block number set width elements ≡ block number (drop i set) width left → length left ≡ length (drop i set) * width → (block number set width elements ≡ block number (drop (i + 1) set) width later) × (length later ≡ length (drop (i + 1) set) * width)
+pub next_left : (number : ℤ) (set : List ℤ) (width : ℕ) (elements left later : List Element) (i : ℕ) (here : ℤ) → i < length set → here ≡ get_or set i here → int_eq here number ≡ false
+    → later ≡ drop width left → length later + width ≡ length left → block number set width elements ≡ block number (drop i set) width left → length left ≡ length (drop i set) * width
+    → (block number set width elements ≡ block number (drop (i + 1) set) width later) × (length later ≡ length (drop (i + 1) set) * width)
 next_left number set width elements left later i here below at other behind length_behind so_far complete =
     let more : length (drop i set) ≡ suc (length (drop (i + 1) set)) = omega (arith, length-drop i set, length-drop (i + 1) set, below) in (
       so_far
@@ -192,37 +208,47 @@ dimension_is xs i x below at =
     at_drop_more (λ ys. indices (sets_of ys)) xs i x below
     ∙ ap (λ (y : Vec ℤ Global). all_under y.items (indices (sets_of (drop (i + 1) xs)))) (sym at)
 
-pub next_dimension : (elements : List Element) (number : ℤ) (later : List ℤ) (xs : List (Vec ℤ Global)) (i : ℕ) (x : Vec ℤ Global) → i < length xs → x ≡ get_or xs i x → length elements ≡ length (indices (sets_of (drop i xs))) → item_in (paired (indices (sets_of (drop i xs))) (items_of elements)) (number ∷ later) ≡ look (indices (sets_of (drop (i + 1) xs))) later (block number x.items (length (indices (sets_of (drop (i + 1) xs)))) (items_of elements))
+pub next_dimension : (elements : List Element) (number : ℤ) (later : List ℤ) (xs : List (Vec ℤ Global)) (i : ℕ) (x : Vec ℤ Global) → i < length xs → x ≡ get_or xs i x → length elements
+    ≡ length (indices (sets_of (drop i xs))) → item_in (paired (indices (sets_of (drop i xs))) (items_of elements)) (number ∷ later)
+    ≡ look (indices (sets_of (drop (i + 1) xs))) later (block number x.items (length (indices (sets_of (drop (i + 1) xs)))) (items_of elements))
 next_dimension elements number later xs i x below at complete =
     let dimension : indices (sets_of (drop i xs)) ≡ all_under x.items (indices (sets_of (drop (i + 1) xs))) = dimension_is xs i x below at in
     ap (λ (ls : List (List ℤ)). item_in (paired ls (items_of elements)) (number ∷ later)) dimension
-    ∙ look_is number later x.items (indices (sets_of (drop (i + 1) xs))) (items_of elements) (items_length elements ∙ complete ∙ ap (λ (ls : List (List ℤ)). length ls) dimension ∙ length_all x.items (indices (sets_of (drop (i + 1) xs))))
+    ∙ look_is number later x.items (indices (sets_of (drop (i + 1) xs))) (items_of elements) (items_length elements ∙ complete ∙ ap (λ (ls : List (List ℤ)). length ls) dimension
+    ∙ length_all x.items (indices (sets_of (drop (i + 1) xs))))
   where
     items_length : (xs : List Element) → length (items_of xs) ≡ length xs
     items_length [] = refl
     items_length (x ∷ xs) = ap suc (items_length xs)
 
-pub too_short : (elements : List Element) (rest : List ℤ) (xs : List (Vec ℤ Global)) (i : ℕ) (x : Vec ℤ Global) → i < length xs → x ≡ get_or xs i x → length rest ≡ 0 → item_in (paired (indices (sets_of (drop i xs))) (items_of elements)) rest ≡ None
+pub too_short : (elements : List Element) (rest : List ℤ) (xs : List (Vec ℤ Global)) (i : ℕ) (x : Vec ℤ Global) → i < length xs → x ≡ get_or xs i x → length rest ≡ 0
+    → item_in (paired (indices (sets_of (drop i xs))) (items_of elements)) rest ≡ None
 too_short elements [] xs i x below at none =
     ap (λ (ls : List (List ℤ)). item_in (paired ls (items_of elements)) []) (dimension_is xs i x below at)
     ∙ ended_early x.items (indices (sets_of (drop (i + 1) xs))) (items_of elements)
 too_short elements (number ∷ rest) xs i x below at none = absurd (omega (arith, none))
 
-pub part_complete : (elements : List Element) (xs : List (Vec ℤ Global)) (i : ℕ) (x : Vec ℤ Global) → i < length xs → x ≡ get_or xs i x → length elements ≡ length (indices (sets_of (drop i xs))) → length elements ≡ length x.items * length (indices (sets_of (drop (i + 1) xs)))
+pub part_complete : (elements : List Element) (xs : List (Vec ℤ Global)) (i : ℕ) (x : Vec ℤ Global) → i < length xs → x ≡ get_or xs i x → length elements ≡ length (indices (sets_of (drop i xs)))
+    → length elements ≡ length x.items * length (indices (sets_of (drop (i + 1) xs)))
 part_complete elements xs i x below at complete =
     complete ∙ ap (λ (ls : List (List ℤ)). length ls) (dimension_is xs i x below at) ∙ length_all x.items (indices (sets_of (drop (i + 1) xs)))
 
-pub missing_number : (elements : List Element) (number : ℤ) (later : List ℤ) (xs : List (Vec ℤ Global)) (i : ℕ) (x : Vec ℤ Global) → i < length xs → x ≡ get_or xs i x → length elements ≡ length (indices (sets_of (drop i xs))) → block number x.items (length (indices (sets_of (drop (i + 1) xs)))) elements ≡ None → item_in (paired (indices (sets_of (drop i xs))) (items_of elements)) (number ∷ later) ≡ None
+pub missing_number : (elements : List Element) (number : ℤ) (later : List ℤ) (xs : List (Vec ℤ Global)) (i : ℕ) (x : Vec ℤ Global) → i < length xs → x ≡ get_or xs i x → length elements
+    ≡ length (indices (sets_of (drop i xs))) → block number x.items (length (indices (sets_of (drop (i + 1) xs)))) elements ≡ None
+    → item_in (paired (indices (sets_of (drop i xs))) (items_of elements)) (number ∷ later) ≡ None
 missing_number elements number later xs i x below at complete none =
     next_dimension elements number later xs i x below at complete
     ∙ ap (look (indices (sets_of (drop (i + 1) xs))) later) (sym (block_items number x.items (length (indices (sets_of (drop (i + 1) xs)))) elements) ∙ ap (option_map items_of) none)
 
-pub found_number : (elements : List Element) (number : ℤ) (later : List ℤ) (xs : List (Vec ℤ Global)) (i : ℕ) (x : Vec ℤ Global) (found : List Element) → i < length xs → x ≡ get_or xs i x → length elements ≡ length (indices (sets_of (drop i xs))) → block number x.items (length (indices (sets_of (drop (i + 1) xs)))) elements ≡ Some found → item_in (paired (indices (sets_of (drop i xs))) (items_of elements)) (number ∷ later) ≡ item_in (paired (indices (sets_of (drop (i + 1) xs))) (items_of found)) later
+pub found_number : (elements : List Element) (number : ℤ) (later : List ℤ) (xs : List (Vec ℤ Global)) (i : ℕ) (x : Vec ℤ Global) (found : List Element) → i < length xs → x ≡ get_or xs i x
+    → length elements ≡ length (indices (sets_of (drop i xs))) → block number x.items (length (indices (sets_of (drop (i + 1) xs)))) elements ≡ Some found
+    → item_in (paired (indices (sets_of (drop i xs))) (items_of elements)) (number ∷ later) ≡ item_in (paired (indices (sets_of (drop (i + 1) xs))) (items_of found)) later
 found_number elements number later xs i x found below at complete is =
     next_dimension elements number later xs i x below at complete
     ∙ ap (look (indices (sets_of (drop (i + 1) xs))) later) (sym (block_items number x.items (length (indices (sets_of (drop (i + 1) xs)))) elements) ∙ ap (option_map items_of) is)
 
-pub no_dimension : (elements : List Element) (rest : List ℤ) (xs : List (Vec ℤ Global)) (i : ℕ) → length xs ≤ i → item_in (paired (indices (sets_of (drop i xs))) (items_of elements)) rest ≡ item_in (paired ([] ∷ []) (items_of elements)) rest
+pub no_dimension : (elements : List Element) (rest : List ℤ) (xs : List (Vec ℤ Global)) (i : ℕ) → length xs ≤ i → item_in (paired (indices (sets_of (drop i xs))) (items_of elements)) rest
+    ≡ item_in (paired ([] ∷ []) (items_of elements)) rest
 no_dimension elements rest xs i past = at_drop_all (λ ys. item_in (paired (indices (sets_of ys)) (items_of elements)) rest) xs i past
 
 pub one_left : (xs : List (Vec ℤ Global)) (i : ℕ) → length xs ≤ i → length (indices (sets_of (drop i xs))) ≡ 1

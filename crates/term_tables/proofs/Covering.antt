@@ -59,14 +59,17 @@ pub no_set : (rs : List Ends) (r : Ends) (later : List Ends) (sets : List (Vec �
 no_set rs r later [] is none = ap (λ (es : List Ends). are_covered es []) is
 no_set rs r later (set ∷ sets) is none = absurd (omega (arith, none))
 
-set_is : (rs : List Ends) (r : Ends) (later : List Ends) (sets : List (Vec ℤ Global)) (set : Vec ℤ Global) (behind : List (Vec ℤ Global)) (b : Bool) → rs ≡ r ∷ later → sets ≡ set ∷ behind → is_covered r set.items ≡ b → are_covered rs (sets_of sets) ≡ (b && are_covered later (sets_of behind))
+set_is : (rs : List Ends) (r : Ends) (later : List Ends) (sets : List (Vec ℤ Global)) (set : Vec ℤ Global) (behind : List (Vec ℤ Global)) (b : Bool) → rs ≡ r ∷ later → sets ≡ set ∷ behind
+    → is_covered r set.items ≡ b → are_covered rs (sets_of sets) ≡ (b && are_covered later (sets_of behind))
 set_is rs r later sets set behind b is first covered =
     ap (λ (es : List Ends). are_covered es (sets_of sets)) is
     ∙ ap (λ (ss : List (Vec ℤ Global)). are_covered (r ∷ later) (sets_of ss)) first
     ∙ ap (λ (c : Bool). c && are_covered later (sets_of behind)) covered
 
-pub set_missed : (rs : List Ends) (r : Ends) (later : List Ends) (sets : List (Vec ℤ Global)) (set : Vec ℤ Global) (behind : List (Vec ℤ Global)) → rs ≡ r ∷ later → sets ≡ set ∷ behind → is_covered r set.items ≡ false → are_covered rs (sets_of sets) ≡ false
+pub set_missed : (rs : List Ends) (r : Ends) (later : List Ends) (sets : List (Vec ℤ Global)) (set : Vec ℤ Global) (behind : List (Vec ℤ Global)) → rs ≡ r ∷ later → sets ≡ set ∷ behind
+    → is_covered r set.items ≡ false → are_covered rs (sets_of sets) ≡ false
 set_missed rs r later sets set behind is first missed = set_is rs r later sets set behind false is first missed
 
-pub set_covered : (rs : List Ends) (r : Ends) (later : List Ends) (sets : List (Vec ℤ Global)) (set : Vec ℤ Global) (behind : List (Vec ℤ Global)) → rs ≡ r ∷ later → sets ≡ set ∷ behind → is_covered r set.items ≡ true → are_covered rs (sets_of sets) ≡ are_covered later (sets_of behind)
+pub set_covered : (rs : List Ends) (r : Ends) (later : List Ends) (sets : List (Vec ℤ Global)) (set : Vec ℤ Global) (behind : List (Vec ℤ Global)) → rs ≡ r ∷ later → sets ≡ set ∷ behind
+    → is_covered r set.items ≡ true → are_covered rs (sets_of sets) ≡ are_covered later (sets_of behind)
 set_covered rs r later sets set behind is first covered = set_is rs r later sets set behind true is first covered

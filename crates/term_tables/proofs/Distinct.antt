@@ -1,5 +1,6 @@
 -- Where a set has a number, its block is there and nowhere before: no number stands twice in the set, or there are no elements.
-use Rattle.std.proofs.Common.{◌≡◌, ℕ, zero, suc, ◌+◌, ◌*◌, ◌<◌, ◌≤◌, ℤ, Bool, false, List, [], ◌∷◌, ◌++◌, length, get_or, take, drop, Some, AllPairs, if◌then◌else◌, arith, Vec, Global, refl, ap, subst, sym, ◌∙◌, length-append, zero-mul, drop-drop}
+use Rattle.std.proofs.Common.{◌≡◌, ℕ, zero, suc, ◌+◌, ◌*◌, ◌<◌, ◌≤◌, ℤ, Bool, false, List, [], ◌∷◌, ◌++◌, length, get_or, take, drop, Some, AllPairs, if◌then◌else◌, arith, Vec}
+use Rattle.std.proofs.Common.{Global, refl, ap, subst, sym, ◌∙◌, length-append, zero-mul, drop-drop}
 use Rattle.std.proofs.Math.Seq.{drop-nil}
 use Rattle.std.specs.Ordering.{int_eq}
 use Rattle.std.proofs.lemmas.Nat.{mul-le}
@@ -22,7 +23,8 @@ unmet here set p number differ below is =
     (λ met same. absurd (differ zero (suc p) number (omega arith) (omega (arith, below)) (equals_tested here number same ∙ sym is)))
     (λ other same. refl) refl
 
-placed : {A : Type 0} (number : ℤ) (set : List ℤ) (width : ℕ) (xs : List A) (p : ℕ) → Differ set → p < length set → get_or set p number ≡ number → block number set width xs ≡ Some (take width (drop (p * width) xs))
+placed : {A : Type 0} (number : ℤ) (set : List ℤ) (width : ℕ) (xs : List A) (p : ℕ) → Differ set → p < length set → get_or set p number ≡ number → block number set width xs
+    ≡ Some (take width (drop (p * width) xs))
 placed number [] width xs p differ below is = absurd (omega (arith, below))
 placed {A} number (here ∷ set) width xs zero differ below is =
     ap (λ (b : Bool). if b then Some (take width xs) else block number set width (drop width xs)) (equal_tests here number is)
@@ -44,7 +46,8 @@ no_elements {A} number (here ∷ set) width xs (suc p) none below is =
     (λ met. ap (λ (ys : List A). Some (take width ys)) none)
     (λ other. no_elements number set width (drop width xs) p (ap (drop width) none ∙ drop-nil width) (omega (arith, below)) is)
 
-pub block_at : {A : Type 0} (number : ℤ) (set : List ℤ) (width : ℕ) (xs : List A) (p : ℕ) → (0 < length xs → Differ set) → p < length set → get_or set p number ≡ number → block number set width xs ≡ Some (take width (drop (p * width) xs))
+pub block_at : {A : Type 0} (number : ℤ) (set : List ℤ) (width : ℕ) (xs : List A) (p : ℕ) → (0 < length xs → Differ set) → p < length set → get_or set p number ≡ number → block number set width xs
+    ≡ Some (take width (drop (p * width) xs))
 block_at {A} number set width [] p differ below is =
     no_elements number set width [] p refl below is
     ∙ ap (λ (ys : List A). Some (take width ys)) (sym (drop-nil (p * width)))
@@ -60,7 +63,8 @@ under_at here [] i d below = absurd (omega (arith, below))
 under_at here (ys ∷ lists) zero d below = refl
 under_at here (ys ∷ lists) (suc i) d below = under_at here lists i d (omega (arith, below))
 
-first_at : (set : List ℤ) (lists : List (List ℤ)) (i : ℕ) (z : ℤ) (d : List ℤ) → 0 < length lists → i < length set → get_or (all_under set lists) (i * length lists) d ≡ get_or set i z ∷ get_or lists 0 d
+first_at : (set : List ℤ) (lists : List (List ℤ)) (i : ℕ) (z : ℤ) (d : List ℤ) → 0 < length lists → i < length set → get_or (all_under set lists) (i * length lists) d
+    ≡ get_or set i z ∷ get_or lists 0 d
 first_at [] lists i z d some below = absurd (omega (arith, below))
 first_at (here ∷ set) lists zero z d some below =
     ap (λ (n : ℕ). get_or (under here lists ++ all_under set lists) n d) (zero-mul (length lists))
@@ -75,7 +79,8 @@ pub first_differ : (set : List ℤ) (lists : List (List ℤ)) → 0 < length lis
 first_differ set lists some differ =
     λ i j z before exists.
     λ same.
-    let last : j * length lists < length (all_under set lists) = omega (arith, length_all set lists, some, mul-le (j + 1) (length lists) (length set) (length lists) (omega (arith, exists)) (omega arith)) in
+    let last : j * length lists < length (all_under set lists) =
+    omega (arith, length_all set lists, some, mul-le (j + 1) (length lists) (length set) (length lists) (omega (arith, exists)) (omega arith)) in
     let order : i * length lists < j * length lists = omega (arith, some, mul-le (i + 1) (length lists) j (length lists) (omega (arith, before)) (omega arith)) in
     differ (i * length lists) (j * length lists) [] order last
     (first_at set lists i z [] some (omega (arith, before, exists))
@@ -104,7 +109,8 @@ some_of_product : (m n k : ℕ) → 0 < m → m ≡ n * k → 0 < k
 some_of_product m n zero some is = omega (arith, some, is)
 some_of_product m n (suc k) some is = omega arith
 
-pub dimension_differs : (count : ℕ) (xs : List (Vec ℤ Global)) (i : ℕ) (x : Vec ℤ Global) → i < length xs → x ≡ get_or xs i x → count ≡ length (indices (sets_of (drop i xs))) → Differ (indices (sets_of (drop i xs))) → 0 < count → Differ x.items
+pub dimension_differs : (count : ℕ) (xs : List (Vec ℤ Global)) (i : ℕ) (x : Vec ℤ Global) → i < length xs → x ≡ get_or xs i x → count ≡ length (indices (sets_of (drop i xs)))
+    → Differ (indices (sets_of (drop i xs))) → 0 < count → Differ x.items
 dimension_differs count xs i x below at complete differ some =
     let is = dimension_is xs i x below at in
     let lists = indices (sets_of (drop (i + 1) xs)) in
@@ -112,6 +118,7 @@ dimension_differs count xs i x below at complete differ some =
     (some_of_product count (length x.items) (length lists) some (complete ∙ ap (λ (ls : List (List ℤ)). length ls) is ∙ length_all x.items lists))
     (subst Differ is differ)
 
-pub behind_differs : (xs : List (Vec ℤ Global)) (i : ℕ) (x : Vec ℤ Global) → i < length xs → x ≡ get_or xs i x → 0 < length x.items → Differ (indices (sets_of (drop i xs))) → Differ (indices (sets_of (drop (i + 1) xs)))
+pub behind_differs : (xs : List (Vec ℤ Global)) (i : ℕ) (x : Vec ℤ Global) → i < length xs → x ≡ get_or xs i x → 0 < length x.items → Differ (indices (sets_of (drop i xs)))
+    → Differ (indices (sets_of (drop (i + 1) xs)))
 behind_differs xs i x below at some differ =
     rest_differ x.items (indices (sets_of (drop (i + 1) xs))) some (subst Differ (dimension_is xs i x below at) differ)

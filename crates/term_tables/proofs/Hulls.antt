@@ -8,7 +8,8 @@ use Rattle.box_rules.specs.Rules.{item_ends}
 use Rattle.term_tables.specs.declared.elements.Element.{Element}
 use Rattle.term_tables.specs.Kept.{item_of, items_of}
 
-pub next_hull : (b : Box) (a : Ends) (xs : List Element) (i : ℕ) (x : Element) → i < length xs → x ≡ get_or xs i x → fold hull a (map (item_ends b) (items_of (drop i xs))) ≡ fold hull (hull a (item_ends b (item_of x))) (map (item_ends b) (items_of (drop (i + 1) xs)))
+pub next_hull : (b : Box) (a : Ends) (xs : List Element) (i : ℕ) (x : Element) → i < length xs → x ≡ get_or xs i x → fold hull a (map (item_ends b) (items_of (drop i xs)))
+    ≡ fold hull (hull a (item_ends b (item_of x))) (map (item_ends b) (items_of (drop (i + 1) xs)))
 next_hull b a xs i x below at =
     at_drop_more (λ ys. fold hull a (map (item_ends b) (items_of ys))) xs i x below
     ∙ ap (λ (y : Element). fold hull (hull a (item_ends b (item_of y))) (map (item_ends b) (items_of (drop (i + 1) xs)))) (sym at)

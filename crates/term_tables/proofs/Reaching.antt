@@ -1,5 +1,6 @@
 -- The elements whose indices lie within intervals, one dimension after the other.
-use Rattle.std.proofs.Common.{◌≡◌, ℕ, suc, ◌+◌, ◌*◌, ◌<◌, ◌≤◌, ℤ, Bool, true, false, ◌&&◌, List, [], ◌∷◌, ◌++◌, map, length, get_or, take, drop, Option, Some, None, if◌then◌else◌, arith, refl, ap, sym, ◌∙◌, Vec, Global}
+use Rattle.std.proofs.Common.{◌≡◌, ℕ, suc, ◌+◌, ◌*◌, ◌<◌, ◌≤◌, ℤ, Bool, true, false, ◌&&◌, List, [], ◌∷◌, ◌++◌, map, length, get_or, take, drop, Option, Some, None, if◌then◌else◌}
+use Rattle.std.proofs.Common.{arith, refl, ap, sym, ◌∙◌, Vec, Global}
 use Rattle.std.specs.List.{filter, fold}
 use Rattle.std.proofs.lemmas.List.Elements.{filter-append}
 use Rattle.std.proofs.lemmas.List.{at_drop_more, at_drop_all, length-drop, take-map, drop-map}
@@ -30,39 +31,48 @@ grown_append found [] ys = refl
 grown_append found (x ∷ xs) ys = grown_append (Some (joined found x)) xs ys
 
 -- the entries under a number are those below it, or none
-under_in : (b : Box) (r : Ends) (rs : List Ends) (number : ℤ) (lists : List (List ℤ)) (items : List Item) → has r number ≡ true → item_intervals b (within (r ∷ rs) (paired (under number lists) items)) ≡ item_intervals b (within rs (paired lists items))
+under_in : (b : Box) (r : Ends) (rs : List Ends) (number : ℤ) (lists : List (List ℤ)) (items : List Item) → has r number ≡ true → item_intervals b (within (r ∷ rs) (paired (under number lists) items))
+    ≡ item_intervals b (within rs (paired lists items))
 under_in b r rs number [] items there = refl
 under_in b r rs number (xs ∷ lists) [] there = refl
 under_in b r rs number (xs ∷ lists) (item ∷ items) there =
-    ap (λ (c : Bool). item_intervals b (if c && lies_in rs xs then record { index = number ∷ xs; item = item } ∷ within (r ∷ rs) (paired (under number lists) items) else within (r ∷ rs) (paired (under number lists) items))) there
-    ∙ kept (lies_in rs xs) (record { index = number ∷ xs; item = item }) (record { index = xs; item = item }) (within (r ∷ rs) (paired (under number lists) items)) (within rs (paired lists items)) refl (under_in b r rs number lists items there)
+    ap (λ (c : Bool). item_intervals b (if c && lies_in rs xs then record { index = number ∷ xs; item = item }
+    ∷ within (r ∷ rs) (paired (under number lists) items) else within (r ∷ rs) (paired (under number lists) items))) there
+    ∙ kept (lies_in rs xs) (record { index = number ∷ xs; item = item }) (record { index = xs; item = item }) (within (r ∷ rs) (paired (under number lists) items)) (within rs (paired lists items))
+    refl (under_in b r rs number lists items there)
   where
-    kept : (test : Bool) (x y : Entry) (some others : List Entry) → x.item ≡ y.item → item_intervals b some ≡ item_intervals b others → item_intervals b (if test then x ∷ some else some) ≡ item_intervals b (if test then y ∷ others else others)
+    kept : (test : Bool) (x y : Entry) (some others : List Entry) → x.item ≡ y.item → item_intervals b some ≡ item_intervals b others → item_intervals b (if test then x ∷ some else some)
+        ≡ item_intervals b (if test then y ∷ others else others)
     kept true x y some others same is = ap (λ (i : Item). item_ends b i ∷ item_intervals b some) same ∙ ap (λ (es : List Ends). item_ends b y.item ∷ es) is
     kept false x y some others same is = is
 
-under_out : (b : Box) (r : Ends) (rs : List Ends) (number : ℤ) (lists : List (List ℤ)) (items : List Item) → has r number ≡ false → item_intervals b (within (r ∷ rs) (paired (under number lists) items)) ≡ []
+under_out : (b : Box) (r : Ends) (rs : List Ends) (number : ℤ) (lists : List (List ℤ)) (items : List Item) → has r number ≡ false
+    → item_intervals b (within (r ∷ rs) (paired (under number lists) items)) ≡ []
 under_out b r rs number [] items out = refl
 under_out b r rs number (xs ∷ lists) [] out = refl
 under_out b r rs number (xs ∷ lists) (item ∷ items) out =
-    ap (λ (c : Bool). item_intervals b (if c && lies_in rs xs then record { index = number ∷ xs; item = item } ∷ within (r ∷ rs) (paired (under number lists) items) else within (r ∷ rs) (paired (under number lists) items))) out
+    ap (λ (c : Bool). item_intervals b (if c && lies_in rs xs then record { index = number ∷ xs; item = item }
+    ∷ within (r ∷ rs) (paired (under number lists) items) else within (r ∷ rs) (paired (under number lists) items))) out
     ∙ under_out b r rs number lists items out
 
 -- the first block, and those behind it
 abbrev pub of_blocks : Box → Ends → List Ends → List ℤ → List (List ℤ) → List Item → List Ends
 of_blocks b r rs set lists items = item_intervals b (within (r ∷ rs) (paired (all_under set lists) items))
 
-block_first : (b : Box) (r : Ends) (rs : List Ends) (number : ℤ) (set : List ℤ) (lists : List (List ℤ)) (items : List Item) → length lists ≤ length items → of_blocks b r rs (number ∷ set) lists items ≡ item_intervals b (within (r ∷ rs) (paired (under number lists) (take (length lists) items))) ++ of_blocks b r rs set lists (drop (length lists) items)
+block_first : (b : Box) (r : Ends) (rs : List Ends) (number : ℤ) (set : List ℤ) (lists : List (List ℤ)) (items : List Item) → length lists ≤ length items → of_blocks b r rs (number ∷ set) lists items
+    ≡ item_intervals b (within (r ∷ rs) (paired (under number lists) (take (length lists) items))) ++ of_blocks b r rs set lists (drop (length lists) items)
 block_first b r rs number set lists items most =
     ap (λ (es : List Entry). item_intervals b (within (r ∷ rs) es)) (
     paired_append (under number lists) (all_under set lists) items (omega (arith, most, length_under number lists))
     ∙ ap (λ (n : ℕ). paired (under number lists) (take n items) ++ paired (all_under set lists) (drop n items)) (length_under number lists)
     )
-    ∙ ap (item_intervals b) (filter-append (λ (e : Entry). lies_in (r ∷ rs) e.index) (paired (under number lists) (take (length lists) items)) (paired (all_under set lists) (drop (length lists) items)))
+    ∙ ap (item_intervals b) (filter-append (λ (e : Entry). lies_in (r ∷ rs) e.index) (paired (under number lists) (take (length lists) items))
+    (paired (all_under set lists) (drop (length lists) items)))
     ∙ intervals_append b (within (r ∷ rs) (paired (under number lists) (take (length lists) items))) (within (r ∷ rs) (paired (all_under set lists) (drop (length lists) items)))
 
 -- so many elements are left for each number of a set that is left
-pub left_over : (set : List ℤ) (width : ℕ) (left rest : List Element) (i : ℕ) → i < length set → length left ≡ length (drop i set) * width → length rest + width ≡ length left → length rest ≡ length (drop (i + 1) set) * width
+pub left_over : (set : List ℤ) (width : ℕ) (left rest : List Element) (i : ℕ) → i < length set → length left ≡ length (drop i set) * width → length rest + width ≡ length left → length rest
+    ≡ length (drop (i + 1) set) * width
 left_over set width left rest i below complete shorter =
     let more : length (drop i set) ≡ suc (length (drop (i + 1) set)) = omega (arith, length-drop i set, length-drop (i + 1) set, below) in
     omega (arith, shorter, complete ∙ ap (λ (k : ℕ). k * width) more)
@@ -73,7 +83,9 @@ first_over set width left i below complete =
     omega (arith, complete ∙ ap (λ (k : ℕ). k * width) more)
 
 -- steps over the numbers of a set
-module _ (b : Box) (r : Ends) (rs : List Ends) (sets : List (List ℤ)) (set : List ℤ) (i : ℕ) (number : ℤ) (left first rest : List Element) (below : i < length set) (at : number ≡ get_or set i number) (complete : length left ≡ length (drop i set) * length (indices sets)) (in_front : first ≡ take (length (indices sets)) left) (behind : rest ≡ drop (length (indices sets)) left) where
+module _ (b : Box) (r : Ends) (rs : List Ends) (sets : List (List ℤ)) (set : List ℤ) (i : ℕ) (number : ℤ) (left first rest : List Element) (below : i < length set) (at : number
+    ≡ get_or set i number) (complete : length left ≡ length (drop i set) * length (indices sets)) (in_front : first ≡ take (length (indices sets)) left) (behind : rest
+    ≡ drop (length (indices sets)) left) where
   items_left : length (items_of left) ≡ length left
   items_left = count left
     where
@@ -81,21 +93,26 @@ module _ (b : Box) (r : Ends) (rs : List Ends) (sets : List (List ℤ)) (set : L
       count [] = refl
       count (x ∷ xs) = ap suc (count xs)
 
-  step_is : of_blocks b r rs (drop i set) (indices sets) (items_of left) ≡ item_intervals b (within (r ∷ rs) (paired (under number (indices sets)) (items_of first))) ++ of_blocks b r rs (drop (i + 1) set) (indices sets) (items_of rest)
+  step_is : of_blocks b r rs (drop i set) (indices sets) (items_of left) ≡ item_intervals b (within (r ∷ rs) (paired (under number (indices sets)) (items_of first)))
+      ++ of_blocks b r rs (drop (i + 1) set) (indices sets) (items_of rest)
   step_is =
       let most : length (indices sets) ≤ length (items_of left) = omega (arith, items_left, first_over set (length (indices sets)) left i below complete) in
       at_drop_more (λ (xs : List ℤ). of_blocks b r rs xs (indices sets) (items_of left)) set i number below
       ∙ ap (λ (n : ℤ). of_blocks b r rs (n ∷ drop (i + 1) set) (indices sets) (items_of left)) (sym at)
       ∙ block_first b r rs number (drop (i + 1) set) (indices sets) (items_of left) most
-      ∙ ap (λ (xs : List Item). item_intervals b (within (r ∷ rs) (paired (under number (indices sets)) xs)) ++ of_blocks b r rs (drop (i + 1) set) (indices sets) (drop (length (indices sets)) (items_of left))) (take-map item_of (length (indices sets)) left ∙ ap items_of (sym in_front))
-      ∙ ap (λ (xs : List Item). item_intervals b (within (r ∷ rs) (paired (under number (indices sets)) (items_of first))) ++ of_blocks b r rs (drop (i + 1) set) (indices sets) xs) (drop-map item_of (length (indices sets)) left ∙ ap items_of (sym behind))
+      ∙ ap (λ (xs : List Item). item_intervals b (within (r ∷ rs) (paired (under number (indices sets)) xs))
+      ++ of_blocks b r rs (drop (i + 1) set) (indices sets) (drop (length (indices sets)) (items_of left))) (take-map item_of (length (indices sets)) left ∙ ap items_of (sym in_front))
+      ∙ ap (λ (xs : List Item). item_intervals b (within (r ∷ rs) (paired (under number (indices sets)) (items_of first))) ++ of_blocks b r rs (drop (i + 1) set) (indices sets) xs)
+      (drop-map item_of (length (indices sets)) left ∙ ap items_of (sym behind))
 
-  pub block_reached : (hull : Option Ends) → has r number ≡ true → grown hull (of_blocks b r rs (drop i set) (indices sets) (items_of left)) ≡ grown (grown hull (reached_ends b rs sets (items_of first))) (of_blocks b r rs (drop (i + 1) set) (indices sets) (items_of rest))
+  pub block_reached : (hull : Option Ends) → has r number ≡ true → grown hull (of_blocks b r rs (drop i set) (indices sets) (items_of left))
+      ≡ grown (grown hull (reached_ends b rs sets (items_of first))) (of_blocks b r rs (drop (i + 1) set) (indices sets) (items_of rest))
   block_reached hull there =
       ap (grown hull) (step_is ∙ ap (λ (es : List Ends). es ++ of_blocks b r rs (drop (i + 1) set) (indices sets) (items_of rest)) (under_in b r rs number (indices sets) (items_of first) there))
       ∙ grown_append hull (reached_ends b rs sets (items_of first)) (of_blocks b r rs (drop (i + 1) set) (indices sets) (items_of rest))
 
-  pub block_passed : (hull : Option Ends) → has r number ≡ false → grown hull (of_blocks b r rs (drop i set) (indices sets) (items_of left)) ≡ grown hull (of_blocks b r rs (drop (i + 1) set) (indices sets) (items_of rest))
+  pub block_passed : (hull : Option Ends) → has r number ≡ false → grown hull (of_blocks b r rs (drop i set) (indices sets) (items_of left))
+      ≡ grown hull (of_blocks b r rs (drop (i + 1) set) (indices sets) (items_of rest))
   block_passed hull out =
       ap (grown hull) (step_is ∙ ap (λ (es : List Ends). es ++ of_blocks b r rs (drop (i + 1) set) (indices sets) (items_of rest)) (under_out b r rs number (indices sets) (items_of first) out))
 
@@ -109,7 +126,8 @@ under_none number b [] items = refl
 under_none number b (xs ∷ lists) [] = refl
 under_none number b (xs ∷ lists) (item ∷ items) = under_none number b lists items
 
-pub sets_left : (b : Box) (set : List ℤ) (sets : List (List ℤ)) (items : List Item) (found : Option Ends) → length items ≡ length (indices (set ∷ sets)) → grown found (reached_ends b [] (set ∷ sets) items) ≡ found
+pub sets_left : (b : Box) (set : List ℤ) (sets : List (List ℤ)) (items : List Item) (found : Option Ends) → length items ≡ length (indices (set ∷ sets))
+    → grown found (reached_ends b [] (set ∷ sets) items) ≡ found
 sets_left b set sets items found complete =
     ap (grown found) (none set items (complete ∙ length_all set (indices sets)))
   where
@@ -121,9 +139,12 @@ sets_left b set sets items found complete =
         paired_append (under number (indices sets)) (all_under numbers (indices sets)) xs (omega (arith, most, length_under number (indices sets)))
         ∙ ap (λ (n : ℕ). paired (under number (indices sets)) (take n xs) ++ paired (all_under numbers (indices sets)) (drop n xs)) (length_under number (indices sets))
         )
-        ∙ ap (item_intervals b) (filter-append (λ (e : Entry). lies_in [] e.index) (paired (under number (indices sets)) (take (length (indices sets)) xs)) (paired (all_under numbers (indices sets)) (drop (length (indices sets)) xs)))
-        ∙ intervals_append b (within [] (paired (under number (indices sets)) (take (length (indices sets)) xs))) (within [] (paired (all_under numbers (indices sets)) (drop (length (indices sets)) xs)))
-        ∙ ap (λ (es : List Ends). es ++ item_intervals b (within [] (paired (all_under numbers (indices sets)) (drop (length (indices sets)) xs)))) (under_none number b (indices sets) (take (length (indices sets)) xs))
+        ∙ ap (item_intervals b) (filter-append (λ (e : Entry). lies_in [] e.index) (paired (under number (indices sets)) (take (length (indices sets)) xs))
+        (paired (all_under numbers (indices sets)) (drop (length (indices sets)) xs)))
+        ∙ intervals_append b (within [] (paired (under number (indices sets)) (take (length (indices sets)) xs)))
+        (within [] (paired (all_under numbers (indices sets)) (drop (length (indices sets)) xs)))
+        ∙ ap (λ (es : List Ends). es ++ item_intervals b (within [] (paired (all_under numbers (indices sets)) (drop (length (indices sets)) xs))))
+        (under_none number b (indices sets) (take (length (indices sets)) xs))
         ∙ none numbers (drop (length (indices sets)) xs) (omega (arith, length-drop (length (indices sets)) xs, whole))
 
 -- what was found
@@ -132,7 +153,8 @@ grown_some a [] = refl
 grown_some a (x ∷ xs) = grown_some (hull a x) xs
 
 -- the walk begins
-pub sets_still : (b : Box) (sets : List (Vec ℤ Global)) (elements : List Element) (found : Option Ends) → 0 < length sets → length elements ≡ length (indices (sets_of sets)) → found ≡ grown found (reached_ends b [] (sets_of sets) (items_of elements))
+pub sets_still : (b : Box) (sets : List (Vec ℤ Global)) (elements : List Element) (found : Option Ends) → 0 < length sets → length elements ≡ length (indices (sets_of sets)) → found
+    ≡ grown found (reached_ends b [] (sets_of sets) (items_of elements))
 sets_still b [] elements found some complete = absurd (omega (arith, some))
 sets_still b (set ∷ sets) elements found some complete =
     sym (sets_left b set.items (sets_of sets) (items_of elements) found (count elements ∙ complete))
@@ -141,19 +163,22 @@ sets_still b (set ∷ sets) elements found some complete =
     count [] = refl
     count (x ∷ xs) = ap suc (count xs)
 
-pub sets_first : (b : Box) (rs : List Ends) (r : Ends) (later : List Ends) (sets : List (Vec ℤ Global)) (set : Vec ℤ Global) (behind : List (Vec ℤ Global)) (numbers : List ℤ) (items : List Item) → rs ≡ r ∷ later → sets ≡ set ∷ behind → numbers ≡ set.items → of_blocks b r later numbers (indices (sets_of behind)) items ≡ reached_ends b rs (sets_of sets) items
+pub sets_first : (b : Box) (rs : List Ends) (r : Ends) (later : List Ends) (sets : List (Vec ℤ Global)) (set : Vec ℤ Global) (behind : List (Vec ℤ Global)) (numbers : List ℤ) (items : List Item)
+    → rs ≡ r ∷ later → sets ≡ set ∷ behind → numbers ≡ set.items → of_blocks b r later numbers (indices (sets_of behind)) items ≡ reached_ends b rs (sets_of sets) items
 sets_first b rs r later sets set behind numbers items is first same =
     ap (λ (xs : List ℤ). of_blocks b r later xs (indices (sets_of behind)) items) same
     ∙ sym (ap (λ (es : List Ends). reached_ends b es (sets_of sets) items) is ∙ ap (λ (ss : List (Vec ℤ Global)). reached_ends b (r ∷ later) (sets_of ss) items) first)
 
-pub sets_count : (sets : List (Vec ℤ Global)) (set : Vec ℤ Global) (behind : List (Vec ℤ Global)) (numbers : List ℤ) → sets ≡ set ∷ behind → numbers ≡ set.items → length (indices (sets_of sets)) ≡ length numbers * length (indices (sets_of behind))
+pub sets_count : (sets : List (Vec ℤ Global)) (set : Vec ℤ Global) (behind : List (Vec ℤ Global)) (numbers : List ℤ) → sets ≡ set ∷ behind → numbers ≡ set.items → length (indices (sets_of sets))
+    ≡ length numbers * length (indices (sets_of behind))
 sets_count sets set behind numbers first same =
     ap (λ (ss : List (Vec ℤ Global)). length (indices (sets_of ss))) first
     ∙ length_all set.items (indices (sets_of behind))
     ∙ ap (λ (xs : List ℤ). length xs * length (indices (sets_of behind))) (sym same)
 
 -- and ends
-pub no_number : (b : Box) (r : Ends) (later : List Ends) (sets : List (List ℤ)) (numbers : List ℤ) (i : ℕ) (items : List Item) (hull : Option Ends) → length numbers ≤ i → grown hull (of_blocks b r later (drop i numbers) (indices sets) items) ≡ hull
+pub no_number : (b : Box) (r : Ends) (later : List Ends) (sets : List (List ℤ)) (numbers : List ℤ) (i : ℕ) (items : List Item) (hull : Option Ends) → length numbers ≤ i
+    → grown hull (of_blocks b r later (drop i numbers) (indices sets) items) ≡ hull
 no_number b r later sets numbers i items hull past =
     at_drop_all (λ (xs : List ℤ). grown hull (of_blocks b r later xs (indices sets) items)) numbers i past ∙ none items
   where
@@ -187,7 +212,8 @@ no_intervals b (e ∷ es) none = absurd (cc)
 pub none_seen : (b : Box) (rs : List Ends) (table : Table) → grown None (reached_ends b rs table.sets table.items) ≡ None → reached rs table ≡ []
 none_seen b rs table none = no_intervals b (reached rs table) (none_grown (item_intervals b (reached rs table)) none)
 
-pub none_ends : (b : Box) (rs : List Ends) (table : Table) (a : Ends) → length table.items ≡ length (indices table.sets) → grown None (reached_ends b rs table.sets table.items) ≡ None → a ≡ hull_of (map (item_ends b) table.items) → a ≡ element_ends Near b rs table
+pub none_ends : (b : Box) (rs : List Ends) (table : Table) (a : Ends) → length table.items ≡ length (indices table.sets) → grown None (reached_ends b rs table.sets table.items) ≡ None
+    → a ≡ hull_of (map (item_ends b) table.items) → a ≡ element_ends Near b rs table
 none_ends b rs table a complete none is =
     is ∙ ap hull_of (sym (all_read b table complete))
     ∙ sym (ap (λ (es : List Entry). hull_of (item_intervals b (if_any es (entries table)))) (none_seen b rs table none))
@@ -203,7 +229,8 @@ pub some_ends : (b : Box) (rs : List Ends) (table : Table) (a : Ends) → grown 
 some_ends b rs table a is = some_read b (reached rs table) (entries table) a is
 
 -- what is found in an array as it is kept
-pub looked : (b : Box) (rs : List Ends) (sets ss : List (Vec ℤ Global)) (elements es : List Element) (found v : Option Ends) → ss ≡ sets → es ≡ elements → found ≡ grown None (reached_ends b rs (sets_of ss) (items_of es)) → found ≡ v → grown None (reached_ends b rs (sets_of sets) (items_of elements)) ≡ v
+pub looked : (b : Box) (rs : List Ends) (sets ss : List (Vec ℤ Global)) (elements es : List Element) (found v : Option Ends) → ss ≡ sets → es ≡ elements → found
+    ≡ grown None (reached_ends b rs (sets_of ss) (items_of es)) → found ≡ v → grown None (reached_ends b rs (sets_of sets) (items_of elements)) ≡ v
 looked b rs sets ss elements es found v same_sets same_elements is is_v =
     sym (
     is
@@ -213,6 +240,8 @@ looked b rs sets ss elements es found v same_sets same_elements is is_v =
     ∙ is_v
 
 -- how many elements each number of the first set has
-pub width_is : (elements : List Element) (sets : List (Vec ℤ Global)) (set : Vec ℤ Global) (behind : List (Vec ℤ Global)) (numbers : List ℤ) (width i : ℕ) → ((w : ℕ) → 0 < length numbers → length elements ≡ length numbers * w → width ≡ w) → i < length numbers → sets ≡ set ∷ behind → numbers ≡ set.items → length elements ≡ length (indices (sets_of sets)) → width ≡ length (indices (sets_of behind))
+pub width_is : (elements : List Element) (sets : List (Vec ℤ Global)) (set : Vec ℤ Global) (behind : List (Vec ℤ Global)) (numbers : List ℤ) (width i : ℕ)
+    → ((w : ℕ) → 0 < length numbers → length elements ≡ length numbers * w → width ≡ w) → i < length numbers → sets ≡ set ∷ behind → numbers ≡ set.items → length elements
+    ≡ length (indices (sets_of sets)) → width ≡ length (indices (sets_of behind))
 width_is elements sets set behind numbers width i divided there first same complete =
     divided (length (indices (sets_of behind))) (omega (arith, there)) (complete ∙ sets_count sets set behind numbers first same)

@@ -14,9 +14,11 @@ pub pair_is : (table : Table) (set : Vec ℤ Global) → table.sets.items ≡ se
 pair_is table set sets numbers two =
     table_is table ((pos 1 ∷ pos 3 ∷ []) ∷ []) (ap sets_of sets ∙ ap (λ (s : List ℤ). s ∷ []) numbers) two refl
 
-pub grid_is : (table : Table) (rows columns : Vec ℤ Global) → table.sets.items ≡ rows ∷ columns ∷ [] → rows.items ≡ pos 1 ∷ pos 2 ∷ [] → columns.items ≡ pos 2 ∷ pos 3 ∷ [] → length table.elements.items ≡ 4 → IsTable (table_of table)
+pub grid_is : (table : Table) (rows columns : Vec ℤ Global) → table.sets.items ≡ rows ∷ columns ∷ [] → rows.items ≡ pos 1 ∷ pos 2 ∷ [] → columns.items ≡ pos 2 ∷ pos 3 ∷ []
+    → length table.elements.items ≡ 4 → IsTable (table_of table)
 grid_is table rows columns sets first second four =
-    table_is table ((pos 1 ∷ pos 2 ∷ []) ∷ (pos 2 ∷ pos 3 ∷ []) ∷ []) (ap sets_of sets ∙ ap (λ (s : List ℤ). s ∷ columns.items ∷ []) first ∙ ap (λ (s : List ℤ). (pos 1 ∷ pos 2 ∷ []) ∷ s ∷ []) second) four refl
+    table_is table ((pos 1 ∷ pos 2 ∷ []) ∷ (pos 2 ∷ pos 3 ∷ []) ∷ []) (ap sets_of sets ∙ ap (λ (s : List ℤ). s ∷ columns.items ∷ []) first
+    ∙ ap (λ (s : List ℤ). (pos 1 ∷ pos 2 ∷ []) ∷ s ∷ []) second) four refl
 
 -- an array that a builder is given by its terms
 pub built_is : (things : List Thing) (sets : List (List ℤ)) (items : List TermId) → sets ≡ (pos 1 ∷ pos 3 ∷ []) ∷ [] → length items ≡ 2 → IsTable (builder.table_of things sets items)

@@ -1,5 +1,4 @@
-//! Tests of the store of terms, of the builder and of programs: terms, conditions and elements over a small root box, what is refused for its size, and what
-//! closes boxes.
+//! Tests of the store of terms and of the builder: terms, conditions and elements over a small root box, and what is refused for its size.
 #![tactic(auto)]
 
 #[cfg(test)]

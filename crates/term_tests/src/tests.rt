@@ -347,8 +347,5 @@ fn elements_refused_for_their_size(rt: HostRuntime) {
 
 mod arrays;
 mod builders;
-mod chains;
 mod indices;
 mod mentions;
-mod programs;
-mod roots;

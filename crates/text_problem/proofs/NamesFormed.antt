@@ -71,13 +71,15 @@ name_formed bytes name e = by_blank _ e
     by_word false is h = by_symbol (kind_in bytes symbols) refl h
 
     by_literal : (b : Bool)
-        → (if b then Some (Word (k.Lit (pos (decimal bytes)))) else if is_word bytes then Some (Word (unwrap_or (kind_in bytes keywords) (k.Name bytes))) else option_map Word (kind_in bytes symbols)) ≡ Some (Word (k.Name name))
+        → (if b then Some (Word (k.Lit (pos (decimal bytes)))) else if is_word bytes then Some (Word (unwrap_or (kind_in bytes keywords) (k.Name bytes))) else option_map Word (kind_in bytes symbols))
+        ≡ Some (Word (k.Name name))
         → is_word name ≡ true
     by_literal true h = absurd (cc)
     by_literal false h = by_word (is_word bytes) refl h
 
     by_blank : (b : Bool)
-        → (if b then Some Blank else if is_literal bytes then Some (Word (k.Lit (pos (decimal bytes)))) else if is_word bytes then Some (Word (unwrap_or (kind_in bytes keywords) (k.Name bytes))) else option_map Word (kind_in bytes symbols)) ≡ Some (Word (k.Name name))
+        → (if b then Some Blank else if is_literal bytes then Some (Word (k.Lit (pos (decimal bytes)))) else if is_word bytes then Some (Word (unwrap_or (kind_in bytes keywords) (k.Name bytes)))
+        else option_map Word (kind_in bytes symbols)) ≡ Some (Word (k.Name name))
         → is_word name ≡ true
     by_blank true h = absurd (cc)
     by_blank false h = by_literal (is_literal bytes) h

@@ -1,9 +1,9 @@
 -- What is read of a text.
 use Rattle.std.proofs.Common.{◌≡◌, ◌∙◌, ◌⊎◌, inl, inr, ℕ, List, length, Some, None, Result, Ok, Err, IfOk, IfErr, refl, sym, ap, subst, Vec}
 use Rattle.std.specs.declared.alloc.Global.{Global}
-use Rattle.sopl_base.specs.declared.places.Excess.{Excess}
-use Rattle.sopl_base.specs.declared.places.Fault.{Fault}
-use Rattle.sopl_base.specs.declared.places.Fault.TheVariants as fault
+use Rattle.sopl_base.specs.declared.fault.Excess.{Excess}
+use Rattle.sopl_base.specs.declared.fault.Fault.{Fault}
+use Rattle.sopl_base.specs.declared.fault.Fault.TheVariants as fault
 use Rattle.sopl_ast.specs.declared.token.Token.{Token}
 use Rattle.sopl_ast.specs.declared.whole.Model.{Model}
 use Rattle.sopl_ast.specs.Accepted.{IsTextOf, no_tokens, misspelled, mistaken, stopped, unfolding_passes, sizes_pass}
@@ -15,7 +15,7 @@ use Rattle.sopl_ast.specs.Whole.{ModelTree}
 use Rattle.sopl_ast.specs.WholeModel.{whole}
 use Rattle.sopl_ast.specs.Grammar.{SpellsWithin}
 use Rattle.sopl_ast.specs.Mistakes.{IsWellTyped}
-use Rattle.sopl_lex.specs.Answers.{Answers}
+use Rattle.sopl_lex.specs.TextAnswers.{Answers}
 use Rattle.sopl_parse.specs.Faults.{IsSpellingFault}
 use Rattle.sopl_types.specs.Outcome.{IsFirstFault}
 use Rattle.sopl_types.specs.declared.check.Typed.{Typed}

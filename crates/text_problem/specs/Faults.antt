@@ -1,7 +1,7 @@
 -- Why a text is not taken.
 use Rattle.std.specs.Prelude.{ℕ, List}
-use Rattle.sopl_base.specs.declared.places.Fault.{Fault}
-use Rattle.sopl_base.specs.declared.places.Fault.TheVariants as fault
+use Rattle.sopl_base.specs.declared.fault.Fault.{Fault}
+use Rattle.sopl_base.specs.declared.fault.Fault.TheVariants as fault
 use Rattle.sopl_ast.specs.Accepted.{IsLimitedFor, IsRefusedFor}
 use Rattle.sopl_ast.specs.Limits.{usual_limits}
 

@@ -1,7 +1,7 @@
 -- What is true of all texts.
 use Rattle.std.specs.Prelude.{◌≡◌, ℕ, List}
-use Rattle.sopl_base.specs.declared.places.Excess.{Excess}
-use Rattle.sopl_base.specs.declared.places.Refusal.{Refusal}
+use Rattle.sopl_base.specs.declared.fault.Excess.{Excess}
+use Rattle.sopl_base.specs.declared.fault.Refusal.{Refusal}
 use Rattle.sopl_ast.specs.Accepted.{AcceptedText, IsLimitedFor, IsRefusedFor}
 use Rattle.sopl_ast.specs.Instances.{Problem}
 use Rattle.sopl_ast.specs.Limits.{usual_limits}

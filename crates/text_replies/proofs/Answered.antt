@@ -2,15 +2,15 @@
 use Rattle.std.proofs.Common.{◌≡◌, ◌⊎◌, inl, inr, ℕ, pos, List, Some, None, Result, Ok, Err, IfOk, IfErr, string_bytes, refl, sym, subst}
 use Rattle.sopl_io.specs.Causes.{Rose}
 use Rattle.std.specs.declared.alloc.AllocError.{AllocError}
-use Rattle.sopl_base.specs.declared.places.Excess.{Excess}
-use Rattle.sopl_base.specs.declared.places.Fault.{Fault}
-use Rattle.sopl_base.specs.declared.places.Fault.TheVariants as fault
-use Rattle.sopl_base.specs.declared.places.Refusal.{Refusal}
+use Rattle.sopl_base.specs.declared.fault.Excess.{Excess}
+use Rattle.sopl_base.specs.declared.fault.Fault.{Fault}
+use Rattle.sopl_base.specs.declared.fault.Fault.TheVariants as fault
+use Rattle.sopl_base.specs.declared.fault.Refusal.{Refusal}
 use Rattle.tree_json.specs.Answer.{tree_data}
 use Rattle.text_problem.specs.Faults.{IsTextFault}
 use Rattle.text_problem.specs.Stated.{States, model_in, problem_in}
 use Rattle.text_problem.specs.declared.stated.Stated.{Stated}
-use Rattle.answer_lines.specs.Answers.{limit_data, line_of, refused_data}
+use Rattle.answer_lines.specs.AnswerData.{limit_data, line_of, refused_data}
 use Rattle.solved_texts.specs.Models.{IsSolvable}
 use Rattle.solved_texts.specs.Solved.{SolvedText}
 use Rattle.box_search.specs.declared.outcome.SearchStop.TheVariants.{Write}
@@ -19,7 +19,8 @@ use Rattle.text_solver.specs.Logs.{IsUnused, Told}
 use Rattle.text_solver.specs.Answering.{Answers, IsBoundedBy, IsCutOff, IsSettledBy, LogStops, optimal as optimal_line, infeasible as infeasible_line, bounded as bounded_line}
 use Rattle.text_solver.specs.declared.answer.Answer.{Answer}
 use Rattle.text_solver.specs.declared.answer.Answer.TheVariants.{Settled, Cut}
-use Rattle.text_replies.specs.Replies.{IsFaultOn, IsLimitedOn, IsRefusedOn, by_rule, not_yet, by_size, by_terms, IsTextReply, optimal, infeasible, bounded, scenes, refused, limited, Replies, IsCut, StopsSo}
+use Rattle.text_replies.specs.Replies.{IsFaultOn, IsLimitedOn, IsRefusedOn, by_rule, not_yet, by_size, by_terms, IsTextReply, optimal, infeasible, bounded, scenes, refused}
+use Rattle.text_replies.specs.Replies.{limited, Replies, IsCut, StopsSo}
 use Rattle.text_replies.specs.Unlogged.{IsTold, reply_of, without_log}
 use Rattle.text_replies.specs.declared.command.Command.{Command}
 use Rattle.text_replies.specs.declared.command.Command.TheVariants.{Solve, Tree}
@@ -27,7 +28,8 @@ use Rattle.text_replies.specs.declared.reply.Reply.{Reply}
 use Rattle.text_replies.specs.declared.status.Status.TheVariants.{Done, Refused, Limit, Bounded}
 
 -- a text that is refused
-pub refused_so : (command : Command) (text : List ℕ) (budget : ℕ) (refusal : Refusal) (result : Result Reply AllocError) → IsRefusedOn text refusal command → IfOk result (λ reply. reply.status ≡ Refused)
+pub refused_so : (command : Command) (text : List ℕ) (budget : ℕ) (refusal : Refusal) (result : Result Reply AllocError) → IsRefusedOn text refusal command
+    → IfOk result (λ reply. reply.status ≡ Refused)
     → IfOk result (λ reply. string_bytes reply.line ≡ line_of (refused_data (pos refusal.at) (pos refusal.code)))
     → IfOk result (λ reply. IsTextReply text budget command None reply.status (string_bytes reply.line))
 refused_so command text budget refusal (Ok reply) reason ends is =

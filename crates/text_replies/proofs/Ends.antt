@@ -1,9 +1,9 @@
 -- A command ends on a text in one way, but that a search may end before it is done.
 use Rattle.std.proofs.Common.{◌≡◌, ◌∙◌, ℕ, ◌<◌, ◌≤◌, List, Option, Some, Result, Err, IsOk, refl, sym, ap, subst, arith}
-use Rattle.sopl_base.specs.declared.places.Excess.{Excess}
-use Rattle.sopl_base.specs.declared.places.Refusal.{Refusal}
-use Rattle.sopl_base.specs.declared.places.Fault.{Fault}
-use Rattle.sopl_base.specs.declared.places.Fault.TheVariants.{Limit}
+use Rattle.sopl_base.specs.declared.fault.Excess.{Excess}
+use Rattle.sopl_base.specs.declared.fault.Refusal.{Refusal}
+use Rattle.sopl_base.specs.declared.fault.Fault.{Fault}
+use Rattle.sopl_base.specs.declared.fault.Fault.TheVariants.{Limit}
 use Rattle.sopl_ast.specs.Accepted.{AcceptedText, IsLimitedFor, unfolding_passes, sizes_pass}
 use Rattle.sopl_ast.specs.Instances.{Problem}
 use Rattle.sopl_ast.specs.Limits.{size_excess, usual_limits}
@@ -13,7 +13,8 @@ use Rattle.text_problem.proofs.Rejected.{one_model, texts_end_once}
 use Rattle.solved_texts.specs.Solved.{SolvedText, IsNotYet, IsLimitedInTerms}
 use Rattle.solved_texts.proofs.Ended.{accepted_end_once}
 use Rattle.text_solver.specs.Logs.{most_nodes}
-use Rattle.text_replies.specs.Replies.{IsRefusedOn, by_rule, not_yet, IsLimitedOn, by_size, by_terms, Ends, settled, solved, bounded_text, shown, refused_text, limited_text, IsTextReply, optimal, infeasible, bounded, scenes, refused, limited}
+use Rattle.text_replies.specs.Replies.{IsRefusedOn, by_rule, not_yet, IsLimitedOn, by_size, by_terms, Ends, settled, solved, bounded_text, shown, refused_text, limited_text}
+use Rattle.text_replies.specs.Replies.{IsTextReply, optimal, infeasible, bounded, scenes, refused, limited}
 use Rattle.text_replies.specs.declared.command.Command.{Command}
 use Rattle.text_replies.specs.declared.command.Command.TheVariants.{Solve, Tree}
 use Rattle.text_replies.specs.declared.status.Status.{Status}

@@ -1,9 +1,9 @@
 -- How a command ends on a text, which replies it has, and which log goes with them.
 use Rattle.std.specs.Prelude.{◌≡◌, ◌⊎◌, ℕ, ◌<◌, ℤ, pos, codes, List, Option, Some, None}
-use Rattle.sopl_base.specs.declared.places.Excess.{Excess}
-use Rattle.sopl_base.specs.declared.places.Fault.{Fault}
-use Rattle.sopl_base.specs.declared.places.Fault.TheVariants as fault
-use Rattle.sopl_base.specs.declared.places.Refusal.{Refusal}
+use Rattle.sopl_base.specs.declared.fault.Excess.{Excess}
+use Rattle.sopl_base.specs.declared.fault.Fault.{Fault}
+use Rattle.sopl_base.specs.declared.fault.Fault.TheVariants as fault
+use Rattle.sopl_base.specs.declared.fault.Refusal.{Refusal}
 use Rattle.sopl_ast.specs.Accepted.{AcceptedText, IsLimitedFor, IsRefusedFor}
 use Rattle.sopl_ast.specs.Instances.{Problem}
 use Rattle.sopl_ast.specs.Limits.{usual_limits}
@@ -14,7 +14,7 @@ use Rattle.box_search.specs.declared.outcome.SearchStop.{SearchStop}
 use Rattle.box_search.specs.declared.outcome.SearchStop.TheVariants as stop
 use Rattle.tree_json.specs.Answer.{tree_data}
 use Rattle.solved_texts.specs.Solved.{SolvedText, IsNotYet, IsLimitedInTerms}
-use Rattle.answer_lines.specs.Answers.{Valued, word_data, refused_data, limit_data, optimal_data, bounded_data, line_of}
+use Rattle.answer_lines.specs.AnswerData.{Valued, word_data, refused_data, limit_data, optimal_data, bounded_data, line_of}
 use Rattle.text_solver.specs.Answering.{found_value}
 use Rattle.text_solver.specs.Bounds.{IsBounded}
 use Rattle.text_solver.specs.Logs.{IsLogOf, most_nodes, IsUnused, Told, Wrote, WroteFront}

@@ -1,8 +1,8 @@
 -- Replies of answers, and replies with no log.
 use Rattle.std.specs.Prelude.{Result, Ok, Err}
 use Rattle.std.specs.declared.alloc.AllocError.{AllocError}
-use Rattle.sopl_base.specs.declared.places.Fault.{Fault}
-use Rattle.sopl_base.specs.declared.places.Fault.TheVariants as fault
+use Rattle.sopl_base.specs.declared.fault.Fault.{Fault}
+use Rattle.sopl_base.specs.declared.fault.Fault.TheVariants as fault
 use Rattle.box_search.specs.declared.outcome.SearchStop.{SearchStop}
 use Rattle.box_search.specs.declared.outcome.SearchStop.TheVariants.{NoMemory}
 use Rattle.text_solver.specs.declared.answer.Answer.{Answer}

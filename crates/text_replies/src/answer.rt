@@ -4,7 +4,7 @@ ghost use Rattle.std.specs.Prelude.{◌≡◌, ◌≤◌, ℕ, List, None, Err, 
 ghost use Rattle.sopl_io.specs.Causes.{Rose};
 ghost use Rattle.text_problem.specs.Stated.{IsLaid, States, problem_in};
 ghost use Rattle.tree_json.specs.Answer.{tree_data};
-ghost use Rattle.answer_lines.specs.Answers.{limit_data, line_of, refused_data};
+ghost use Rattle.answer_lines.specs.AnswerData.{limit_data, line_of, refused_data};
 ghost use Rattle.box_search.specs.declared.outcome.SearchStop.TheVariants as search;
 ghost use Rattle.text_solver.specs.Answering.{Stops};
 ghost use Rattle.text_solver.specs.Logs.{Told, told};

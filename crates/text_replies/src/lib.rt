@@ -2,6 +2,7 @@
 //!
 //! `reply_to` takes the command and the bytes of the text. What the words of the command line ask for, and what a run reads
 //! and writes, is said by `sopl_run` above.
+//! Its tests stand in `sopl`.
 #![tactic(auto)]
 
 mod answer;

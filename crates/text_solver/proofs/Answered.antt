@@ -1,20 +1,22 @@
 -- From an outcome that is true of a program, and its log, to the answer.
-use Rattle.std.proofs.Common.{◌≡◌, ◌∙◌, ◌⊎◌, inl, inr, ℕ, ◌≤◌, ◌<◌, ℤ, true, false, List, [], Result, Ok, Err, IfOk, IfErr, Option, Some, None, IfSome, option_map, string_bytes, length, Any, refl, sym, ap, subst, arith}
+use Rattle.std.proofs.Common.{◌≡◌, ◌∙◌, ◌⊎◌, inl, inr, ℕ, ◌≤◌, ◌<◌, ℤ, true, false, List, [], Result, Ok, Err, IfOk, IfErr, Option, Some, None, IfSome, option_map, string_bytes}
+use Rattle.std.proofs.Common.{length, Any, refl, sym, ap, subst, arith}
 use Rattle.std.proofs.lemmas.Int.{ints, by_lt_z}
 use Rattle.std.proofs.lemmas.List.{take_all}
 use Rattle.std.specs.declared.alloc.AllocError.{AllocError}
 use Rattle.std.specs.Io.KnownBytes.{Keeps, Appends}
 use Rattle.sopl_io.specs.Causes.{Rose}
 use Rattle.sopl_base.specs.Better.{IsBetter}
-use Rattle.sopl_base.specs.declared.places.Direction.{Direction}
-use Rattle.sopl_base.specs.declared.places.Direction.TheVariants.{Minimize, Maximize, Nothing}
+use Rattle.sopl_base.specs.declared.direction.Direction.{Direction}
+use Rattle.sopl_base.specs.declared.direction.Direction.TheVariants.{Minimize, Maximize, Nothing}
 use Rattle.sopl_ast.specs.Cells.{cells, IsPoint, policy_at}
 use Rattle.sopl_ast.specs.Instances.{Problem}
 use Rattle.sopl_ast.specs.Optimal.{direction_of}
 use Rattle.box_problem.specs.Box.{Box, InBox, points}
 use Rattle.box_problem.specs.BoxProblem.{BoxProblem}
 use Rattle.box_problem.specs.Covers.{nodes_for}
-use Rattle.open_boxes.specs.Opens.{IsBound, IsReached, IsUnsettled}
+use Rattle.box_problem.specs.Reached.{IsReached}
+use Rattle.open_boxes.specs.Opens.{IsUnsettled}
 use Rattle.open_boxes.proofs.Bounds.{unsettled_within}
 use Rattle.log_rows.specs.declared.rows.Footer.{Footer}
 use Rattle.log_rows.specs.declared.rows.Footer.TheVariants as claim
@@ -34,7 +36,7 @@ use Rattle.instantiation.proofs.Root.{points_of_box}
 use Rattle.term_program.specs.declared.program.Program.{Program}
 use Rattle.policy_bounds.specs.Bounds.{IsWorth}
 use Rattle.policy_bounds.proofs.Lifted.{bounds_hold, reached_is_worth, unbeaten_is_best, unreached_is_none}
-use Rattle.answer_lines.specs.Answers.{Valued, line_of}
+use Rattle.answer_lines.specs.AnswerData.{Valued, line_of}
 use Rattle.text_problem.specs.Stated.{States, model_in, problem_in}
 use Rattle.text_problem.specs.declared.stated.Stated.{Stated}
 use Rattle.text_solver.specs.Bounds.{IsBounded}

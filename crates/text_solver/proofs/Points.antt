@@ -7,7 +7,8 @@ use Rattle.sopl_ast.specs.Cells.{Cell, cells, IsPoint}
 use Rattle.sopl_ast.specs.Instances.{Decision, Problem, Stochastic, names_in}
 use Rattle.sopl_ast.specs.Pieces.{is_word}
 use Rattle.scenario_tree.specs.Layout.{AreStated, IsTreeOf, Layout}
-use Rattle.sopl_scen.proofs.Stated.{constraints_in, ground_stated}
+use Rattle.sopl_scen.proofs.Stated.{ground_stated}
+use Rattle.scenario_tree.proofs.Stated.{constraints_in}
 use Rattle.name_laws.proofs.Names.{names_are_words}
 use Rattle.instantiation.specs.WellMade.{IsUnfolded}
 use Rattle.text_problem.specs.Stated.{States, model_in, problem_in}

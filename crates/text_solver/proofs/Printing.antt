@@ -14,7 +14,7 @@ use Rattle.term_program.specs.Programs.{problem_in as terms_in}
 use Rattle.term_program.specs.declared.program.Program.{Program}
 use Rattle.box_search.specs.declared.outcome.Found.{Found}
 use Rattle.policy_json.specs.Nodes.{outermost_node, policy_data}
-use Rattle.answer_lines.specs.Answers.{bound_object, bounded_data, found_object, fraction, line_of, optimal_data, optimal_object}
+use Rattle.answer_lines.specs.AnswerData.{bound_object, bounded_data, found_object, fraction, line_of, optimal_data, optimal_object}
 use Rattle.text_solver.specs.Solving.{IsProgramOf}
 use Rattle.text_solver.specs.Answering.{valued_at}
 

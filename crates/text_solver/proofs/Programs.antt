@@ -1,8 +1,8 @@
 -- The program of an accepted text, or why there is none.
 use Rattle.std.proofs.Common.{◌≡◌, ◌⊎◌, inl, inr, ℕ, Some, None, Result, Ok, Err, IfOk, IfErr, refl, sym, subst}
-use Rattle.sopl_base.specs.declared.places.Excess.{Excess}
-use Rattle.sopl_base.specs.declared.places.Fault.{Fault}
-use Rattle.sopl_base.specs.declared.places.Fault.TheVariants as fault
+use Rattle.sopl_base.specs.declared.fault.Excess.{Excess}
+use Rattle.sopl_base.specs.declared.fault.Fault.{Fault}
+use Rattle.sopl_base.specs.declared.fault.Fault.TheVariants as fault
 use Rattle.sopl_ast.specs.Cells.{cells}
 use Rattle.sopl_ast.specs.Instances.{Problem}
 use Rattle.sopl_ast.specs.Unfolding.{problem_of}

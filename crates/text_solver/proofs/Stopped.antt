@@ -3,8 +3,8 @@ use Rattle.std.proofs.Common.{◌≡◌, ◌∙◌, inl, inr, ℕ, List, Result,
 use Rattle.std.specs.Io.KnownBytes.{Keeps, Appends}
 use Rattle.sopl_io.specs.Causes.{Rose}
 use Rattle.sopl_io.specs.Stock.{with_name}
-use Rattle.sopl_base.specs.declared.places.Fault.{Fault}
-use Rattle.sopl_base.specs.declared.places.Fault.TheVariants as fault
+use Rattle.sopl_base.specs.declared.fault.Fault.{Fault}
+use Rattle.sopl_base.specs.declared.fault.Fault.TheVariants as fault
 use Rattle.sopl_ast.specs.Instances.{Problem}
 use Rattle.box_search.specs.declared.outcome.SearchStop.{SearchStop}
 use Rattle.box_search.specs.declared.outcome.SearchStop.TheVariants as search

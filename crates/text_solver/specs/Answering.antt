@@ -2,8 +2,8 @@
 use Rattle.std.specs.Prelude.{◌≡◌, ◌⊎◌, ℕ, ◌<◌, ℤ, Bool, true, false, codes, string_bytes, List, Option, Some, None, IfSome, option_map}
 use Rattle.std.specs.Io.KnownBytes.{Appends}
 use Rattle.serde_json.specs.Data.{Data}
-use Rattle.sopl_base.specs.declared.places.Fault.{Fault}
-use Rattle.sopl_base.specs.declared.places.Fault.TheVariants as fault
+use Rattle.sopl_base.specs.declared.fault.Fault.{Fault}
+use Rattle.sopl_base.specs.declared.fault.Fault.TheVariants as fault
 use Rattle.sopl_ast.specs.Cells.{cells, IsPoint, policy_at}
 use Rattle.sopl_ast.specs.Instances.{Problem}
 use Rattle.sopl_ast.specs.Optimal.{IsOptimal, IsInfeasible}
@@ -13,7 +13,7 @@ use Rattle.box_search.specs.declared.outcome.Found.{Found}
 use Rattle.box_search.specs.declared.outcome.Outcome.{Outcome}
 use Rattle.box_search.specs.declared.outcome.Outcome.TheVariants as outcome
 use Rattle.solved_texts.specs.Models.{IsSolvable}
-use Rattle.answer_lines.specs.Answers.{Valued, word_data, optimal_data, bounded_data, line_of}
+use Rattle.answer_lines.specs.AnswerData.{Valued, word_data, optimal_data, bounded_data, line_of}
 use Rattle.text_problem.specs.Stated.{model_in, problem_in}
 use Rattle.text_problem.specs.declared.stated.Stated.{Stated}
 use Rattle.text_solver.specs.Bounds.{IsBounded}

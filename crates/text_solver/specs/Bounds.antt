@@ -4,7 +4,7 @@ use Rattle.sopl_base.specs.Better.{IsBetter}
 use Rattle.sopl_ast.specs.Instances.{Problem}
 use Rattle.sopl_ast.specs.Optimal.{direction_of}
 use Rattle.policy_bounds.specs.Bounds.{IsWorth, IsBoundOf}
-use Rattle.answer_lines.specs.Answers.{Valued}
+use Rattle.answer_lines.specs.AnswerData.{Valued}
 
 -- what was found satisfies and has its value, no policy is better than the bound, and the bound is better than what was found
 pub record IsBounded (problem : Problem) (found : Option Valued) (bound : ℤ) : Type 0 where

@@ -6,15 +6,12 @@ ghost use Rattle.unsupported_forms.specs.Forms as forms;
 ghost use Rattle.solved_texts.specs.Models.{IsSolvable};
 ghost use Rattle.text_solver.specs.Solving.{IsProgramOf, IsSolveFault};
 
-use sopl_base::{Fault, Refusal};
+use sopl_base::{Fault, codes};
 use sopl_compile::compile;
 use sopl_term::Program;
 use std::alloc::Global;
 use text_problem::Stated;
 use unsupported_forms::unsupported_place;
-
-/// The code of a form that is not solved yet.
-const NOT_YET: u16 = 117;
 
 /// The place of the first form of what a text states that is not solved yet.
 fn first_unsupported(stated: &Stated) -> Option<usize>
@@ -32,7 +29,7 @@ pub(crate) fn program_of(alloc: Global, stated: &Stated) -> Result<Program, Faul
     ensures refused { IfErr result (IsSolveFault (model_in stated.now)) }
 {
     match first_unsupported(stated) {
-        Some(at) => Err(Fault::Text(Refusal { code: NOT_YET, at })),
+        Some(at) => Err(Fault::refused(codes::UNSOLVED_FORM, at)),
         None => compile(alloc, &stated.ground, &stated.tree),
     }
 }

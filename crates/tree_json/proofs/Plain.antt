@@ -1,28 +1,14 @@
 -- No float stands in the answer.
-use Rattle.std.proofs.Common.{◌≡◌, ◌+◌, ℕ, ℤ, pos, negsuc, List, [], ◌∷◌, map, false, refl}
+use Rattle.std.proofs.Common.{◌≡◌, ◌+◌, ℕ, pos, List, [], ◌∷◌, false, refl}
 use Rattle.std.proofs.lemmas.Bool.{or_from}
-use Rattle.serde_json.specs.Data.{Data}
 use Rattle.serde_json.specs.View.{items_of}
 use Rattle.serde_json.specs.Written.{has_float, items_have_float}
 use Rattle.sopl_ast.specs.Instances.{Stochastic}
 use Rattle.std.specs.List.{range_with_len}
 use Rattle.scenario_tree.specs.Layout.{Layout, histories_in, value_in}
-use Rattle.entry_json.specs.Entries.{entry_of, list_of, whole_number}
+use Rattle.entry_json.proofs.Plain.{entry_plain, map_plain, number_plain}
+use Rattle.entry_json.specs.Entries.{list_of}
 use Rattle.tree_json.specs.Shown.{count_shown, counts_shown, entries_from, shown}
-
--- a whole number is no float
-number_plain : (z : ℤ) → has_float (whole_number z) ≡ false
-number_plain (pos n) = refl
-number_plain (negsuc n) = refl
-
--- a list of data without floats
-map_plain : {X : Type 0} (f : X → Data) → ((x : X) → has_float (f x) ≡ false) → (xs : List X) → items_have_float (items_of (map f xs)) ≡ false
-map_plain f plain [] = refl
-map_plain f plain (x ∷ xs) = or_from _ _ (plain x) (map_plain f plain xs)
-
--- an entry
-entry_plain : (name : List ℕ) (index : List ℤ) (value : ℤ) → has_float (entry_of name index value) ≡ false
-entry_plain name index value = or_from _ _ (map_plain whole_number number_plain index) (or_from _ _ (number_plain value) refl)
 
 pub counts_plain : (tree : Layout) (last : ℕ) → has_float (list_of (counts_shown tree last)) ≡ false
 counts_plain tree last = map_plain (count_shown tree) (λ stage. number_plain (pos (histories_in tree stage))) (range_with_len 1 last)

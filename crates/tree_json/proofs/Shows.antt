@@ -1,13 +1,12 @@
 -- What is shown of a tree is what the definitions say.
-use Rattle.std.proofs.Common.{◌≡◌, ◌+◌, ◌-◌, ◌<◌, ◌≤◌, ◌∙◌, ℕ, zero, suc, ℤ, pos, List, [], ◌∷◌, ◌++◌, length, map, drop, max, Some, None, slice_get, arith, refl, sym, ap, subst}
-use Rattle.std.specs.List.{AllByRecursion, range_with_len, zip}
-use Rattle.serde_json.specs.Data.{Data}
+use Rattle.std.proofs.Common.{◌≡◌, ◌+◌, ◌<◌, ◌≤◌, ◌∙◌, ℕ, zero, suc, ℤ, pos, List, [], ◌∷◌, length, map, drop, Some, slice_get, arith, refl, sym, ap, subst}
+use Rattle.std.specs.List.{range_with_len}
 use Rattle.sopl_ast.specs.Instances.{Decision, Stochastic}
-use Rattle.sopl_ast.specs.Scenarios.{Scenario, scenarios, total_weight}
-use Rattle.unfold_laws.specs.Bounds.{IsBoundedDecision, IsStage}
-use Rattle.scenario_tree.specs.Layout.{IsTreeOf, Layout, count_in, histories_in, value_in, weight_in}
-use Rattle.entry_json.specs.Entries.{entry_of, list_of, whole_number}
-use Rattle.tree_json.specs.Answer.{history_count, last_stage, seen_entries, scenario_data, scenario_object, tree_data, tree_object}
+use Rattle.sopl_ast.specs.Scenarios.{Scenario, scenarios}
+use Rattle.scenario_tree.specs.Layout.{IsTreeOf, Layout, count_in, value_in, weight_in}
+use Rattle.entry_json.specs.Entries.{entry_of, seen_entries, whole_number}
+use Rattle.entry_json.specs.Stages.{last_stage}
+use Rattle.tree_json.specs.Answer.{history_count, scenario_data, scenario_object, tree_data, tree_object}
 use Rattle.tree_json.specs.Shown.{all_shown, count_shown, counts_shown, entries_from, shown}
 
 -- what stands at a place is the first of what is left from there on
@@ -60,11 +59,6 @@ counts_from ds ss tree is first zero from to = refl
 counts_from ds ss tree is first (suc n) from to =
     ap (λ z. whole_number (pos z) ∷ map (count_shown tree) (range_with_len (first + 1) n)) (is.counted first (from, omega arith))
     ∙ ap (λ l. history_count ss first ∷ l) (counts_from ds ss tree is (first + 1) n (omega arith) (omega arith))
-
--- the last stage is at most 24
-pub last_small : (ds : List Decision) → AllByRecursion IsBoundedDecision ds → last_stage ds ≤ 24
-last_small [] all = omega arith
-last_small (d ∷ ds) all = omega (arith, all.0.stage.1, last_small ds all.1)
 
 -- the answer is that of the tree
 pub tree_shown : (ds : List Decision) (ss : List Stochastic) (tree : Layout) → IsTreeOf ds ss tree → (last : ℕ) → last ≡ last_stage ds → last ≤ 24

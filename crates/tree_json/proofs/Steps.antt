@@ -1,5 +1,6 @@
 -- The steps of the loops that print a tree.
-use Rattle.std.proofs.Common.{◌≡◌, ◌∙◌, ◌++◌, ◌+◌, ◌<◌, ℕ, zero, suc, ℤ, List, [], ◌∷◌, length, map, drop, get_or, true, false, Result, Ok, Err, IfOk, String, codes, nat_lt, append_assoc, arith, refl, sym, ap, string_bytes}
+use Rattle.std.proofs.Common.{◌≡◌, ◌∙◌, ◌++◌, ◌+◌, ◌<◌, ℕ, zero, suc, List, [], ◌∷◌, length, map, drop, get_or, true, false, Result, Ok, Err, IfOk, String, codes, nat_lt}
+use Rattle.std.proofs.Common.{append_assoc, arith, refl, sym, ap, string_bytes}
 use Rattle.std.proofs.lemmas.Bool.{and_parts}
 use Rattle.std.proofs.lemmas.List.{at_drop_more, append-nil, length-map}
 use Rattle.std.proofs.lemmas.List.FromFn.{length-range_with_len, map-range_with_len_more}
@@ -12,7 +13,8 @@ use Rattle.sopl_ast.specs.Instances.{Decision, Stochastic}
 use Rattle.sopl_ast.specs.Pieces.{is_word}
 use Rattle.scenario_tree.specs.Layout.{IsTreeOf, Layout, count_in, value_in}
 use Rattle.entry_json.specs.Entries.{entry_of, list_of}
-use Rattle.tree_json.specs.Answer.{digits, last_stage, tree_data, tree_object}
+use Rattle.entry_json.specs.Stages.{last_stage}
+use Rattle.tree_json.specs.Answer.{digits, tree_data}
 use Rattle.tree_json.specs.Shown.{all_shown, counts_shown, entries_from, front_of, pieces, shown}
 use Rattle.tree_json.proofs.Pieces.{answer_text, pieces_more}
 use Rattle.tree_json.proofs.Shows.{tree_shown}

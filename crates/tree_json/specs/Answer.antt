@@ -1,21 +1,13 @@
 -- The answer `tree`: the weight of all scenarios, how many histories each stage has up to the last stage of a decision, and the scenarios.
-use Rattle.std.specs.Prelude.{ℕ, ℤ, pos, List, [], ◌∷◌, codes, length, map, max}
+use Rattle.std.specs.Prelude.{ℕ, ℤ, pos, List, codes, length, map}
 use Rattle.std.specs.Fmt.{signed_decimal}
-use Rattle.std.specs.List.{range_with_len, zip}
+use Rattle.std.specs.List.{range_with_len}
 use Rattle.serde_json.specs.Data.{Data, string, object, no_members, member}
 use Rattle.sopl_ast.specs.Instances.{Decision, Stochastic}
 use Rattle.sopl_ast.specs.Scenarios.{Scenario, scenarios, total_weight}
 use Rattle.sopl_ast.specs.Histories.{histories}
-use Rattle.entry_json.specs.Entries.{entry_of, list_of, whole_number}
-
--- the greatest stage of a decision; 1 where there is none
-abbrev pub last_stage : List Decision → ℕ
-last_stage [] = 1
-last_stage (d ∷ later) = max d.stage (last_stage later)
-
--- an entry for each stochastic variable, with its value
-abbrev pub seen_entries : List Stochastic → List ℤ → List Data
-seen_entries stochastics values = map (λ (s : Stochastic × ℤ). entry_of s.0.name s.0.index s.1) (zip stochastics values)
+use Rattle.entry_json.specs.Entries.{list_of, seen_entries, whole_number}
+use Rattle.entry_json.specs.Stages.{last_stage}
 
 -- a number as a text of digits
 abbrev pub digits : ℤ → Data

@@ -1,32 +1,21 @@
 //! The whole answer, scenario by scenario, so that no value for all of it is made.
 
-ghost use Rattle.std.specs.Prelude.{◌≡◌, ◌<◌, ◌≤◌, ◌^◌, ◌++◌, length, map, nat_lt, IsTrue, IfOk, OnOk, string_bytes};
+ghost use Rattle.std.specs.Prelude.{◌≡◌, ◌<◌, ◌^◌, ◌++◌, length, map, nat_lt, IsTrue, IfOk, OnOk, string_bytes};
 ghost use Rattle.std.specs.List.{list_all, AllByRecursion};
 ghost use Rattle.serde_json.specs.Written.{comma_if, compact_text};
-ghost use Rattle.sopl_ast.specs.Instances.{Decision, Stochastic};
+ghost use Rattle.sopl_ast.specs.Instances.{Stochastic};
 ghost use Rattle.sopl_ast.specs.Pieces.{is_word};
 ghost use Rattle.unfold_laws.specs.Bounds.{IsBoundedDecision};
 ghost use Rattle.scenario_tree.specs.Layout.{IsTreeOf, count_in};
-ghost use Rattle.tree_json.specs.Answer.{last_stage, tree_data};
+ghost use Rattle.tree_json.specs.Answer.{tree_data};
 ghost use Rattle.tree_json.specs.Shown.{shown};
 
 use crate::front::front;
 use crate::scenes::scene_text;
+use entry_json::greatest_stage;
 use scenario_tree::Tree;
 use std::alloc::{AllocError, Global};
 use unfold_variables::{DecisionItem, StochItem};
-
-/// The greatest stage of a decision; 1 where there is none.
-fn greatest_stage(decisions: &[DecisionItem]) -> u32
-    requires bounded { AllByRecursion IsBoundedDecision decisions.now }
-    ensures stage { result ≡ last_stage decisions.now }
-{
-    let mut last: u32 = 1;
-    'decisions: for decision in decisions {
-        last = last.max(decision.stage);
-    }
-    last
-}
 
 /// Adds a scenario, behind a comma where it is not the first.
 fn add_scene(

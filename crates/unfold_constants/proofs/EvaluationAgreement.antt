@@ -1,5 +1,6 @@
 -- Evaluating a constant expression step by step agrees with what is met in it and with what it is worth.
-use Rattle.std.proofs.Common.{◌≡◌, refl, sym, ap, subst, ◌∙◌, ℕ, ℤ, pos, neg_ℤ, ◌+ℤ◌, unsigned_abs, not, ◌||◌, List, [], ◌∷◌, ◌++◌, Option, Some, None, option_map, option_and_then, T, is_some, if◌then◌else◌}
+use Rattle.std.proofs.Common.{◌≡◌, refl, sym, ap, subst, ◌∙◌, ℕ, ℤ, pos, neg_ℤ, ◌+ℤ◌, unsigned_abs, not, ◌||◌, List, [], ◌∷◌, ◌++◌, Option, Some, None, option_map, option_and_then}
+use Rattle.std.proofs.Common.{T, is_some, if◌then◌else◌}
 use Rattle.std.proofs.lemmas.List.{append-nil}
 use Rattle.std.specs.Option.{unwrap_or}
 use Rattle.std.specs.List.{flat_map, list_all, list_any}
@@ -10,11 +11,12 @@ use Rattle.sopl_ast.specs.Constants as c
 use Rattle.sopl_ast.specs.Constants.{is_true, applied_within, within}
 use Rattle.sopl_ast.specs.Known.{Known, with_bound, known_value}
 use Rattle.sopl_ast.specs.Numbers.{both_of, all_of, joined, up_to, count_between, total, all_distinct, are_within, one_or_zero, compares, extreme, applied}
-use Rattle.sopl_ast.specs.Occurrences.{Occurrence, Counted, no_value, too_many, constant_occurrences, inside_occurrences, constants_occurrences, constant_terms_occurrences, constant_factors_occurrences, binding_occurrences, range_occurrences}
+use Rattle.sopl_ast.specs.Occurrences.{Occurrence, Counted, no_value, too_many, constant_occurrences, inside_occurrences, constants_occurrences, constant_terms_occurrences}
+use Rattle.sopl_ast.specs.Occurrences.{constant_factors_occurrences, binding_occurrences, range_occurrences}
 use Rattle.unfold_constants.specs.Evaluation as w
 use Rattle.unfold_tables.specs.Tables.{tasks_of}
-use Rattle.unfold_constants.specs.Evaluation.{Step, ◌>>=◌, done, given, few_between, for_each}
-use Rattle.unfold_constants.proofs.Steps.{Agrees, agree_value, agree_done, agree_bind, agree_bind_two, agree_then, agree_both, agree_given, agree_count, agree_few}
+use Rattle.unfold_constants.specs.Evaluation.{Step, ◌>>=◌, done, given, checked_between, for_each}
+use Rattle.unfold_constants.proofs.Steps.{Agrees, agree_value, agree_done, agree_bind, agree_bind_two, agree_then, agree_both, agree_given, agree_count, agree_checked}
 use Rattle.unfold_constants.proofs.Gathered.{gathered, three, nothing_before, zero_before, nothing_behind, more_found, more_added, gathered_all, more_gathered, one_each, task_each, three_more}
 
 -- a body adds what it finds at each place
@@ -81,8 +83,8 @@ ends_agree : (known : Known) (whole : Option ℕ) (lo hi : Tree)
 ends_agree known whole lo hi lower upper =
     agree_bind lower (λ a p.
     agree_bind upper (λ b q.
-    subst (λ (v : Option ℤ × Option ℤ). Agrees (few_between a b) (too_many 208 (count_between (unwrap_or v.0 (pos 0)) (unwrap_or v.1 (pos 0)))) (both_of (λ x y. (x, y)) v.0 v.1))
-    (λ i. (sym p i, sym q i)) (agree_few a b)))
+    subst (λ (v : Option ℤ × Option ℤ). Agrees (checked_between a b) (too_many 208 (count_between (unwrap_or v.0 (pos 0)) (unwrap_or v.1 (pos 0)))) (both_of (λ x y. (x, y)) v.0 v.1))
+    (λ i. (sym p i, sym q i)) (agree_checked a b)))
 
 mutual
   pub agree_number : (e : Tree) (known : Known) (whole : ℕ) → Agrees (w.number known whole e) (constant_occurrences known whole e) (c.value known e)
@@ -112,9 +114,11 @@ mutual
   agree_untested (t.Not e) known whole =
       agree_then (λ x. Some (one_or_zero (not (is_true x)))) (agree_number e known whole) (λ x is. ap (λ v. Some (option_map (λ x'. one_or_zero (not (is_true x'))) v)) is)
   agree_untested (t.And es) known whole =
-      agree_then (λ xs. Some (one_or_zero (list_all is_true xs))) (from_nothing known whole es (agree_numbers es known whole [])) (λ xs is. ap (λ v. Some (option_map (λ ys. one_or_zero (list_all is_true ys)) v)) is)
+      agree_then (λ xs. Some (one_or_zero (list_all is_true xs))) (from_nothing known whole es (agree_numbers es known whole []))
+      (λ xs is. ap (λ v. Some (option_map (λ ys. one_or_zero (list_all is_true ys)) v)) is)
   agree_untested (t.Or es) known whole =
-      agree_then (λ xs. Some (one_or_zero (list_any is_true xs))) (from_nothing known whole es (agree_numbers es known whole [])) (λ xs is. ap (λ v. Some (option_map (λ ys. one_or_zero (list_any is_true ys)) v)) is)
+      agree_then (λ xs. Some (one_or_zero (list_any is_true xs))) (from_nothing known whole es (agree_numbers es known whole []))
+      (λ xs is. ap (λ v. Some (option_map (λ ys. one_or_zero (list_any is_true ys)) v)) is)
   agree_untested (t.Implies a b) known whole =
       agree_both (λ x y. Some (one_or_zero (not (is_true x) || is_true y))) (agree_number a known whole) (agree_number b known whole)
       (λ x y p q i. Some (both_of (λ x' y'. one_or_zero (not (is_true x') || is_true y')) (p i) (q i)))

@@ -1,17 +1,17 @@
 -- What a function answers, against what is met and what a value is.
 use Rattle.std.proofs.Common.{◌≡◌, refl, sym, ap, subst, ◌∙◌, inl, inr, ℕ, ℤ, List, Option, Some, None, is_some, Result, Ok, Err, IfOk, T, is_ok, is_err}
 use Rattle.std.specs.Option.{unwrap_or}
-use Rattle.sopl_base.specs.declared.places.Fault.{Fault}
-use Rattle.sopl_base.specs.declared.places.Fault.TheVariants as fault
+use Rattle.sopl_base.specs.declared.fault.Fault.{Fault}
+use Rattle.sopl_base.specs.declared.fault.Fault.TheVariants as fault
 use Rattle.sopl_ast.specs.Numbers.{both_of}
 use Rattle.sopl_ast.specs.Known.{Known}
 use Rattle.sopl_ast.specs.Tree.{Tree, place_of}
 use Rattle.unfold_tables.specs.declared.sets.Ends.{Ends}
 use Rattle.unfold_tables.specs.Tables.{ends_in}
-use Rattle.unfold_constants.specs.Answers.{Answers}
+use Rattle.unfold_constants.specs.CountedAnswers.{Answers}
 use Rattle.sopl_ast.specs.Occurrences.{Occurrence, met}
 use Rattle.unfold_tables.specs.Walks.{Walks}
-use Rattle.unfold_constants.specs.Evaluation.{Step, ◌>>=◌, continued, number, few_between, range_ends}
+use Rattle.unfold_constants.specs.Evaluation.{Step, ◌>>=◌, continued, number, checked_between, range_ends}
 use Rattle.unfold_constants.proofs.Steps.{Agrees, At}
 
 abbrev answer_or : {A B : Type 0} → A → Result A B → A
@@ -69,12 +69,12 @@ upper_so u v (Err f) is = tt
 pub ends_found : (result : Result Ends Fault) (known : Known) (whole : Option ℕ) (lo hi : Tree) (v w : ℕ) (a b x y : ℤ) (count first second : ℕ)
     → v ≡ unwrap_or whole (place_of lo) → w ≡ unwrap_or whole (place_of hi)
     → ◌≡◌ {A = Result (ℤ × ℕ) Fault} (number known v lo count) (Ok (a, first)) → ◌≡◌ {A = Result (ℤ × ℕ) Fault} (number known w hi first) (Ok (b, second))
-    → x ≡ a → y ≡ b → Answers ends_in second result (few_between x y second) → Answers ends_in second result (range_ends known whole lo hi count)
+    → x ≡ a → y ≡ b → Answers ends_in second result (checked_between x y second) → Answers ends_in second result (range_ends known whole lo hi count)
 ends_found result known whole lo hi v w a b x y count first second p q r s is_a is_b found =
     let lower : ◌≡◌ {A = Result (ℤ × ℕ) Fault} (number known (unwrap_or whole (place_of lo)) lo count) (Ok (a, first)) = (λ i. number known (sym p i) lo count) ∙ r in
     let upper : ◌≡◌ {A = Result (ℤ × ℕ) Fault} (number known (unwrap_or whole (place_of hi)) hi first) (Ok (b, second)) = (λ i. number known (sym q i) hi first) ∙ s in
-    let all : range_ends known whole lo hi count ≡ few_between x y second =
-    ap (λ o. continued o (λ l. number known (unwrap_or whole (place_of hi)) hi >>= (λ h. few_between l h))) lower
-    ∙ ap (λ o. continued o (λ h. few_between a h)) upper
-    ∙ (λ i. few_between (sym is_a i) (sym is_b i) second) in
+    let all : range_ends known whole lo hi count ≡ checked_between x y second =
+    ap (λ o. continued o (λ l. number known (unwrap_or whole (place_of hi)) hi >>= (λ h. checked_between l h))) lower
+    ∙ ap (λ o. continued o (λ h. checked_between a h)) upper
+    ∙ (λ i. checked_between (sym is_a i) (sym is_b i) second) in
     subst (λ o. Answers ends_in second result o) (sym all) found

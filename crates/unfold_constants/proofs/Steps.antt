@@ -1,13 +1,13 @@
 -- Steps against what is met and what a value is: where a refusal or a limit is met, the step answers it; else there is a value, and the step answers it.
 use Rattle.std.proofs.Common.{◌≡◌, refl, sym, ap, subst, ℕ, ◌+◌, nat_lt, nat_le, ℤ, pos, Bool, true, false, cond, List, [], ◌∷◌, ◌++◌, Option, Some, None, Result, Ok, Err, inl, inr, T, is_ok, ◌⊎◌}
 use Rattle.std.proofs.lemmas.List.{append_assoc}
-use Rattle.sopl_base.specs.declared.places.Fault.{Fault}
-use Rattle.sopl_base.specs.declared.places.Fault.TheVariants.{Limit, NoMemory}
+use Rattle.sopl_base.specs.declared.fault.Fault.{Fault}
+use Rattle.sopl_base.specs.declared.fault.Fault.TheVariants.{Limit, NoMemory}
 use Rattle.sopl_ast.specs.Numbers.{count_between}
 use Rattle.sopl_ast.specs.Occurrences.{Occurrence, Counted, Refused, Passed, excess, met, most_counted, most_numbers, no_value, too_many}
 use Rattle.unfold_laws.proofs.Passing.{behind, met_append}
-use Rattle.unfold_constants.specs.Answers.{Fails}
-use Rattle.unfold_constants.specs.Evaluation.{Step, ◌>>=◌, continued, done, given, count_one, few_between}
+use Rattle.unfold_constants.specs.CountedAnswers.{Fails}
+use Rattle.unfold_constants.specs.Evaluation.{Step, ◌>>=◌, continued, done, given, count_one, checked_between}
 
 -- what is met, an outcome and a value agree
 abbrev pub At : {A : Type 0} → Result ℕ Fault → Result (A × ℕ) Fault → Option A → Type 0
@@ -73,7 +73,8 @@ counted = Some tt
 pub agree_count : Agrees count_one (Counted ∷ []) counted
 agree_count = record { at = λ count. on count (nat_lt count most_counted) }
   where
-    on : (count : ℕ) (b : Bool) → At (cond b (Ok (count + 1)) (Err (Limit (excess 205 (pos (most_counted + 1)) (pos most_counted))))) (cond b (Ok (tt, count + 1)) (Err (Limit (excess 205 (pos (most_counted + 1)) (pos most_counted))))) counted
+    on : (count : ℕ) (b : Bool) → At (cond b (Ok (count + 1)) (Err (Limit (excess 205 (pos (most_counted + 1)) (pos most_counted)))))
+        (cond b (Ok (tt, count + 1)) (Err (Limit (excess 205 (pos (most_counted + 1)) (pos most_counted))))) counted
     on count true = (tt, refl, refl)
     on count false = refl
 
@@ -81,8 +82,8 @@ agree_count = record { at = λ count. on count (nat_lt count most_counted) }
 abbrev too_long : ℤ → ℤ → Occurrence
 too_long lo hi = Passed (excess 208 (pos (count_between lo hi)) (pos most_numbers))
 
-pub agree_few : (lo hi : ℤ) → Agrees (few_between lo hi) (too_many 208 (count_between lo hi)) (Some (lo, hi))
-agree_few lo hi = record { at = λ count. on count (nat_le (count_between lo hi) most_numbers) }
+pub agree_checked : (lo hi : ℤ) → Agrees (checked_between lo hi) (too_many 208 (count_between lo hi)) (Some (lo, hi))
+agree_checked lo hi = record { at = λ count. on count (nat_le (count_between lo hi) most_numbers) }
   where
     on : (count : ℕ) (b : Bool)
         → At {A = ℤ × ℤ} (met count (cond b [] (too_long lo hi ∷ [])))
@@ -96,8 +97,8 @@ fault_in other (Ok x) = other
 fault_in other (Err f) = f
 
 -- there are few numbers
-pub few_met : (lo hi : ℤ) (count : ℕ) → met count (too_many 208 (count_between lo hi)) ≡ Ok count → ◌≡◌ {A = Result ((ℤ × ℤ) × ℕ) Fault} (few_between lo hi count) (Ok ((lo, hi), count))
-few_met lo hi count = on (nat_le (count_between lo hi) most_numbers)
+pub checked_met : (lo hi : ℤ) (count : ℕ) → met count (too_many 208 (count_between lo hi)) ≡ Ok count → ◌≡◌ {A = Result ((ℤ × ℤ) × ℕ) Fault} (checked_between lo hi count) (Ok ((lo, hi), count))
+checked_met lo hi count = on (nat_le (count_between lo hi) most_numbers)
   where
     on : (b : Bool) → met count (cond b [] (too_long lo hi ∷ [])) ≡ Ok count
         → ◌≡◌ {A = Result ((ℤ × ℤ) × ℕ) Fault} (cond b (Ok ((lo, hi), count)) (Err (Limit (excess 208 (pos (count_between lo hi)) (pos most_numbers))))) (Ok ((lo, hi), count))
@@ -105,10 +106,12 @@ few_met lo hi count = on (nat_le (count_between lo hi) most_numbers)
     on false is = absurd (subst (λ r. T (is_ok r)) (sym is) tt)
 
 -- there are too many
-pub few_failed : (lo hi : ℤ) (count : ℕ) (fault : Fault) → (fault ≡ NoMemory) ⊎ (met count (too_many 208 (count_between lo hi)) ≡ Err fault) → Fails {B = (ℤ × ℤ) × ℕ} fault (few_between lo hi count)
-few_failed lo hi count fault (inl is) = subst (λ f. Fails {B = (ℤ × ℤ) × ℕ} f (few_between lo hi count)) (sym is) tt
-few_failed lo hi count fault (inr is) = on (nat_le (count_between lo hi) most_numbers) is
+pub checked_failed : (lo hi : ℤ) (count : ℕ) (fault : Fault) → (fault ≡ NoMemory) ⊎ (met count (too_many 208 (count_between lo hi)) ≡ Err fault)
+    → Fails {B = (ℤ × ℤ) × ℕ} fault (checked_between lo hi count)
+checked_failed lo hi count fault (inl is) = subst (λ f. Fails {B = (ℤ × ℤ) × ℕ} f (checked_between lo hi count)) (sym is) tt
+checked_failed lo hi count fault (inr is) = on (nat_le (count_between lo hi) most_numbers) is
   where
-    on : (b : Bool) → met count (cond b [] (too_long lo hi ∷ [])) ≡ Err fault → Fails {B = (ℤ × ℤ) × ℕ} fault (cond b (Ok ((lo, hi), count)) (Err (Limit (excess 208 (pos (count_between lo hi)) (pos most_numbers)))))
+    on : (b : Bool) → met count (cond b [] (too_long lo hi ∷ [])) ≡ Err fault
+        → Fails {B = (ℤ × ℤ) × ℕ} fault (cond b (Ok ((lo, hi), count)) (Err (Limit (excess 208 (pos (count_between lo hi)) (pos most_numbers)))))
     on true is = absurd (subst (λ r. T (is_ok r)) is tt)
     on false is = subst (λ f. Fails {B = (ℤ × ℤ) × ℕ} f (Err (Limit (excess 208 (pos (count_between lo hi)) (pos most_numbers))))) (ap (fault_in fault) is) refl

@@ -5,8 +5,8 @@ use Rattle.std.specs.Option.{unwrap_or}
 use Rattle.std.specs.List.{list_all, list_any}
 use Rattle.std.specs.Int.{int_min, int_max}
 use Rattle.std.specs.Int.RustNames.{unsigned_abs}
-use Rattle.sopl_base.specs.declared.places.Fault.{Fault}
-use Rattle.sopl_base.specs.declared.places.Fault.TheVariants.{Text, Limit}
+use Rattle.sopl_base.specs.declared.fault.Fault.{Fault}
+use Rattle.sopl_base.specs.declared.fault.Fault.TheVariants.{Text, Limit}
 use Rattle.sopl_ast.specs.declared.operators.MulOp.{MulOp}
 use Rattle.sopl_ast.specs.Tree as t
 use Rattle.sopl_ast.specs.Tree.{Tree, Shape, Trees, Terms, Factors, Binders, Range, Node, no_tree, tree, no_term, term, no_factor, factor, no_binder, binder, Named, Ends, place_of}
@@ -44,8 +44,8 @@ abbrev pub count_one : Step (Unit {0})
 count_one count = if nat_lt count most_counted then Ok (tt, count + 1) else Err (Limit (excess 205 (pos (most_counted + 1)) (pos most_counted)))
 
 -- 208: more numbers than a range may have
-abbrev pub few_between : ℤ → ℤ → Step (ℤ × ℤ)
-few_between lo hi count =
+abbrev pub checked_between : ℤ → ℤ → Step (ℤ × ℤ)
+checked_between lo hi count =
     if nat_le (count_between lo hi) most_numbers
     then Ok ((lo, hi), count)
     else Err (Limit (excess 208 (pos (count_between lo hi)) (pos most_numbers)))
@@ -108,13 +108,13 @@ abbrev mutual
   pub range_numbers : Known → Option ℕ → Range → Step (List ℤ)
   range_numbers known whole (Named name at) = done (ascending (set_named name known.sets))
   range_numbers known whole (Ends lo hi) =
-      (number known (unwrap_or whole (place_of lo)) lo >>= (λ a. number known (unwrap_or whole (place_of hi)) hi >>= (λ b. few_between a b)))
+      (number known (unwrap_or whole (place_of lo)) lo >>= (λ a. number known (unwrap_or whole (place_of hi)) hi >>= (λ b. checked_between a b)))
       >>= (λ ends. done (up_to ends.0 ends.1))
 
 -- the ends of a range
 abbrev pub range_ends : Known → Option ℕ → Tree → Tree → Step (ℤ × ℤ)
 range_ends known whole lo hi =
-    number known (unwrap_or whole (place_of lo)) lo >>= (λ a. number known (unwrap_or whole (place_of hi)) hi >>= (λ b. few_between a b))
+    number known (unwrap_or whole (place_of lo)) lo >>= (λ a. number known (unwrap_or whole (place_of hi)) hi >>= (λ b. checked_between a b))
 
 -- a product from its first part on
 abbrev pub whole_product : Known → ℕ → Tree → Factors → Step ℤ

@@ -1,4 +1,4 @@
-pub mod Answers
-pub mod Here
+pub mod CountedAnswers
 pub mod Evaluation
+pub mod Here
 pub mod Traversal

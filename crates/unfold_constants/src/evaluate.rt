@@ -7,21 +7,21 @@ ghost use Rattle.sopl_ast.specs.Ranges.{range_of};
 ghost use Rattle.sopl_ast.specs.Sight.{shape_of_kind};
 ghost use Rattle.sopl_ast.specs.Tree as t;
 ghost use Rattle.sopl_ast.specs.Tree.{place_of};
-ghost use Rattle.unfold_constants.specs.Answers.{Answers};
-ghost use Rattle.unfold_tables.specs.Tables.{items, now_of, shown, ends_in};
+ghost use Rattle.unfold_constants.specs.CountedAnswers.{Answers};
+ghost use Rattle.unfold_tables.specs.Tables.{items, shown, ends_in};
 ghost use Rattle.unfold_constants.specs.Here.{known_in};
 ghost use Rattle.sopl_ast.specs.Constants.{within};
 ghost use Rattle.sopl_ast.specs.Numbers.{one_or_zero as truth_number};
+ghost use Rattle.sopl_ast.specs.References.{now_of};
 ghost use Rattle.unfold_constants.specs.Evaluation as spec;
 ghost use Rattle.unfold_constants.specs.Evaluation.{each_of};
 
 use crate::known::Known;
 use sopl_ast::{Binder, Binders, Expr, Exprs, Factors, Kind, MulOp, Name, RangeText};
-use sopl_base::{CmpOp, Fault};
+use sopl_base::{CmpOp, Fault, codes};
 use unfold_tables::{
-    Count, Ends, Numbers, RANGE, Total, UNDEFINED, add, all_distinct, all_true, applied,
-    are_within, compares, extreme, few_between, is_true, one_or_zero, refused, some_true, total,
-    within as number_within,
+    Count, Ends, Numbers, Total, add, all_distinct, all_true, applied, are_within, checked_between,
+    compares, extreme, is_true, one_or_zero, some_true, total, within as number_within,
 };
 
 /// Expressions that are evaluated together, inside the constant expression that begins at `whole`.
@@ -46,7 +46,7 @@ fn given(whole: usize, value: Option<i64>) -> Result<i64, Fault>
 {
     match value {
         Some(value) => Ok(value),
-        None => Err(refused(UNDEFINED, whole)),
+        None => Err(Fault::refused(codes::UNDEFINED, whole)),
     }
 }
 
@@ -403,7 +403,8 @@ impl<'a> Known<'a> {
         found: &mut Vec<i64>,
     ) -> Result<(), Fault>
         ensures { Answers (λ u. found.new.items) count.new.counted result
-            (spec.through (known_in self.now) body.now.whole name.now (binders more.now) (each_of body.now.whole (map now_of body.now.parts.now)) (shown numbers.now) found.old.items count.old.counted) }
+            (spec.through (known_in self.now) body.now.whole name.now (binders more.now) (each_of body.now.whole (map now_of body.now.parts.now)) (shown numbers.now) found.old.items
+            count.old.counted) }
     {
         let mut left = *numbers;
         'numbers: while let Some((number, later)) = left.split_first() {
@@ -483,15 +484,15 @@ impl<'a> Known<'a> {
             lo: least,
             hi: greatest,
         };
-        few_ends(&ends)
+        checked_ends(&ends)
     }
 }
 
 /// The same ends, unless there are too many numbers between them.
-fn few_ends(ends: &Ends) -> Result<Ends, Fault>
-    ensures { (count : ℕ) → Answers ends_in count result (spec.few_between ends.now.lo ends.now.hi count) }
+fn checked_ends(ends: &Ends) -> Result<Ends, Fault>
+    ensures { (count : ℕ) → Answers ends_in count result (spec.checked_between ends.now.lo ends.now.hi count) }
 {
-    match few_between(RANGE, ends) {
+    match checked_between(codes::NUMBERS, ends) {
         Ok(()) => Ok(*ends),
         Err(fault) => Err(fault),
     }

@@ -1,9 +1,12 @@
 //! What is known at a constant place of a text, and what an expression there is worth.
+//! Its tests stand in `text_tests`.
 #![tactic(auto)]
 
+mod constant_places;
 mod evaluate;
 mod known;
-mod places;
+mod refusals;
 mod walk;
 
 pub use known::Known;
+pub use refusals::unless;

@@ -2,17 +2,18 @@
 
 ghost use Rattle.std.specs.Prelude.{map};
 ghost use Rattle.sopl_ast.specs.Lists.{trees, terms, factors, binders};
+ghost use Rattle.sopl_ast.specs.References.{now_of};
 ghost use Rattle.sopl_ast.specs.Tree as t;
-ghost use Rattle.unfold_constants.specs.Answers.{Answers};
-ghost use Rattle.unfold_tables.specs.Tables.{now_of, shown};
+ghost use Rattle.unfold_constants.specs.CountedAnswers.{Answers};
+ghost use Rattle.unfold_tables.specs.Tables.{shown};
 ghost use Rattle.unfold_constants.specs.Here.{known_in};
 ghost use Rattle.unfold_constants.specs.Traversal as spec;
 
 use crate::evaluate::TaskText;
 use crate::known::Known;
 use sopl_ast::{Binder, Binders, Expr, Factors, Kind, MulOp, Name};
-use sopl_base::Fault;
-use unfold_tables::{Count, Numbers, UNDEFINED, refused};
+use sopl_base::{Fault, codes};
+use unfold_tables::{Count, Numbers};
 
 #[tactic(auto, using(sopl_ast::proofs::Lighter::lighter, crate::proofs::Body::parts))]
 impl<'a> Known<'a> {
@@ -210,7 +211,7 @@ impl<'a> Known<'a> {
     {
         let divisor = self.number(count, e.at, e)?;
         if divisor == 0 {
-            return Err(refused(UNDEFINED, e.at));
+            return Err(Fault::refused(codes::UNDEFINED, e.at));
         }
         Ok(())
     }

@@ -1,10 +1,10 @@
 -- What a call answers, from what is met in it and what its value is.
 use Rattle.std.proofs.Common.{◌≡◌, refl, sym, ap, subst, ◌∙◌, ◌⊎◌, inl, inr, ℕ, Bool, true, false, true≢false, List, Option, Some, Result, Ok, Err, IfOk, T, is_ok, is_err}
 use Rattle.std.specs.Option.{unwrap_or}
-use Rattle.sopl_base.specs.declared.places.Fault.{Fault}
-use Rattle.sopl_base.specs.declared.places.Fault.TheVariants as fault
+use Rattle.sopl_base.specs.declared.fault.Fault.{Fault}
+use Rattle.sopl_base.specs.declared.fault.Fault.TheVariants as fault
 use Rattle.sopl_ast.specs.Occurrences.{Occurrence, met}
-use Rattle.unfold_constants.specs.Answers.{Answers}
+use Rattle.unfold_constants.specs.CountedAnswers.{Answers}
 use Rattle.unfold_constants.specs.Evaluation.{Step}
 use Rattle.unfold_constants.proofs.Steps.{Agrees, At}
 use Rattle.unfold_tables.specs.Walks.{Walks}

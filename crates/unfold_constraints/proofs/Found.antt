@@ -1,7 +1,7 @@
 -- The instances that were found, from what all of them show.
 use Rattle.std.proofs.Common.{◌≡◌, sym, ap, Some, Result, Ok, Err, IfOk}
 use Rattle.std.specs.Option.{unwrap_or}
-use Rattle.sopl_base.specs.declared.places.Fault.{Fault}
+use Rattle.sopl_base.specs.declared.fault.Fault.{Fault}
 use Rattle.unfold_tables.specs.Tables.{items}
 use Rattle.unfold_constraints.specs.Shown.{found_in}
 use Rattle.unfold_constraints.specs.Stepping.{Found}

@@ -1,18 +1,12 @@
 -- Constraints, one by one.
-use Rattle.std.proofs.Common.{◌≡◌, sym, ap, ◌∙◌, ℕ, zero, suc, ◌+◌, ◌<◌, ◌≤◌, List, [], ◌∷◌, ◌++◌, map, length, get_or, drop, arith}
+use Rattle.std.proofs.Common.{◌≡◌, sym, ap, ◌∙◌, ℕ, ◌+◌, ◌<◌, ◌≤◌, List, ◌∷◌, ◌++◌, map, length, get_or, drop, arith}
 use Rattle.std.proofs.lemmas.List.{at_drop_more, at_drop_all, append_assoc, append-nil, length-append}
+use Rattle.sopl_ast.proofs.Lighter.{weight-constraint}
 use Rattle.sopl_ast.specs.declared.constraints.Cons.{Cons}
 use Rattle.sopl_ast.specs.Constraints.{cons_tree}
 use Rattle.sopl_ast.specs.Tree.{Tree}
 use Rattle.sopl_ast.specs.Unfolding.{conditions_of, all_conditions}
 use Rattle.sopl_ast.specs.Whole.{conses}
-use Rattle.unfold_constraints.specs.Weights.{weight_cons, weight_conses}
-
--- a constraint weighs less than its list
-pub weight-constraint : (xs : List Cons) (i : ℕ) (d : Cons) → i < length xs → weight_cons (cons_tree (get_or xs i d)) < weight_conses (conses (map cons_tree xs))
-weight-constraint [] i d h = absurd (omega arith)
-weight-constraint (x ∷ xs) zero d h = omega arith
-weight-constraint (x ∷ xs) (suc i) d h = omega (arith, weight-constraint xs i d (omega arith))
 
 -- the conditions of constraints
 abbrev pub all_of : List Cons → List Tree

@@ -3,7 +3,7 @@ use Rattle.std.proofs.Common.{◌≡◌, refl, sym, ap, subst, ◌∙◌, ℕ, �
 use Rattle.std.proofs.lemmas.List.{append_assoc, append-nil}
 use Rattle.std.specs.List.{flat_map}
 use Rattle.std.specs.Option.{unwrap_or}
-use Rattle.sopl_base.specs.declared.places.Fault.{Fault}
+use Rattle.sopl_base.specs.declared.fault.Fault.{Fault}
 use Rattle.sopl_ast.specs.Constants as c
 use Rattle.sopl_ast.specs.Constants.{value_or_zero}
 use Rattle.sopl_ast.specs.Known.{Known, with_bound}
@@ -138,7 +138,8 @@ agree_chance : (known : Known) (text : ℕ) (e p q : Tree) (found : Found)
     (Some (behind found (chance_instance (record { text = text; bound = known.bound; p = value_or_zero known p; q = value_or_zero known q }) ∷ [])))
 agree_chance known text e p q found =
     agree_value
-    (ap (λ hards. Some (record { hards = hards; chances = found.chances ++ (record { text = text; bound = known.bound; p = value_or_zero known p; q = value_or_zero known q }) ∷ [] })) (sym (append-nil found.hards)))
+    (ap (λ hards. Some (record { hards = hards; chances = found.chances ++ (record { text = text; bound = known.bound; p = value_or_zero known p; q = value_or_zero known q }) ∷ [] }))
+    (sym (append-nil found.hards)))
     (agree_bind (agree_condition known e) (λ t is.
     agree_then (λ (t : ℤ × ℤ). s.with_chance found text known.bound t.0 t.1) (agree_threshold known p q)
     (λ t at. ap (λ o. Some (s.with_chance found text known.bound (unwrap_or o t).0 (unwrap_or o t).1)) at)))

@@ -1,4 +1,3 @@
 pub mod Bindings
 pub mod Shown
 pub mod Stepping
-pub mod Weights

@@ -3,7 +3,7 @@
 ghost use Rattle.std.specs.Prelude.{ℕ, None};
 ghost use Rattle.sopl_ast.specs.Ranges.{range_of};
 ghost use Rattle.sopl_ast.specs.Tree.{place_of};
-ghost use Rattle.unfold_constants.specs.Answers.{Answers};
+ghost use Rattle.unfold_constants.specs.CountedAnswers.{Answers};
 ghost use Rattle.unfold_constants.specs.Evaluation as evaluation;
 ghost use Rattle.unfold_constants.specs.Here.{known_in};
 ghost use Rattle.unfold_constants.specs.Traversal as traversal;
@@ -12,7 +12,7 @@ ghost use Rattle.unfold_tables.specs.Tables.{shown};
 use sopl_ast::{Expr, RangeText};
 use sopl_base::Fault;
 use unfold_constants::Known;
-use unfold_tables::{Count, Numbers, refused};
+use unfold_tables::{Count, Numbers};
 
 /// Counts one thing more.
 pub fn count_one(count: &mut Count) -> Result<(), Fault>
@@ -45,15 +45,4 @@ pub fn expression_at<'a>(known: &Known<'a>, count: &mut Count, e: &'a Expr) -> R
     ensures { Answers (λ u. u) count.new.counted result (traversal.walk (known_in known.now) e.now count.old.counted) }
 {
     known.expression(count, e)
-}
-
-/// Refuses the text with this code at this place, unless a test holds.
-pub fn unless(holds: bool, code: u16, at: usize) -> Result<(), Fault>
-    ensures { (count : ℕ) → Answers (λ u. u) count result (traversal.unless holds code at count) }
-{
-    if holds {
-        Ok(())
-    } else {
-        Err(refused(code, at))
-    }
 }

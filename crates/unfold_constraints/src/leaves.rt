@@ -1,7 +1,7 @@
 //! Hard constraints and chance constraints, and the instances that they add.
 
 ghost use Rattle.std.specs.Prelude.{◌≡◌, OnOk};
-ghost use Rattle.unfold_constants.specs.Answers.{Answers};
+ghost use Rattle.unfold_constants.specs.CountedAnswers.{Answers};
 ghost use Rattle.unfold_constants.specs.Here.{known_in};
 ghost use Rattle.unfold_constraints.specs.Shown.{found_in};
 ghost use Rattle.unfold_constraints.specs.Stepping as spec;

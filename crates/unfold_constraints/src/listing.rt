@@ -2,13 +2,14 @@
 
 ghost use Rattle.std.specs.Prelude.{◌≡◌, ◌++◌, IfOk, OnOk, map};
 ghost use Rattle.sopl_ast.specs.Constraints.{cons_tree, cons_trees};
+ghost use Rattle.sopl_ast.specs.References.{now_of};
 ghost use Rattle.sopl_ast.specs.Unfolding.{conditions_of, all_conditions, constraints_occurrences, all_constraint_instances, hards_among, chances_among};
 ghost use Rattle.sopl_ast.specs.Whole.{conses};
-ghost use Rattle.unfold_constants.specs.Answers.{Answers};
+ghost use Rattle.unfold_constants.specs.CountedAnswers.{Answers};
 ghost use Rattle.unfold_constants.specs.Here.{known_in};
 ghost use Rattle.unfold_constraints.specs.Shown.{found_in};
 ghost use Rattle.unfold_constraints.specs.Stepping as spec;
-ghost use Rattle.unfold_tables.specs.Tables.{now_of, table_known};
+ghost use Rattle.unfold_tables.specs.Tables.{table_known};
 ghost use Rattle.unfold_tables.specs.Walks.{Walks};
 
 use crate::items::Instances;

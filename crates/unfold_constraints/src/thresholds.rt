@@ -2,22 +2,17 @@
 
 ghost use Rattle.std.specs.Prelude.{◌≡◌};
 ghost use Rattle.sopl_ast.specs.Unfolding.{is_threshold};
-ghost use Rattle.unfold_constants.specs.Answers.{Answers};
+ghost use Rattle.unfold_constants.specs.CountedAnswers.{Answers};
 ghost use Rattle.unfold_constants.specs.Here.{known_in};
 ghost use Rattle.unfold_constraints.specs.Shown.{threshold_in};
 ghost use Rattle.unfold_constraints.specs.Stepping as spec;
 
-use crate::calls::{constant_at, unless};
+use crate::calls::constant_at;
 use crate::place::Place;
 use sopl_ast::Expr;
-use sopl_base::Fault;
+use sopl_base::{Fault, codes, limits};
+use unfold_constants::unless;
 use unfold_tables::Count;
-
-/// The code of a threshold that is no fraction from 0 to 1, or has too great a denominator.
-pub const THRESHOLD: u16 = 115;
-
-/// The greatest denominator of a threshold.
-const MOST_PARTS: i64 = 1_048_576;
 
 /// A threshold, `p / q`.
 #[derive(Clone, Copy)]
@@ -31,7 +26,7 @@ impl Threshold {
     fn is_right(&self) -> bool
         ensures { result ≡ is_threshold self.now.p self.now.q }
     {
-        0 <= self.p && self.p <= self.q && 1 <= self.q && self.q <= MOST_PARTS
+        0 <= self.p && self.p <= self.q && 1 <= self.q && self.q <= limits::DENOMINATOR
     }
 }
 
@@ -49,7 +44,7 @@ impl<'a> Place<'a> {
         let p = constant_at(&self.known, count, part)?;
         let q = constant_at(&self.known, count, whole)?;
         let threshold = Threshold { p, q };
-        unless(threshold.is_right(), THRESHOLD, part.at)?;
+        unless(threshold.is_right(), codes::THRESHOLD, part.at)?;
         Ok(threshold)
     }
 }

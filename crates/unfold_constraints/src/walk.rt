@@ -4,7 +4,7 @@ ghost use Rattle.std.specs.Prelude.{◌≡◌, map};
 ghost use Rattle.sopl_ast.specs.Constraints.{cons_tree};
 ghost use Rattle.sopl_ast.specs.Lists.{binders};
 ghost use Rattle.sopl_ast.specs.Whole.{ForallTree, conses};
-ghost use Rattle.unfold_constants.specs.Answers.{Answers};
+ghost use Rattle.unfold_constants.specs.CountedAnswers.{Answers};
 ghost use Rattle.unfold_constants.specs.Here.{known_in};
 ghost use Rattle.unfold_constraints.specs.Shown.{found_in};
 ghost use Rattle.unfold_constraints.specs.Stepping as spec;

@@ -1,10 +1,10 @@
 -- What a call answers, where its value is known.
 use Rattle.std.proofs.Common.{◌≡◌, refl, sym, ap, subst, ◌∙◌, ◌⊎◌, inl, inr, ℕ, ℤ, pos, Bool, true, false, true≢false, List, length, Option, Some, Result, Ok, Err, IfOk}
 use Rattle.std.specs.Option.{unwrap_or}
-use Rattle.sopl_base.specs.declared.places.Fault.{Fault}
-use Rattle.sopl_base.specs.declared.places.Fault.TheVariants as fault
+use Rattle.sopl_base.specs.declared.fault.Fault.{Fault}
+use Rattle.sopl_base.specs.declared.fault.Fault.TheVariants as fault
 use Rattle.sopl_ast.specs.Occurrences.{Occurrence, met, too_many}
-use Rattle.unfold_constants.specs.Answers.{Answers, Fails}
+use Rattle.unfold_constants.specs.CountedAnswers.{Answers, Fails}
 use Rattle.unfold_tables.specs.Walks.{Walks}
 use Rattle.unfold_declarations.specs.Declaring.{behind, reached}
 

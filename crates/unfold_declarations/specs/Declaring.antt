@@ -2,7 +2,7 @@
 use Rattle.std.specs.Prelude.{ℕ, nat_eq, ℤ, List, [], ◌∷◌, ◌++◌, length, Option, None, Result, Ok, Err}
 use Rattle.std.specs.BTreeSet.{insert_key}
 use Rattle.std.specs.Ordering.{int_cmp}
-use Rattle.sopl_base.specs.declared.places.Fault.{Fault}
+use Rattle.sopl_base.specs.declared.fault.Fault.{Fault}
 use Rattle.sopl_ast.specs.Tree.{Tree, Trees, no_tree, tree}
 use Rattle.sopl_ast.specs.Whole.{DimTree, InitTree, InitTrees, One, Many, no_init, init, inits_list}
 use Rattle.sopl_ast.specs.Known.{Known}

@@ -2,7 +2,7 @@
 
 ghost use Rattle.std.specs.Prelude.{◌≡◌, [], ◌∷◌, ◌++◌, option_map, IfOk, OnOk};
 ghost use Rattle.sopl_ast.specs.Arrays.{taking as taking_in, dimensions_of, dimension_occurrences};
-ghost use Rattle.unfold_constants.specs.Answers.{Answers};
+ghost use Rattle.unfold_constants.specs.CountedAnswers.{Answers};
 ghost use Rattle.unfold_tables.specs.Tables.{shown};
 ghost use Rattle.unfold_tables.specs.Walks.{Walks};
 ghost use Rattle.unfold_constants.specs.Here.{known_in};
@@ -71,7 +71,7 @@ fn add<'a>(
 }
 
 /// What is known where the name of a dimension, if it has one, stands for a number.
-fn taking<'a>(
+fn with_number<'a>(
     known: &Known<'a>,
     name: Option<&'a Name>,
     number: i64,
@@ -110,7 +110,7 @@ impl<'a> Front<'a> {
         ensures known { IfOk result (λ front. known_in front.known ≡ taking_in (option_map (λ n. n.now) dimension.now.name) number (known_in self.now.known)) }
         ensures index { IfOk result (λ front. front.index.items ≡ self.now.index.items ++ number ∷ []) }
     {
-        let known = taking(&self.known, dimension.name, number)?;
+        let known = with_number(&self.known, dimension.name, number)?;
         let mut index = SmallVec::from_slice(self.alloc, self.index.as_slice())?;
         index.push(number)?;
         Ok(Front {

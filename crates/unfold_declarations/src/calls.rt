@@ -4,16 +4,15 @@ ghost use Rattle.std.specs.Prelude.{◌≡◌, ℕ, None, length};
 ghost use Rattle.sopl_ast.specs.Constants.{numbers_in};
 ghost use Rattle.sopl_ast.specs.Occurrences.{range_occurrences, too_many};
 ghost use Rattle.sopl_ast.specs.Ranges.{range_of};
-ghost use Rattle.unfold_constants.specs.Answers.{Answers};
+ghost use Rattle.unfold_constants.specs.CountedAnswers.{Answers};
 ghost use Rattle.unfold_tables.specs.Tables.{shown, items};
 ghost use Rattle.unfold_constants.specs.Here.{known_in};
-ghost use Rattle.unfold_constants.specs.Traversal as traversal;
 ghost use Rattle.unfold_declarations.specs.Declaring as spec;
 
 use sopl_ast::{Expr, RangeText};
-use sopl_base::Fault;
+use sopl_base::{Fault, codes};
 use unfold_constants::Known;
-use unfold_tables::{Count, Numbers, RANGE, few, refused};
+use unfold_tables::{Count, Numbers, checked_count};
 
 /// Counts one thing more.
 pub fn count_one(count: &mut Count) -> Result<(), Fault>
@@ -42,22 +41,11 @@ pub fn numbers_at<'a>(
 }
 
 /// The same numbers, unless they are more than a set may have.
-pub fn few_numbers(numbers: Vec<i64>) -> Result<Vec<i64>, Fault>
+pub fn checked_numbers(numbers: Vec<i64>) -> Result<Vec<i64>, Fault>
     ensures { (count : ℕ) → Answers items count result (spec.reached (too_many 208 (length numbers.items)) numbers.items count) }
 {
-    match few(RANGE, numbers.len()) {
+    match checked_count(codes::NUMBERS, numbers.len()) {
         Ok(()) => Ok(numbers),
         Err(fault) => Err(fault),
-    }
-}
-
-/// Refuses the text with this code at this place, unless a test holds.
-pub fn unless(holds: bool, code: u16, at: usize) -> Result<(), Fault>
-    ensures { (count : ℕ) → Answers (λ u. u) count result (traversal.unless holds code at count) }
-{
-    if holds {
-        Ok(())
-    } else {
-        Err(refused(code, at))
     }
 }

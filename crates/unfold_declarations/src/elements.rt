@@ -3,22 +3,19 @@
 ghost use Rattle.std.specs.Prelude.{◌≡◌, ◌∷◌, ◌++◌, [], map, option_map};
 ghost use Rattle.sopl_ast.specs.Inits.{init_tree};
 ghost use Rattle.sopl_ast.specs.Whole.{inits, Many};
-ghost use Rattle.unfold_constants.specs.Answers.{Answers};
+ghost use Rattle.unfold_constants.specs.CountedAnswers.{Answers};
 ghost use Rattle.unfold_tables.specs.Tables.{elements_in, shown};
 ghost use Rattle.unfold_constants.specs.Here.{known_in};
 ghost use Rattle.unfold_declarations.specs.Declaring as spec;
 ghost use Rattle.unfold_declarations.specs.Shown.{dimension_in, dimensions_in};
 
 use crate::arrays::{Dimension, Front, listed_dimensions};
-use crate::calls::{constant_at, count_one, unless};
+use crate::calls::{constant_at, count_one};
 use sopl_ast::{Dim, Expr, Init};
-use sopl_base::Fault;
+use sopl_base::{Fault, codes};
 use std::alloc::Global;
-use unfold_constants::Known;
+use unfold_constants::{Known, unless};
 use unfold_tables::{Count, Elements};
-
-/// The code of a bracket with another number of parts than its index set has elements.
-pub const LENGTH: u16 = 112;
 
 /// The elements of a constant, in lexicographic order of their indices.
 pub fn entries<'a>(
@@ -80,7 +77,11 @@ fn bracket<'a>(
         (spec.part (known_in front.now.known) (dimension_in first.now ∷ dimensions_in later.now) front.now.index.items (Many at (inits (map init_tree parts.now)))
         (elements_in found.old) count.old.counted) }
 {
-    unless(first.numbers.has_length(parts.len()), LENGTH, at)?;
+    unless(
+        first.numbers.has_length(parts.len()),
+        codes::BRACKET_LENGTH,
+        at,
+    )?;
     parts_in(front, count, first, later, parts, found)
 }
 

@@ -1,4 +1,5 @@
 //! What declarations state of constants, ranges and sets, and the dimensions of arrays.
+//! Its tests stand in `text_tests`.
 #![tactic(auto)]
 
 mod arrays;
@@ -8,4 +9,5 @@ mod elements;
 mod sets;
 
 pub use arrays::{Dimension, Front, dimensions};
+pub use calls::{constant_at, count_one};
 pub use declare::{declare_constant, declare_range, declare_set};

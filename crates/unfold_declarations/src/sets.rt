@@ -4,12 +4,12 @@ ghost use Rattle.std.specs.Prelude.{◌≡◌, [], IfOk, OnOk};
 ghost use Rattle.std.specs.BTreeSet.{insert_key};
 ghost use Rattle.std.specs.Ordering.{int_cmp};
 ghost use Rattle.sopl_ast.specs.Lists.{trees};
-ghost use Rattle.unfold_constants.specs.Answers.{Answers};
+ghost use Rattle.unfold_constants.specs.CountedAnswers.{Answers};
 ghost use Rattle.unfold_tables.specs.Tables.{items};
 ghost use Rattle.unfold_constants.specs.Here.{known_in};
 ghost use Rattle.unfold_declarations.specs.Declaring as spec;
 
-use crate::calls::{constant_at, few_numbers};
+use crate::calls::{checked_numbers, constant_at};
 use sopl_ast::Expr;
 use sopl_base::Fault;
 use std::alloc::{AllocError, Global};
@@ -28,7 +28,7 @@ pub fn set_numbers<'a>(
 {
     let set = values(alloc, known, count, elements)?;
     let numbers = listed(alloc, &set)?;
-    few_numbers(numbers)
+    checked_numbers(numbers)
 }
 
 /// The values of expressions, as a set.

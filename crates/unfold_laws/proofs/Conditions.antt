@@ -2,21 +2,21 @@
 use Rattle.std.proofs.Common.{◌≡◌, refl, sym, ap, subst, ◌∙◌, ℕ, ◌+◌, ℤ, pos, ◌≤ℤ◌, int_le, true, ◌&&◌, List, [], ◌∷◌, ◌++◌, length, Option, Some, None, IfSome, slice_get, arith}
 use Rattle.std.proofs.lemmas.Int.{ints}
 use Rattle.std.proofs.lemmas.List.{append_assoc, append-nil, length-append}
-use Rattle.std.specs.List.{flat_map, AllByRecursion}
+use Rattle.std.specs.List.{AllByRecursion}
 use Rattle.sopl_ast.specs.Tree.{Tree, place_of}
 use Rattle.sopl_ast.specs.Whole.{ConsTree, ConsTrees, ForallTree, BlockTree, HardTree, ChanceTree, no_cons, cons, conses, GoalTree, ModelTree}
 use Rattle.sopl_ast.specs.Known.{Known, with_bound}
 use Rattle.sopl_ast.specs.Constants.{value_or_zero, all_bindings}
 use Rattle.sopl_ast.specs.Occurrences.{refused_unless, constant_place, expression_occurrences}
 use Rattle.sopl_ast.specs.Instances.{Hard, Chance}
-use Rattle.sopl_ast.specs.Declarations.{Declared, nothing_declared, behind_all}
-use Rattle.sopl_ast.specs.Unfolding.{ConstraintInstance, hard_instance, chance_instance, conditions_of, all_conditions, constraint_instances, all_constraint_instances, hards_among, chances_among, is_threshold, threshold_occurrences, constraint_occurrences, constraints_occurrences, goal_occurrences, problem_of}
+use Rattle.sopl_ast.specs.Unfolding.{ConstraintInstance, hard_instance, chance_instance, conditions_of, all_conditions, constraint_instances, all_constraint_instances, hards_among}
+use Rattle.sopl_ast.specs.Unfolding.{chances_among, is_threshold, threshold_occurrences, constraint_occurrences, constraints_occurrences, goal_occurrences, problem_of}
 use Rattle.unfold_laws.specs.Passing.{Passes}
 use Rattle.unfold_laws.specs.Conditions.{placed, IsMet, IsThreshold, HardsAreMet, ChancesAreMet, ObjectiveIsMet}
 use Rattle.unfold_laws.proofs.Passing.{parts_pass, passes_counted, test_holds}
-use Rattle.unfold_laws.proofs.Declared.{all_append, both_true}
+use Rattle.unfold_laws.proofs.Declared.{all_append, both_true, each_joined, each_of}
 use Rattle.unfold_laws.proofs.Bindings.{all_given}
-use Rattle.unfold_laws.proofs.Whole.{text_parts}
+use Rattle.unfold_laws.proofs.Whole.{found_in, text_parts}
 
 -- the condition at the end of those before it
 stands_at : (before after : List Tree) (e : Tree) → slice_get (before ++ e ∷ after) (length before) ≡ Some e
@@ -45,20 +45,12 @@ threshold_there p q is =
     let third = both_true (int_le (pos 1) q) (int_le q (pos 1048576)) second.1 in
     record { least = ordered (pos 0) p first.0; most = ordered p q second.0; positive = ordered (pos 1) q third.0; small = ordered q (pos 1048576) third.1 }
 
-each_of_all : {A : Type 0} (P Q : A → Type 0) → ((x : A) → P x → Q x) → (xs : List A) → AllByRecursion P xs → AllByRecursion Q xs
-each_of_all P Q so [] all = tt
-each_of_all P Q so (x ∷ xs) all = (so x all.0, each_of_all P Q so xs all.1)
-
-all_joined : {A B : Type 0} (P : B → Type 0) (f : A → List B) (xs : List A) → AllByRecursion (λ x. AllByRecursion P (f x)) xs → AllByRecursion P (flat_map f xs)
-all_joined P f [] all = tt
-all_joined P f (x ∷ xs) all = all_append P (f x) (flat_map f xs) all.0 (all_joined P f xs all.1)
-
 mutual
   met_instances : (c : ConsTree) (before after : List Tree) (known here : Known) → IsPlaced known here → Passes (constraint_occurrences here c)
       → AllByRecursion (IsMetInstance known (before ++ (conditions_of c ++ after))) (constraint_instances here (length before) c)
   met_instances (ForallTree bs c) before after known here is passes =
-      all_joined (IsMetInstance known (before ++ (conditions_of c ++ after))) (λ inner. constraint_instances inner (length before) c) (all_bindings here bs)
-      (each_of_all (λ inner. IsPlaced known inner × Passes (constraint_occurrences inner c))
+      each_joined (IsMetInstance known (before ++ (conditions_of c ++ after))) (λ inner. constraint_instances inner (length before) c) (all_bindings here bs)
+      (each_of (λ inner. IsPlaced known inner × Passes (constraint_occurrences inner c))
       (λ inner. AllByRecursion (IsMetInstance known (before ++ (conditions_of c ++ after))) (constraint_instances inner (length before) c))
       (λ inner both. met_instances c before after known inner both.0 both.1) (all_bindings here bs)
       (all_given (IsPlaced known) (placed_further known) bs here (λ inner. constraint_occurrences inner c) is passes))
@@ -103,9 +95,6 @@ chances_met : (known : Known) (conditions : List Tree) (xs : List ConstraintInst
 chances_met known conditions [] all = tt
 chances_met known conditions (hard_instance h ∷ xs) all = chances_met known conditions xs all.1
 chances_met known conditions (chance_instance c ∷ xs) all = (all.0, chances_met known conditions xs all.1)
-
-abbrev found_in : ModelTree → Declared
-found_in model = behind_all model.decls nothing_declared
 
 body_parts : (model : ModelTree) → Passes (goal_occurrences (found_in model).known model.goal ++ constraints_occurrences (found_in model).known (conses model.body))
     → AllByRecursion (IsMetInstance (found_in model).known (all_conditions (conses model.body))) (all_constraint_instances (found_in model).known 0 (conses model.body))

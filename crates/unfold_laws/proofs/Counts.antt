@@ -1,22 +1,27 @@
 -- Each instance of a text is counted.
-use Rattle.std.proofs.Common.{◌≡◌, refl, sym, ap, ℕ, zero, suc, ◌+◌, ◌<◌, ◌≤◌, nat_lt, nat_eq, ℤ, pos, Bool, true, false, cond, List, [], ◌∷◌, ◌++◌, length, map, Option, Some, None, option_map, option_and_then, Err, IsOk, true≢false, arith}
+use Rattle.std.proofs.Common.{◌≡◌, refl, sym, ap, ℕ, zero, suc, ◌+◌, ◌<◌, ◌≤◌, nat_lt, nat_eq, ℤ, pos, Bool, true, false, cond, List, [], ◌∷◌, ◌++◌, length, map, Option, Some}
+use Rattle.std.proofs.Common.{None, option_map, option_and_then, Err, IsOk, true≢false, arith}
 use Rattle.std.proofs.lemmas.Bool.{ltb-true, eqb-true}
 use Rattle.std.proofs.lemmas.Grind.{flat_map-append}
 use Rattle.std.proofs.lemmas.List.{length-map, length-append}
 use Rattle.std.specs.List.{flat_map, filter, range_with_len}
 use Rattle.std.specs.Option.{unwrap_or}
-use Rattle.sopl_base.specs.declared.places.Fault.TheVariants.{Limit}
+use Rattle.sopl_base.specs.declared.fault.Fault.TheVariants.{Limit}
 use Rattle.sopl_ast.specs.Tree.{Binders, no_binder, binder}
-use Rattle.sopl_ast.specs.Whole.{DimTree, Declaration, IntDecl, RangeDecl, SetDecl, DvarDecl, StochDecl, ConsTree, ConsTrees, ForallTree, BlockTree, HardTree, ChanceTree, no_cons, cons, conses, ModelTree}
+use Rattle.sopl_ast.specs.Whole.{DimTree, Declaration, IntDecl, RangeDecl, SetDecl, DvarDecl, StochDecl, ConsTree, ConsTrees, ForallTree, BlockTree, HardTree, ChanceTree, no_cons}
+use Rattle.sopl_ast.specs.Whole.{cons, conses}
 use Rattle.sopl_ast.specs.Numbers.{both_of, all_of, joined}
 use Rattle.sopl_ast.specs.Known.{Known, with_bound}
 use Rattle.sopl_ast.specs.Constants.{bindings, all_bindings, numbers_of}
 use Rattle.sopl_ast.specs.Occurrences.{Occurrence, Counted, Refused, Passed, excess, met, most_counted, range_occurrences, binding_occurrences}
 use Rattle.sopl_ast.specs.Instances.{Stochastic}
 use Rattle.sopl_ast.specs.Arrays.{dimensions_of, indices, with_index, array_of, dimension_occurrences, array_occurrences}
-use Rattle.sopl_ast.specs.Declarations.{Declared, nothing_declared, domain_of, stage_of, outcome_of, domain_occurrences, stage_occurrences, outcome_occurrences, decisions_of, stochastics_of, behind, behind_all, declaration_occurrences, declarations_occurrences}
-use Rattle.sopl_ast.specs.Unfolding.{ConstraintInstance, hard_instance, chance_instance, conditions_of, constraint_instances, all_constraint_instances, hards_among, chances_among, by_stage, constraint_occurrences, constraints_occurrences, goal_occurrences, problem_of, text_occurrences, body_occurrences}
+use Rattle.sopl_ast.specs.Declarations.{Declared, nothing_declared, domain_of, stage_of, outcome_of, domain_occurrences, stage_occurrences, outcome_occurrences, decisions_of}
+use Rattle.sopl_ast.specs.Declarations.{stochastics_of, behind, behind_all, declaration_occurrences, declarations_occurrences}
+use Rattle.sopl_ast.specs.Unfolding.{ConstraintInstance, hard_instance, chance_instance, conditions_of, constraint_instances, all_constraint_instances, hards_among, chances_among}
+use Rattle.sopl_ast.specs.Unfolding.{by_stage, constraint_occurrences, constraints_occurrences, goal_occurrences, problem_of, text_occurrences, body_occurrences}
 use Rattle.unfold_laws.specs.Bounds.{InstancesAreCounted}
+use Rattle.unfold_laws.proofs.Whole.{found_in}
 
 -- how many of occurrences are things that are counted
 abbrev counted : List Occurrence → ℕ
@@ -201,9 +206,6 @@ kinds_counted : (xs : List ConstraintInstance) → length (hards_among xs) + len
 kinds_counted [] = refl
 kinds_counted (hard_instance h ∷ xs) = let more = kinds_counted xs in omega (arith, more)
 kinds_counted (chance_instance c ∷ xs) = let more = kinds_counted xs in omega (arith, more)
-
-abbrev found_in : ModelTree → Declared
-found_in model = behind_all model.decls nothing_declared
 
 pub instances_are_counted : InstancesAreCounted
 unfolding problem_of text_occurrences

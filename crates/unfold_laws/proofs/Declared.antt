@@ -1,5 +1,6 @@
 -- What declarations state is bounded, where what is met in them passes.
-use Rattle.std.proofs.Common.{◌≡◌, refl, sym, ap, subst, ◌∙◌, ℕ, ◌≤◌, ℤ, pos, negsuc, ◌≤ℤ◌, int_le, int_eq, Bool, true, false, not, ◌&&◌, ◌||◌, cond, List, [], ◌∷◌, ◌++◌, map, Option, Some, None, true≢false, arith}
+use Rattle.std.proofs.Common.{◌≡◌, refl, sym, ap, subst, ◌∙◌, ℕ, ◌≤◌, ℤ, pos, negsuc, ◌≤ℤ◌, int_le, int_eq, Bool, true, false, not, ◌&&◌, ◌||◌, cond, List, [], ◌∷◌, ◌++◌, map}
+use Rattle.std.proofs.Common.{Option, Some, None, true≢false, arith}
 use Rattle.std.proofs.lemmas.Int.{ints}
 use Rattle.std.proofs.lemmas.List.{append_assoc, append-nil}
 use Rattle.std.specs.List.{flat_map, list_any, AllByRecursion}
@@ -13,7 +14,8 @@ use Rattle.sopl_ast.specs.Constants.{value_or_zero}
 use Rattle.sopl_ast.specs.Occurrences.{Occurrence, Counted, refused_unless, too_many, constant_place}
 use Rattle.sopl_ast.specs.Instances.{Outcome}
 use Rattle.sopl_ast.specs.Arrays.{Dimension, dimensions_of, indices, taking, with_index, array_of, dimension_occurrences, array_occurrences}
-use Rattle.sopl_ast.specs.Declarations.{Declared, nothing_declared, stage_of, stage_occurrences, domain_of, domain_occurrences, outcome_of, outcome_occurrences, decisions_of, stochastics_of, behind, declaration_occurrences, behind_all, declarations_occurrences}
+use Rattle.sopl_ast.specs.Declarations.{Declared, nothing_declared, stage_of, stage_occurrences, domain_of, domain_occurrences, outcome_of, outcome_occurrences, decisions_of}
+use Rattle.sopl_ast.specs.Declarations.{stochastics_of, behind, declaration_occurrences, behind_all, declarations_occurrences}
 use Rattle.unfold_laws.specs.Passing.{Passes, IsConstant}
 use Rattle.unfold_laws.specs.Bounds.{IsStage, IsBoundedDecision, IsBoundedOutcome, IsBoundedStochastic}
 use Rattle.unfold_laws.proofs.Passing.{parts_pass, each_passes, passes_counted, test_holds, count_fits, value_given}
@@ -27,6 +29,16 @@ all_append P (x ∷ xs) ys p q = (p.0, all_append P xs ys p.1 q)
 pub all_map : {A B : Type 0} (P : B → Type 0) (Q : A → Type 0) (g : A → B) → ((x : A) → Q x → P (g x)) → (xs : List A) → AllByRecursion Q xs → AllByRecursion P (map g xs)
 all_map P Q g each [] q = tt
 all_map P Q g each (x ∷ xs) q = (each x q.0, all_map P Q g each xs q.1)
+
+-- what follows of each
+pub each_of : {A : Type 0} (P Q : A → Type 0) → ((x : A) → P x → Q x) → (xs : List A) → AllByRecursion P xs → AllByRecursion Q xs
+each_of P Q so [] all = tt
+each_of P Q so (x ∷ xs) all = (so x all.0, each_of P Q so xs all.1)
+
+-- what holds of each part of each
+pub each_joined : {A B : Type 0} (P : B → Type 0) (f : A → List B) (xs : List A) → AllByRecursion (λ x. AllByRecursion P (f x)) xs → AllByRecursion P (flat_map f xs)
+each_joined P f [] all = tt
+each_joined P f (x ∷ xs) all = all_append P (f x) (flat_map f xs) all.0 (each_joined P f xs all.1)
 
 -- Values and ranges.
 
@@ -73,10 +85,17 @@ ends_bounded (Some (Listed numbers)) at all is = absurd (true≢false (sym (test
 domain_bounded : (known : Known) (range : Range) → AreBoundedSets known.sets → Passes (domain_occurrences known range) → AreEnds (domain_of known range).0 (domain_of known range).1
 domain_bounded known (Named name at) all is = ends_bounded (set_named name known.sets) at (named_bounded name known.sets all) is
 domain_bounded known (Ends lo hi) all is =
-    let first = parts_pass (constant_place known lo) (constant_place known hi ++ (refused_unless (int_le (value_or_zero known lo) (value_or_zero known hi)) 111 (place_of lo) ++ too_many 203 (count_between (value_or_zero known lo) (value_or_zero known hi)))) is in
-    let second = parts_pass (constant_place known hi) (refused_unless (int_le (value_or_zero known lo) (value_or_zero known hi)) 111 (place_of lo) ++ too_many 203 (count_between (value_or_zero known lo) (value_or_zero known hi))) first.1 in
-    let third = parts_pass (refused_unless (int_le (value_or_zero known lo) (value_or_zero known hi)) 111 (place_of lo)) (too_many 203 (count_between (value_or_zero known lo) (value_or_zero known hi))) second.1 in
-    (worth_small known lo first.0, worth_small known hi second.0, ordered (value_or_zero known lo) (value_or_zero known hi) (test_holds _ 111 (place_of lo) third.0), count_fits 203 (count_between (value_or_zero known lo) (value_or_zero known hi)) third.1)
+    let first = parts_pass (constant_place known lo) (constant_place known hi
+    ++ (refused_unless (int_le (value_or_zero known lo) (value_or_zero known hi)) 111 (place_of lo) ++ too_many 203 (count_between (value_or_zero known lo) (value_or_zero known hi)))) is in
+    let second = parts_pass (constant_place known hi) (refused_unless (int_le (value_or_zero known lo) (value_or_zero known hi)) 111 (place_of lo)
+    ++ too_many 203 (count_between (value_or_zero known lo) (value_or_zero known hi))) first.1 in
+    let third = parts_pass (refused_unless (int_le (value_or_zero known lo) (value_or_zero known hi)) 111 (place_of lo))
+    (too_many 203 (count_between (value_or_zero known lo) (value_or_zero known hi))) second.1 in (
+      worth_small known lo first.0,
+      worth_small known hi second.0,
+      ordered (value_or_zero known lo) (value_or_zero known hi) (test_holds _ 111 (place_of lo) third.0),
+      count_fits 203 (count_between (value_or_zero known lo) (value_or_zero known hi)) third.1,
+    )
 
 pub both_true : (a b : Bool) → (a && b) ≡ true → (a ≡ true) × (b ≡ true)
 both_true true b is = (refl, is)
@@ -144,10 +163,20 @@ outcomes_bounded [] known earlier distinct is = (tt, ap all_distinct (append-nil
 outcomes_bounded (pair ∷ later) known earlier distinct is =
     let first = parts_pass (constant_place known pair.0) (test_new known earlier pair ++ outcome_rest known earlier pair later) is in
     let second = parts_pass (test_new known earlier pair) (outcome_rest known earlier pair later) first.1 in
-    let third = parts_pass (constant_place known pair.1) (refused_unless (int_le (pos 1) (value_or_zero known pair.1)) 113 (place_of pair.1) ++ outcome_occurrences known (earlier ++ value_or_zero known pair.0 ∷ []) later) second.1 in
-    let fourth = parts_pass (refused_unless (int_le (pos 1) (value_or_zero known pair.1)) 113 (place_of pair.1)) (outcome_occurrences known (earlier ++ value_or_zero known pair.0 ∷ []) later) third.1 in
+    let third = parts_pass (constant_place known pair.1) (refused_unless (int_le (pos 1) (value_or_zero known pair.1)) 113 (place_of pair.1)
+    ++ outcome_occurrences known (earlier ++ value_or_zero known pair.0 ∷ []) later) second.1 in
+    let fourth = parts_pass (refused_unless (int_le (pos 1) (value_or_zero known pair.1)) 113 (place_of pair.1))
+    (outcome_occurrences known (earlier ++ value_or_zero known pair.0 ∷ []) later) third.1 in
     let more = outcomes_bounded later known (earlier ++ drawn known pair ∷ []) (distinct_more earlier (drawn known pair) distinct (test_holds _ 113 (place_of pair.0) second.0)) fourth.1 in (
-      (record { value = worth_small known pair.0 first.0; weight = worth_small known pair.1 third.0; least = ordered (pos 1) (value_or_zero known pair.1) (test_holds _ 113 (place_of pair.1) fourth.0) }, more.0),
+      (
+        record {
+          value = worth_small known pair.0 first.0;
+          weight = worth_small known pair.1 third.0;
+          least =
+              ordered (pos 1) (value_or_zero known pair.1) (test_holds _ 113 (place_of pair.1) fourth.0);
+        },
+        more.0,
+      ),
       ap all_distinct (sym (append_assoc earlier (drawn known pair ∷ []) (map (drawn known) later))) ∙ more.1,
     )
 

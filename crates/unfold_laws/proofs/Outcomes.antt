@@ -6,7 +6,7 @@ use Rattle.sopl_ast.specs.declared.token.Token.{Token}
 use Rattle.sopl_ast.specs.Tree.{Tree}
 use Rattle.sopl_ast.specs.Whole.{DimTree, Declaration, IntDecl, RangeDecl, SetDecl, DvarDecl, StochDecl, ModelTree}
 use Rattle.sopl_ast.specs.Known.{Known}
-use Rattle.sopl_ast.specs.Grammar.{IsDistribution, distribution, IsDeclaration, integer, range, set, decision, stochastic, AreDeclarations, no_declaration, declaration, IsModel, model}
+use Rattle.sopl_ast.specs.Grammar.{IsDistribution, distribution, IsDeclaration, stochastic, AreDeclarations, no_declaration, declaration, IsModel, model}
 use Rattle.sopl_ast.specs.Instances.{Stochastic}
 use Rattle.sopl_ast.specs.Arrays.{dimensions_of, indices, with_index}
 use Rattle.sopl_ast.specs.Declarations.{Declared, nothing_declared, outcome_of, stage_of, stochastics_of, behind, behind_all}
@@ -24,25 +24,28 @@ not_empty : {cut : Bool} {n : ℕ} {ts : List Token} {dist : List (Tree × Tree)
 not_empty (distribution n ts m us o vs more ws r opens first others closes) = omega arith
 
 declaration_drawn : {cut : Bool} {n : ℕ} {ts : List Token} {d : Declaration} {r : List Token} → IsDeclaration cut n ts d r → IsDrawn d
-declaration_drawn (integer _ _ _ _ _ _ _ _ _ _ _ _ _ _ _ _ _ _) = tt
-declaration_drawn (range _ _ _ _ _ _ _ _ _ _ _ _ _ _ _ _ _ _ _ _) = tt
-declaration_drawn (set _ _ _ _ _ _ _ _ _ _ _ _ _ _ _ _ _ _ _ _ _ _ _ _) = tt
-declaration_drawn (decision _ _ _ _ _ _ _ _ _ _ _ _ _ _ _ _ _) = tt
-declaration_drawn (stochastic _ _ _ _ _ _ _ _ _ _ _ _ _ _ drawn _ _) = not_empty drawn
+declaration_drawn (stochastic n u us bytes at dims vs dist ws stage xs r keyword named drawn staged closes) = not_empty drawn
+declaration_drawn _ = tt
 
 declarations_drawn : {cut : Bool} {n : ℕ} {ts : List Token} {ds : List Declaration} {r : List Token} → AreDeclarations cut n ts ds r → AllByRecursion IsDrawn ds
 declarations_drawn (no_declaration n r) = tt
 declarations_drawn (declaration n ts d us more r first others) = (declaration_drawn first, declarations_drawn others)
 
 model_drawn : {n : ℕ} {ts : List Token} {whole : ModelTree} {r : List Token} → IsModel false n ts whole r → AllByRecursion IsDrawn whole.decls
-model_drawn (model _ _ _ _ _ _ _ _ _ _ _ _ _ declared _ _ _ _ _ _) = declarations_drawn declared
+model_drawn (model n ts decls us objective vs ws xs m ys body zs r declared asked subject to opens constraints closes) = declarations_drawn declared
 
 abbrev HasOutcome : Stochastic → Type 0
 HasOutcome s = 1 ≤ length s.outcomes
 
 made_drawn : (known : Known) (name : List ℕ) (dims : List DimTree) (dist : List (Tree × Tree)) (stage : Option Tree) → 1 ≤ length dist → (is : List (List ℤ))
     → AllByRecursion HasOutcome
-    (map (λ index. record { name = name; index = index; outcomes = map (outcome_of (with_index (dimensions_of known dims) index known)) dist; stage = stage_of (with_index (dimensions_of known dims) index known) stage }) is)
+    (map (λ index. record {
+      name = name;
+      index = index;
+      outcomes = map (outcome_of (with_index (dimensions_of known dims) index known)) dist;
+      stage =
+          stage_of (with_index (dimensions_of known dims) index known) stage;
+    }) is)
 made_drawn known name dims dist stage some [] = tt
 made_drawn known name dims dist stage some (index ∷ is) =
     (subst (λ n. 1 ≤ n) (sym (length-map dist (outcome_of (with_index (dimensions_of known dims) index known)))) some, made_drawn known name dims dist stage some is)

@@ -1,10 +1,11 @@
 -- Occurrences that pass, and their parts.
-use Rattle.std.proofs.Common.{◌≡◌, refl, sym, ap, subst, ℕ, ◌+◌, ◌<◌, ◌≤◌, nat_lt, nat_le, ◌^◌, ℤ, pos, Bool, true, false, cond, List, [], ◌∷◌, ◌++◌, Option, Some, None, option_and_then, Result, Ok, Err, IsOk, true≢false, arith}
+use Rattle.std.proofs.Common.{◌≡◌, refl, sym, ap, subst, ℕ, ◌+◌, ◌<◌, ◌≤◌, nat_lt, nat_le, ◌^◌, ℤ, pos, Bool, true, false, cond, List, [], ◌∷◌, ◌++◌, Option, Some, None}
+use Rattle.std.proofs.Common.{option_and_then, Result, Ok, Err, IsOk, true≢false, arith}
 use Rattle.std.proofs.lemmas.Bool.{leb-true, ltb-true, lt-ltb}
 use Rattle.std.specs.Int.RustNames.{unsigned_abs}
 use Rattle.std.specs.List.{flat_map, AllByRecursion}
-use Rattle.sopl_base.specs.declared.places.Fault.{Fault}
-use Rattle.sopl_base.specs.declared.places.Fault.TheVariants.{Limit}
+use Rattle.sopl_base.specs.declared.fault.Fault.{Fault}
+use Rattle.sopl_base.specs.declared.fault.Fault.TheVariants.{Limit}
 use Rattle.sopl_ast.specs.Tree.{Tree, Node}
 use Rattle.sopl_ast.specs.Known.{Known}
 use Rattle.sopl_ast.specs.Constants.{value, untested, within}
@@ -23,7 +24,8 @@ chosen false n f occurrences more is = refl
 
 pub met_append : (count : ℕ) (occurrences more : List Occurrence) → met count (occurrences ++ more) ≡ behind (met count occurrences) more
 met_append count [] more = refl
-met_append count (Counted ∷ occurrences) more = chosen (nat_lt count most_counted) (count + 1) (Limit (excess 205 (pos (most_counted + 1)) (pos most_counted))) occurrences more (met_append (count + 1) occurrences more)
+met_append count (Counted ∷ occurrences) more = chosen (nat_lt count most_counted) (count + 1) (Limit (excess 205 (pos (most_counted + 1)) (pos most_counted))) occurrences more
+    (met_append (count + 1) occurrences more)
 met_append count (Refused r ∷ occurrences) more = refl
 met_append count (Passed e ∷ occurrences) more = refl
 

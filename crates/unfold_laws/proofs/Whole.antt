@@ -1,12 +1,16 @@
 -- The numbers of what a whole text states.
 use Rattle.sopl_ast.specs.Whole.{ModelTree}
-use Rattle.sopl_ast.specs.Declarations.{nothing_declared, behind_all, declarations_occurrences}
+use Rattle.sopl_ast.specs.Declarations.{Declared, nothing_declared, behind_all, declarations_occurrences}
 use Rattle.sopl_ast.specs.Unfolding.{problem_of, text_occurrences, body_occurrences}
 use Rattle.unfold_laws.specs.Passing.{Passes}
 use Rattle.unfold_laws.specs.Bounds.{IsBoundedStochastic, DecisionsAreBounded, StochasticsAreBounded}
 use Rattle.unfold_laws.proofs.Passing.{parts_pass}
 use Rattle.unfold_laws.proofs.Declared.{declared_bounded}
 use Rattle.unfold_laws.proofs.Stages.{all_by_stage}
+
+-- what the declarations of a text declare
+abbrev pub found_in : ModelTree → Declared
+found_in model = behind_all model.decls nothing_declared
 
 -- both parts of a text pass
 pub text_parts : (model : ModelTree) → Passes (text_occurrences model)

@@ -26,14 +26,16 @@ named_append name xs ys =
 pub own_named : (name own : List ℕ) (elements : List (List ℤ × ℤ)) → bytes_eq name own ≡ true → elements_named name (named own elements) ≡ elements
 own_named name own [] is = refl
 own_named name own (e ∷ later) is =
-    ap (λ b. map (λ (k : Constant). (k.index, k.value)) (cond b ((record { name = own; index = e.0; value = e.1 }) ∷ filter (λ (k : Constant). bytes_eq name k.name) (named own later)) (filter (λ (k : Constant). bytes_eq name k.name) (named own later)))) is
+    ap (λ b. map (λ (k : Constant). (k.index, k.value)) (cond b ((record { name = own; index = e.0; value = e.1 }) ∷ filter (λ (k : Constant). bytes_eq name k.name) (named own later))
+    (filter (λ (k : Constant). bytes_eq name k.name) (named own later)))) is
     ∙ ap (λ rest. (e.0, e.1) ∷ rest) (own_named name own later is)
 
 -- and under another
 other_named : (name own : List ℕ) (elements : List (List ℤ × ℤ)) → bytes_eq name own ≡ false → elements_named name (named own elements) ≡ []
 other_named name own [] other = refl
 other_named name own (e ∷ later) other =
-    ap (λ b. map (λ (k : Constant). (k.index, k.value)) (cond b ((record { name = own; index = e.0; value = e.1 }) ∷ filter (λ (k : Constant). bytes_eq name k.name) (named own later)) (filter (λ (k : Constant). bytes_eq name k.name) (named own later)))) other
+    ap (λ b. map (λ (k : Constant). (k.index, k.value)) (cond b ((record { name = own; index = e.0; value = e.1 }) ∷ filter (λ (k : Constant). bytes_eq name k.name) (named own later))
+    (filter (λ (k : Constant). bytes_eq name k.name) (named own later)))) other
     ∙ other_named name own later other
 
 -- an entry of another name has none

@@ -1,5 +1,6 @@
 -- Where the entries of a name begin: what is passed by has another name.
-use Rattle.std.proofs.Common.{◌≡◌, refl, sym, ap, subst, ◌∙◌, ℕ, zero, suc, ◌≤◌, ℤ, Bool, true, false, ◌&&◌, ◌||◌, true≢false, cond, T, is_some, List, [], ◌∷◌, ◌++◌, length, take, drop, Option, Some, None, Result, Ok, Err, OnOk, OnErr, nat_eq, int_eq, length-append, arith}
+use Rattle.std.proofs.Common.{◌≡◌, refl, sym, ap, subst, ◌∙◌, ℕ, zero, suc, ◌≤◌, ℤ, Bool, true, false, ◌&&◌, ◌||◌, true≢false, cond, T, is_some, List, [], ◌∷◌, ◌++◌, length, take}
+use Rattle.std.proofs.Common.{drop, Option, Some, None, Result, Ok, Err, OnOk, OnErr, nat_eq, int_eq, length-append, arith}
 use Rattle.std.proofs.lemmas.List.{append_assoc, append-nil, map-append}
 use Rattle.std.specs.Borrow.{Bor}
 use Rattle.std.specs.Cmp.Lexicographic.{pointwise, nat_list_eq_equiv}
@@ -146,7 +147,8 @@ pub inserted_last : {K X : Type 0} (eq : K → K → Bool) (es : List (K × X)) 
 inserted_last eq [] key v none = refl
 inserted_last {K} {X} eq (e ∷ es) key v none = by (inserted_last eq es key v) (eq key e.0) none
   where
-    by : (lookup (eq key) es ≡ None → insert_entry eq es key v ≡ es ++ (key, v) ∷ []) → (b : Bool) → cond b (Some e.1) (lookup (eq key) es) ≡ None → cond b ((e.0, v) ∷ es) (e ∷ insert_entry eq es key v) ≡ (e ∷ es) ++ (key, v) ∷ []
+    by : (lookup (eq key) es ≡ None → insert_entry eq es key v ≡ es ++ (key, v) ∷ []) → (b : Bool) → cond b (Some e.1) (lookup (eq key) es) ≡ None
+        → cond b ((e.0, v) ∷ es) (e ∷ insert_entry eq es key v) ≡ (e ∷ es) ++ (key, v) ∷ []
     by more true h = absurd (subst (λ o. T (is_some o)) h tt)
     by more false h = ap (λ rest. e ∷ rest) (more h)
 

@@ -1,6 +1,5 @@
 -- What tables, sets of numbers and tasks show, in the words of the definitions.
 use Rattle.std.specs.Prelude.{ℕ, ℤ, List, [], ◌∷◌, ◌++◌, map, Option, Some, None, if◌then◌else◌}
-use Rattle.std.specs.Borrow.{Bor}
 use Rattle.std.specs.declared.alloc.Global.{Global}
 use Rattle.std.specs.declared.vec.Vec.{Vec}
 use Rattle.unfold_tables.specs.declared.elements.Elements.{Elements}
@@ -18,10 +17,6 @@ use Rattle.sopl_ast.specs.Numbers as n
 use Rattle.sopl_ast.specs.Numbers.{up_to}
 use Rattle.sopl_ast.specs.Known as k
 use Rattle.sopl_ast.specs.Known.{Constant, NumberSet, NamedSet, Known, same_values}
-
--- what a reference shows
-abbrev pub now_of : {A : Type 0} → Bor A → A
-now_of reference = reference.now
 
 -- the elements of a vector
 abbrev pub items : {A : Type 0} → Vec A Global → List A

@@ -4,13 +4,7 @@ ghost use Rattle.std.specs.Prelude.{◌≡◌, [], ◌∷◌};
 ghost use Rattle.sopl_ast.specs.Occurrences.{Counted};
 ghost use Rattle.unfold_tables.specs.Walks.{Walks};
 
-use sopl_base::{Excess, Fault};
-
-/// The code of a text that unfolds to too much.
-pub const UNFOLDING: u16 = 205;
-
-/// The greatest number of things that are counted.
-const MOST: u32 = 262_144;
+use sopl_base::{Excess, Fault, codes, limits};
 
 /// How many elements, values of binders and instances of constraints were met so far.
 #[derive(Debug, Drop)]
@@ -30,11 +24,11 @@ impl Count {
     pub fn add(&mut self) -> Result<(), Fault>
         ensures { Walks self.old.counted self.new.counted (Counted ∷ []) result }
     {
-        if self.counted >= MOST {
+        if self.counted >= limits::UNFOLDED {
             return Err(Fault::Limit(Excess {
-                code: UNFOLDING,
-                counted: i128::from(MOST) + 1,
-                limit: i128::from(MOST),
+                code: codes::UNFOLDING,
+                counted: i128::from(limits::UNFOLDED) + 1,
+                limit: i128::from(limits::UNFOLDED),
             }));
         }
         self.counted += 1;

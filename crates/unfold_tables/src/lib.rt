@@ -1,4 +1,5 @@
 //! What a text makes known at its constant places, as it is kept: elements of constants, ranges and sets; and numbers, lists of them and tasks.
+//! Its tests stand in `text_tests`.
 #![tactic(auto)]
 
 mod borrows;
@@ -8,7 +9,6 @@ mod entries;
 mod listed;
 mod lists;
 mod numbers;
-mod refusals;
 mod sets;
 mod sizes;
 mod table;
@@ -20,8 +20,7 @@ pub use elements::Elements;
 pub use listed::ConstantElement;
 pub use lists::{add, all_distinct, all_true, extreme, some_true, total};
 pub use numbers::{Total, applied, compares, is_true, one_or_zero, within};
-pub use refusals::{RANGE, UNDEFINED, refused};
 pub use sets::{Ends, NumberSet, Numbers};
-pub use sizes::{few, few_between};
+pub use sizes::{checked_between, checked_count};
 pub use table::Table;
 pub use tasks::are_within;

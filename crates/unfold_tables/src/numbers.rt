@@ -7,17 +7,14 @@ ghost use Rattle.sopl_ast.specs.Constants as constants;
 ghost use Rattle.sopl_ast.specs.Numbers as spec;
 
 use sopl_ast::MulOp;
-use sopl_base::CmpOp;
-
-/// The greatest size of a constant.
-const MOST: u128 = 1 << 40;
+use sopl_base::{CmpOp, limits};
 
 /// A number as a constant, if its size is at most 2^40.
 pub fn within(number: i128) -> Option<i64>
     ensures value { result ≡ constants.within number }
     ensures small { IfSome result (λ x. unsigned_abs x ≤ 2 ^ 40) }
 {
-    if number.unsigned_abs() <= MOST {
+    if number.unsigned_abs() <= limits::CONSTANT_SIZE {
         Some(number as i64)
     } else {
         None

@@ -7,10 +7,7 @@ ghost use Rattle.unfold_tables.specs.Tables.{shown};
 ghost use Rattle.unfold_tables.specs.Walks.{Walks};
 
 use crate::sets::{Ends, Numbers};
-use sopl_base::{Excess, Fault};
-
-/// The greatest number of numbers in a range, a set or a domain.
-const MOST_NUMBERS: i128 = 65_536;
+use sopl_base::{Excess, Fault, limits};
 
 /// How many numbers there are.
 #[derive(Clone, Copy, Debug)]
@@ -31,31 +28,31 @@ fn size_of(ends: &Ends) -> Size
 }
 
 /// Passes the limit with this code where a range or a domain has too many numbers.
-pub fn few_between(code: u16, ends: &Ends) -> Result<(), Fault>
+pub fn checked_between(code: u16, ends: &Ends) -> Result<(), Fault>
     ensures { (count : ℕ) → Walks count count (too_many code (count_between ends.now.lo ends.now.hi)) result }
 {
-    few_of(code, &size_of(ends))
+    checked_size(code, &size_of(ends))
 }
 
 /// Passes the limit with this code where there are too many numbers.
-pub fn few(code: u16, numbers: usize) -> Result<(), Fault>
+pub fn checked_count(code: u16, numbers: usize) -> Result<(), Fault>
     ensures { (count : ℕ) → Walks count count (too_many code numbers) result }
 {
     let size = Size {
         numbers: numbers as i128,
     };
-    few_of(code, &size)
+    checked_size(code, &size)
 }
 
 /// Passes the limit with this code where there are too many numbers.
-fn few_of(code: u16, size: &Size) -> Result<(), Fault>
+fn checked_size(code: u16, size: &Size) -> Result<(), Fault>
     ensures { (n count : ℕ) → size.now.numbers ≡ pos n → Walks count count (too_many code n) result }
 {
-    if size.numbers > MOST_NUMBERS {
+    if size.numbers > limits::NUMBERS {
         return Err(Fault::Limit(Excess {
             code,
             counted: size.numbers,
-            limit: MOST_NUMBERS,
+            limit: limits::NUMBERS,
         }));
     }
     Ok(())

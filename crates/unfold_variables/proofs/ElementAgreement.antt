@@ -48,8 +48,8 @@ agree_between known lo hi =
     (agree_last (λ b. (value_or_zero known lo, b)) (agree_reached (constant_place known hi) (value_or_zero known hi)))
 
 -- a domain that is not empty and not too large
-agree_few : (at : ℕ) (a b : ℤ) → Agrees (s.few at (a, b)) (refused_unless (int_le a b) 111 at ++ too_many 203 (count_between a b)) (Some (a, b))
-agree_few at a b =
+agree_checked : (at : ℕ) (a b : ℤ) → Agrees (s.checked_domain at (a, b)) (refused_unless (int_le a b) 111 at ++ too_many 203 (count_between a b)) (Some (a, b))
+agree_checked at a b =
     agree_next _ tt (meets_unless (int_le a b) 111 at) (agree_last (λ u. (a, b)) (agree_reached (too_many 203 (count_between a b)) tt))
 
 -- a domain
@@ -60,7 +60,7 @@ agree_domain known (Ends lo hi) =
     agree_occurrences (append_assoc (constant_place known lo) (constant_place known hi)
     (refused_unless (int_le (value_or_zero known lo) (value_or_zero known hi)) 111 (place_of lo)
     ++ too_many 203 (count_between (value_or_zero known lo) (value_or_zero known hi))))
-    (agree_next _ (value_or_zero known lo, value_or_zero known hi) (agree_between known lo hi) (agree_few (place_of lo) (value_or_zero known lo) (value_or_zero known hi)))
+    (agree_next _ (value_or_zero known lo, value_or_zero known hi) (agree_between known lo hi) (agree_checked (place_of lo) (value_or_zero known lo) (value_or_zero known hi)))
 
 -- a value that is none of those before it
 agree_new : (known : Known) (keys earlier : List ℤ) → Same keys earlier → (e : Tree)

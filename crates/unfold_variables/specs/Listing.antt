@@ -30,12 +30,12 @@ abbrev pub not_empty : ℕ → ℤ × ℤ → Step (ℤ × ℤ)
 not_empty at ends = unless (int_le ends.0 ends.1) 111 at >>= (λ u. done ends)
 
 -- 203: too many values
-abbrev pub few_values : ℤ → ℤ → Step (Unit {0})
-few_values lo hi = reached (too_many 203 (count_between lo hi)) tt
+abbrev pub checked_values : ℤ → ℤ → Step (Unit {0})
+checked_values lo hi = reached (too_many 203 (count_between lo hi)) tt
 
 -- a domain whose lower end stands at a place, which is not empty and not too large
-abbrev pub few : ℕ → ℤ × ℤ → Step (ℤ × ℤ)
-few at ends = unless (int_le ends.0 ends.1) 111 at >>= (λ u. few_values ends.0 ends.1 >>= (λ v. done ends))
+abbrev pub checked_domain : ℕ → ℤ × ℤ → Step (ℤ × ℤ)
+checked_domain at ends = unless (int_le ends.0 ends.1) 111 at >>= (λ u. checked_values ends.0 ends.1 >>= (λ v. done ends))
 
 -- the values of two ends
 abbrev pub between : Known → Tree → Tree → Step (ℤ × ℤ)
@@ -44,7 +44,7 @@ between known lo hi = constant known lo >>= (λ a. constant known hi >>= (λ b. 
 -- a domain
 abbrev pub domain : Known → Range → Step (ℤ × ℤ)
 domain known (Named name at) = not_empty at (domain_of known (Named name at))
-domain known (Ends lo hi) = between known lo hi >>= (λ ends. few (place_of lo) ends)
+domain known (Ends lo hi) = between known lo hi >>= (λ ends. checked_domain (place_of lo) ends)
 
 -- a value that is none of those before it
 abbrev pub new_value : Known → List ℤ → Tree → Step ℤ

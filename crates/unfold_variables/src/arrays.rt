@@ -1,19 +1,19 @@
 //! The walk through the indices of an array.
 
 ghost use Rattle.std.specs.Prelude.{◌≡◌, ℕ, ℤ, List, Result, [], ◌∷◌, ◌++◌, option_map, OnOk};
-ghost use Rattle.sopl_base.specs.declared.places.Fault.{Fault as FaultValue};
+ghost use Rattle.sopl_base.specs.declared.fault.Fault.{Fault as FaultValue};
 ghost use Rattle.sopl_ast.specs.Known.{Known as KnownValue};
-ghost use Rattle.unfold_constants.specs.Answers.{Answers};
+ghost use Rattle.unfold_constants.specs.CountedAnswers.{Answers};
 ghost use Rattle.unfold_constants.specs.Here.{known_in};
 ghost use Rattle.unfold_declarations.specs.Shown.{dimension_in, dimensions_in};
 ghost use Rattle.unfold_variables.specs.Listing as spec;
 
-use crate::calls::{count_one, dimensions_at};
+use crate::calls::dimensions_at;
 use sopl_ast::Dim;
 use sopl_base::Fault;
 use std::alloc::{AllocError, Global};
 use unfold_constants::Known;
-use unfold_declarations::{Dimension, Front};
+use unfold_declarations::{Dimension, Front, count_one};
 use unfold_tables::Count;
 
 /// What stands at each index of an array.

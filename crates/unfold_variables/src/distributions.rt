@@ -4,22 +4,19 @@ ghost use Rattle.std.specs.Prelude.{◌≡◌, [], ◌∷◌, ◌++◌, not, OnO
 ghost use Rattle.std.specs.BTreeSet.{insert_key};
 ghost use Rattle.std.specs.List.{list_any};
 ghost use Rattle.std.specs.Ordering.{int_cmp, int_eq};
-ghost use Rattle.unfold_constants.specs.Answers.{Answers};
+ghost use Rattle.unfold_constants.specs.CountedAnswers.{Answers};
 ghost use Rattle.unfold_constants.specs.Here.{known_in};
 ghost use Rattle.unfold_variables.specs.Listing as spec;
 ghost use Rattle.unfold_variables.specs.Pairs.{outcome_in};
 
-use crate::calls::{constant_at, unless};
 use crate::items::Weighted;
 use sopl_ast::Expr;
-use sopl_base::Fault;
+use sopl_base::{Fault, codes};
 use std::alloc::{AllocError, Global};
 use std::collections::BTreeSet;
-use unfold_constants::Known;
+use unfold_constants::{Known, unless};
+use unfold_declarations::constant_at;
 use unfold_tables::Count;
-
-/// The code of a value that stands earlier in its distribution, or of a weight below 1.
-const OUTCOME: u16 = 113;
 
 /// The outcomes of a distribution.
 pub fn outcomes<'a>(
@@ -63,7 +60,7 @@ fn new_value<'a>(
     ensures { Answers (λ x. x) count.new.counted result (spec.new_value (known_in known.now) earlier.now.keys e.now count.old.counted) }
 {
     let value = constant_at(known, count, e)?;
-    unless(is_new(earlier, value), OUTCOME, e.at)?;
+    unless(is_new(earlier, value), codes::OUTCOME, e.at)?;
     Ok(value)
 }
 
@@ -79,7 +76,7 @@ fn weight<'a>(known: &Known<'a>, count: &mut Count, e: &'a Expr) -> Result<i64, 
     ensures { Answers (λ x. x) count.new.counted result (spec.weight (known_in known.now) e.now count.old.counted) }
 {
     let weight = constant_at(known, count, e)?;
-    unless(weight >= 1, OUTCOME, e.at)?;
+    unless(weight >= 1, codes::OUTCOME, e.at)?;
     Ok(weight)
 }
 

@@ -3,21 +3,17 @@
 ghost use Rattle.std.specs.Prelude.{◌≡◌, ℕ, option_map};
 ghost use Rattle.sopl_ast.specs.Known.{ends_of, set_named};
 ghost use Rattle.sopl_ast.specs.Ranges.{range_of};
-ghost use Rattle.unfold_constants.specs.Answers.{Answers};
+ghost use Rattle.unfold_constants.specs.CountedAnswers.{Answers};
 ghost use Rattle.unfold_constants.specs.Here.{known_in};
 ghost use Rattle.unfold_tables.specs.Tables.{ends_in};
 ghost use Rattle.unfold_variables.specs.Listing as spec;
 
-use crate::calls::{constant_at, few_values, unless};
+use crate::calls::checked_values;
 use sopl_ast::{Expr, Name, RangeText};
-use sopl_base::Fault;
-use unfold_constants::Known;
-use unfold_tables::{Count, Ends, NumberSet, refused};
-
-/// The code of a domain without a value.
-const EMPTY: u16 = 111;
-/// The code of a stage that is not 1 to 24.
-const STAGE: u16 = 114;
+use sopl_base::{Fault, codes};
+use unfold_constants::{Known, unless};
+use unfold_declarations::constant_at;
+use unfold_tables::{Count, Ends, NumberSet};
 
 /// A stage; it is 1 where none is written.
 pub fn stage<'a>(known: &Known<'a>, count: &mut Count, e: Option<&'a Expr>) -> Result<u32, Fault>
@@ -28,7 +24,7 @@ pub fn stage<'a>(known: &Known<'a>, count: &mut Count, e: Option<&'a Expr>) -> R
     };
     let number = constant_at(known, count, e)?;
     if number < 1 || number > 24 {
-        return Err(refused(STAGE, e.at));
+        return Err(Fault::refused(codes::STAGE, e.at));
     }
     Ok(number as u32)
 }
@@ -41,7 +37,7 @@ pub fn domain<'a>(known: &Known<'a>, count: &mut Count, range: &'a RangeText) ->
         RangeText::Named { name, at } => not_empty(*at, &named(known, name)),
         RangeText::Ends { lo, hi } => {
             let ends = between(known, count, lo, hi)?;
-            few(lo.at, &ends)
+            checked_domain(lo.at, &ends)
         }
     }
 }
@@ -75,15 +71,15 @@ fn between<'a>(
 fn not_empty(at: usize, ends: &Ends) -> Result<Ends, Fault>
     ensures { (count : ℕ) → Answers ends_in count result (spec.not_empty at (ends_in ends.now) count) }
 {
-    unless(ends.lo <= ends.hi, EMPTY, at)?;
+    unless(ends.lo <= ends.hi, codes::EMPTY_DOMAIN, at)?;
     Ok(*ends)
 }
 
 /// The same domain, of which the lower end stands at a place, unless it is empty or too large.
-fn few(at: usize, ends: &Ends) -> Result<Ends, Fault>
-    ensures { (count : ℕ) → Answers ends_in count result (spec.few at (ends_in ends.now) count) }
+fn checked_domain(at: usize, ends: &Ends) -> Result<Ends, Fault>
+    ensures { (count : ℕ) → Answers ends_in count result (spec.checked_domain at (ends_in ends.now) count) }
 {
-    unless(ends.lo <= ends.hi, EMPTY, at)?;
-    few_values(ends)?;
+    unless(ends.lo <= ends.hi, codes::EMPTY_DOMAIN, at)?;
+    checked_values(ends)?;
     Ok(*ends)
 }

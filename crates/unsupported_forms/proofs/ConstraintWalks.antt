@@ -1,21 +1,15 @@
 -- Walks over constraints.
-use Rattle.std.proofs.Common.{◌≡◌, refl, ℕ, zero, suc, ◌+◌, ◌<◌, ◌≤◌, List, [], ◌∷◌, arith, map, length, get_or, drop, append-nil, Option}
+use Rattle.std.proofs.Common.{◌≡◌, refl, ℕ, ◌+◌, ◌<◌, ◌≤◌, List, [], ◌∷◌, map, length, get_or, drop, append-nil, Option}
 use Rattle.std.proofs.lemmas.Grind.{flat_map-append}
+use Rattle.sopl_ast.proofs.Lighter.{weight-constraint}
 use Rattle.sopl_ast.specs.declared.constraints.Cons.{Cons}
 use Rattle.sopl_ast.specs.Constraints.{cons_tree}
 use Rattle.sopl_ast.specs.Tree.{Tree}
 use Rattle.sopl_ast.specs.Unfolding.{conditions_of, all_conditions}
 use Rattle.sopl_ast.specs.Whole.{conses}
 use Rattle.unsupported_forms.specs.Forms.{places, places_in, lesser, least_of}
-use Rattle.unsupported_forms.specs.Weights.{weight_cons, weight_conses}
 use Rattle.unsupported_forms.proofs.Minimum.{lesser_none}
 use Rattle.unsupported_forms.proofs.Walks.{walk_more, walk_end}
-
--- a constraint weighs less than its list
-pub weight-constraint : (xs : List Cons) (i : ℕ) (d : Cons) → i < length xs → weight_cons (cons_tree (get_or xs i d)) < weight_conses (conses (map cons_tree xs))
-weight-constraint [] i d h = absurd (omega arith)
-weight-constraint (x ∷ xs) zero d h = omega arith
-weight-constraint (x ∷ xs) (suc i) d h = omega (arith, weight-constraint xs i d (omega arith))
 
 -- the places in a single expression
 pub in_one : (decisions : List (List ℕ)) (e : Tree) → places_in decisions (e ∷ []) ≡ places decisions e

@@ -1,5 +1,6 @@
 //! The forms of expressions that are accepted and not solved yet, and the least place of one in a text. The limits on forms are
 //! no matter of what a text means: they go as the forms come.
+//! Its tests stand in `compile_tests`.
 #![tactic(auto)]
 
 mod forms;

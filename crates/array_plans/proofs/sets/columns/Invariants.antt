@@ -1,6 +1,7 @@
 use Rattle.std.proofs.Common.{◌≡◌, map}
 use Rattle.std.specs.List.{range_with_len}
-use Rattle.array_plans.specs.Kept.{column, now_of, sets_in}
+use Rattle.sopl_ast.specs.References.{now_of}
+use Rattle.array_plans.specs.Kept.{column, sets_in}
 use Rattle.array_plans.proofs.sets.columns.Given as goal
 
 abbrev pub invariant-places : goal.invariant-places

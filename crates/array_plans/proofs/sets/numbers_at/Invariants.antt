@@ -1,5 +1,6 @@
 use Rattle.std.proofs.Common.{◌≡◌, map, drop}
-use Rattle.array_plans.specs.Kept.{column, now_of}
+use Rattle.sopl_ast.specs.References.{now_of}
+use Rattle.array_plans.specs.Kept.{column}
 use Rattle.array_plans.proofs.Columns.{rest}
 use Rattle.array_plans.proofs.sets.numbers_at.Given as goal
 

@@ -11,7 +11,8 @@ returns-then-more-clause-cause g c =
 
 pub returns-then-more-clause-tree : goal.returns-then-more-clause-tree
 returns-then-more-clause-tree g c =
-    λ budget spent within. subst (λ (n : ℕ). IfOk c.partial.result (λ tree. IsTree (g.P.Propagator.problem c.args.program.now) n tree.outcome tree.rows.items)) (spent c.if-more.true) c.partial.ensures.tree
+    λ budget spent within. subst (λ (n : ℕ). IfOk c.partial.result (λ tree. IsTree (g.P.Propagator.problem c.args.program.now) n tree.outcome tree.rows.items)) (spent c.if-more.true)
+    c.partial.ensures.tree
 
 pub returns-else-more-clause-truth : goal.returns-else-more-clause-truth
 returns-else-more-clause-truth g c =

@@ -10,7 +10,8 @@ use Rattle.box_search.proofs.searching.partial.Goals as goal
 
 pub bound_over-requires-clause-stands : goal.bound_over-requires-clause-stands
 bound_over-requires-clause-stands g c =
-    same_sound (g.P.Propagator.problem c.args.program.now) c.args.crew.best _ c.args.crew.finished _ (opens true c.args.crew) (opens true c.list_open.new.self) c.list_open.ensures.best c.list_open.ensures.finished c.list_open.ensures.opens c.requires.stands
+    same_sound (g.P.Propagator.problem c.args.program.now) c.args.crew.best _ c.args.crew.finished _ (opens true c.args.crew) (opens true c.list_open.new.self) c.list_open.ensures.best
+    c.list_open.ensures.finished c.list_open.ensures.opens c.requires.stands
 
 pub returns-clause-truth : goal.returns-clause-truth
 returns-clause-truth g c =

@@ -16,11 +16,13 @@ returns-clause-enough g c =
 
 pub returns-clause-log : goal.returns-clause-log
 returns-clause-log g c =
-    all_logged (g.P.Propagator.problem c.args.program.now) c.args.budget c.in_ok-tree.tree.outcome c.in_ok-tree.tree.rows.items _ _ c.written.result c.in_ok-tree.ensures.tree c.written.ensures.fits c.written.ensures.outcome c.written.ensures.all
+    all_logged (g.P.Propagator.problem c.args.program.now) c.args.budget c.in_ok-tree.tree.outcome c.in_ok-tree.tree.rows.items _ _ c.written.result c.in_ok-tree.ensures.tree
+    c.written.ensures.fits c.written.ensures.outcome c.written.ensures.all
 
 pub returns-clause-front : goal.returns-clause-front
 returns-clause-front g c =
-    front_logged (g.P.Propagator.problem c.args.program.now) c.args.budget c.in_ok-tree.tree.outcome c.in_ok-tree.tree.rows.items _ _ c.written.result c.in_ok-tree.ensures.tree c.written.ensures.fits c.written.ensures.prefix
+    front_logged (g.P.Propagator.problem c.args.program.now) c.args.budget c.in_ok-tree.tree.outcome c.in_ok-tree.tree.rows.items _ _ c.written.result c.in_ok-tree.ensures.tree
+    c.written.ensures.fits c.written.ensures.prefix
 
 pub returns-clause-kept : goal.returns-clause-kept
 returns-clause-kept g c = no_memory_wanted c.written.result c.written.ensures.write

@@ -1,7 +1,8 @@
 use Rattle.std.proofs.Common.{◌≡◌}
 use Rattle.std.specs.List.{range_with_len}
 use Rattle.term_program.specs.Programs.{problem_in, root_in}
-use Rattle.chance_sums.specs.Sums.{sum_over, weight_over}
+use Rattle.part_sums.specs.Sums.{sum_over}
+use Rattle.chance_sums.specs.Sums.{weight_over}
 use Rattle.chance_sums.proofs.sums.weight_left.Given as goal
 
 abbrev pub invariant-scenarios : goal.invariant-scenarios

@@ -23,7 +23,8 @@ returns-in_err-ids c =
           let setting = c.args.scene.now.setting.now in
           subst (MakesTerm setting before c.args.work.now (extreme_of (extreme_term c.args.which) ts)) (sym same)
           (subst (λ l. IsSizeFault (root_in setting) l c.in_err-ids.field-0.0) (sym (extreme_sizes c.args.which ts))
-          (faults_end (root_in setting) (all_subterms ts) (extreme_of (extreme_term c.args.which) ts ∷ []) c.in_err-ids.field-0.0 (subst (MakesTerms setting before c.args.work.now ts) c.in_err-ids.was made)));
+          (faults_end (root_in setting) (all_subterms ts) (extreme_of (extreme_term c.args.which) ts ∷ []) c.in_err-ids.field-0.0
+          (subst (MakesTerms setting before c.args.work.now ts) c.in_err-ids.was made)));
     }
 
 pub returns-in-Least : goal.returns-in-Least
@@ -35,7 +36,8 @@ returns-in-Least c =
           let here = subst (MakesTerms setting before c.args.work.now ts) c.in_ok-ids.was made in
           subst (λ e. MakesTerm setting before c.least.new.self (extreme_of (extreme_term e) ts) c.least.result) (sym c.in-Least.is)
           (term_made setting before c.args.work.now c.least.new.self (all_subterms ts) _ (extreme_of (extreme_term which.Least) ts) c.least.result here.extends here.small
-          (least_is (things_of c.args.work.now) c.as_slice.result.now ts some (ap (λ l. terms_at (things_of c.args.work.now) (term_ids l)) c.as_slice.ensures.value ∙ here.are)) (extreme_sizes which.Least ts)
+          (least_is (things_of c.args.work.now) c.as_slice.result.now ts some (ap (λ l. terms_at (things_of c.args.work.now) (term_ids l)) c.as_slice.ensures.value ∙ here.are))
+          (extreme_sizes which.Least ts)
           c.least.ensures.extends c.least.ensures.stands c.least.ensures.measured);
     }
 
@@ -48,6 +50,7 @@ returns c =
           let here = subst (MakesTerms setting before c.args.work.now ts) c.in_ok-ids.was made in
           subst (λ e. MakesTerm setting before c.greatest.new.self (extreme_of (extreme_term e) ts) c.greatest.result) (sym c.in-Greatest.is)
           (term_made setting before c.args.work.now c.greatest.new.self (all_subterms ts) _ (extreme_of (extreme_term which.Greatest) ts) c.greatest.result here.extends here.small
-          (greatest_is (things_of c.args.work.now) c.as_slice-in-Greatest.result.now ts some (ap (λ l. terms_at (things_of c.args.work.now) (term_ids l)) c.as_slice-in-Greatest.ensures.value ∙ here.are)) (extreme_sizes which.Greatest ts)
+          (greatest_is (things_of c.args.work.now) c.as_slice-in-Greatest.result.now ts some (ap (λ l. terms_at (things_of c.args.work.now) (term_ids l)) c.as_slice-in-Greatest.ensures.value
+          ∙ here.are)) (extreme_sizes which.Greatest ts)
           c.greatest.ensures.extends c.greatest.ensures.stands c.greatest.ensures.measured);
     }

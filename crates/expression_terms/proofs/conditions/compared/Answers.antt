@@ -24,7 +24,8 @@ returns c =
     record {
       made = λ setting before mid a b left made.
           let here = subst (MakesTerm setting mid c.args.work.now b) c.in_ok-id.was made in
-          cond_made setting before c.args.work.now c.compare.new.self _ (rule.Compare c.args.op a b) c.in_ok-compare.field-0.0 (extends_twice setting before mid c.args.work.now left.extends here.extends)
+          cond_made setting before c.args.work.now c.compare.new.self _ (rule.Compare c.args.op a b) c.in_ok-compare.field-0.0
+          (extends_twice setting before mid c.args.work.now left.extends here.extends)
           (both_small (root_in setting) (subterms a) (subterms b) left.small here.small)
           (ap₂ (λ x y. rule.Compare c.args.op x y) (later_is (things_of mid) (things_of c.args.work.now) c.args.left.0 a here.extends.grows left.stands)
           (term_is (things_of c.args.work.now) c.in_ok-id.id.0 b here.stands))

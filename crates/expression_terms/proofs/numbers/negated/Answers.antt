@@ -26,5 +26,6 @@ returns c =
           let here = subst (MakesTerm setting before c.args.work.now t) c.in_ok-id.was made in
           term_made setting before c.args.work.now c.sum.new.self (subterms t ++ []) _ (rule.Sum (rule.part true t rule.no_part)) c.sum.result here.extends
           (both_small (root_in setting) (subterms t) [] here.small refl)
-          (ap (λ x. rule.Sum (rule.part true x rule.no_part)) (term_is (things_of c.args.work.now) c.in_ok-id.id.0 t here.stands)) refl c.sum.ensures.extends c.sum.ensures.stands c.sum.ensures.measured;
+          (ap (λ x. rule.Sum (rule.part true x rule.no_part)) (term_is (things_of c.args.work.now) c.in_ok-id.id.0 t here.stands)) refl c.sum.ensures.extends c.sum.ensures.stands
+          c.sum.ensures.measured;
     }

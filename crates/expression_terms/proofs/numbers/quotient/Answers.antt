@@ -20,6 +20,7 @@ returns c =
           let a = term_at (things_of c.args.work.now) c.args.before.0 in
           subst (λ x. MakesTerm setting c.args.work.now c.quotient.new.self x c.quotient.result)
           (sym (divided_by rule.Quotient a _ c.in_ok-number.number c.in_ok-number.ensures.value c.in_ok-number.ensures.nonzero))
-          (term_made setting c.args.work.now c.args.work.now c.quotient.new.self (subterms a) _ (rule.Quotient a c.in_ok-number.number) c.quotient.result (extends_not setting c.args.work.now ready) operand.small
+          (term_made setting c.args.work.now c.args.work.now c.quotient.new.self (subterms a) _ (rule.Quotient a c.in_ok-number.number) c.quotient.result (extends_not setting c.args.work.now ready)
+          operand.small
           (ap (λ z. rule.Quotient a z) same) refl c.quotient.ensures.extends c.quotient.ensures.stands c.quotient.ensures.measured);
     }

@@ -20,6 +20,7 @@ returns c =
           let a = term_at (things_of c.args.work.now) c.args.before.0 in
           subst (λ x. MakesTerm setting c.args.work.now c.remainder.new.self x c.remainder.result)
           (sym (divided_by rule.Remainder a _ c.in_ok-number.number c.in_ok-number.ensures.value c.in_ok-number.ensures.nonzero))
-          (term_made setting c.args.work.now c.args.work.now c.remainder.new.self (subterms a) _ (rule.Remainder a c.in_ok-number.number) c.remainder.result (extends_not setting c.args.work.now ready) operand.small
+          (term_made setting c.args.work.now c.args.work.now c.remainder.new.self (subterms a) _ (rule.Remainder a c.in_ok-number.number) c.remainder.result (extends_not setting c.args.work.now ready)
+          operand.small
           (ap (λ z. rule.Remainder a z) same) refl c.remainder.ensures.extends c.remainder.ensures.stands c.remainder.ensures.measured);
     }

@@ -28,7 +28,14 @@ terms-parts-init s c =
 pub terms-term-requires : goal.terms-term-requires
 terms-term-requires s c = (
   omega (arith, weight-trees c.args.parts.now c.parts.part-index c.part-item.result c.parts-test.true, ap weight c.part-item.is),
-  (c.parts.invariant.extends.ready, (c.requires.placed, left_holds _ _ _ _ _ _ _ _ _ c.part-item.result _ (next_is c.args.parts.now c.parts.part-index c.part-item.result c.parts-test.true c.part-item.is) c.parts.invariant)),
+  (
+    c.parts.invariant.extends.ready,
+    (
+      c.requires.placed,
+      left_holds _ _ _ _ _ _ _ _ _ c.part-item.result _
+          (next_is c.args.parts.now c.parts.part-index c.part-item.result c.parts-test.true c.part-item.is) c.parts.invariant,
+    ),
+  ),
 )
 
 pub terms-returns-in_err-id : goal.terms-returns-in_err-id
@@ -36,17 +43,22 @@ terms-returns-in_err-id s c =
     let same : c.from_residual.result ≡ Err c.in_err-id.field-0.0 = search rules in
     record {
       made = subst (MakesTerms c.args.scene.now.setting.now c.args.work.now c.term.new.work (instances (place_of c.args.scene.now (known_in c.args.known.now)) (trees c.args.parts.now))) (sym same)
-          (terms_fault _ _ _ _ _ _ _ _ _ c.part-item.result _ c.in_err-id.field-0.0 (next_is c.args.parts.now c.parts.part-index c.part-item.result c.parts-test.true c.part-item.is) (instances_are (place_of c.args.scene.now (known_in c.args.known.now)) c.args.parts.now) c.in_err-id.ensures.made c.parts.invariant);
+          (terms_fault _ _ _ _ _ _ _ _ _ c.part-item.result _ c.in_err-id.field-0.0 (next_is c.args.parts.now c.parts.part-index c.part-item.result c.parts-test.true c.part-item.is)
+          (instances_are (place_of c.args.scene.now (known_in c.args.known.now)) c.args.parts.now) c.in_err-id.ensures.made c.parts.invariant);
     }
 
 pub terms-parts-preserved : goal.terms-parts-preserved
 terms-parts-preserved s c =
-    left_more _ _ _ _ _ _ _ _ _ c.part-item.result _ c.term.new.work c.in_ok-id.id c.listed.new.ids.items (next_is c.args.parts.now c.parts.part-index c.part-item.result c.parts-test.true c.part-item.is)
+    left_more _ _ _ _ _ _ _ _ _ c.part-item.result _ c.term.new.work c.in_ok-id.id c.listed.new.ids.items
+    (next_is c.args.parts.now c.parts.part-index c.part-item.result c.parts-test.true c.part-item.is)
     c.in_ok-id.ensures.made.extends c.in_ok-id.ensures.made.stands.exists (term_is _ _ _ c.in_ok-id.ensures.made.stands) c.in_ok-id.ensures.made.small c.in_ok-listed.ensures.more c.parts.invariant
 
 pub terms-returns : goal.terms-returns
 terms-returns s c =
-    record { made = terms_end _ _ _ _ _ _ _ _ _ (none_is c.args.parts.now c.parts.part-index c.parts-test.false) (instances_are (place_of c.args.scene.now (known_in c.args.known.now)) c.args.parts.now) c.parts.invariant }
+    record {
+      made = terms_end _ _ _ _ _ _ _ _ _ (none_is c.args.parts.now c.parts.part-index c.parts-test.false)
+          (instances_are (place_of c.args.scene.now (known_in c.args.known.now)) c.args.parts.now) c.parts.invariant;
+    }
 
 pub conditions-parts-init : goal.conditions-parts-init
 conditions-parts-init s c =
@@ -55,25 +67,38 @@ conditions-parts-init s c =
 pub conditions-condition-requires : goal.conditions-condition-requires
 conditions-condition-requires s c = (
   omega (arith, weight-trees c.args.parts.now c.parts.part-index c.part-item.result c.parts-test.true, ap weight c.part-item.is),
-  (c.parts.invariant.extends.ready, (c.requires.placed, left_holds _ _ _ _ _ _ _ _ _ c.part-item.result _ (next_is c.args.parts.now c.parts.part-index c.part-item.result c.parts-test.true c.part-item.is) c.parts.invariant)),
+  (
+    c.parts.invariant.extends.ready,
+    (
+      c.requires.placed,
+      left_holds _ _ _ _ _ _ _ _ _ c.part-item.result _
+          (next_is c.args.parts.now c.parts.part-index c.part-item.result c.parts-test.true c.part-item.is) c.parts.invariant,
+    ),
+  ),
 )
 
 pub conditions-returns-in_err-id : goal.conditions-returns-in_err-id
 conditions-returns-in_err-id s c =
     let same : c.from_residual.result ≡ Err c.in_err-id.field-0.0 = search rules in
     record {
-      made = subst (MakesConds c.args.scene.now.setting.now c.args.work.now c.condition.new.work (conditions (place_of c.args.scene.now (known_in c.args.known.now)) (trees c.args.parts.now))) (sym same)
-          (conds_fault _ _ _ _ _ _ _ _ _ c.part-item.result _ c.in_err-id.field-0.0 (next_is c.args.parts.now c.parts.part-index c.part-item.result c.parts-test.true c.part-item.is) (conditions_are (place_of c.args.scene.now (known_in c.args.known.now)) c.args.parts.now) c.in_err-id.ensures.made c.parts.invariant);
+      made = subst (MakesConds c.args.scene.now.setting.now c.args.work.now c.condition.new.work
+          (conditions (place_of c.args.scene.now (known_in c.args.known.now)) (trees c.args.parts.now))) (sym same)
+          (conds_fault _ _ _ _ _ _ _ _ _ c.part-item.result _ c.in_err-id.field-0.0 (next_is c.args.parts.now c.parts.part-index c.part-item.result c.parts-test.true c.part-item.is)
+          (conditions_are (place_of c.args.scene.now (known_in c.args.known.now)) c.args.parts.now) c.in_err-id.ensures.made c.parts.invariant);
     }
 
 pub conditions-parts-preserved : goal.conditions-parts-preserved
 conditions-parts-preserved s c =
-    left_more _ _ _ _ _ _ _ _ _ c.part-item.result _ c.condition.new.work c.in_ok-id.id c.listed.new.ids.items (next_is c.args.parts.now c.parts.part-index c.part-item.result c.parts-test.true c.part-item.is)
+    left_more _ _ _ _ _ _ _ _ _ c.part-item.result _ c.condition.new.work c.in_ok-id.id c.listed.new.ids.items
+    (next_is c.args.parts.now c.parts.part-index c.part-item.result c.parts-test.true c.part-item.is)
     c.in_ok-id.ensures.made.extends c.in_ok-id.ensures.made.stands.exists (cond_is _ _ _ c.in_ok-id.ensures.made.stands) c.in_ok-id.ensures.made.small c.in_ok-listed.ensures.more c.parts.invariant
 
 pub conditions-returns : goal.conditions-returns
 conditions-returns s c =
-    record { made = conds_end _ _ _ _ _ _ _ _ _ (none_is c.args.parts.now c.parts.part-index c.parts-test.false) (conditions_are (place_of c.args.scene.now (known_in c.args.known.now)) c.args.parts.now) c.parts.invariant }
+    record {
+      made = conds_end _ _ _ _ _ _ _ _ _ (none_is c.args.parts.now c.parts.part-index c.parts-test.false)
+          (conditions_are (place_of c.args.scene.now (known_in c.args.known.now)) c.args.parts.now) c.parts.invariant;
+    }
 
 pub chain-parts-init : goal.chain-parts-init
 chain-parts-init s c =
@@ -82,37 +107,55 @@ chain-parts-init s c =
 pub chain-term-requires : goal.chain-term-requires
 chain-term-requires s c = (
   omega (arith, weight-terms c.args.parts.now c.parts.part-index c.part-item.result c.parts-test.true, ap (λ p. weight p.1) c.part-item.is),
-  (c.parts.invariant.extends.ready, (c.requires.placed, left_holds _ _ _ _ _ _ _ _ _ c.part-item.result _ (next_is c.args.parts.now c.parts.part-index c.part-item.result c.parts-test.true c.part-item.is) c.parts.invariant)),
+  (
+    c.parts.invariant.extends.ready,
+    (
+      c.requires.placed,
+      left_holds _ _ _ _ _ _ _ _ _ c.part-item.result _
+          (next_is c.args.parts.now c.parts.part-index c.part-item.result c.parts-test.true c.part-item.is) c.parts.invariant,
+    ),
+  ),
 )
 
 pub chain-returns-in_err-id : goal.chain-returns-in_err-id
 chain-returns-in_err-id s c =
     let same : c.from_residual.result ≡ Err c.in_err-id.field-0.0 = search rules in
     record {
-      made = subst (MakesParts c.args.scene.now.setting.now c.args.work.now c.term.new.work (chain_instance (place_of c.args.scene.now (known_in c.args.known.now)) (terms c.args.parts.now))) (sym same)
-          (parts_fault _ _ _ _ _ _ _ _ _ c.part-item.result _ c.in_err-id.field-0.0 (next_is c.args.parts.now c.parts.part-index c.part-item.result c.parts-test.true c.part-item.is) (chain_is (place_of c.args.scene.now (known_in c.args.known.now)) c.args.parts.now) c.in_err-id.ensures.made c.parts.invariant);
+      made = subst (MakesParts c.args.scene.now.setting.now c.args.work.now c.term.new.work
+          (chain_instance (place_of c.args.scene.now (known_in c.args.known.now)) (terms c.args.parts.now))) (sym same)
+          (parts_fault _ _ _ _ _ _ _ _ _ c.part-item.result _ c.in_err-id.field-0.0 (next_is c.args.parts.now c.parts.part-index c.part-item.result c.parts-test.true c.part-item.is)
+          (chain_is (place_of c.args.scene.now (known_in c.args.known.now)) c.args.parts.now) c.in_err-id.ensures.made c.parts.invariant);
     }
 
 pub chain-parts-preserved : goal.chain-parts-preserved
 chain-parts-preserved s c =
-    left_more _ _ _ _ _ _ _ _ _ c.part-item.result _ c.term.new.work (c.part-item.result.0, c.in_ok-id.id) c.listed_part.new.ids.items (next_is c.args.parts.now c.parts.part-index c.part-item.result c.parts-test.true c.part-item.is)
-    c.in_ok-id.ensures.made.extends c.in_ok-id.ensures.made.stands.exists (ap (λ x. (c.part-item.result.0, x)) (term_is _ _ _ c.in_ok-id.ensures.made.stands)) c.in_ok-id.ensures.made.small c.in_ok-listed_part.ensures.more c.parts.invariant
+    left_more _ _ _ _ _ _ _ _ _ c.part-item.result _ c.term.new.work (c.part-item.result.0, c.in_ok-id.id) c.listed_part.new.ids.items
+    (next_is c.args.parts.now c.parts.part-index c.part-item.result c.parts-test.true c.part-item.is)
+    c.in_ok-id.ensures.made.extends c.in_ok-id.ensures.made.stands.exists (ap (λ x. (c.part-item.result.0, x)) (term_is _ _ _ c.in_ok-id.ensures.made.stands)) c.in_ok-id.ensures.made.small
+    c.in_ok-listed_part.ensures.more c.parts.invariant
 
 pub chain-returns : goal.chain-returns
 chain-returns s c =
-    record { made = parts_end _ _ _ _ _ _ _ _ _ (none_is c.args.parts.now c.parts.part-index c.parts-test.false) (chain_is (place_of c.args.scene.now (known_in c.args.known.now)) c.args.parts.now) c.parts.invariant }
+    record {
+      made = parts_end _ _ _ _ _ _ _ _ _ (none_is c.args.parts.now c.parts.part-index c.parts-test.false) (chain_is (place_of c.args.scene.now (known_in c.args.known.now)) c.args.parts.now)
+          c.parts.invariant;
+    }
 
 pub each-returns-in_err-id : goal.each-returns-in_err-id
 each-returns-in_err-id s c =
     let same : c.from_residual.result ≡ Err c.in_err-id.field-0.0 = search rules in
     record {
-      made = subst (MakesParts c.args.scene.now.setting.now c.args.work.now c.term.new.work (sum_of (map (λ known. (instance (place_of c.args.scene.now known) c.args.e.now).term) (map known_in c.args.here.now)))) (sym same)
-          (parts_fault _ _ _ _ _ _ _ _ _ (known_in c.known-item.result) _ c.in_err-id.field-0.0 (next_seen known_in c.args.here.now c.here.known-index c.known-item.result c.here-test.true c.known-item.is) (sum_is _ (map known_in c.args.here.now)) c.in_err-id.ensures.made c.here.invariant);
+      made = subst (MakesParts c.args.scene.now.setting.now c.args.work.now c.term.new.work
+          (sum_of (map (λ known. (instance (place_of c.args.scene.now known) c.args.e.now).term) (map known_in c.args.here.now)))) (sym same)
+          (parts_fault _ _ _ _ _ _ _ _ _ (known_in c.known-item.result) _ c.in_err-id.field-0.0
+          (next_seen known_in c.args.here.now c.here.known-index c.known-item.result c.here-test.true c.known-item.is) (sum_is _ (map known_in c.args.here.now)) c.in_err-id.ensures.made
+          c.here.invariant);
     }
 
 pub each-here-preserved : goal.each-here-preserved
 each-here-preserved s c =
-    left_more _ _ _ _ _ _ _ _ _ (known_in c.known-item.result) _ c.term.new.work (false, c.in_ok-id.id) c.listed_part.new.ids.items (next_seen known_in c.args.here.now c.here.known-index c.known-item.result c.here-test.true c.known-item.is)
+    left_more _ _ _ _ _ _ _ _ _ (known_in c.known-item.result) _ c.term.new.work (false, c.in_ok-id.id) c.listed_part.new.ids.items
+    (next_seen known_in c.args.here.now c.here.known-index c.known-item.result c.here-test.true c.known-item.is)
     c.in_ok-id.ensures.made.extends c.in_ok-id.ensures.made.stands.exists (ap (λ x. (false, x)) (term_is _ _ _ c.in_ok-id.ensures.made.stands)) c.in_ok-id.ensures.made.small
     c.in_ok-listed_part.ensures.more c.here.invariant
 
@@ -136,8 +179,11 @@ pub comparison-returns-in_err-left : goal.comparison-returns-in_err-left
 comparison-returns-in_err-left s c =
     let same : c.from_residual.result ≡ Err c.in_err-left.field-0.0 = search rules in
     record {
-      made = subst (MakesCond c.args.scene.now.setting.now c.args.work.now c.term.new.work (rule.Compare c.args.op (instance (place_of c.args.scene.now (known_in c.args.known.now)) c.args.a.now).term (instance (place_of c.args.scene.now (known_in c.args.known.now)) c.args.b.now).term)) (sym same)
-          (faults_end (root_in c.args.scene.now.setting.now) (subterms (instance (place_of c.args.scene.now (known_in c.args.known.now)) c.args.a.now).term) (subterms (instance (place_of c.args.scene.now (known_in c.args.known.now)) c.args.b.now).term) c.in_err-left.field-0.0 c.in_err-left.ensures.made);
+      made = subst (MakesCond c.args.scene.now.setting.now c.args.work.now c.term.new.work
+          (rule.Compare c.args.op (instance (place_of c.args.scene.now (known_in c.args.known.now)) c.args.a.now).term
+          (instance (place_of c.args.scene.now (known_in c.args.known.now)) c.args.b.now).term)) (sym same)
+          (faults_end (root_in c.args.scene.now.setting.now) (subterms (instance (place_of c.args.scene.now (known_in c.args.known.now)) c.args.a.now).term)
+          (subterms (instance (place_of c.args.scene.now (known_in c.args.known.now)) c.args.b.now).term) c.in_err-left.field-0.0 c.in_err-left.ensures.made);
     }
 
 pub comparison-returns : goal.comparison-returns
@@ -148,8 +194,11 @@ pub implication-returns-in_err-left : goal.implication-returns-in_err-left
 implication-returns-in_err-left s c =
     let same : c.from_residual.result ≡ Err c.in_err-left.field-0.0 = search rules in
     record {
-      made = subst (MakesCond c.args.scene.now.setting.now c.args.work.now c.condition.new.work (rule.Implies (instance (place_of c.args.scene.now (known_in c.args.known.now)) c.args.a.now).cond (instance (place_of c.args.scene.now (known_in c.args.known.now)) c.args.b.now).cond)) (sym same)
-          (faults_end (root_in c.args.scene.now.setting.now) (condition_subterms (instance (place_of c.args.scene.now (known_in c.args.known.now)) c.args.a.now).cond) (condition_subterms (instance (place_of c.args.scene.now (known_in c.args.known.now)) c.args.b.now).cond) c.in_err-left.field-0.0 c.in_err-left.ensures.made);
+      made = subst (MakesCond c.args.scene.now.setting.now c.args.work.now c.condition.new.work
+          (rule.Implies (instance (place_of c.args.scene.now (known_in c.args.known.now)) c.args.a.now).cond
+          (instance (place_of c.args.scene.now (known_in c.args.known.now)) c.args.b.now).cond)) (sym same)
+          (faults_end (root_in c.args.scene.now.setting.now) (condition_subterms (instance (place_of c.args.scene.now (known_in c.args.known.now)) c.args.a.now).cond)
+          (condition_subterms (instance (place_of c.args.scene.now (known_in c.args.known.now)) c.args.b.now).cond) c.in_err-left.field-0.0 c.in_err-left.ensures.made);
     }
 
 pub implication-returns : goal.implication-returns
@@ -159,28 +208,44 @@ implication-returns s c =
 pub multiply-factor-requires : goal.multiply-factor-requires
 multiply-factor-requires s c = (
   omega (arith, weight-factors c.args.parts.now c.parts.part-index c.part-item.result c.parts-test.true, ap (λ p. weight p.1) c.part-item.is),
-  (c.parts.invariant.extends.ready, (c.requires.placed, (c.parts.invariant.operand, factored_holds _ _ _ _ _ _ _ _ c.part-item.result _ (next_is c.args.parts.now c.parts.part-index c.part-item.result c.parts-test.true c.part-item.is) c.parts.invariant))),
+  (
+    c.parts.invariant.extends.ready,
+    (
+      c.requires.placed,
+      (
+        c.parts.invariant.operand,
+        factored_holds _ _ _ _ _ _ _ _ c.part-item.result _ (next_is c.args.parts.now c.parts.part-index c.part-item.result c.parts-test.true c.part-item.is) c.parts.invariant,
+      ),
+    ),
+  ),
 )
 
 pub multiply-returns-in_err-before : goal.multiply-returns-in_err-before
 multiply-returns-in_err-before s c =
     let same : c.from_residual.result ≡ Err c.in_err-before.field-0.0 = search rules in
     record {
-      made = subst (MakesTerm c.args.scene.now.setting.now c.args.work.now c.factor.new.work (product_instance (place_of c.args.scene.now (known_in c.args.known.now)) (term_at (things_of c.args.work.now) c.args.first.0) (factors c.args.parts.now))) (sym same)
-          (factored_fault _ _ _ _ _ _ _ _ c.part-item.result _ c.in_err-before.field-0.0 (next_is c.args.parts.now c.parts.part-index c.part-item.result c.parts-test.true c.part-item.is) c.in_err-before.ensures.made c.parts.invariant);
+      made = subst (MakesTerm c.args.scene.now.setting.now c.args.work.now c.factor.new.work
+          (product_instance (place_of c.args.scene.now (known_in c.args.known.now)) (term_at (things_of c.args.work.now) c.args.first.0) (factors c.args.parts.now))) (sym same)
+          (factored_fault _ _ _ _ _ _ _ _ c.part-item.result _ c.in_err-before.field-0.0 (next_is c.args.parts.now c.parts.part-index c.part-item.result c.parts-test.true c.part-item.is)
+          c.in_err-before.ensures.made c.parts.invariant);
     }
 
 pub multiply-parts-preserved : goal.multiply-parts-preserved
 multiply-parts-preserved s c =
-    factored_more _ _ _ _ _ _ _ _ c.part-item.result _ c.factor.new.work _ (next_is c.args.parts.now c.parts.part-index c.part-item.result c.parts-test.true c.part-item.is) c.in_ok-before.ensures.made c.parts.invariant
+    factored_more _ _ _ _ _ _ _ _ c.part-item.result _ c.factor.new.work _ (next_is c.args.parts.now c.parts.part-index c.part-item.result c.parts-test.true c.part-item.is)
+    c.in_ok-before.ensures.made c.parts.invariant
 
 pub product-returns-in_err-first : goal.product-returns-in_err-first
 product-returns-in_err-first s c =
     let same : c.from_residual.result ≡ Err c.in_err-first.field-0.0 = search rules in
     record {
-      made = subst (MakesTerm c.args.scene.now.setting.now c.args.work.now c.term.new.work (product_instance (place_of c.args.scene.now (known_in c.args.known.now)) ((instance (place_of c.args.scene.now (known_in c.args.known.now)) c.args.parts.now.first).term) (factors c.args.parts.now.others))) (sym same)
-          (product_fault (root_in c.args.scene.now.setting.now) (place_of c.args.scene.now (known_in c.args.known.now)) (factors c.args.parts.now.others) ((instance (place_of c.args.scene.now (known_in c.args.known.now)) c.args.parts.now.first).term) c.in_err-first.field-0.0 c.requires.others
-          (subst (λ e. IsSizeFault (root_in c.args.scene.now.setting.now) (subterms (instance (place_of c.args.scene.now (known_in c.args.known.now)) e).term) c.in_err-first.field-0.0) c.first.ensures.first c.in_err-first.ensures.made));
+      made = subst (MakesTerm c.args.scene.now.setting.now c.args.work.now c.term.new.work
+          (product_instance (place_of c.args.scene.now (known_in c.args.known.now)) ((instance (place_of c.args.scene.now (known_in c.args.known.now)) c.args.parts.now.first).term)
+          (factors c.args.parts.now.others))) (sym same)
+          (product_fault (root_in c.args.scene.now.setting.now) (place_of c.args.scene.now (known_in c.args.known.now)) (factors c.args.parts.now.others)
+          ((instance (place_of c.args.scene.now (known_in c.args.known.now)) c.args.parts.now.first).term) c.in_err-first.field-0.0 c.requires.others
+          (subst (λ e. IsSizeFault (root_in c.args.scene.now.setting.now) (subterms (instance (place_of c.args.scene.now (known_in c.args.known.now)) e).term) c.in_err-first.field-0.0)
+          c.first.ensures.first c.in_err-first.ensures.made));
     }
 
 pub negation-returns : goal.negation-returns
@@ -190,20 +255,24 @@ pub condition-returns-in-And : goal.condition-returns-in-And
 condition-returns-in-And s c =
     let same : Node c.e.inside.at (shape.And (trees c.as_slice.result.now)) ≡ c.args.e.now = search rules in
     record {
-      made = subst (λ e. MakesCond c.args.scene.now.setting.now c.args.work.now c.all_of.new.work (instance (place_of c.args.scene.now (known_in c.args.known.now)) e).cond c.all_of.result) same (c.all_of.ensures.made _ _ _ c.conditions-ids.ensures.made);
+      made = subst (λ e. MakesCond c.args.scene.now.setting.now c.args.work.now c.all_of.new.work (instance (place_of c.args.scene.now (known_in c.args.known.now)) e).cond c.all_of.result)
+          same (c.all_of.ensures.made _ _ _ c.conditions-ids.ensures.made);
     }
 
 pub condition-returns-in-Or : goal.condition-returns-in-Or
 condition-returns-in-Or s c =
     let same : Node c.e.inside.at (shape.Or (trees c.as_slice-in-Or.result.now)) ≡ c.args.e.now = search rules in
     record {
-      made = subst (λ e. MakesCond c.args.scene.now.setting.now c.args.work.now c.any_of.new.work (instance (place_of c.args.scene.now (known_in c.args.known.now)) e).cond c.any_of.result) same (c.any_of.ensures.made _ _ _ c.conditions-ids-in-Or.ensures.made);
+      made = subst (λ e. MakesCond c.args.scene.now.setting.now c.args.work.now c.any_of.new.work (instance (place_of c.args.scene.now (known_in c.args.known.now)) e).cond c.any_of.result)
+          same (c.any_of.ensures.made _ _ _ c.conditions-ids-in-Or.ensures.made);
     }
 
 pub factor-returns-in-Times : goal.factor-returns-in-Times
 factor-returns-in-Times s c =
     record {
-      made = subst (λ op. MakesTerm c.args.scene.now.setting.now c.args.work.now c.multiplied.new.work (product_instance (place_of c.args.scene.now (known_in c.args.known.now)) (term_at (things_of c.args.work.now) c.args.before.0) (factor op c.args.part.now.1 no_factor)) c.multiplied.result) (sym c.in-Times.is)
+      made = subst (λ op. MakesTerm c.args.scene.now.setting.now c.args.work.now c.multiplied.new.work
+          (product_instance (place_of c.args.scene.now (known_in c.args.known.now)) (term_at (things_of c.args.work.now) c.args.before.0) (factor op c.args.part.now.1 no_factor)) c.multiplied.result)
+          (sym c.in-Times.is)
           (c.multiplied.ensures.made _ _ _ c.requires.operand c.term-second.ensures.made);
     }
 
@@ -211,7 +280,8 @@ pub indexed-returns : goal.indexed-returns
 indexed-returns s c =
     let some : 0 < length c.args.at.now = search rules in
     record {
-      made = subst (λ x. MakesTerm c.args.scene.now.setting.now c.args.work.now c.element.new.work x c.element.result) (sym (index_is (place_of c.args.scene.now (known_in c.args.known.now)) c.args.name.now c.args.at.now some))
+      made = subst (λ x. MakesTerm c.args.scene.now.setting.now c.args.work.now c.element.new.work x c.element.result)
+          (sym (index_is (place_of c.args.scene.now (known_in c.args.known.now)) c.args.name.now c.args.at.now some))
           (c.element.ensures.made _ _ c.terms-ids.ensures.made);
     }
 
@@ -219,47 +289,54 @@ pub term-returns-in-Neg : goal.term-returns-in-Neg
 term-returns-in-Neg s c =
     let same : Node c.e.inside.at (shape.Neg c.deref.result.now) ≡ c.args.e.now = search rules in
     record {
-      made = subst (λ e. MakesTerm c.args.scene.now.setting.now c.args.work.now c.negated.new.work (instance (place_of c.args.scene.now (known_in c.args.known.now)) e).term c.negated.result) same (c.negated.ensures.made _ _ _ c.term-id.ensures.made);
+      made = subst (λ e. MakesTerm c.args.scene.now.setting.now c.args.work.now c.negated.new.work (instance (place_of c.args.scene.now (known_in c.args.known.now)) e).term c.negated.result)
+          same (c.negated.ensures.made _ _ _ c.term-id.ensures.made);
     }
 
 pub term-returns-in-Add : goal.term-returns-in-Add
 term-returns-in-Add s c =
     let same : Node c.e.inside.at (shape.Add (terms c.as_slice-in-Add.result.now)) ≡ c.args.e.now = search rules in
     record {
-      made = subst (λ e. MakesTerm c.args.scene.now.setting.now c.args.work.now c.summed.new.work (instance (place_of c.args.scene.now (known_in c.args.known.now)) e).term c.summed.result) same (c.summed.ensures.made _ _ _ c.chain-ids.ensures.made);
+      made = subst (λ e. MakesTerm c.args.scene.now.setting.now c.args.work.now c.summed.new.work (instance (place_of c.args.scene.now (known_in c.args.known.now)) e).term c.summed.result)
+          same (c.summed.ensures.made _ _ _ c.chain-ids.ensures.made);
     }
 
 pub term-returns-in-Sum : goal.term-returns-in-Sum
 term-returns-in-Sum s c =
     let same : Node c.e.inside.at (shape.Sum (binders c.in-Sum.over) c.deref-in-Sum.result.now) ≡ c.args.e.now = search rules in
     record {
-      made = subst (λ e. MakesTerm c.args.scene.now.setting.now c.args.work.now c.summed-in-Sum.new.work (instance (place_of c.args.scene.now (known_in c.args.known.now)) e).term c.summed-in-Sum.result) same (c.summed-in-Sum.ensures.made _ _ _ c.behind-ids.ensures.made);
+      made = subst (λ e. MakesTerm c.args.scene.now.setting.now c.args.work.now c.summed-in-Sum.new.work (instance (place_of c.args.scene.now (known_in c.args.known.now)) e).term
+          c.summed-in-Sum.result) same (c.summed-in-Sum.ensures.made _ _ _ c.behind-ids.ensures.made);
     }
 
 pub term-returns-in-Least : goal.term-returns-in-Least
 term-returns-in-Least s c =
     let same : Node c.e.inside.at (shape.Least (trees c.as_slice-in-Least.result.now)) ≡ c.args.e.now = search rules in
     record {
-      made = subst (λ e. MakesTerm c.args.scene.now.setting.now c.args.work.now c.extreme.new.work (instance (place_of c.args.scene.now (known_in c.args.known.now)) e).term c.extreme.result) same (c.extreme.ensures.made _ _ c.terms-ids.ensures.made);
+      made = subst (λ e. MakesTerm c.args.scene.now.setting.now c.args.work.now c.extreme.new.work (instance (place_of c.args.scene.now (known_in c.args.known.now)) e).term c.extreme.result)
+          same (c.extreme.ensures.made _ _ c.terms-ids.ensures.made);
     }
 
 pub term-returns-in-Greatest : goal.term-returns-in-Greatest
 term-returns-in-Greatest s c =
     let same : Node c.e.inside.at (shape.Greatest (trees c.as_slice-in-Greatest.result.now)) ≡ c.args.e.now = search rules in
     record {
-      made = subst (λ e. MakesTerm c.args.scene.now.setting.now c.args.work.now c.extreme-in-Greatest.new.work (instance (place_of c.args.scene.now (known_in c.args.known.now)) e).term c.extreme-in-Greatest.result) same (c.extreme-in-Greatest.ensures.made _ _ c.terms-ids-in-Greatest.ensures.made);
+      made = subst (λ e. MakesTerm c.args.scene.now.setting.now c.args.work.now c.extreme-in-Greatest.new.work (instance (place_of c.args.scene.now (known_in c.args.known.now)) e).term
+          c.extreme-in-Greatest.result) same (c.extreme-in-Greatest.ensures.made _ _ c.terms-ids-in-Greatest.ensures.made);
     }
 
 pub term-returns-in-Abs : goal.term-returns-in-Abs
 term-returns-in-Abs s c =
     let same : Node c.e.inside.at (shape.Abs c.deref-in-Abs.result.now) ≡ c.args.e.now = search rules in
     record {
-      made = subst (λ e. MakesTerm c.args.scene.now.setting.now c.args.work.now c.sized.new.work (instance (place_of c.args.scene.now (known_in c.args.known.now)) e).term c.sized.result) same (c.sized.ensures.made _ _ _ c.term-id-in-Abs.ensures.made);
+      made = subst (λ e. MakesTerm c.args.scene.now.setting.now c.args.work.now c.sized.new.work (instance (place_of c.args.scene.now (known_in c.args.known.now)) e).term c.sized.result)
+          same (c.sized.ensures.made _ _ _ c.term-id-in-Abs.ensures.made);
     }
 
 pub term-returns-in-Cmp : goal.term-returns-in-Cmp
 term-returns-in-Cmp s c =
-    let same : rule.Number (instance (place_of c.args.scene.now (known_in c.args.known.now)) c.args.e.now).cond ≡ (instance (place_of c.args.scene.now (known_in c.args.known.now)) c.args.e.now).term = search rules in
+    let same : rule.Number (instance (place_of c.args.scene.now (known_in c.args.known.now)) c.args.e.now).cond
+    ≡ (instance (place_of c.args.scene.now (known_in c.args.known.now)) c.args.e.now).term = search rules in
     record {
       made = subst (λ x. MakesTerm c.args.scene.now.setting.now c.args.work.now c.number.new.work x c.number.result) same (c.number.ensures.made _ _ _ c.condition-id.ensures.made);
     }

@@ -10,9 +10,11 @@ touches-wanted-requires-clause-listed c =
 
 pub atoms-preserved : goal.atoms-preserved
 atoms-preserved c =
-    touched_more (is_touched (root_in c.args.program.now) (things_in c.args.program.now) c.args.cell) c.args.atoms.now c.atoms.atom-index _ c.atoms.list.items c.put_if.new.list.items c.touches-wanted.result c.atoms-test.true c.atoms.invariant c.touches-wanted.ensures c.in_ok-put_if.ensures
+    touched_more (is_touched (root_in c.args.program.now) (things_in c.args.program.now) c.args.cell) c.args.atoms.now c.atoms.atom-index _ c.atoms.list.items c.put_if.new.list.items
+    c.touches-wanted.result c.atoms-test.true c.atoms.invariant c.touches-wanted.ensures c.in_ok-put_if.ensures
 
 pub returns : goal.returns
 returns c = record {
-  touched = touched_all (is_touched (root_in c.args.program.now) (things_in c.args.program.now) c.args.cell) c.args.atoms.now c.atoms.atom-index c.atoms.list.items (omega (arith, c.atoms-test.false)) c.atoms.invariant;
+  touched = touched_all (is_touched (root_in c.args.program.now) (things_in c.args.program.now) c.args.cell) c.args.atoms.now c.atoms.atom-index c.atoms.list.items
+      (omega (arith, c.atoms-test.false)) c.atoms.invariant;
 }

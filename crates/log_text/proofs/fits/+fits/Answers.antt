@@ -8,7 +8,8 @@ use Rattle.log_text.proofs.fits.+fits.Goals as goal
 pub node_fits-returns-in-Refuted : goal.node_fits-returns-in-Refuted
 node_fits-returns-in-Refuted t c =
     record {
-      fit = refuted_fits c.args.node.now c.node.inside.number c.node.inside.steps c.as_slice.result.now c.node.inside.end _ c.node.view_is c.in-Refuted.is c.number_fits.ensures.fit c.as_slice.ensures.items
+      fit = refuted_fits c.args.node.now c.node.inside.number c.node.inside.steps c.as_slice.result.now c.node.inside.end _ c.node.view_is c.in-Refuted.is c.number_fits.ensures.fit
+          c.as_slice.ensures.items
           c.steps_fit.ensures.fit c.reason_fits.ensures.fit;
     }
 
@@ -18,7 +19,8 @@ node_fits-returns-in-Split t c =
     let own : CutFits (record { cell = c.in-Split.cell; k = c.in-Split.cut }) =
     subst (λ (z : ℤ). CutFits (record { cell = c.in-Split.cell; k = z })) (to_z-of_z w64 c.in-Split.cut fits) c.cut_fits.ensures.fit in
     record {
-      fit = split_fits c.args.node.now c.node.inside.number c.node.inside.steps c.as_slice.result.now c.node.inside.end _ _ _ _ c.node.view_is c.in-Split.is c.number_fits.ensures.fit c.as_slice.ensures.items
+      fit = split_fits c.args.node.now c.node.inside.number c.node.inside.steps c.as_slice.result.now c.node.inside.end _ _ _ _ c.node.view_is c.in-Split.is c.number_fits.ensures.fit
+          c.as_slice.ensures.items
           c.steps_fit.ensures.fit own c.side_fits.ensures.fit c.side_fits-in-Split.ensures.fit;
     }
 
@@ -32,7 +34,8 @@ node_fits-returns-in-Point t c =
 pub node_fits-returns-in-Unfinished : goal.node_fits-returns-in-Unfinished
 node_fits-returns-in-Unfinished t c =
     record {
-      fit = open_fits c.args.node.now c.node.inside.number c.node.inside.steps c.as_slice.result.now c.node.inside.end c.node.view_is c.in-Unfinished.is c.number_fits.ensures.fit c.as_slice.ensures.items
+      fit = open_fits c.args.node.now c.node.inside.number c.node.inside.steps c.as_slice.result.now c.node.inside.end c.node.view_is c.in-Unfinished.is c.number_fits.ensures.fit
+          c.as_slice.ensures.items
           c.steps_fit.ensures.fit;
     }
 

@@ -9,7 +9,8 @@ node_is_grown-returns-in-Refuted t c = record { grown = refuted_grown c.args.nod
 pub node_is_grown-returns-in-Split : goal.node_is_grown-returns-in-Split
 node_is_grown-returns-in-Split t c =
     record {
-      grown = split_grown c.args.node.now c.node.inside.number c.node.inside.steps c.node.inside.end _ _ _ _ c.node.view_is c.in-Split.is c.side_is_grown.ensures.grown c.side_is_grown-in-Split.ensures.grown;
+      grown = split_grown c.args.node.now c.node.inside.number c.node.inside.steps c.node.inside.end _ _ _ _ c.node.view_is c.in-Split.is c.side_is_grown.ensures.grown
+          c.side_is_grown-in-Split.ensures.grown;
     }
 
 pub node_is_grown-returns-in-Point : goal.node_is_grown-returns-in-Point

@@ -13,7 +13,7 @@ abbrev pub decreases-put_sides : goal.decreases-put_sides
 decreases-put_sides g l = 5 * (nodes_on (option_map (λ b. b.value) l.low.now) + nodes_on (option_map (λ b. b.value) l.high.now)) + 4
 
 abbrev pub decreases-put_side : goal.decreases-put_side
-decreases-put_side g l = 5 * nodes_on (option_map (λ b. b.value) l.side.now) + 3
+decreases-put_side g l = 5 * nodes_on (option_map (λ b. b.value) l.child.now) + 3
 
 abbrev pub decreases-put_finished : goal.decreases-put_finished
 decreases-put_finished g l = 5 * l.node.now.nodes + 2

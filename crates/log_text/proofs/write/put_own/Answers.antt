@@ -13,5 +13,6 @@ returns-in_err-put_steps-clause-prefix g c =
 
 pub returns-clause-prefix : goal.returns-clause-prefix
 returns-clause-prefix g c =
-    own_ends _ _ _ _ c.args.parent c.args.node.now _ _ _ _ (ap (λ (b : Branch). b.number) c.node.view_is) (c.as_slice.ensures.items ∙ ap (λ (b : Branch). b.steps) c.node.view_is) c.end_line.ensures.end
+    own_ends _ _ _ _ c.args.parent c.args.node.now _ _ _ _ (ap (λ (b : Branch). b.number) c.node.view_is) (c.as_slice.ensures.items ∙ ap (λ (b : Branch). b.steps) c.node.view_is)
+    c.end_line.ensures.end
     c.in_ok-put_node.ensures.all c.in_ok-put_steps.ensures.all c.put_end.ensures.prefix

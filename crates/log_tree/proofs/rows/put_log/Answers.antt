@@ -11,10 +11,12 @@ returns-in_err-put_rows-clause-prefix g c =
 
 pub returns-clause-all : goal.returns-clause-all
 returns-clause-all g c =
-    log_ends_whole (g.K.Sink.taken c.args.sink.now) (g.K.Sink.taken c.put_head.new.sink) (g.K.Sink.taken c.put_rows.new.sink) (g.K.Sink.taken c.put_footer.new.sink) c.args.rows.now c.args.footer.now c.put_footer.result
+    log_ends_whole (g.K.Sink.taken c.args.sink.now) (g.K.Sink.taken c.put_head.new.sink) (g.K.Sink.taken c.put_rows.new.sink) (g.K.Sink.taken c.put_footer.new.sink) c.args.rows.now
+    c.args.footer.now c.put_footer.result
     c.in_ok-put_head.ensures.all c.in_ok-put_rows.ensures.all c.put_footer.ensures.all
 
 pub returns-clause-prefix : goal.returns-clause-prefix
 returns-clause-prefix g c =
-    log_ends (g.K.Sink.taken c.args.sink.now) (g.K.Sink.taken c.put_head.new.sink) (g.K.Sink.taken c.put_rows.new.sink) (g.K.Sink.taken c.put_footer.new.sink) c.args.rows.now c.args.footer.now c.put_footer.result
+    log_ends (g.K.Sink.taken c.args.sink.now) (g.K.Sink.taken c.put_head.new.sink) (g.K.Sink.taken c.put_rows.new.sink) (g.K.Sink.taken c.put_footer.new.sink) c.args.rows.now c.args.footer.now
+    c.put_footer.result
     c.in_ok-put_head.ensures.all c.in_ok-put_rows.ensures.all c.put_footer.ensures.prefix

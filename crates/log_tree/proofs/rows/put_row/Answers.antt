@@ -8,5 +8,6 @@ returns-in_err-put_steps-clause-prefix g c =
 
 pub returns-clause-prefix : goal.returns-clause-prefix
 returns-clause-prefix g c =
-    row_ends (g.K.Sink.taken c.args.sink.now) (g.K.Sink.taken c.put_node.new.sink) (g.K.Sink.taken c.put_steps.new.sink) (g.K.Sink.taken c.put_end.new.sink) c.args.number c.args.row.now c.as_slice.result.now c.put_end.result
+    row_ends (g.K.Sink.taken c.args.sink.now) (g.K.Sink.taken c.put_node.new.sink) (g.K.Sink.taken c.put_steps.new.sink) (g.K.Sink.taken c.put_end.new.sink) c.args.number c.args.row.now
+    c.as_slice.result.now c.put_end.result
     c.as_slice.ensures.items c.in_ok-put_node.ensures.all c.in_ok-put_steps.ensures.all c.put_end.ensures.prefix

@@ -14,7 +14,8 @@ use Rattle.node_counts.proofs.expressions.+count.Goals as goal
 
 pub nodes_of-returns-in_ok-inside-in-Cumulative : goal.nodes_of-returns-in_ok-inside-in-Cumulative
 nodes_of-returns-in_ok-inside-in-Cumulative s c =
-    let same : Node c.e.inside.at (t.Cumulative (binders c.in-Cumulative.over) c.deref.result.now c.deref-in-Cumulative.result.now c.deref-in-Cumulative-2.result.now c.deref-in-Cumulative-3.result.now) ≡ c.args.e.now = search rules in
+    let same : Node c.e.inside.at (t.Cumulative (binders c.in-Cumulative.over) c.deref.result.now c.deref-in-Cumulative.result.now c.deref-in-Cumulative-2.result.now
+    c.deref-in-Cumulative-3.result.now) ≡ c.args.e.now = search rules in
     record { nodes = c.with_operator-in-Cumulative.ensures.both _ c.in_ok-inside-in-Cumulative.ensures.nodes ∙ ap (λ e. capped (nodes (known_in c.args.known.now) e)) same }
 
 pub nodes_of-returns-in_ok-nodes_behind-in-Sum : goal.nodes_of-returns-in_ok-nodes_behind-in-Sum

@@ -2,8 +2,9 @@
 use Rattle.std.proofs.Common.{drop, map}
 use Rattle.std.specs.List.{sum_by}
 use Rattle.sopl_ast.specs.Instances.{Chance}
+use Rattle.sopl_ast.specs.References.{now_of}
 use Rattle.unfold_laws.specs.Conditions.{IsMet}
-use Rattle.unfold_tables.specs.Tables.{now_of, table_known}
+use Rattle.unfold_tables.specs.Tables.{table_known}
 use Rattle.node_counts.specs.Counted.{nodes_at}
 use Rattle.node_counts.proofs.Counting.{IsLeft}
 use Rattle.node_counts.proofs.instances.nodes_of_chances.Given as goal

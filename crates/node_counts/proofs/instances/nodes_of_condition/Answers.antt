@@ -1,6 +1,7 @@
 use Rattle.std.proofs.Common.{map}
+use Rattle.sopl_ast.specs.References.{now_of}
 use Rattle.unfold_constants.specs.Here.{known_in}
-use Rattle.unfold_tables.specs.Tables.{now_of, table_known}
+use Rattle.unfold_tables.specs.Tables.{table_known}
 use Rattle.node_counts.proofs.Placed.{met_walked}
 use Rattle.node_counts.proofs.instances.nodes_of_condition.Goals as goal
 

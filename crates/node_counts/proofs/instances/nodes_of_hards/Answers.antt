@@ -7,4 +7,5 @@ use Rattle.node_counts.proofs.instances.nodes_of_hards.Goals as goal
 pub hards-preserved : goal.hards-preserved
 hards-preserved c =
     let x : Hard = record { text = c.hard.inside.text; bound = c.hard.inside.env } in
-    left_more _ _ _ _ _ x _ _ _ (next_at c.args.hards.now c.hards.hard-index x _ c.hards-test.true (c.hard.view_is ∙ c.hard-item.is)) c.in_ok-inside.ensures.nodes c.plus-sum.ensures.both c.hards.invariant
+    left_more _ _ _ _ _ x _ _ _ (next_at c.args.hards.now c.hards.hard-index x _ c.hards-test.true (c.hard.view_is ∙ c.hard-item.is)) c.in_ok-inside.ensures.nodes c.plus-sum.ensures.both
+    c.hards.invariant

@@ -1,9 +1,9 @@
 use Rattle.std.proofs.Common.{ap, subst, ◌∙◌, map}
+use Rattle.sopl_ast.specs.References.{now_of}
 use Rattle.sopl_ast.specs.Unfolding.{text_occurrences}
 use Rattle.sopl_ast.specs.WholeModel.{whole}
 use Rattle.sopl_types.specs.declared.check.Typed.{Typed}
 use Rattle.unfold_laws.specs.Passing.{Passes}
-use Rattle.unfold_tables.specs.Tables.{now_of}
 use Rattle.node_counts.proofs.Placed.{hards_ready, chances_ready}
 use Rattle.node_counts.proofs.instances.nodes_of_instances.Goals as goal
 

@@ -2,7 +2,7 @@
 use Rattle.std.proofs.Common.{map}
 use Rattle.sopl_ast.specs.Whole.{conses}
 use Rattle.sopl_ast.specs.Constraints.{cons_tree}
-use Rattle.parser_tests.proofs.Walked.{weight_cons, weight_conses}
+use Rattle.sopl_ast.specs.WholeWeight.{weight_cons, weight_conses}
 use Rattle.parser_tests.proofs.printed.+cons.Given as goal
 
 abbrev pub decreases-put_cons : goal.decreases-put_cons

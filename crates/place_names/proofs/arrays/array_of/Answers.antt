@@ -1,5 +1,5 @@
 use Rattle.std.proofs.Common.{ap, ◌∙◌, map}
-use Rattle.place_names.specs.Grouped.{now_of}
+use Rattle.sopl_ast.specs.References.{now_of}
 use Rattle.place_names.proofs.Planning.{planned_array}
 use Rattle.place_names.proofs.arrays.array_of.Goals as goal
 

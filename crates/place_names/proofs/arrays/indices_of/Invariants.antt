@@ -1,6 +1,6 @@
 use Rattle.std.proofs.Common.{◌≡◌, ◌++◌, map, drop}
+use Rattle.sopl_ast.specs.References.{now_of}
 use Rattle.place_names.specs.Tables.{index_shown}
-use Rattle.place_names.specs.Grouped.{now_of}
 use Rattle.place_names.proofs.arrays.indices_of.Given as goal
 
 abbrev pub invariant-sources : goal.invariant-sources

@@ -1,5 +1,5 @@
 use Rattle.std.proofs.Common.{rules, ◌≤◌, sym, ap, ◌∙◌, map, length}
-use Rattle.place_names.specs.Grouped.{now_of}
+use Rattle.sopl_ast.specs.References.{now_of}
 use Rattle.place_names.specs.Variables.{drawn_name}
 use Rattle.place_names.proofs.Labels.{drawn_labels, grouped_either}
 use Rattle.place_names.proofs.setting.drawn_names.Goals as goal

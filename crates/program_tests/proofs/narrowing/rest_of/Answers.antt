@@ -1,5 +1,5 @@
 use Rattle.std.proofs.Common.{◌∙◌, arith, ap, length, List}
-use Rattle.sopl_base.specs.declared.places.Interval.{Interval}
+use Rattle.sopl_base.specs.declared.interval.Interval.{Interval}
 use Rattle.box_problem.specs.Box.{box_of}
 use Rattle.program_laws.specs.Stated.{box_problem_of}
 use Rattle.program_tests.proofs.Resting.{root_inside}

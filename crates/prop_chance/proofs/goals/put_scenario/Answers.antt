@@ -7,5 +7,6 @@ use Rattle.prop_chance.proofs.goals.put_scenario.Goals as goal
 pub returns-in-Some-clause-put : goal.returns-in-Some-clause-put
 returns-in-Some-clause-put c =
     put_through c.put_all.result _ _ _
-    (undefined_cells (root_in c.args.program.now) (problem_in c.args.program.now) c.args.scenario _ c.term_cells.result.now (sym (ap (option_map (λ id. term_at (things_in c.args.program.now) id.0)) c.in-Some.is) ∙ c.goal.ensures.term) c.term_cells.ensures.cells)
+    (undefined_cells (root_in c.args.program.now) (problem_in c.args.program.now) c.args.scenario _ c.term_cells.result.now
+    (sym (ap (option_map (λ id. term_at (things_in c.args.program.now) id.0)) c.in-Some.is) ∙ c.goal.ensures.term) c.term_cells.ensures.cells)
     c.put_all.ensures.put

@@ -1,5 +1,5 @@
 use Rattle.std.proofs.Common.{◌∙◌, subst, sym}
-use Rattle.sopl_base.specs.declared.places.Reason.{Reason}
+use Rattle.sopl_base.specs.declared.reason.Reason.{Reason}
 use Rattle.cell_questions.specs.Questions.{HasAll}
 use Rattle.reason_mentions.specs.Reasons.{reason_mentions}
 use Rattle.term_nodes.specs.Things.{term_at}
@@ -17,4 +17,5 @@ first_step-requires-clause-all c =
 
 pub returns-in-Always-clause-none : goal.returns-in-Always-clause-none
 returns-in-Always-clause-none c =
-    always_rests c.args.question.now c.args.scenario (term_at (things_in c.args.question.now.program.now) c.args.term.0) c.requires.asked c.requires.reason c.requires.term (sym c.range_of.ensures.mark ∙ c.in-Always.is)
+    always_rests c.args.question.now c.args.scenario (term_at (things_in c.args.question.now.program.now) c.args.term.0) c.requires.asked c.requires.reason c.requires.term (sym c.range_of.ensures.mark
+    ∙ c.in-Always.is)

@@ -1,6 +1,6 @@
 use Rattle.std.proofs.Common.{◌≡◌, ◌++◌, map}
 use Rattle.std.specs.List.{range_with_len}
-use Rattle.sopl_base.specs.declared.places.Reason.TheVariants.{Hard}
+use Rattle.sopl_base.specs.declared.reason.Reason.TheVariants.{Hard}
 use Rattle.prop_core.specs.Members.{AllFit, together}
 use Rattle.prop_set.specs.Kinds.{Fits, reasons_of}
 use Rattle.prop_set.proofs.members.add_instance.Given as goal

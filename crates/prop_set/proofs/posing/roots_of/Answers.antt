@@ -6,4 +6,5 @@ use Rattle.prop_set.proofs.posing.roots_of.Goals as goal
 pub returns-clause-few : goal.returns-clause-few
 returns-clause-few c =
     let fits : Fits w32 c.cells-cell-end.result = search rules in
-    few_roots (root_in c.args.program.now) c.cells.cell c.cells-cell-end.result c.cells.roots.items c.requires.made.draft.store.root_is_box (omega (arith, c.cells-test.false, c.cells-cell-end.ensures)) c.cells.invariant c.cells-cell-end.ensures (omega (arith, fits))
+    few_roots (root_in c.args.program.now) c.cells.cell c.cells-cell-end.result c.cells.roots.items c.requires.made.draft.store.root_is_box
+    (omega (arith, c.cells-test.false, c.cells-cell-end.ensures)) c.cells.invariant c.cells-cell-end.ensures (omega (arith, fits))

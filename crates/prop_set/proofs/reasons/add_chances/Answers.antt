@@ -1,5 +1,5 @@
 use Rattle.std.proofs.Common.{◌≡◌, ◌∷◌, ◌++◌, [], arith, map, rules}
-use Rattle.sopl_base.specs.declared.places.Reason.TheVariants.{Chance}
+use Rattle.sopl_base.specs.declared.reason.Reason.TheVariants.{Chance}
 use Rattle.prop_core.specs.Members.{together}
 use Rattle.prop_set.specs.Kinds.{Fits, reasons_of}
 use Rattle.prop_set.proofs.Together.{fit_more, reasons_more}

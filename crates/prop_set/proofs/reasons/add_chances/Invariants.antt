@@ -1,6 +1,6 @@
 use Rattle.std.proofs.Common.{◌≡◌, ◌++◌, map}
 use Rattle.std.specs.List.{range_with_len}
-use Rattle.sopl_base.specs.declared.places.Reason.TheVariants.{Chance}
+use Rattle.sopl_base.specs.declared.reason.Reason.TheVariants.{Chance}
 use Rattle.prop_core.specs.Members.{AllFit, together}
 use Rattle.prop_set.specs.Kinds.{Fits, reasons_of}
 use Rattle.prop_set.proofs.reasons.add_chances.Given as goal

@@ -17,4 +17,5 @@ add_children-requires c =
 pub above-preserved : goal.above-preserved
 above-preserved c =
     part_made (children 0 c.args.above.now (map outcome_in c.args.outcomes.now)) c.above.level c.add_children.new.level c.args.above.now (map outcome_in c.args.outcomes.now) c.above.i
-    (get_or c.args.above.now c.above.i none) c.above-test.true (same_element c.args.above.now c.above.i none (get_or c.args.above.now c.above.i none) c.above-test.true) c.in_ok-add_children.ensures c.above.invariant
+    (get_or c.args.above.now c.above.i none) c.above-test.true (same_element c.args.above.now c.above.i none (get_or c.args.above.now c.above.i none) c.above-test.true)
+    c.in_ok-add_children.ensures c.above.invariant

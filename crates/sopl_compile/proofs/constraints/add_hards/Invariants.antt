@@ -1,9 +1,9 @@
 use Rattle.std.proofs.Common.{drop, map}
+use Rattle.sopl_ast.specs.References.{now_of}
 use Rattle.instantiation.specs.Whole.{hard_terms}
 use Rattle.program_sizes.specs.Measured.{constraint_subterms}
 use Rattle.sopl_compile.specs.Adding.{with_hards}
 use Rattle.sopl_compile.specs.Posed.{posed}
-use Rattle.unfold_tables.specs.Tables.{now_of}
 use Rattle.sopl_compile.proofs.Additions.{AreToAdd}
 use Rattle.sopl_compile.proofs.constraints.add_hards.Given as goal
 

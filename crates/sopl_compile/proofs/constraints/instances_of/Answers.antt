@@ -1,6 +1,7 @@
 use Rattle.std.proofs.Common.{List, map, subst, IfOk}
 use Rattle.std.specs.declared.alloc.Global.{Global}
 use Rattle.std.specs.declared.vec.Vec.{Vec}
+use Rattle.sopl_ast.specs.References.{now_of}
 use Rattle.box_rules.specs.Terms.{Cond}
 use Rattle.program_sizes.specs.Measured.{Measures, constraint_subterms}
 use Rattle.scene_terms.specs.Scenes.{root_in}
@@ -10,7 +11,6 @@ use Rattle.sopl_term.specs.Built.{cond_ids}
 use Rattle.term_nodes.specs.Things.{cond_in}
 use Rattle.term_program.specs.declared.ids.CondId.{CondId}
 use Rattle.unfold_constants.specs.Here.{known_in}
-use Rattle.unfold_tables.specs.Tables.{now_of}
 use Rattle.sopl_compile.proofs.Places.{conditions_are}
 use Rattle.sopl_compile.proofs.constraints.instances_of.Goals as goal
 

@@ -3,7 +3,7 @@ use Rattle.std.specs.List.{AllByRecursion}
 use Rattle.sopl_ast.specs.Instances.{Decision}
 use Rattle.sopl_ast.specs.Unfolding.{problem_of}
 use Rattle.sopl_ast.specs.WholeModel.{whole}
-use Rattle.sopl_base.specs.declared.places.Interval.{Interval}
+use Rattle.sopl_base.specs.declared.interval.Interval.{Interval}
 use Rattle.sopl_term.specs.Built.{problem_built}
 use Rattle.unfold_laws.proofs.Whole.{decisions_are_bounded}
 use Rattle.unfold_laws.specs.Bounds.{IsBoundedDecision}

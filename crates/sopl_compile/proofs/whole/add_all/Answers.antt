@@ -7,6 +7,7 @@ use Rattle.program_rules.specs.Problems.{ChanceTerms, ProblemTerms}
 use Rattle.program_sizes.specs.Measured.{IsSizeFault, Measures, constraint_subterms, first_large}
 use Rattle.program_sizes.specs.Subterms.{subterms}
 use Rattle.scene_terms.specs.Scenes.{root_in}
+use Rattle.sopl_ast.specs.References.{now_of}
 use Rattle.sopl_ast.specs.Unfolding.{problem_of}
 use Rattle.sopl_ast.specs.WholeModel.{whole}
 use Rattle.sopl_ast.specs.declared.whole.Model.{Model}
@@ -14,7 +15,7 @@ use Rattle.sopl_compile.specs.Adding.{Adds, with_chances, with_hards}
 use Rattle.sopl_compile.specs.Posed.{terms_asked}
 use Rattle.sopl_term.specs.Built.{problem_built}
 use Rattle.sopl_types.specs.declared.check.Typed.{Typed}
-use Rattle.unfold_tables.specs.Tables.{now_of, table_known}
+use Rattle.unfold_tables.specs.Tables.{table_known}
 use Rattle.sopl_compile.proofs.Additions.{adds_either, adds_twice}
 use Rattle.sopl_compile.proofs.Faults.{chances_fault, goal_measures, hards_fault}
 use Rattle.sopl_compile.proofs.Objectives.{goal_measured}
@@ -37,7 +38,8 @@ returns-in_err-add_hards-clause-measured c =
     rw (p.1, p.2)
     (hards_fault (root_in c.args.setting.now) (problem_terms (problem_of (whole c.args.ground.now.typed.model))) c.in_err-add_hards.field-0.0
     (subst (λ (list : List (List Cond)). IsSizeFault (root_in c.args.setting.now) (flat_map constraint_subterms list) c.in_err-add_hards.field-0.0)
-    (hards_are (problem_of (whole c.args.ground.now.typed.model)) c.args.setting.now c.requires.setting (map now_of c.args.conditions.now) c.hards.result.now c.requires.conditions c.hards.ensures.hards)
+    (hards_are (problem_of (whole c.args.ground.now.typed.model)) c.args.setting.now c.requires.setting (map now_of c.args.conditions.now) c.hards.result.now c.requires.conditions
+    c.hards.ensures.hards)
     c.in_err-add_hards.ensures.measured))
 
 pub add_chances-requires-clause-supported : goal.add_chances-requires-clause-supported
@@ -52,7 +54,8 @@ pub returns-in_err-add_chances-clause-measured : goal.returns-in_err-add_chances
 returns-in_err-add_chances-clause-measured c =
     let small : first_large (root_in c.args.setting.now) (flat_map constraint_subterms (problem_terms (problem_of (whole c.args.ground.now.typed.model))).hards) ≡ None =
     subst (λ (list : List (List Cond)). first_large (root_in c.args.setting.now) (flat_map constraint_subterms list) ≡ None)
-    (hards_are (problem_of (whole c.args.ground.now.typed.model)) c.args.setting.now c.requires.setting (map now_of c.args.conditions.now) c.hards.result.now c.requires.conditions c.hards.ensures.hards)
+    (hards_are (problem_of (whole c.args.ground.now.typed.model)) c.args.setting.now c.requires.setting (map now_of c.args.conditions.now) c.hards.result.now c.requires.conditions
+    c.hards.ensures.hards)
     c.in_ok-add_hards.ensures.measured in
     let p = err_from_is_err_and c.from_residual-in_err-add_chances.result c.from_residual-in_err-add_chances.ensures.1 in
     rw (p.1, p.2)
@@ -68,7 +71,8 @@ returns-clause-adds c =
     let chances : List ChanceTerms = (problem_terms (problem_of (whole c.args.ground.now.typed.model))).chances in
     let first : Adds c.args.setting.now c.args.work.now c.add_hards.new.work (with_hards before hards) =
     subst (λ (list : List (List Cond)). Adds c.args.setting.now c.args.work.now c.add_hards.new.work (with_hards before list))
-    (hards_are (problem_of (whole c.args.ground.now.typed.model)) c.args.setting.now c.requires.setting (map now_of c.args.conditions.now) c.hards.result.now c.requires.conditions c.hards.ensures.hards)
+    (hards_are (problem_of (whole c.args.ground.now.typed.model)) c.args.setting.now c.requires.setting (map now_of c.args.conditions.now) c.hards.result.now c.requires.conditions
+    c.hards.ensures.hards)
     c.in_ok-add_hards.ensures.adds in
     let second : Adds c.args.setting.now c.add_hards.new.work c.add_chances.new.work (with_chances (problem_built c.add_hards.new.work.builder) chances) =
     subst (λ (list : List ChanceTerms). Adds c.args.setting.now c.add_hards.new.work c.add_chances.new.work (with_chances (problem_built c.add_hards.new.work.builder) list))
@@ -81,7 +85,8 @@ pub returns-clause-measured : goal.returns-clause-measured
 returns-clause-measured c =
     let hards : first_large (root_in c.args.setting.now) (flat_map constraint_subterms (problem_terms (problem_of (whole c.args.ground.now.typed.model))).hards) ≡ None =
     subst (λ (list : List (List Cond)). first_large (root_in c.args.setting.now) (flat_map constraint_subterms list) ≡ None)
-    (hards_are (problem_of (whole c.args.ground.now.typed.model)) c.args.setting.now c.requires.setting (map now_of c.args.conditions.now) c.hards.result.now c.requires.conditions c.hards.ensures.hards)
+    (hards_are (problem_of (whole c.args.ground.now.typed.model)) c.args.setting.now c.requires.setting (map now_of c.args.conditions.now) c.hards.result.now c.requires.conditions
+    c.hards.ensures.hards)
     c.in_ok-add_hards.ensures.measured in
     let chances : first_large (root_in c.args.setting.now)
     (flat_map (λ (chance : ChanceTerms). constraint_subterms chance.conditions) (problem_terms (problem_of (whole c.args.ground.now.typed.model))).chances) ≡ None =

@@ -1,7 +1,7 @@
 -- The loop goes on as the chain of its parts does, whatever reads the next part.
 use Rattle.std.proofs.Common.{◌≡◌, ◌-◌, length, option_map}
 use Rattle.sopl_grammar.specs.Reading.{Next, chain}
-use Rattle.sopl_expr.specs.Answers.{Answers}
+use Rattle.sopl_expr.specs.ReaderAnswers.{Answers}
 use Rattle.sopl_expr.proofs.chains.chain.Given as goal
 
 abbrev pub invariant-parts : goal.invariant-parts

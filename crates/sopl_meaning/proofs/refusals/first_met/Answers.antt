@@ -4,4 +4,14 @@ use Rattle.sopl_meaning.proofs.refusals.first_met.Goals as goal
 
 pub returns : goal.returns
 unfolding problem_of text_occurrences by_stage
-returns c = record { length_first = refl; divisor_first = refl; element_counted = refl; element_counted_later = refl; binding_counted = refl; binding_counted_later = refl; constraint_counted = refl; constraint_counted_later = refl }
+returns c = record {
+  length_first = refl;
+  divisor_first = refl;
+  element_counted = refl;
+  element_counted_later = refl;
+  binding_counted = refl;
+  binding_counted_later = refl;
+  constraint_counted =
+      refl;
+  constraint_counted_later = refl;
+}

@@ -4,4 +4,22 @@ use Rattle.sopl_meaning.proofs.refusals.refused_constants.Goals as goal
 
 pub returns : goal.returns
 unfolding problem_of text_occurrences by_stage
-returns c = record { sum_end = refl; sum_begin = refl; inner_range = refl; great_front = refl; great_product = refl; great_inside = refl; great_part = refl; great_compared = refl; times_zero = refl; not_spared = refl; outside_array = refl; rest_by_zero = refl; by_condition = refl; outside_later = refl; past_least = refl; great_index = refl }
+returns c = record {
+  sum_end = refl;
+  sum_begin = refl;
+  inner_range = refl;
+  great_front = refl;
+  great_product = refl;
+  great_inside = refl;
+  great_part = refl;
+  great_compared = refl;
+  times_zero =
+      refl;
+  not_spared = refl;
+  outside_array = refl;
+  rest_by_zero = refl;
+  by_condition = refl;
+  outside_later = refl;
+  past_least = refl;
+  great_index = refl;
+}

@@ -4,4 +4,27 @@ use Rattle.sopl_meaning.proofs.refusals.refused_declarations.Goals as goal
 
 pub returns : goal.returns
 unfolding problem_of text_occurrences by_stage
-returns c = record { twice_no_weight = refl; first_no_weight = refl; outcome_by_zero = refl; weight_before_stage = refl; repeated_product = refl; repeated_at_two = refl; empty_named_domain = refl; backward_domain = refl; wide_before_stage = refl; empty_before_stage = refl; end_before_stage = refl; widest_range = refl; full_domains = refl; long_dimension = refl; longer_row = refl; bracket_first = refl; stage_zero = refl; stage_by_zero = refl; last_stage = refl; element_by_zero = refl }
+returns c = record {
+  twice_no_weight = refl;
+  first_no_weight = refl;
+  outcome_by_zero = refl;
+  weight_before_stage = refl;
+  repeated_product = refl;
+  repeated_at_two = refl;
+  empty_named_domain =
+      refl;
+  backward_domain = refl;
+  wide_before_stage = refl;
+  empty_before_stage = refl;
+  end_before_stage = refl;
+  widest_range = refl;
+  full_domains = refl;
+  long_dimension = refl;
+  longer_row =
+      refl;
+  bracket_first = refl;
+  stage_zero = refl;
+  stage_by_zero = refl;
+  last_stage = refl;
+  element_by_zero = refl;
+}

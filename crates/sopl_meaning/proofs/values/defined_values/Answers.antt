@@ -4,4 +4,12 @@ use Rattle.sopl_meaning.proofs.values.defined_values.Goals as goal
 
 pub returns : goal.returns
 unfolding problem_of text_occurrences by_stage
-returns c = record { settled_truths = λ policy a b. rw (a, b) refl; settled_none_counted = λ policy a. rw a refl; settled_one_counted = λ policy a. rw a refl; settled_not_often = λ policy a. rw a refl; measured_nodes = refl; measured_truths = λ policy a b c. rw (a, b, c) refl }
+returns c = record {
+  settled_truths = λ policy a b. rw (a, b) refl;
+  settled_none_counted = λ policy a. rw a refl;
+  settled_one_counted = λ policy a. rw a refl;
+  settled_not_often = λ policy a.
+      rw a refl;
+  measured_nodes = refl;
+  measured_truths = λ policy a b c. rw (a, b, c) refl;
+}

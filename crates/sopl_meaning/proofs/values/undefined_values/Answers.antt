@@ -4,4 +4,11 @@ use Rattle.sopl_meaning.proofs.values.undefined_values.Goals as goal
 
 pub returns : goal.returns
 unfolding problem_of text_occurrences by_stage
-returns c = record { undefined_outside = λ policy a. rw a refl; undefined_inside = λ policy a. rw a refl; undefined_decided = λ policy a b. rw (a, b) refl; undefined_no_value = λ policy a. rw a refl; undefined_value = λ policy a. rw a refl }
+returns c = record {
+  undefined_outside = λ policy a. rw a refl;
+  undefined_inside = λ policy a. rw a refl;
+  undefined_decided = λ policy a b. rw (a, b) refl;
+  undefined_no_value = λ policy a.
+      rw a refl;
+  undefined_value = λ policy a. rw a refl;
+}

@@ -4,4 +4,11 @@ use Rattle.sopl_meaning.proofs.worked.worked_conditions.Goals as goal
 
 pub returns : goal.returns
 unfolding problem_of text_occurrences by_stage
-returns c = record { alike = λ policy a b c. rw (a, b, c) refl; different = λ policy a b c. rw (a, b, c) refl; apart = λ policy a b. rw (a, b) refl; together = λ policy a b. rw (a, b) refl; end = λ policy a b. rw (a, b) refl }
+returns c = record {
+  alike = λ policy a b c. rw (a, b, c) refl;
+  different = λ policy a b c. rw (a, b, c) refl;
+  apart = λ policy a b. rw (a, b) refl;
+  together = λ policy a b.
+      rw (a, b) refl;
+  end = λ policy a b. rw (a, b) refl;
+}

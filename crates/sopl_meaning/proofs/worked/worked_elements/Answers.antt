@@ -4,4 +4,11 @@ use Rattle.sopl_meaning.proofs.worked.worked_elements.Goals as goal
 
 pub returns : goal.returns
 unfolding problem_of text_occurrences by_stage
-returns c = record { outside = λ policy a. rw a refl; outside_false = λ policy a. rw a refl; outside_negated = λ policy a. rw a refl; inside = λ policy a. rw a refl; decided = λ policy a b. rw (a, b) refl }
+returns c = record {
+  outside = λ policy a. rw a refl;
+  outside_false = λ policy a. rw a refl;
+  outside_negated = λ policy a. rw a refl;
+  inside = λ policy a. rw a refl;
+  decided = λ policy a b.
+      rw (a, b) refl;
+}

@@ -4,4 +4,17 @@ use Rattle.sopl_meaning.proofs.worked.worked_refusals.Goals as goal
 
 pub returns : goal.returns
 unfolding problem_of text_occurrences by_stage
-returns c = record { by_zero = refl; empty_domain = refl; short_bracket = refl; no_weight = refl; late_stage = refl; threshold = refl; two_numbers = refl; wide_domain = refl; long_range = refl; pairs = refl; one_too_many = refl }
+returns c = record {
+  by_zero = refl;
+  empty_domain = refl;
+  short_bracket = refl;
+  no_weight = refl;
+  late_stage = refl;
+  threshold = refl;
+  two_numbers = refl;
+  wide_domain = refl;
+  long_range =
+      refl;
+  pairs = refl;
+  one_too_many = refl;
+}

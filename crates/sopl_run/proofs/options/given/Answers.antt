@@ -24,4 +24,5 @@ parts-preserved c =
     c.first_part.ensures.parts c.in_ok-split.was in
     let more : found_with c.args.kind (option_map text_shown c.parts.found) (part_shown split.part) ≡ Some (option_map text_shown c.in_ok-found.found) =
     sym c.found_with.ensures ∙ ap (option_map (option_map text_shown)) c.in_ok-found.was in
-    sym (given_more c.args.command c.args.kind c.parts.left.now split.later.now (part_shown split.part) is (option_map text_shown c.parts.found) (option_map text_shown c.in_ok-found.found) more) ∙ c.parts.invariant
+    sym (given_more c.args.command c.args.kind c.parts.left.now split.later.now (part_shown split.part) is (option_map text_shown c.parts.found) (option_map text_shown c.in_ok-found.found) more)
+    ∙ c.parts.invariant

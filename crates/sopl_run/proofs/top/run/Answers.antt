@@ -33,37 +33,44 @@ returns-in-Ok-clause-read g c = (written_tells _ _ _ _ _ _ _ _ c.in-Ok.reply c.w
 
 pub returns-in-Ok-clause-write : goal.returns-in-Ok-clause-write
 returns-in-Ok-clause-write g c =
-    λ failed. inl (written_cause _ _ _ _ (g.K.Sink.taken c.args.answer.now) (g.K.Sink.taken c.written.new.answer) _ _ c.in-Ok.reply c.written.result _ _ c.in-Ok.ensures.reply c.written.ensures.write failed)
+    λ failed. inl (written_cause _ _ _ _ (g.K.Sink.taken c.args.answer.now) (g.K.Sink.taken c.written.new.answer) _ _ c.in-Ok.reply c.written.result _ _ c.in-Ok.ensures.reply
+    c.written.ensures.write failed)
 
 pub returns-in-Err-clause-answered : goal.returns-in-Err-clause-answered
 returns-in-Err-clause-answered g c = stop_answers _ _ _ _ _ _ _ c.in-Err.stop c.status_of.result c.status_of.ensures.status c.in-Err.ensures.stopped
 
 pub returns-in-Err-clause-usage : goal.returns-in-Err-clause-usage
 returns-in-Err-clause-usage g c =
-    (stop_tells c.args.words.now (g.S.Source.stock c.args.source.now) (g.S.Source.faults c.args.source.now) (g.S.Source.faults c.reply_for.new.source) c.in-Err.stop c.status_of.result c.status_of.ensures.status).usage
+    (stop_tells c.args.words.now (g.S.Source.stock c.args.source.now) (g.S.Source.faults c.args.source.now) (g.S.Source.faults c.reply_for.new.source) c.in-Err.stop c.status_of.result
+    c.status_of.ensures.status).usage
 
 pub returns-in-Err-clause-usage_when : goal.returns-in-Err-clause-usage_when
 returns-in-Err-clause-usage_when g c =
-    (stop_tells c.args.words.now (g.S.Source.stock c.args.source.now) (g.S.Source.faults c.args.source.now) (g.S.Source.faults c.reply_for.new.source) c.in-Err.stop c.status_of.result c.status_of.ensures.status).usage_when
+    (stop_tells c.args.words.now (g.S.Source.stock c.args.source.now) (g.S.Source.faults c.args.source.now) (g.S.Source.faults c.reply_for.new.source) c.in-Err.stop c.status_of.result
+    c.status_of.ensures.status).usage_when
 
 pub returns-in-Err-clause-ends : goal.returns-in-Err-clause-ends
 returns-in-Err-clause-ends g c =
-    (stop_tells c.args.words.now (g.S.Source.stock c.args.source.now) (g.S.Source.faults c.args.source.now) (g.S.Source.faults c.reply_for.new.source) c.in-Err.stop c.status_of.result c.status_of.ensures.status).ends
+    (stop_tells c.args.words.now (g.S.Source.stock c.args.source.now) (g.S.Source.faults c.args.source.now) (g.S.Source.faults c.reply_for.new.source) c.in-Err.stop c.status_of.result
+    c.status_of.ensures.status).ends
 
 pub returns-in-Err-clause-ends_when : goal.returns-in-Err-clause-ends_when
 returns-in-Err-clause-ends_when g c =
-    (stop_tells c.args.words.now (g.S.Source.stock c.args.source.now) (g.S.Source.faults c.args.source.now) (g.S.Source.faults c.reply_for.new.source) c.in-Err.stop c.status_of.result c.status_of.ensures.status).ends_when
+    (stop_tells c.args.words.now (g.S.Source.stock c.args.source.now) (g.S.Source.faults c.args.source.now) (g.S.Source.faults c.reply_for.new.source) c.in-Err.stop c.status_of.result
+    c.status_of.ensures.status).ends_when
 
 pub returns-in-Err-clause-enough : goal.returns-in-Err-clause-enough
 returns-in-Err-clause-enough g c =
-    (stop_tells c.args.words.now (g.S.Source.stock c.args.source.now) (g.S.Source.faults c.args.source.now) (g.S.Source.faults c.reply_for.new.source) c.in-Err.stop c.status_of.result c.status_of.ensures.status).enough
+    (stop_tells c.args.words.now (g.S.Source.stock c.args.source.now) (g.S.Source.faults c.args.source.now) (g.S.Source.faults c.reply_for.new.source) c.in-Err.stop c.status_of.result
+    c.status_of.ensures.status).enough
 
 pub returns-in-Err-clause-ended : goal.returns-in-Err-clause-ended
 returns-in-Err-clause-ended g c = stop_no_answer c.in-Err.stop c.status_of.result _ c.status_of.ensures.status
 
 pub returns-in-Err-clause-read : goal.returns-in-Err-clause-read
 returns-in-Err-clause-read g c =
-    (stop_tells c.args.words.now (g.S.Source.stock c.args.source.now) (g.S.Source.faults c.args.source.now) (g.S.Source.faults c.reply_for.new.source) c.in-Err.stop c.status_of.result c.status_of.ensures.status).read
+    (stop_tells c.args.words.now (g.S.Source.stock c.args.source.now) (g.S.Source.faults c.args.source.now) (g.S.Source.faults c.reply_for.new.source) c.in-Err.stop c.status_of.result
+    c.status_of.ensures.status).read
 
 pub returns-in-Err-clause-write : goal.returns-in-Err-clause-write
 returns-in-Err-clause-write g c =

@@ -4,4 +4,5 @@ use Rattle.sopl_term.proofs.tables.copied.Goals as goal
 
 pub returns : goal.returns
 returns c =
-    list_done (λ (set : List ℤ). set) (λ (set : Vec ℤ Global). set.items) c.args.sets.now c.loop-set.set-index c.loop-set.list.items c.loop-set-test.false c.loop-set.invariant ∙ map_same c.args.sets.now
+    list_done (λ (set : List ℤ). set) (λ (set : Vec ℤ Global). set.items) c.args.sets.now c.loop-set.set-index c.loop-set.list.items c.loop-set-test.false c.loop-set.invariant
+    ∙ map_same c.args.sets.now

@@ -1,6 +1,6 @@
 use Rattle.std.proofs.Common.{rules, ◌≡◌, refl, ◌⊎◌, subst, option_map, Ok, Err, arith}
 use Rattle.std.proofs.lemmas.Result.{err_from_is_err_and}
-use Rattle.sopl_base.specs.declared.places.Fault.TheVariants.{NoMemory}
+use Rattle.sopl_base.specs.declared.fault.Fault.TheVariants.{NoMemory}
 use Rattle.sopl_ast.specs.Declarations.{nothing_declared, declarations_occurrences}
 use Rattle.sopl_ast.specs.Occurrences.{met}
 use Rattle.sopl_ast.specs.Unfolding.{goal_occurrences}
@@ -23,7 +23,8 @@ returns-in_err-walk_goal-clause-refused c =
     let first = subst (λ n. met n (declarations_occurrences nothing_declared c.args.model.now.decls) ≡ Ok c.declare_all.new.count.counted) c.new-count.ensures c.in_ok-declared.ensures.met in
     let same : option_map (λ g. goal_tree g.now) c.as_ref.result ≡ (whole c.args.model.now).goal = first_of (search rules, grind arith) in
     rw (p.1, p.2) (objective_ends (whole c.args.model.now) (declared_in c.in_ok-declared.declared) c.in_ok-declared.ensures.behind c.declare_all.new.count.counted first c.in_err-walk_goal.field-0.0
-    (subst (λ g. (c.in_err-walk_goal.field-0.0 ≡ NoMemory) ⊎ (met c.declare_all.new.count.counted (goal_occurrences (table_known c.in_ok-declared.declared.table) g) ≡ Err c.in_err-walk_goal.field-0.0)) same
+    (subst (λ g. (c.in_err-walk_goal.field-0.0 ≡ NoMemory) ⊎ (met c.declare_all.new.count.counted (goal_occurrences (table_known c.in_ok-declared.declared.table) g)
+    ≡ Err c.in_err-walk_goal.field-0.0)) same
     c.in_err-walk_goal.ensures))
 
 pub returns-in_err-instances-clause-refused : goal.returns-in_err-instances-clause-refused
@@ -31,8 +32,10 @@ returns-in_err-instances-clause-refused c =
     let p = err_from_is_err_and c.from_residual-in_err-instances.result c.from_residual-in_err-instances.ensures.1 in
     let first = subst (λ n. met n (declarations_occurrences nothing_declared c.args.model.now.decls) ≡ Ok c.declare_all.new.count.counted) c.new-count.ensures c.in_ok-declared.ensures.met in
     let same : option_map (λ g. goal_tree g.now) c.as_ref.result ≡ (whole c.args.model.now).goal = first_of (search rules, grind arith) in
-    let second = subst (λ g. met c.declare_all.new.count.counted (goal_occurrences (table_known c.in_ok-declared.declared.table) g) ≡ Ok c.walk_goal.new.count.counted) same c.in_ok-walk_goal.ensures in
-    rw (p.1, p.2) (constraints_end (whole c.args.model.now) (declared_in c.in_ok-declared.declared) c.in_ok-declared.ensures.behind c.declare_all.new.count.counted first c.walk_goal.new.count.counted second
+    let second = subst (λ g. met c.declare_all.new.count.counted (goal_occurrences (table_known c.in_ok-declared.declared.table) g) ≡ Ok c.walk_goal.new.count.counted) same
+    c.in_ok-walk_goal.ensures in
+    rw (p.1, p.2) (constraints_end (whole c.args.model.now) (declared_in c.in_ok-declared.declared) c.in_ok-declared.ensures.behind c.declare_all.new.count.counted first
+    c.walk_goal.new.count.counted second
     c.in_err-instances.field-0.0 c.in_err-instances.ensures.met)
 
 pub by_stage-requires : goal.by_stage-requires
@@ -46,7 +49,15 @@ pub returns-clause-found : goal.returns-clause-found
 returns-clause-found c =
     let first = subst (λ n. met n (declarations_occurrences nothing_declared c.args.model.now.decls) ≡ Ok c.declare_all.new.count.counted) c.new-count.ensures c.in_ok-declared.ensures.met in
     let same : option_map (λ g. goal_tree g.now) c.as_ref.result ≡ (whole c.args.model.now).goal = first_of (search rules, grind arith) in
-    let second = subst (λ g. met c.declare_all.new.count.counted (goal_occurrences (table_known c.in_ok-declared.declared.table) g) ≡ Ok c.walk_goal.new.count.counted) same c.in_ok-walk_goal.ensures in
+    let second = subst (λ g. met c.declare_all.new.count.counted (goal_occurrences (table_known c.in_ok-declared.declared.table) g) ≡ Ok c.walk_goal.new.count.counted) same
+    c.in_ok-walk_goal.ensures in
     text_unfolds (whole c.args.model.now) (declared_in c.in_ok-declared.declared) c.in_ok-declared.ensures.behind c.declare_all.new.count.counted first c.walk_goal.new.count.counted second
-    (record { table = c.in_ok-declared.declared.table; decisions = c.in_ok-declared.declared.decisions; stochs = c.in_ok-stochs.stochs; hards = c.in_ok-instances.instances.hards; chances = c.in_ok-instances.instances.chances })
+    (record {
+      table = c.in_ok-declared.declared.table;
+      decisions = c.in_ok-declared.declared.decisions;
+      stochs = c.in_ok-stochs.stochs;
+      hards = c.in_ok-instances.instances.hards;
+      chances =
+          c.in_ok-instances.instances.chances;
+    })
     c.instances.new.count.counted c.in_ok-instances.ensures.met refl refl c.in_ok-stochs.ensures.sorted c.in_ok-instances.ensures.hards c.in_ok-instances.ensures.chances

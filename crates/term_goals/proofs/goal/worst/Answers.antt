@@ -16,7 +16,8 @@ range-requires-clause-exists c =
 
 pub loop-i-init : goal.loop-i-init
 loop-i-init c =
-    worst_first c.args.direction (box_in c.args.here.now.root) (box_in c.args.here.now.view) (things c.args.here.now.items.now) c.args.terms.now 0 (ends_of c.range.result.ends) (some_there c.args.terms.now c.if-count-eq0.false) c.range.ensures.interval
+    worst_first c.args.direction (box_in c.args.here.now.root) (box_in c.args.here.now.view) (things c.args.here.now.items.now) c.args.terms.now 0 (ends_of c.range.result.ends)
+    (some_there c.args.terms.now c.if-count-eq0.false) c.range.ensures.interval
 
 pub range-range-requires-clause-exists : goal.range-range-requires-clause-exists
 range-range-requires-clause-exists c =
@@ -25,9 +26,11 @@ range-range-requires-clause-exists c =
 pub loop-i-preserved : goal.loop-i-preserved
 loop-i-preserved c =
     let below : c.loop-i.i < length c.args.terms.now = omega (arith, c.loop-i.auto.i, c.loop-i-test.true) in
-    worst_back c.args.direction (box_in c.args.here.now.root) (box_in c.args.here.now.view) (things c.args.here.now.items.now) c.args.terms.now c.loop-i.i 0 (ends_of c.range-range.result.ends) (ends_of c.loop-i.found) (ends_of c.worse-found.result)
+    worst_back c.args.direction (box_in c.args.here.now.root) (box_in c.args.here.now.view) (things c.args.here.now.items.now) c.args.terms.now c.loop-i.i 0 (ends_of c.range-range.result.ends)
+    (ends_of c.loop-i.found) (ends_of c.worse-found.result)
     c.loop-i-test.true below c.loop-i.invariant c.range-range.ensures.interval c.worse-found.ensures
 
 pub returns : goal.returns
 returns c =
-    all_worst c.args.direction (box_in c.args.here.now.root) (box_in c.args.here.now.view) (things c.args.here.now.items.now) c.args.terms.now c.loop-i.i (ends_of c.loop-i.found) c.loop-i-test.false c.loop-i.invariant
+    all_worst c.args.direction (box_in c.args.here.now.root) (box_in c.args.here.now.view) (things c.args.here.now.items.now) c.args.terms.now c.loop-i.i (ends_of c.loop-i.found)
+    c.loop-i-test.false c.loop-i.invariant

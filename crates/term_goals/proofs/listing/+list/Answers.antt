@@ -19,11 +19,13 @@ pub add-returns-clause-sum : goal.add-returns-clause-sum
 add-returns-clause-sum t c = λ b inside.
     let root = box_in c.args.here.now.root in
     let all = things c.args.here.now.items.now in
-    subst (λ (e : ends.Ends). OnOk c.add_bare.result (listed_ends root b all c.add_bare.new.list.items ≡ ends.plus (listed_ends root b all c.args.list.now.items) e)) (c.products.invariant.sum b) (c.add_bare.ensures.sum b inside)
+    subst (λ (e : ends.Ends). OnOk c.add_bare.result (listed_ends root b all c.add_bare.new.list.items ≡ ends.plus (listed_ends root b all c.args.list.now.items) e)) (c.products.invariant.sum b)
+    (c.add_bare.ensures.sum b inside)
 
 pub add_bare-returns-then-item-clause-sum : goal.add_bare-returns-then-item-clause-sum
 add_bare-returns-then-item-clause-sum t c = λ b inside.
-    plain_added c.args.here.now b c.args.list.now.items c.args.atom.now.k c.args.atom.now.term c.in-Some.item.now c.requires.ready (c.in-Some.ensures.some (box_in c.args.here.now.root) c.requires.ready.built) c.if-item.true inside
+    plain_added c.args.here.now b c.args.list.now.items c.args.atom.now.k c.args.atom.now.term c.in-Some.item.now c.requires.ready
+    (c.in-Some.ensures.some (box_in c.args.here.now.root) c.requires.ready.built) c.if-item.true inside
 
 pub add_bare-add_parts-requires : goal.add_bare-add_parts-requires
 add_bare-add_parts-requires t c =
@@ -32,7 +34,8 @@ add_bare-add_parts-requires t c =
     let at = c.in-Some.ensures.some root c.requires.ready.built in
     let same : c.as_slice.result.now ≡ c.in-Sum.parts.items = search rules in
     let weight : atoms_weight root (term_at all c.args.atom.now.term) ≡ sum_weight root (parts_at all c.as_slice.result.now) =
-    ap (atoms_weight root) (term_is root all c.args.atom.now.term c.in-Some.item.now (node.Sum c.in-Sum.parts) at c.in-Sum.is) ∙ ap (λ (xs : List Signed). sum_weight root (parts_at all xs)) (sym same) in (
+    ap (atoms_weight root) (term_is root all c.args.atom.now.term c.in-Some.item.now (node.Sum c.in-Sum.parts) at c.in-Sum.is)
+    ∙ ap (λ (xs : List Signed). sum_weight root (parts_at all xs)) (sym same) in (
       omega arith,
       (
         c.requires.ready,
@@ -40,7 +43,8 @@ add_bare-add_parts-requires t c =
           subst (PartsBelow c.args.atom.now.term) (sym same) (below_at root all c.args.atom.now.term c.in-Some.item.now (node.Sum c.in-Sum.parts) at c.in-Sum.is),
           (
             subst (λ (z : ℤ). unsigned_abs z < 2 ^ 127) (sym c.factor.ensures) (small_at root all c.args.atom.now.term c.in-Some.item.now c.args.atom.now.k at c.if-item.false c.requires.room),
-            subst (λ (z : ℤ). unsigned_abs z * sum_weight root (parts_at all c.as_slice.result.now) < 2 ^ 127) (sym c.factor.ensures) (subst (λ (n : ℕ). unsigned_abs c.args.atom.now.k * n < 2 ^ 127) weight c.requires.room),
+            subst (λ (z : ℤ). unsigned_abs z * sum_weight root (parts_at all c.as_slice.result.now) < 2 ^ 127) (sym c.factor.ensures)
+                (subst (λ (n : ℕ). unsigned_abs c.args.atom.now.k * n < 2 ^ 127) weight c.requires.room),
           ),
         ),
       ),
@@ -52,7 +56,8 @@ add_parts-add-requires t c =
     let all = things c.args.here.now.items.now in
     let none : Signed = record { subtracted = false; term = 0 } in
     let x : Signed = get_or c.args.parts.now c.loop-part.part-index none in
-    let there = part_below c.args.limit c.args.parts.now c.loop-part.part-index x c.requires.below c.loop-part-test.true (get_or_default c.args.parts.now c.loop-part.part-index none x c.loop-part-test.true) in
+    let there = part_below c.args.limit c.args.parts.now c.loop-part.part-index x c.requires.below c.loop-part-test.true
+    (get_or_default c.args.parts.now c.loop-part.part-index none x c.loop-part-test.true) in
     let is = c.product-signed.ensures ∙ ap (λ (z : ℤ). c.args.times.now.k *ℤ z) c.factor.ensures in
     (omega (arith, there), (c.requires.ready, part_room root all c.args.parts.now c.loop-part.part-index none c.args.times.now.k c.product-signed.result.k c.loop-part-test.true is c.requires.room))
 
@@ -63,7 +68,8 @@ add_parts-loop-part-preserved t c = record {
       let all = things c.args.here.now.items.now in
       let none : Signed = record { subtracted = false; term = 0 } in
       let is = c.product-signed.ensures ∙ ap (λ (z : ℤ). c.args.times.now.k *ℤ z) c.factor.ensures in
-      part_step c.args.here.now b c.args.parts.now c.loop-part.part-index none c.args.times.now.k c.product-signed.result.k (listed_ends root b all c.loop-part.list.items) (listed_ends root b all c.add.new.list.items) _
+      part_step c.args.here.now b c.args.parts.now c.loop-part.part-index none c.args.times.now.k c.product-signed.result.k (listed_ends root b all c.loop-part.list.items)
+      (listed_ends root b all c.add.new.list.items) _
       c.requires.ready inside c.loop-part-test.true is (c.in_ok-add.ensures.sum b inside) (c.loop-part.invariant.sum b inside);
   exist = λ all. c.in_ok-add.ensures.exist (c.loop-part.invariant.exist all);
 }

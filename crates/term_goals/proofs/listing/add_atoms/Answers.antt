@@ -17,7 +17,8 @@ loop-atom-preserved c = record {
       let root = box_in c.args.here.now.root in
       let all = things c.args.here.now.items.now in
       let none : Atom = record { k = pos 0; term = 0 } in
-      atom_step root b all c.args.atoms.now c.loop-atom.atom-index none c.factor.result.k (listed_ends root b all c.loop-atom.list.items) (listed_ends root b all c.add.new.list.items) _ c.loop-atom-test.true c.factor.ensures (c.in_ok-add.ensures.sum b inside) (c.loop-atom.invariant.sum b inside);
+      atom_step root b all c.args.atoms.now c.loop-atom.atom-index none c.factor.result.k (listed_ends root b all c.loop-atom.list.items) (listed_ends root b all c.add.new.list.items)
+      _ c.loop-atom-test.true c.factor.ensures (c.in_ok-add.ensures.sum b inside) (c.loop-atom.invariant.sum b inside);
   exist = λ all. c.in_ok-add.ensures.exist (c.loop-atom.invariant.exist all);
 }
 

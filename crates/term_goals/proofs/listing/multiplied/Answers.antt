@@ -27,7 +27,8 @@ returns-then-is_constant-clause-same c =
     let constant = c.factor.ensures ∙ ap (λ (f : Form). f.constant) f_is in
     let times = c.product.ensures ∙ ap (λ (z : ℤ). z *ℤ c.factor.result.k) c.factor-before.ensures in
     let of : ℤ → Atom = λ z. record { k = z; term = c.args.b } in
-    left_operand root all c.args.atom.now c.times.result c.args.a c.args.b c.factor.result.k c.requires.right c.requires.is left c.requires.other c.requires.room constant (c.times.ensures ∙ ap of times)
+    left_operand root all c.args.atom.now c.times.result c.args.a c.args.b c.factor.result.k c.requires.right c.requires.is left c.requires.other c.requires.room constant (c.times.ensures
+    ∙ ap of times)
 
 pub product-requires-then-is_constant-2 : goal.product-requires-then-is_constant-2
 product-requires-then-is_constant-2 c =
@@ -53,4 +54,5 @@ returns-then-is_constant-2-clause-same c =
     let constant = c.factor-then-is_constant-2.ensures ∙ ap (λ (f : Form). f.constant) g_is in
     let times = c.product-then-is_constant-2.ensures ∙ ap (λ (z : ℤ). z *ℤ c.factor-then-is_constant-2.result.k) c.factor-before.ensures in
     let of : ℤ → Atom = λ z. record { k = z; term = c.args.a } in
-    right_operand root all c.args.atom.now c.times-then-is_constant-2.result c.args.a c.args.b c.factor-then-is_constant-2.result.k c.requires.left c.requires.is left right c.requires.other c.requires.room constant (c.times-then-is_constant-2.ensures ∙ ap of times)
+    right_operand root all c.args.atom.now c.times-then-is_constant-2.result c.args.a c.args.b c.factor-then-is_constant-2.result.k c.requires.left c.requires.is left right c.requires.other
+    c.requires.room constant (c.times-then-is_constant-2.ensures ∙ ap of times)

@@ -14,11 +14,13 @@ weight-requires c =
 pub overflow_add-result : goal.overflow_add-result
 overflow_add-result c =
     let is = c.in_ok-wide.ensures ∙ c.form_at.ensures (box_in c.args.here.now.root) c.requires.ready.built in
-    let sum = size_of_term (box_in c.args.here.now.root) c.args.here.now.items.now c.args.id (wide_form c.in_ok-wide.wide) c.weight.result c.from.result is c.weight.ensures (c.from.ensures ∙ c.weight_at.ensures) in
+    let sum = size_of_term (box_in c.args.here.now.root) c.args.here.now.items.now c.args.id (wide_form c.in_ok-wide.wide) c.weight.result c.from.result is c.weight.ensures (c.from.ensures
+    ∙ c.weight_at.ensures) in
     let small = (small_term (box_in c.args.here.now.root) c.args.here.now.items.now c.args.id c.requires.ready.built).small in
     record { fits = omega (arith, sum, small) }
 
 pub returns : goal.returns
 returns c =
     let is = c.in_ok-wide.ensures ∙ c.form_at.ensures (box_in c.args.here.now.root) c.requires.ready.built in
-    size_of_term (box_in c.args.here.now.root) c.args.here.now.items.now c.args.id (wide_form c.in_ok-wide.wide) c.weight.result c.from.result is c.weight.ensures (c.from.ensures ∙ c.weight_at.ensures)
+    size_of_term (box_in c.args.here.now.root) c.args.here.now.items.now c.args.id (wide_form c.in_ok-wide.wide) c.weight.result c.from.result is c.weight.ensures (c.from.ensures
+    ∙ c.weight_at.ensures)

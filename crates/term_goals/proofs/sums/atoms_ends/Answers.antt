@@ -13,5 +13,6 @@ pub plus-sum-requires : goal.plus-sum-requires
 plus-sum-requires c =
     let none : Atom = record { k = pos 0; term = 0 } in
     record {
-      fits = atoms_fit c.args.here.now c.args.atoms.now c.loop-i.i none (wide_ends c.times_atom-times.result) (wide_ends c.loop-i.sum) c.requires.ready c.requires.room c.loop-i-test.true c.loop-i.auto.i c.times_atom-times.ensures c.loop-i.invariant;
+      fits = atoms_fit c.args.here.now c.args.atoms.now c.loop-i.i none (wide_ends c.times_atom-times.result) (wide_ends c.loop-i.sum) c.requires.ready c.requires.room c.loop-i-test.true
+          c.loop-i.auto.i c.times_atom-times.ensures c.loop-i.invariant;
     }

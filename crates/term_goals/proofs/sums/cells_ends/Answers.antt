@@ -13,5 +13,6 @@ pub plus-sum-requires : goal.plus-sum-requires
 plus-sum-requires c =
     let none : WideCoefficient = record { cell = 0; k = pos 0 } in
     record {
-      fits = cells_fit c.args.here.now c.args.cells.now c.loop-i.i none (wide_ends c.times_cell-times.result) (wide_ends c.loop-i.sum) c.requires.ready c.requires.room c.loop-i-test.true c.loop-i.auto.i c.times_cell-times.ensures c.loop-i.invariant;
+      fits = cells_fit c.args.here.now c.args.cells.now c.loop-i.i none (wide_ends c.times_cell-times.result) (wide_ends c.loop-i.sum) c.requires.ready c.requires.room c.loop-i-test.true
+          c.loop-i.auto.i c.times_cell-times.ensures c.loop-i.invariant;
     }

@@ -12,5 +12,6 @@ weight_at-times-requires c =
 pub overflow_add-sum : goal.overflow_add-sum
 overflow_add-sum c =
     let none : WideCoefficient = record { cell = 0; k = pos 0 } in
-    let room = sum_back (box_in c.args.root.now) c.args.cells.now c.loop-i.i none c.loop-i.sum c.weight_at-times.result c.requires.room c.loop-i-test.true c.loop-i.auto.i c.loop-i.invariant c.weight_at-times.ensures in
+    let room = sum_back (box_in c.args.root.now) c.args.cells.now c.loop-i.i none c.loop-i.sum c.weight_at-times.result c.requires.room c.loop-i-test.true c.loop-i.auto.i c.loop-i.invariant
+    c.weight_at-times.ensures in
     record { fits = omega (arith, room) }

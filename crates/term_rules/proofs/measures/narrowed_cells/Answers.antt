@@ -9,5 +9,6 @@ narrowed-requires c =
     let none : WideCoefficient = record { cell = 0; k = pos 0 } in
     let here : WideCoefficient = get_or c.args.cells.now c.loop-coefficient.coefficient-index none in
     record {
-      small = small_at c.args.cells.now c.loop-coefficient.coefficient-index here c.requires.small c.loop-coefficient-test.true (get_or_default c.args.cells.now c.loop-coefficient.coefficient-index none here c.loop-coefficient-test.true);
+      small = small_at c.args.cells.now c.loop-coefficient.coefficient-index here c.requires.small c.loop-coefficient-test.true
+          (get_or_default c.args.cells.now c.loop-coefficient.coefficient-index none here c.loop-coefficient-test.true);
     }

@@ -15,10 +15,12 @@ returns-in_default-split_first t c =
 pub returns-then-not-covered : goal.returns-then-not-covered
 returns-then-not-covered t c =
     let missed = ap (is_covered (ends_of c.in-First.ends)) (sym c.as_slice.ensures.value) ∙ sym c.covered.ensures ∙ c.if-not-covered.true in
-    sym (set_missed (ranges_of c.args.ranges.now) (ends_of c.in-First.ends) (ranges_of c.in-First.later.now) c.args.sets.now c.in-Some.set.now c.in-Some.behind.now (ap ranges_of c.in-First.is) c.in-Some.ensures.cases.0 missed)
+    sym (set_missed (ranges_of c.args.ranges.now) (ends_of c.in-First.ends) (ranges_of c.in-First.later.now) c.args.sets.now c.in-Some.set.now c.in-Some.behind.now (ap ranges_of c.in-First.is)
+    c.in-Some.ensures.cases.0 missed)
 
 pub returns : goal.returns
 returns t c =
     let there = ap (is_covered (ends_of c.in-First.ends)) (sym c.as_slice.ensures.value) ∙ sym c.covered.ensures ∙ c.if-not-covered.false in
     c.covers.ensures
-    ∙ sym (set_covered (ranges_of c.args.ranges.now) (ends_of c.in-First.ends) (ranges_of c.in-First.later.now) c.args.sets.now c.in-Some.set.now c.in-Some.behind.now (ap ranges_of c.in-First.is) c.in-Some.ensures.cases.0 there)
+    ∙ sym (set_covered (ranges_of c.args.ranges.now) (ends_of c.in-First.ends) (ranges_of c.in-First.later.now) c.args.sets.now c.in-Some.set.now c.in-Some.behind.now (ap ranges_of c.in-First.is)
+    c.in-Some.ensures.cases.0 there)

@@ -1,5 +1,6 @@
-use Rattle.std.proofs.Common.{◌∙◌, sym}
+use Rattle.std.proofs.Common.{◌∙◌, subst, sym}
 use Rattle.text_problem.specs.Stated.{model_in, problem_in}
+use Rattle.text_solver.specs.Solving.{IsSolveFault}
 use Rattle.text_solver.proofs.Programs.{form_refused, program_made, terms_refused, text_solvable}
 use Rattle.text_solver.proofs.program.program_of.Goals as goal
 
@@ -8,7 +9,8 @@ returns-in-Some c =
     record {
       program = tt;
       solvable = tt;
-      refused = form_refused (model_in c.args.stated.now) c.in-Some.at (sym c.first_unsupported.ensures.place ∙ c.in-Some.is);
+      refused = subst (IsSolveFault (model_in c.args.stated.now)) (sym c.refused.ensures)
+          (form_refused (model_in c.args.stated.now) c.in-Some.at (sym c.first_unsupported.ensures.place ∙ c.in-Some.is));
     }
 
 pub compile-requires-clause-within : goal.compile-requires-clause-within

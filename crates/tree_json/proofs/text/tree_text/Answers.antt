@@ -1,12 +1,12 @@
-use Rattle.std.proofs.Common.{rules, arith, string_bytes, sym, subst, ◌≤◌, ◌∙◌}
-use Rattle.tree_json.specs.Answer.{last_stage}
+use Rattle.std.proofs.Common.{rules, arith, string_bytes, sym, subst, ◌≤◌}
 use Rattle.tree_json.specs.Shown.{front_of}
-use Rattle.tree_json.proofs.Shows.{last_small}
+use Rattle.entry_json.proofs.LastStages.{last_stage_few}
+use Rattle.entry_json.specs.Stages.{last_stage}
 use Rattle.tree_json.proofs.Steps.{text_start, text_step, text_whole}
 use Rattle.tree_json.proofs.text.tree_text.Goals as goal
 
 pub front-requires : goal.front-requires
-front-requires c = record { stages = subst (λ n. n ≤ 24) (sym c.greatest_stage.ensures.stage) (last_small c.args.decisions.now c.requires.bounded) }
+front-requires c = record { stages = subst (λ n. n ≤ 24) (sym c.greatest_stage.ensures.stage) (last_stage_few c.args.decisions.now c.requires.bounded) }
 
 pub scenarios-init : goal.scenarios-init
 scenarios-init c =
@@ -21,6 +21,6 @@ pub returns : goal.returns
 returns c =
     record {
       text =
-          text_whole c.args.decisions.now c.args.stochs.now c.args.tree.now c.requires.tree (omega (arith, last_small c.args.decisions.now c.requires.bounded))
+          text_whole c.args.decisions.now c.args.stochs.now c.args.tree.now c.requires.tree (omega (arith, last_stage_few c.args.decisions.now c.requires.bounded))
           (string_bytes c.scenarios.text) (string_bytes c.push_str.new.self) c.scenarios.scenario (search rules) c.scenarios.invariant c.in_ok-push_str.ensures.bytes;
     }

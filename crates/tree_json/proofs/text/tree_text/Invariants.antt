@@ -1,5 +1,5 @@
 use Rattle.std.proofs.Common.{◌≡◌, ◌++◌, false, string_bytes}
-use Rattle.tree_json.specs.Answer.{last_stage}
+use Rattle.entry_json.specs.Stages.{last_stage}
 use Rattle.tree_json.specs.Shown.{all_shown, front_of, pieces}
 use Rattle.tree_json.proofs.text.tree_text.Given as goal
 

@@ -1,8 +1,8 @@
 use Rattle.std.proofs.Common.{◌≡◌, ◌++◌, drop, map}
 use Rattle.sopl_ast.specs.Constraints.{cons_tree}
+use Rattle.sopl_ast.specs.References.{now_of}
 use Rattle.sopl_ast.specs.Whole.{conses}
-use Rattle.unfold_tables.specs.Tables.{now_of}
-use Rattle.unfold_constraints.specs.Weights.{weight_cons, weight_conses}
+use Rattle.sopl_ast.specs.WholeWeight.{weight_cons, weight_conses}
 use Rattle.unfold_constraints.proofs.Parts.{all_of}
 use Rattle.unfold_constraints.proofs.listing.+add.Given as goal
 

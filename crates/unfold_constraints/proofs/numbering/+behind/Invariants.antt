@@ -1,7 +1,7 @@
 use Rattle.std.proofs.Common.{◌≡◌, ◌+◌, drop, map, length}
 use Rattle.sopl_ast.specs.Constraints.{cons_tree}
 use Rattle.sopl_ast.specs.Whole.{conses}
-use Rattle.unfold_constraints.specs.Weights.{weight_cons, weight_conses}
+use Rattle.sopl_ast.specs.WholeWeight.{weight_cons, weight_conses}
 use Rattle.unfold_constraints.proofs.Parts.{all_of}
 use Rattle.unfold_constraints.proofs.numbering.+behind.Given as goal
 

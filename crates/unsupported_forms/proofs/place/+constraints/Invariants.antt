@@ -3,9 +3,9 @@ use Rattle.std.proofs.Common.{◌≡◌, drop, map}
 use Rattle.sopl_ast.specs.Constraints.{cons_tree}
 use Rattle.sopl_ast.specs.Unfolding.{all_conditions}
 use Rattle.sopl_ast.specs.Whole.{conses}
+use Rattle.sopl_ast.specs.WholeWeight.{weight_cons, weight_conses}
 use Rattle.unsupported_forms.specs.Forms.{places_in, lesser, least_of}
 use Rattle.unsupported_forms.specs.Shown.{decided}
-use Rattle.unsupported_forms.specs.Weights.{weight_cons, weight_conses}
 use Rattle.unsupported_forms.proofs.place.+constraints.Given as goal
 
 abbrev pub invariant-in_constraints-parts : goal.invariant-in_constraints-parts

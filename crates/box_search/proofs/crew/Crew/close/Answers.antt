@@ -23,7 +23,8 @@ returns-in-Refuted-clause-stands g c =
     let old = c.args.self.now in
     let ended = subst (λ (end : NodeEnd). Ends problem (value_of old.best) old.store.box end) c.in-Refuted.is c.requires.ends in
     let added = subst (λ (end : NodeEnd). IsAdded old c.add_row.new.self c.args.steps (line_of end)) c.in-Refuted.is c.in_ok-add_row.ensures.added in
-    stands_refuted problem old c.add_row.new.self c.next.new.self c.args.steps _ c.next.result c.requires.posed added ended c.next.ensures.best c.next.ensures.finished c.next.ensures.next c.requires.stands
+    stands_refuted problem old c.add_row.new.self c.next.new.self c.args.steps _ c.next.result c.requires.posed added ended c.next.ensures.best c.next.ensures.finished c.next.ensures.next
+    c.requires.stands
 
 pub returns-in-Refuted-clause-keeps : goal.returns-in-Refuted-clause-keeps
 returns-in-Refuted-clause-keeps g c =
@@ -33,7 +34,8 @@ returns-in-Refuted-clause-keeps g c =
     let added = subst (λ (end : NodeEnd). IsAdded old c.add_row.new.self c.args.steps (line_of end)) c.in-Refuted.is c.in_ok-add_row.ensures.added in
     let known = subst (λ (end : NodeEnd). IsKnown c.args.steps (line_of end)) c.in-Refuted.is (record { steps_fit = c.add_row.ensures.steps_fit; end_fits = c.add_row.ensures.end_fits }) in
     let small : old.finished < 2 ^ 32 = omega (arith, c.requires.room) in
-    λ start appended keeps. keeps_refuted problem start old c.add_row.new.self c.next.new.self c.args.steps _ c.next.result small known added ended c.next.ensures.rows c.next.ensures.best c.next.ensures.finished c.next.ensures.next appended keeps
+    λ start appended keeps. keeps_refuted problem start old c.add_row.new.self c.next.new.self c.args.steps _ c.next.result small known added ended c.next.ensures.rows c.next.ensures.best
+    c.next.ensures.finished c.next.ensures.next appended keeps
 
 pub returns-in_ok-split-in-Split-clause-stands : goal.returns-in_ok-split-in-Split-clause-stands
 returns-in_ok-split-in-Split-clause-stands g c =
@@ -41,7 +43,8 @@ returns-in_ok-split-in-Split-clause-stands g c =
     let old = c.args.self.now in
     let ended = subst (λ (end : NodeEnd). Ends problem (value_of old.best) old.store.box end) c.in-Split.is c.requires.ends in
     let added = subst (λ (end : NodeEnd). IsAdded old c.add_row.new.self c.args.steps (line_of end)) c.in-Split.is c.in_ok-add_row.ensures.added in
-    stands_split problem old c.add_row.new.self c.split.new.self _ c.args.steps _ added ended (search rules) c.in_ok-split-in-Split.ensures.nodes c.split.ensures.best c.split.ensures.finished c.requires.stands
+    stands_split problem old c.add_row.new.self c.split.new.self _ c.args.steps _ added ended (search rules) c.in_ok-split-in-Split.ensures.nodes c.split.ensures.best c.split.ensures.finished
+    c.requires.stands
 
 pub returns-in_ok-split-in-Split-clause-keeps : goal.returns-in_ok-split-in-Split-clause-keeps
 returns-in_ok-split-in-Split-clause-keeps g c =
@@ -51,7 +54,8 @@ returns-in_ok-split-in-Split-clause-keeps g c =
     let added = subst (λ (end : NodeEnd). IsAdded old c.add_row.new.self c.args.steps (line_of end)) c.in-Split.is c.in_ok-add_row.ensures.added in
     let known = subst (λ (end : NodeEnd). IsKnown c.args.steps (line_of end)) c.in-Split.is (record { steps_fit = c.add_row.ensures.steps_fit; end_fits = c.add_row.ensures.end_fits }) in
     let small : old.finished < 2 ^ 32 = omega (arith, c.requires.room) in
-    λ start appended keeps. keeps_split problem start old c.add_row.new.self c.split.new.self _ c.args.steps _ small known c.requires.posed added ended (search rules) c.in_ok-split-in-Split.ensures.nodes c.split.ensures.rows c.split.ensures.best c.split.ensures.finished appended keeps
+    λ start appended keeps. keeps_split problem start old c.add_row.new.self c.split.new.self _ c.args.steps _ small known c.requires.posed added ended (search rules)
+    c.in_ok-split-in-Split.ensures.nodes c.split.ensures.rows c.split.ensures.best c.split.ensures.finished appended keeps
 
 pub returns-in_ok-keep-in-Point-clause-stands : goal.returns-in_ok-keep-in-Point-clause-stands
 returns-in_ok-keep-in-Point-clause-stands g c =
@@ -71,4 +75,5 @@ returns-in_ok-keep-in-Point-clause-keeps g c =
     let known = subst (λ (end : NodeEnd). IsKnown c.args.steps (line_of end)) c.in-Point.is (record { steps_fit = c.add_row.ensures.steps_fit; end_fits = c.add_row.ensures.end_fits }) in
     let small : old.finished < 2 ^ 32 = omega (arith, c.requires.room) in
     λ start appended keeps. keeps_point problem start old c.add_row.new.self c.keep.new.self c.next-in-Point.new.self c.args.steps c.next-in-Point.result small known c.requires.posed added ended
-    c.in_ok-keep-in-Point.ensures.best c.keep.ensures.finished c.keep.ensures.waiting c.keep.ensures.rows c.next-in-Point.ensures.rows c.next-in-Point.ensures.best c.next-in-Point.ensures.finished c.next-in-Point.ensures.next c.requires.stands appended keeps
+    c.in_ok-keep-in-Point.ensures.best c.keep.ensures.finished c.keep.ensures.waiting c.keep.ensures.rows c.next-in-Point.ensures.rows c.next-in-Point.ensures.best c.next-in-Point.ensures.finished
+    c.next-in-Point.ensures.next c.requires.stands appended keeps

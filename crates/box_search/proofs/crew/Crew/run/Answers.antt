@@ -1,5 +1,5 @@
 use Rattle.std.proofs.Common.{List, sym, subst}
-use Rattle.sopl_base.specs.declared.places.Reason.{Reason}
+use Rattle.sopl_base.specs.declared.reason.Reason.{Reason}
 use Rattle.prop_core.specs.Members.{together}
 use Rattle.box_search.specs.Ends.{AreAll}
 use Rattle.box_search.proofs.crew.Crew.run.Goals as goal

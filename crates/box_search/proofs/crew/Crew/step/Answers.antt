@@ -11,7 +11,8 @@ finish-requires-clause-inside g c =
 
 pub close-requires-clause-stands : goal.close-requires-clause-stands
 close-requires-clause-stands g c =
-    stands_after_steps (g.P.Propagator.problem c.args.program.now) c.args.self.now.best _ c.args.self.now.finished c.args.self.now.store.box c.finish.new.store.box _ _ (reverse c.args.self.now.later.items) c.args.self.now.store.marks c.finish.new.store.marks
+    stands_after_steps (g.P.Propagator.problem c.args.program.now) c.args.self.now.best _ c.args.self.now.finished c.args.self.now.store.box c.finish.new.store.box _ _
+    (reverse c.args.self.now.later.items) c.args.self.now.store.marks c.finish.new.store.marks
     c.requires.posed c.value-best.ensures c.finish.ensures.steps c.finish.ensures.marks c.requires.stands
 
 pub returns-clause-keeps : goal.returns-clause-keeps

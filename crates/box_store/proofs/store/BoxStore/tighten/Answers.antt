@@ -16,7 +16,10 @@ invariant_of-self c =
     record {
       few = c.self.invariant.few;
       is_box = lowered_is_box b c.args.cell c.args.side c.args.k _ c.self.invariant.is_box cut c.in-Le.is (to_z-of_z w64 c.args.k c.ranges.k);
-      trail = sound_more _ _ _ _ (search rules) (sound_lowered _ b c.args.cell (to_z w64 (of_z w64 c.args.k)) _ c.self.inside.trail.items c.push_reserved.new.self.items (to_z-of_z w64 c.index.result.now fits ∙ (c.index.ensures ∙ get_or_default c.self.inside.highs.items c.args.cell c.index.result.now (pos 0) (omega (arith, c.self.invariant.is_box.paired, cut.exists)))) c.push_reserved.ensures.items cut.exists c.self.invariant.is_box c.self.invariant.trail);
+      trail = sound_more _ _ _ _ (search rules) (sound_lowered _ b c.args.cell (to_z w64 (of_z w64 c.args.k)) _ c.self.inside.trail.items c.push_reserved.new.self.items
+          (to_z-of_z w64 c.index.result.now fits ∙ (c.index.ensures
+          ∙ get_or_default c.self.inside.highs.items c.args.cell c.index.result.now (pos 0) (omega (arith, c.self.invariant.is_box.paired, cut.exists)))) c.push_reserved.ensures.items
+          cut.exists c.self.invariant.is_box c.self.invariant.trail);
     }
 
 pub invariant_of-self-in-Ge : goal.invariant_of-self-in-Ge
@@ -27,19 +30,23 @@ invariant_of-self-in-Ge c =
     record {
       few = omega (arith, length-set c.self.inside.lows.items c.args.cell (to_z w64 (of_z w64 c.args.k)), c.self.invariant.few);
       is_box = raised_is_box b c.args.cell c.args.side c.args.k _ c.self.invariant.is_box cut c.in-Ge.is (to_z-of_z w64 c.args.k c.ranges.k);
-      trail = sound_more _ _ _ _ (search rules) (sound_raised _ b c.args.cell (to_z w64 (of_z w64 c.args.k)) _ c.self.inside.trail.items c.push_reserved-in-Ge.new.self.items (to_z-of_z w64 c.index-in-Ge.result.now fits ∙ (c.index-in-Ge.ensures ∙ get_or_default c.self.inside.lows.items c.args.cell c.index-in-Ge.result.now (pos 0) cut.exists)) c.push_reserved-in-Ge.ensures.items cut.exists c.self.invariant.is_box c.self.invariant.trail);
+      trail = sound_more _ _ _ _ (search rules) (sound_raised _ b c.args.cell (to_z w64 (of_z w64 c.args.k)) _ c.self.inside.trail.items c.push_reserved-in-Ge.new.self.items
+          (to_z-of_z w64 c.index-in-Ge.result.now fits ∙ (c.index-in-Ge.ensures ∙ get_or_default c.self.inside.lows.items c.args.cell c.index-in-Ge.result.now (pos 0) cut.exists))
+          c.push_reserved-in-Ge.ensures.items cut.exists c.self.invariant.is_box c.self.invariant.trail);
     }
 
 pub returns-in-Le-clause-same_marks : goal.returns-in-Le-clause-same_marks
 returns-in-Le-clause-same_marks c =
     let cut : IsCut (box_shown c.self.inside) c.args.cell c.args.side c.args.k = subst (λ (s : Store). IsCut s.box c.args.cell c.args.side c.args.k) (sym c.self.view_is) c.requires.cut in
     let fits : SFits w64 c.index.result.now = search rules in
-    marks_lowered (box_shown c.self.inside) c.args.cell (to_z w64 (of_z w64 c.args.k)) _ c.self.inside.trail.items c.push_reserved.new.self.items (to_z-of_z w64 c.index.result.now fits ∙ (c.index.ensures ∙ get_or_default c.self.inside.highs.items c.args.cell c.index.result.now (pos 0) (omega (arith, c.self.invariant.is_box.paired, cut.exists)))) c.push_reserved.ensures.items
+    marks_lowered (box_shown c.self.inside) c.args.cell (to_z w64 (of_z w64 c.args.k)) _ c.self.inside.trail.items c.push_reserved.new.self.items (to_z-of_z w64 c.index.result.now fits
+    ∙ (c.index.ensures ∙ get_or_default c.self.inside.highs.items c.args.cell c.index.result.now (pos 0) (omega (arith, c.self.invariant.is_box.paired, cut.exists)))) c.push_reserved.ensures.items
     ∙ ap (λ (s : Store). s.marks) c.self.view_is
 
 pub returns-in-Ge-clause-same_marks : goal.returns-in-Ge-clause-same_marks
 returns-in-Ge-clause-same_marks c =
     let cut : IsCut (box_shown c.self.inside) c.args.cell c.args.side c.args.k = subst (λ (s : Store). IsCut s.box c.args.cell c.args.side c.args.k) (sym c.self.view_is) c.requires.cut in
     let fits : SFits w64 c.index-in-Ge.result.now = search rules in
-    marks_raised (box_shown c.self.inside) c.args.cell (to_z w64 (of_z w64 c.args.k)) _ c.self.inside.trail.items c.push_reserved-in-Ge.new.self.items (to_z-of_z w64 c.index-in-Ge.result.now fits ∙ (c.index-in-Ge.ensures ∙ get_or_default c.self.inside.lows.items c.args.cell c.index-in-Ge.result.now (pos 0) cut.exists)) c.push_reserved-in-Ge.ensures.items
+    marks_raised (box_shown c.self.inside) c.args.cell (to_z w64 (of_z w64 c.args.k)) _ c.self.inside.trail.items c.push_reserved-in-Ge.new.self.items (to_z-of_z w64 c.index-in-Ge.result.now fits
+    ∙ (c.index-in-Ge.ensures ∙ get_or_default c.self.inside.lows.items c.args.cell c.index-in-Ge.result.now (pos 0) cut.exists)) c.push_reserved-in-Ge.ensures.items
     ∙ ap (λ (s : Store). s.marks) c.self.view_is

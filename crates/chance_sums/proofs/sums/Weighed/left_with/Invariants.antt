@@ -1,12 +1,15 @@
 use Rattle.std.proofs.Common.{◌≡◌, ◌+ℤ◌, drop}
 use Rattle.term_program.specs.Programs.{problem_in, root_in, with_interval}
-use Rattle.chance_sums.specs.Sums.{sum_over, weight_over}
-use Rattle.chance_sums.proofs.Adding.{turn_of}
+use Rattle.part_sums.specs.Sums.{sum_over}
+use Rattle.chance_sums.specs.Sums.{weight_over}
+use Rattle.part_sums.proofs.Adding.{turn_of}
 use Rattle.chance_sums.proofs.sums.Weighed.left_with.Given as goal
 
 abbrev pub invariant-scenarios : goal.invariant-scenarios
 invariant-scenarios l =
     (l.left.sum
-    +ℤ sum_over (turn_of (weight_over (root_in l.program) (problem_in l.program) l.self.instance l.store.box) (weight_over (root_in l.program) (problem_in l.program) l.self.instance (with_interval l.store.box l.self.cell l.part.lo l.part.hi))) (drop l.scenario-index l.self.scenarios.now))
+    +ℤ sum_over (turn_of (weight_over (root_in l.program) (problem_in l.program) l.self.instance l.store.box)
+    (weight_over (root_in l.program) (problem_in l.program) l.self.instance (with_interval l.store.box l.self.cell l.part.lo l.part.hi))) (drop l.scenario-index l.self.scenarios.now))
     ≡ (l.self.left.sum
-    +ℤ sum_over (turn_of (weight_over (root_in l.program) (problem_in l.program) l.self.instance l.store.box) (weight_over (root_in l.program) (problem_in l.program) l.self.instance (with_interval l.store.box l.self.cell l.part.lo l.part.hi))) l.self.scenarios.now)
+    +ℤ sum_over (turn_of (weight_over (root_in l.program) (problem_in l.program) l.self.instance l.store.box)
+    (weight_over (root_in l.program) (problem_in l.program) l.self.instance (with_interval l.store.box l.self.cell l.part.lo l.part.hi))) l.self.scenarios.now)

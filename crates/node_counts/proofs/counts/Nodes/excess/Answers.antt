@@ -4,12 +4,12 @@ use Rattle.std.specs.Int.{w128}
 use Rattle.node_counts.proofs.Capped.{few, many}
 use Rattle.node_counts.proofs.counts.Nodes.excess.Goals as goal
 
-pub returns-then-self-le-MOST : goal.returns-then-self-le-MOST
-returns-then-self-le-MOST c =
+pub returns-then-self-le-TERM_NODES : goal.returns-then-self-le-TERM_NODES
+returns-then-self-le-TERM_NODES c =
     record {
       excess = λ a is.
           let fits : SFits w128 c.args.self.count = search rules in
-          few a _ c.args.self.count (to_z-of_z w128 c.args.self.count fits) is c.if-self-le-MOST.true;
+          few a _ c.args.self.count (to_z-of_z w128 c.args.self.count fits) is c.if-self-le-TERM_NODES.true;
     }
 
 pub returns : goal.returns
@@ -17,5 +17,5 @@ returns c =
     record {
       excess = λ a is.
           let fits : SFits w128 c.args.self.count = search rules in
-          many a _ c.args.self.count (to_z-of_z w128 c.args.self.count fits) is c.if-self-le-MOST.false;
+          many a _ c.args.self.count (to_z-of_z w128 c.args.self.count fits) is c.if-self-le-TERM_NODES.false;
     }

@@ -1,5 +1,6 @@
 use Rattle.std.proofs.Common.{◌≡◌, ◌++◌, ℕ, List, map, drop}
-use Rattle.place_names.specs.Grouped.{now_of, numbers_in, numbers_of}
+use Rattle.sopl_ast.specs.References.{now_of}
+use Rattle.place_names.specs.Grouped.{numbers_in, numbers_of}
 use Rattle.place_names.proofs.names.Names.of.Given as goal
 
 abbrev pub invariant-names : goal.invariant-names

@@ -17,7 +17,8 @@ decided_source-source-requires c =
 pub numbers-preserved : goal.numbers-preserved
 numbers-preserved c tree i =
     let within : c.numbers.number-index < length c.numbers-numbers.result.now = search rules in
-    scalar_later (decided_entry c.args.self.now.decisions.now) c.numbers-numbers.result.now c.numbers.number-index c.decided_source-source.result within c.decided_source-source.ensures.element tree i _
+    scalar_later (decided_entry c.args.self.now.decisions.now) c.numbers-numbers.result.now c.numbers.number-index c.decided_source-source.result within
+    c.decided_source-source.ensures.element tree i _
     c.is_empty.result c.is_empty.ensures c.if-is_empty.false (c.numbers.invariant tree i)
 
 pub returns-then-is_empty-clause-item : goal.returns-then-is_empty-clause-item

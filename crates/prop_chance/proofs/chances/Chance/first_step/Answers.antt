@@ -1,6 +1,6 @@
 use Rattle.std.proofs.Common.{List, subst, sym, ℕ}
-use Rattle.sopl_base.specs.declared.places.Reason.{Reason}
-use Rattle.sopl_base.specs.declared.places.Reason.TheVariants.{Chance}
+use Rattle.sopl_base.specs.declared.reason.Reason.{Reason}
+use Rattle.sopl_base.specs.declared.reason.Reason.TheVariants.{Chance}
 use Rattle.cell_questions.specs.Questions.{HasAll}
 use Rattle.reason_mentions.specs.Reasons.{reason_mentions}
 use Rattle.term_program.specs.Programs.{problem_in, root_in}

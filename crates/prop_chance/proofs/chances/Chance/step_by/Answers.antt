@@ -1,5 +1,5 @@
 use Rattle.std.proofs.Common.{arith, length, rules, subst, sym, ◌<◌}
-use Rattle.sopl_base.specs.declared.places.Reason.{Reason}
+use Rattle.sopl_base.specs.declared.reason.Reason.{Reason}
 use Rattle.cell_questions.specs.Questions.{HasAll}
 use Rattle.cell_questions.proofs.Finding.{found_quiet}
 use Rattle.cell_questions.proofs.Opening.{open_all, open_more}

@@ -1,6 +1,6 @@
 use Rattle.std.proofs.Common.{◌≤◌, arith, rules, subst, sym, None}
 use Rattle.std.specs.List.{Contains}
-use Rattle.sopl_base.specs.declared.places.Reason.TheVariants.{Bound, Undefined}
+use Rattle.sopl_base.specs.declared.reason.Reason.TheVariants.{Bound, Undefined}
 use Rattle.cell_questions.specs.declared.questions.Question.{Question}
 use Rattle.program_laws.specs.Stated.{box_problem_of}
 use Rattle.prop_chance.specs.Goals.{reasons_of}

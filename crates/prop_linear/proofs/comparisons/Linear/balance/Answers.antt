@@ -1,4 +1,4 @@
-use Rattle.sopl_base.specs.declared.places.Reason.TheVariants.{Hard}
+use Rattle.sopl_base.specs.declared.reason.Reason.TheVariants.{Hard}
 use Rattle.prop_linear.proofs.Finding.{seen_same, tells_same}
 use Rattle.prop_linear.proofs.comparisons.Linear.balance.Goals as goal
 

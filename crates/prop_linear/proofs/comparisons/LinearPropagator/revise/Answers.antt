@@ -1,5 +1,5 @@
 use Rattle.std.proofs.Common.{sym, ◌∙◌}
-use Rattle.sopl_base.specs.declared.places.Reason.TheVariants.{Hard}
+use Rattle.sopl_base.specs.declared.reason.Reason.TheVariants.{Hard}
 use Rattle.prop_linear.proofs.Finding.{cut_at, dead_at, inside_root, quiet_at}
 use Rattle.prop_linear.proofs.comparisons.LinearPropagator.revise.Goals as goal
 
@@ -8,15 +8,19 @@ balance-balance-requires-clause-inside c = inside_root c.args.program.now c.args
 
 pub returns-then-is_closed-clause-finds : goal.returns-then-is_closed-clause-finds
 returns-then-is_closed-clause-finds c =
-    dead_at c.args.program.now (Hard c.args.self.now.instance c.args.self.now.scenario) c.balance-balance.result.difference c.args._best c.args.store.now.box c.balance-balance.ensures.tells c.balance-balance.ensures.seen
+    dead_at c.args.program.now (Hard c.args.self.now.instance c.args.self.now.scenario) c.balance-balance.result.difference c.args._best c.args.store.now.box c.balance-balance.ensures.tells
+    c.balance-balance.ensures.seen
     (inside_root c.args.program.now c.args.store.now.box c.requires.inside) c.reason-reason.result c.reason-reason.ensures (sym c.is_closed.ensures ∙ c.if-is_closed.true)
 
 pub returns-in-Some-clause-finds : goal.returns-in-Some-clause-finds
 returns-in-Some-clause-finds c =
-    cut_at c.args.program.now (Hard c.args.self.now.instance c.args.self.now.scenario) c.balance-balance.result.difference c.args._best c.args.store.now.box c.balance-balance.ensures.tells c.balance-balance.ensures.seen
-    (inside_root c.args.program.now c.args.store.now.box c.requires.inside) c.reason-reason.result c.in-Some.step c.reason-reason.ensures c.in-Some.ensures.own (sym c.is_closed.ensures ∙ c.if-is_closed.false) c.in-Some.ensures.removes
+    cut_at c.args.program.now (Hard c.args.self.now.instance c.args.self.now.scenario) c.balance-balance.result.difference c.args._best c.args.store.now.box c.balance-balance.ensures.tells
+    c.balance-balance.ensures.seen
+    (inside_root c.args.program.now c.args.store.now.box c.requires.inside) c.reason-reason.result c.in-Some.step c.reason-reason.ensures c.in-Some.ensures.own (sym c.is_closed.ensures
+    ∙ c.if-is_closed.false) c.in-Some.ensures.removes
 
 pub returns-in-None-clause-finds : goal.returns-in-None-clause-finds
 returns-in-None-clause-finds c =
-    quiet_at c.args.program.now (Hard c.args.self.now.instance c.args.self.now.scenario) c.balance-balance.result.difference c.args._best c.args.store.now.box c.balance-balance.ensures.tells c.balance-balance.ensures.seen
+    quiet_at c.args.program.now (Hard c.args.self.now.instance c.args.self.now.scenario) c.balance-balance.result.difference c.args._best c.args.store.now.box c.balance-balance.ensures.tells
+    c.balance-balance.ensures.seen
     (inside_root c.args.program.now c.args.store.now.box c.requires.inside) (sym c.is_closed.ensures ∙ c.if-is_closed.false) c.in-None.ensures.none

@@ -8,5 +8,6 @@ scaled-part-requires c = record {
 
 pub plus-requires : goal.plus-requires
 plus-requires c = record {
-  fits = sum_fits c.args.self.now c.args.removal.now.count c.factor.result.k c.values.result c.scaled-part.result c.requires.room c.requires.some c.requires.fewer c.factor.ensures c.values.ensures c.scaled-part.ensures;
+  fits = sum_fits c.args.self.now c.args.removal.now.count c.factor.result.k c.values.result c.scaled-part.result c.requires.room c.requires.some c.requires.fewer c.factor.ensures
+      c.values.ensures c.scaled-part.ensures;
 }

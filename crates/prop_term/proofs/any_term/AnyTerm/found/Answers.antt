@@ -13,7 +13,8 @@ finding-requires-clause-asked c = record {
 
 pub finding-requires-clause-all : goal.finding-requires-clause-all
 finding-requires-clause-all c =
-    hard_cells (root_in c.args.program.now) (problem_in c.args.program.now) c.args.self.now.instance c.args.self.now.scenario c.reason.result (cond_at (things_in c.args.program.now) c.hard-cond.result.0) c.cells_of.result.now c.reason.ensures c.hard-cond.ensures.condition c.cells_of.ensures.cells
+    hard_cells (root_in c.args.program.now) (problem_in c.args.program.now) c.args.self.now.instance c.args.self.now.scenario c.reason.result
+    (cond_at (things_in c.args.program.now) c.hard-cond.result.0) c.cells_of.result.now c.reason.ensures c.hard-cond.ensures.condition c.cells_of.ensures.cells
 
 pub returns : goal.returns
 returns c = record {

@@ -20,7 +20,8 @@ pub returns-in_err-part : goal.returns-in_err-part
 unfolding phrase.more_factors
 returns-in_err-part g c =
     let p = err_from_is_err_and c.from_residual-in_err-part.result c.from_residual-in_err-part.ensures.1 in
-    rw (p.1, p.2) (fails_on c.in_err-part.field-0.0 (phrase.next_factor (way false c.args.self.now.here.depth) c.parts.left.now) (phrase.more_factors (way false c.args.self.now.here.depth) c.args.first c.args.second c.args.tokens.now)
+    rw (p.1, p.2) (fails_on c.in_err-part.field-0.0 (phrase.next_factor (way false c.args.self.now.here.depth) c.parts.left.now)
+    (phrase.more_factors (way false c.args.self.now.here.depth) c.args.first c.args.second c.args.tokens.now)
     (λ stop e. let over = chain_refused _ _ _ _ _ _ _ c.parts-test.true e c.parts.invariant.0 in first_of (search rules, grind arith))
     c.in_err-part.ensures)
 

@@ -7,4 +7,5 @@ use Rattle.sopl_expr.proofs.level.Level.more_factors.Given as goal
 
 abbrev pub invariant-parts : goal.invariant-parts
 invariant-parts g l =
-    (chain (phrase.next_factor (way false l.self.here.depth)) (length l.tokens - l._turn) l.parts.others l.left ≡ chain (phrase.next_factor (way false l.self.here.depth)) (length l.tokens) (l.fn.second ∷ []) l.tokens) × (l.parts.first ≡ l.fn.first)
+    (chain (phrase.next_factor (way false l.self.here.depth)) (length l.tokens - l._turn) l.parts.others l.left
+    ≡ chain (phrase.next_factor (way false l.self.here.depth)) (length l.tokens) (l.fn.second ∷ []) l.tokens) × (l.parts.first ≡ l.fn.first)

@@ -3,7 +3,7 @@ use Rattle.std.proofs.Common.{◌≡◌, drop, map}
 use Rattle.sopl_ast.specs.Constraints.{cons_tree}
 use Rattle.sopl_ast.specs.Mistakes.{of_constraints}
 use Rattle.sopl_ast.specs.Whole.{conses}
-use Rattle.sopl_types.specs.ConsWeight.{weight_cons, weight_conses}
+use Rattle.sopl_ast.specs.WholeWeight.{weight_cons, weight_conses}
 use Rattle.sopl_types.specs.Earliest.{earlier_of, earliest}
 use Rattle.sopl_types.specs.Known.{known_in}
 use Rattle.sopl_types.proofs.names.Names.+constraint.Given as goal

@@ -10,10 +10,12 @@ use Rattle.sopl_types.proofs.names.Names.entity.Goals as goal
 pub returns-then-is_among : goal.returns-then-is_among
 returns-then-is_among c =
     let found = bound_any (λ name. name.now) c.args.self.now.bound.items c.args.name.now (declared_in c.args.self.now.declared.now) in
-    sym (found ∙ ap (λ there. cond there (Some (Constant 0)) (entity_of (declared_in c.args.self.now.declared.now) c.args.name.now)) (sym (c.is_among.ensures ∙ ap (list_any (λ other. bytes_eq other.now c.args.name.now)) c.as_slice.ensures.value) ∙ c.if-is_among.true))
+    sym (found ∙ ap (λ there. cond there (Some (Constant 0)) (entity_of (declared_in c.args.self.now.declared.now) c.args.name.now))
+    (sym (c.is_among.ensures ∙ ap (list_any (λ other. bytes_eq other.now c.args.name.now)) c.as_slice.ensures.value) ∙ c.if-is_among.true))
 
 -- another
 pub returns : goal.returns
 returns c =
     let found = bound_any (λ name. name.now) c.args.self.now.bound.items c.args.name.now (declared_in c.args.self.now.declared.now) in
-    c.entity.ensures ∙ sym (found ∙ ap (λ there. cond there (Some (Constant 0)) (entity_of (declared_in c.args.self.now.declared.now) c.args.name.now)) (sym (c.is_among.ensures ∙ ap (list_any (λ other. bytes_eq other.now c.args.name.now)) c.as_slice.ensures.value) ∙ c.if-is_among.false))
+    c.entity.ensures ∙ sym (found ∙ ap (λ there. cond there (Some (Constant 0)) (entity_of (declared_in c.args.self.now.declared.now) c.args.name.now))
+    (sym (c.is_among.ensures ∙ ap (list_any (λ other. bytes_eq other.now c.args.name.now)) c.as_slice.ensures.value) ∙ c.if-is_among.false))

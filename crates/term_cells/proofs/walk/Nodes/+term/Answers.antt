@@ -20,5 +20,6 @@ pub parts-term-requires : goal.parts-term-requires
 parts-term-requires t c =
     let none : Signed = record { subtracted = false; term = 0 } in
     let x : Signed = get_or c.args.parts.now c.parts.part-index none in
-    let there : x.term < c.args.limit = part_below c.args.limit c.args.parts.now c.parts.part-index x c.requires.below c.parts-test.true (get_or_default c.args.parts.now c.parts.part-index none x c.parts-test.true) in
+    let there : x.term < c.args.limit = part_below c.args.limit c.args.parts.now c.parts.part-index x c.requires.below c.parts-test.true
+    (get_or_default c.args.parts.now c.parts.part-index none x c.parts-test.true) in
     (omega (arith, there), c.requires.built)

@@ -9,5 +9,6 @@ use Rattle.term_cells.proofs.walk.Nodes.cells_of_cond.Goals as goal
 pub returns-clause-mentioned : goal.returns-clause-mentioned
 returns-clause-mentioned c =
     IfOk-weaker c.listed.result (λ list. list.items ≡ c.cond.new.cells.keys) _
-    (λ list is. mentioned_alone c.new-cells.result.keys c.cond.new.cells.keys (cond_mentions (box_in c.args.self.now.root) (cond_at (things c.args.self.now.items.now) c.args.id)) list.items c.new-cells.ensures.empty c.in_ok-cond.ensures is)
+    (λ list is. mentioned_alone c.new-cells.result.keys c.cond.new.cells.keys (cond_mentions (box_in c.args.self.now.root) (cond_at (things c.args.self.now.items.now) c.args.id)) list.items
+    c.new-cells.ensures.empty c.in_ok-cond.ensures is)
     c.listed.ensures.keys

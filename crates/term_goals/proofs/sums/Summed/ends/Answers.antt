@@ -35,4 +35,7 @@ plus-requires-2 c =
     let atoms_is = c.atoms_ends-atoms.ensures ∙ ap (λ (xs : List Atom). atoms_ends root b all xs) atoms in
     let rest : wide_ends c.plus.result ≡ ends.plus (cells_ends b (wide_cells c.args.self.now.form.cells.items)) (atoms_ends root b all c.args.self.now.atoms.items) =
     c.plus.ensures ∙ ap (λ (e : ends.Ends). ends.plus e (wide_ends c.atoms_ends-atoms.result)) cells_is ∙ ap (ends.plus (cells_ends b (wide_cells c.args.self.now.form.cells.items))) atoms_is in
-    record { fits = whole_fit c.args.here.now c.args.self.now (wide_ends c.constant_ends-constant.result) (wide_ends c.plus.result) c.requires.ready c.requires.room c.constant_ends-constant.ensures rest }
+    record {
+      fits = whole_fit c.args.here.now c.args.self.now (wide_ends c.constant_ends-constant.result) (wide_ends c.plus.result) c.requires.ready c.requires.room
+          c.constant_ends-constant.ensures rest;
+    }

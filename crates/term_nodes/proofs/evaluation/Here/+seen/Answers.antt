@@ -22,7 +22,8 @@ any-truth-here-requires t c =
 
 pub compare-difference-difference-requires : goal.compare-difference-difference-requires
 compare-difference-difference-requires t c = record {
-  fits = difference_seen c.args.self.now c.args.comparison.now.left c.args.comparison.now.right c.args.comparison.now.form c.seen-left.result c.seen-right.result c.requires.ready c.requires.difference c.seen-left.ensures c.seen-right.ensures;
+  fits = difference_seen c.args.self.now c.args.comparison.now.left c.args.comparison.now.right c.args.comparison.now.form c.seen-left.result c.seen-right.result c.requires.ready
+      c.requires.difference c.seen-left.ensures c.seen-right.ensures;
 }
 
 pub sum-seen-seen-requires : goal.sum-seen-seen-requires
@@ -39,7 +40,8 @@ sum-with_part-sum-requires-clause-times t c =
 pub sum-with_part-sum-requires-clause-plus : goal.sum-with_part-sum-requires-clause-plus
 sum-with_part-sum-requires-clause-plus t c =
     let none : Signed = record { subtracted = false; term = 0 } in
-    sum_seen c.args.self.now c.args.parts.now c.loop-i.i none c.seen-seen.result c.loop-i.sum c.requires.ready c.requires.sound c.loop-i-test.true c.loop-i.auto.i c.seen-seen.ensures c.loop-i.invariant
+    sum_seen c.args.self.now c.args.parts.now c.loop-i.i none c.seen-seen.result c.loop-i.sum c.requires.ready c.requires.sound c.loop-i-test.true c.loop-i.auto.i c.seen-seen.ensures
+    c.loop-i.invariant
 
 pub sum-returns : goal.sum-returns
 sum-returns t c =
@@ -48,16 +50,19 @@ sum-returns t c =
 pub seen-returns-then-is_plain : goal.seen-returns-then-is_plain
 seen-returns-then-is_plain t c =
     c.clear-then-is_plain.ensures
-    ∙ sym (plain_seen c.args.self.now c.args.id c.in-Some.item.now c.requires.ready (c.in-Some.ensures.some (box_in c.args.self.now.root) c.requires.ready.built) (sym c.is_plain.ensures ∙ c.if-is_plain.true))
+    ∙ sym (plain_seen c.args.self.now c.args.id c.in-Some.item.now c.requires.ready (c.in-Some.ensures.some (box_in c.args.self.now.root) c.requires.ready.built) (sym c.is_plain.ensures
+    ∙ c.if-is_plain.true))
 
 pub extreme-returns-then-plain : goal.extreme-returns-then-plain
 extreme-returns-then-plain t c =
-    extreme_folded (box_in c.args.self.now.root) (box_in c.args.self.now.view) c.args.extreme (term_at (things c.args.self.now.items.now) c.args.first) (terms_at (things c.args.self.now.items.now) c.args.later.now) c.args.plain (ends_of c.zero.result) (sight_of c.extreme_range-range.result)
+    extreme_folded (box_in c.args.self.now.root) (box_in c.args.self.now.view) c.args.extreme (term_at (things c.args.self.now.items.now) c.args.first)
+    (terms_at (things c.args.self.now.items.now) c.args.later.now) c.args.plain (ends_of c.zero.result) (sight_of c.extreme_range-range.result)
     c.requires.plain c.if-plain.true c.zero.ensures c.extreme_range-range.ensures
 
 pub extreme-returns : goal.extreme-returns
 extreme-returns t c =
-    extreme_alone (box_in c.args.self.now.root) (box_in c.args.self.now.view) c.args.extreme (term_at (things c.args.self.now.items.now) c.args.first) (terms_at (things c.args.self.now.items.now) c.args.later.now) c.args.plain (sight_of c.extreme_range-range.result)
+    extreme_alone (box_in c.args.self.now.root) (box_in c.args.self.now.view) c.args.extreme (term_at (things c.args.self.now.items.now) c.args.first)
+    (terms_at (things c.args.self.now.items.now) c.args.later.now) c.args.plain (sight_of c.extreme_range-range.result)
     c.requires.plain c.if-plain.false c.extreme_range-range.ensures
 
 pub element-element_range-range-requires : goal.element-element_range-range-requires
@@ -77,16 +82,19 @@ element_range-element_range-requires t c =
 
 pub element-returns-then-plain : goal.element-returns-then-plain
 element-returns-then-plain t c =
-    element_plain (box_in c.args.self.now.root) (box_in c.args.self.now.view) (things c.args.self.now.items.now) c.args.at.now (table_at (things c.args.self.now.items.now) c.args.table) c.args.plain (ends_of c.zero.result) (sight_of c.element_range-range.result)
+    element_plain (box_in c.args.self.now.root) (box_in c.args.self.now.view) (things c.args.self.now.items.now) c.args.at.now (table_at (things c.args.self.now.items.now) c.args.table)
+    c.args.plain (ends_of c.zero.result) (sight_of c.element_range-range.result)
     c.requires.plain c.if-plain.true c.zero.ensures c.element_range-range.ensures
 
 pub element-returns : goal.element-returns
 element-returns t c =
-    element_alone (box_in c.args.self.now.root) (box_in c.args.self.now.view) (things c.args.self.now.items.now) c.args.at.now (table_at (things c.args.self.now.items.now) c.args.table) c.args.plain (sight_of c.element_range-range.result)
+    element_alone (box_in c.args.self.now.root) (box_in c.args.self.now.view) (things c.args.self.now.items.now) c.args.at.now (table_at (things c.args.self.now.items.now) c.args.table)
+    c.args.plain (sight_of c.element_range-range.result)
     c.requires.plain c.if-plain.false c.element_range-range.ensures
 
 pub extreme_range-range-other-requires : goal.extreme_range-range-other-requires
 extreme_range-range-other-requires t c =
     let id : ℕ = get_or c.args.later.now c.loop-id.id-index 0 in
-    let there : id < c.args.limit = cond_below c.args.limit c.args.later.now c.loop-id.id-index id c.requires.below c.loop-id-test.true (get_or_default c.args.later.now c.loop-id.id-index 0 id c.loop-id-test.true) in
+    let there : id < c.args.limit = cond_below c.args.limit c.args.later.now c.loop-id.id-index id c.requires.below c.loop-id-test.true
+    (get_or_default c.args.later.now c.loop-id.id-index 0 id c.loop-id-test.true) in
     (omega (arith, there), (c.requires.ready, omega (arith, there, c.requires.exists)))

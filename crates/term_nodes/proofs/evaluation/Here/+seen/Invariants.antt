@@ -75,7 +75,8 @@ invariant-any-loop-i l =
 abbrev pub invariant-extreme_range-loop-id : goal.invariant-extreme_range-loop-id
 invariant-extreme_range-loop-id l =
     taken rule.Near (box_in l.self.root) (box_in l.self.view) l.extreme (ends_of l.taken.ends) l.taken.mark (terms_at (things l.self.items.now) (drop l.id-index l.later))
-    ≡ taken rule.Near (box_in l.self.root) (box_in l.self.view) l.extreme (rule.interval rule.Near (box_in l.self.root) (box_in l.self.view) (term_at (things l.self.items.now) l.first)) (rule.mark rule.Near (box_in l.self.root) (box_in l.self.view) (term_at (things l.self.items.now) l.first)) (terms_at (things l.self.items.now) l.later)
+    ≡ taken rule.Near (box_in l.self.root) (box_in l.self.view) l.extreme (rule.interval rule.Near (box_in l.self.root) (box_in l.self.view) (term_at (things l.self.items.now) l.first))
+    (rule.mark rule.Near (box_in l.self.root) (box_in l.self.view) (term_at (things l.self.items.now) l.first)) (terms_at (things l.self.items.now) l.later)
 
 abbrev pub invariant-sum-loop-i : goal.invariant-sum-loop-i
 invariant-sum-loop-i l =

@@ -10,5 +10,6 @@ within-within-requires c =
     let here = c.args.self.now in
     let root = box_in here.root in
     record {
-      complete = subst (λ (t : Table). length t.items ≡ length (indices t.sets)) (sym (c.in-Some.ensures.some root c.requires.ready.built)) (table_proper root here.items.now c.args.table c.requires.ready.built).complete;
+      complete = subst (λ (t : Table). length t.items ≡ length (indices t.sets)) (sym (c.in-Some.ensures.some root c.requires.ready.built))
+          (table_proper root here.items.now c.args.table c.requires.ready.built).complete;
     }

@@ -20,4 +20,5 @@ returns-in-Some-get-clause-listed c =
     let lists : HaveLists c.args.self.now.mentioned.terms c.in-Some.goal.terms.items =
     subst (λ (o : Option Goal). HaveLists c.args.self.now.mentioned.terms (goal_ids o)) c.in-Some.is c.requires.made.mentioned.goal in
     let there : c.args.scenario < length c.terms.result.now = search rules in
-    all_at (IsListedTerm c.args.self.now) c.terms.result.now c.args.scenario c.in-Some-get.id.now (subst (HaveLists c.args.self.now.mentioned.terms) (sym c.terms.ensures) lists) there c.in-Some-get.ensures.lookup.1
+    all_at (IsListedTerm c.args.self.now) c.terms.result.now c.args.scenario c.in-Some-get.id.now (subst (HaveLists c.args.self.now.mentioned.terms) (sym c.terms.ensures) lists) there
+    c.in-Some-get.ensures.lookup.1

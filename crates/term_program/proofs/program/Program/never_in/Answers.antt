@@ -15,7 +15,8 @@ pub returns-in-Some : goal.returns-in-Some
 returns-in-Some c =
     let there : c.args.scenario < length c.terms.result.now = search rules in
     c.is_never.ensures
-    ∙ never_there (root_in c.args.self.now) (box_in c.args.view.now) (things_in c.args.self.now) c.args.goal.now c.terms.result.now c.args.scenario c.in-Some.term.now c.terms.ensures there c.in-Some.ensures.lookup.1
+    ∙ never_there (root_in c.args.self.now) (box_in c.args.view.now) (things_in c.args.self.now) c.args.goal.now c.terms.result.now c.args.scenario c.in-Some.term.now c.terms.ensures
+    there c.in-Some.ensures.lookup.1
 
 pub returns-in-None : goal.returns-in-None
 returns-in-None c =

@@ -11,4 +11,5 @@ pub reaches-requires-clause-sum_low : goal.reaches-requires-clause-sum_low
 reaches-requires-clause-sum_low c =
     let fits : SFits w128 c.weight_left-left.result.sum = search rules in
     rw (to_z-of_z w128 c.weight_left-left.result.sum fits) (subst (λ s. pos 0 ≤ℤ s) (sym c.weight_left-left.ensures)
-    (left_up (root_in c.args.self.now) (box_in c.args.view.now) c.args.self.now.draft.weights.items (conditions_of (things_in c.args.self.now) c.args.chance.now.conditions) c.requires.made.problem.weighs))
+    (left_up (root_in c.args.self.now) (box_in c.args.view.now) c.args.self.now.draft.weights.items (conditions_of (things_in c.args.self.now) c.args.chance.now.conditions)
+    c.requires.made.problem.weighs))

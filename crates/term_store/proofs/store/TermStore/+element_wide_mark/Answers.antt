@@ -25,5 +25,7 @@ returns t c =
     let store = c.args.self.now in
     let es = ranges_of c.args.behind.now in
     let range = sight_of c.range_known-range.result in
-    last_wide (root_of store) (all store) c.args.table c.args.at.now c.in-Some.before.now c.in-Some.last.now c.args.mark c.element_wide_mark.result es range c.in-Some.ensures.cases.0 c.range_known-range.ensures
-    (c.element_wide_mark.ensures ∙ ap (λ (m : Defined). (behind Wide (root_of store) (root_of store) (all store) c.in-Some.before.now m (range.ends ∷ es) (table_at (all store) c.args.table)).mark) c.both.ensures)
+    last_wide (root_of store) (all store) c.args.table c.args.at.now c.in-Some.before.now c.in-Some.last.now c.args.mark c.element_wide_mark.result es range c.in-Some.ensures.cases.0
+    c.range_known-range.ensures
+    (c.element_wide_mark.ensures ∙ ap (λ (m : Defined). (behind Wide (root_of store) (root_of store) (all store) c.in-Some.before.now m (range.ends ∷ es) (table_at (all store) c.args.table)).mark)
+    c.both.ensures)

@@ -14,4 +14,5 @@ add-requires-clause-new c =
     let same = c.in_ok-list.ensures.items in
     new_all (root_of c.args.self.now) c.args.self.now.items.items c.in_ok-list.list c.condition.result c.requires.sound.built
     (subst (AllBelow _) (sym same) (all_there c.args.self.now.items.items c.args.conds.now c.requires.exist))
-    (c.condition.ensures ∙ ap of_truth (c.all_known-truth.ensures ∙ ap (λ (ids : List ℕ). all_truth Wide (root_of c.args.self.now) (root_of c.args.self.now) (conds_at (all c.args.self.now) ids)) (sym same)))
+    (c.condition.ensures ∙ ap of_truth (c.all_known-truth.ensures
+    ∙ ap (λ (ids : List ℕ). all_truth Wide (root_of c.args.self.now) (root_of c.args.self.now) (conds_at (all c.args.self.now) ids)) (sym same)))

@@ -10,7 +10,8 @@ use Rattle.term_store.proofs.store.TermStore.constants.Goals as goal
 pub form_known-requires-clause-exists : goal.form_known-requires-clause-exists
 form_known-requires-clause-exists c =
     let id : ℕ = get_or c.args.ids.now c.loop-id.id-index 0 in
-    cond_below (length c.args.self.now.items.items) c.args.ids.now c.loop-id.id-index id c.requires.exist c.loop-id-test.true (get_or_default c.args.ids.now c.loop-id.id-index 0 id c.loop-id-test.true)
+    cond_below (length c.args.self.now.items.items) c.args.ids.now c.loop-id.id-index id c.requires.exist c.loop-id-test.true
+    (get_or_default c.args.ids.now c.loop-id.id-index 0 id c.loop-id-test.true)
 
 pub loop-id-preserved : goal.loop-id-preserved
 loop-id-preserved c =

@@ -21,7 +21,8 @@ add-requires-2 c =
     first_is (root_of c.args.self.now) c.args.self.now.items.items c.args.a (form_of c.form_known-left.result.now) (combination_of c.add.new.self) c.form_known-left.ensures
     (c.in_ok-add.ensures ∙ ap (λ (h : Form). plus_form (pos 1) h (form_of c.form_known-left.result.now)) c.new-sum.ensures) in
     record {
-      room = second_room (root_of c.args.self.now) c.args.self.now.items.items c.args.a c.args.b (combination_of c.add.new.self) (form_of c.form_known-right.result.now) c.requires.sound.built first c.form_known-right.ensures;
+      room = second_room (root_of c.args.self.now) c.args.self.now.items.items c.args.a c.args.b (combination_of c.add.new.self) (form_of c.form_known-right.result.now) c.requires.sound.built
+          first c.form_known-right.ensures;
     }
 
 pub narrowed-requires : goal.narrowed-requires
@@ -29,7 +30,8 @@ narrowed-requires c =
     let first : combination_of c.add.new.self ≡ form (root_of c.args.self.now) (term_at (all c.args.self.now) c.args.a) =
     first_is (root_of c.args.self.now) c.args.self.now.items.items c.args.a (form_of c.form_known-left.result.now) (combination_of c.add.new.self) c.form_known-left.ensures
     (c.in_ok-add.ensures ∙ ap (λ (h : Form). plus_form (pos 1) h (form_of c.form_known-left.result.now)) c.new-sum.ensures) in
-    let is = difference_is (root_of c.args.self.now) c.args.self.now.items.items c.args.a c.args.b (combination_of c.add.new.self) (form_of c.form_known-right.result.now) (wide_form c.in_ok-wide.wide) first c.form_known-right.ensures (c.in_ok-wide.ensures ∙ c.in_ok-add-2.ensures) in
+    let is = difference_is (root_of c.args.self.now) c.args.self.now.items.items c.args.a c.args.b (combination_of c.add.new.self) (form_of c.form_known-right.result.now)
+    (wide_form c.in_ok-wide.wide) first c.form_known-right.ensures (c.in_ok-wide.ensures ∙ c.in_ok-add-2.ensures) in
     record { small = difference_small (root_of c.args.self.now) c.args.self.now.items.items c.args.a c.args.b (wide_form c.in_ok-wide.wide) c.requires.sound.built is }
 
 pub returns : goal.returns
@@ -37,5 +39,6 @@ returns c =
     let first : combination_of c.add.new.self ≡ form (root_of c.args.self.now) (term_at (all c.args.self.now) c.args.a) =
     first_is (root_of c.args.self.now) c.args.self.now.items.items c.args.a (form_of c.form_known-left.result.now) (combination_of c.add.new.self) c.form_known-left.ensures
     (c.in_ok-add.ensures ∙ ap (λ (h : Form). plus_form (pos 1) h (form_of c.form_known-left.result.now)) c.new-sum.ensures) in
-    let is = difference_is (root_of c.args.self.now) c.args.self.now.items.items c.args.a c.args.b (combination_of c.add.new.self) (form_of c.form_known-right.result.now) (wide_form c.in_ok-wide.wide) first c.form_known-right.ensures (c.in_ok-wide.ensures ∙ c.in_ok-add-2.ensures) in
+    let is = difference_is (root_of c.args.self.now) c.args.self.now.items.items c.args.a c.args.b (combination_of c.add.new.self) (form_of c.form_known-right.result.now)
+    (wide_form c.in_ok-wide.wide) first c.form_known-right.ensures (c.in_ok-wide.ensures ∙ c.in_ok-add-2.ensures) in
     subst (λ (h : Form). IfOk c.narrowed.result (λ form. form_of form ≡ h)) is c.narrowed.ensures

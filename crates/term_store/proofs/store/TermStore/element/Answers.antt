@@ -9,4 +9,5 @@ element_facts-requires-clause-exist c = all_there c.args.self.now.items.items c.
 pub add-requires-clause-new : goal.add-requires-clause-new
 add-requires-clause-new c =
     new_element (root_of c.args.self.now) c.args.self.now.items.items c.args.table c.args.at.now c.in_ok-list.list c.in_ok-facts.facts c.requires.sound.built
-    (is_there c.args.self.now.items.items c.args.table c.requires.table) (all_there c.args.self.now.items.items c.args.at.now c.requires.exist) c.in_ok-list.ensures.items c.in_ok-facts.ensures.facts c.in_ok-facts.ensures.measured
+    (is_there c.args.self.now.items.items c.args.table c.requires.table) (all_there c.args.self.now.items.items c.args.at.now c.requires.exist) c.in_ok-list.ensures.items
+    c.in_ok-facts.ensures.facts c.in_ok-facts.ensures.measured

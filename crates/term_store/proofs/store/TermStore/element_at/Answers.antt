@@ -19,9 +19,11 @@ pub returns-in-Some : goal.returns-in-Some
 returns-in-Some c =
     let store = c.args.self.now in
     c.known.ensures
-    ∙ ap (λ (t : Table). item_at t c.args.index.now) (seen_table (root_of store) store.items.items c.as_slice.result.now c.args.table (table_of c.in-Some.found.now) c.as_slice.ensures.value c.requires.sound.built c.in-Some.ensures.some)
+    ∙ ap (λ (t : Table). item_at t c.args.index.now) (seen_table (root_of store) store.items.items c.as_slice.result.now c.args.table (table_of c.in-Some.found.now) c.as_slice.ensures.value
+    c.requires.sound.built c.in-Some.ensures.some)
 
 pub returns-in-None : goal.returns-in-None
 returns-in-None c =
     let store = c.args.self.now in
-    ap (λ (t : Table). item_at t c.args.index.now) (seen_table (root_of store) store.items.items c.as_slice.result.now c.args.table no_table c.as_slice.ensures.value c.requires.sound.built c.in-None.ensures.none)
+    ap (λ (t : Table). item_at t c.args.index.now) (seen_table (root_of store) store.items.items c.as_slice.result.now c.args.table no_table c.as_slice.ensures.value c.requires.sound.built
+    c.in-None.ensures.none)

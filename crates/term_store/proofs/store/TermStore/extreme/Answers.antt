@@ -12,4 +12,5 @@ extreme_facts-requires-clause-exist c = all_there c.args.self.now.items.items c.
 pub add-requires-clause-new : goal.add-requires-clause-new
 add-requires-clause-new c =
     new_extreme (root_of c.args.self.now) c.args.self.now.items.items c.args.extreme c.args.first c.args.later.now c.in_ok-list.list c.in_ok-facts.facts c.requires.sound.built
-    (is_there c.args.self.now.items.items c.args.first c.requires.first) (all_there c.args.self.now.items.items c.args.later.now c.requires.exist) c.in_ok-list.ensures.items c.in_ok-facts.ensures.facts c.in_ok-facts.ensures.measured
+    (is_there c.args.self.now.items.items c.args.first c.requires.first) (all_there c.args.self.now.items.items c.args.later.now c.requires.exist) c.in_ok-list.ensures.items
+    c.in_ok-facts.ensures.facts c.in_ok-facts.ensures.measured

@@ -8,11 +8,13 @@ use Rattle.term_store.proofs.store.TermStore.operation_facts.Goals as goal
 pub returns-clause-facts : goal.returns-clause-facts
 returns-clause-facts c =
     subst (λ (f : Facts). IfOk c.folded_facts.result (λ facts. kept facts ≡ f))
-    (operation_kept (root_of c.args.self.now) c.args.self.now.items.items c.args.operation.now c.args.id c.operand_folds-folds.result c.mark_known-mark.result (sight_of c.made_known-wide.result) c.requires.sound.root_is_box c.requires.sound.built c.operand_folds-folds.ensures c.mark_known-mark.ensures c.made_known-wide.ensures)
+    (operation_kept (root_of c.args.self.now) c.args.self.now.items.items c.args.operation.now c.args.id c.operand_folds-folds.result c.mark_known-mark.result (sight_of c.made_known-wide.result)
+    c.requires.sound.root_is_box c.requires.sound.built c.operand_folds-folds.ensures c.mark_known-mark.ensures c.made_known-wide.ensures)
     c.folded_facts.ensures.facts
 
 pub returns-clause-measured : goal.returns-clause-measured
 returns-clause-measured c =
     subst (λ (n : ℕ). IsMeasured n c.folded_facts.result)
-    (operation_measured (root_of c.args.self.now) c.args.self.now.items.items c.args.operation.now c.args.id c.operand_folds-folds.result (sight_of c.made_known-wide.result) c.requires.sound.root_is_box c.requires.sound.built c.operand_folds-folds.ensures c.made_known-wide.ensures)
+    (operation_measured (root_of c.args.self.now) c.args.self.now.items.items c.args.operation.now c.args.id c.operand_folds-folds.result (sight_of c.made_known-wide.result)
+    c.requires.sound.root_is_box c.requires.sound.built c.operand_folds-folds.ensures c.made_known-wide.ensures)
     c.folded_facts.ensures.measured

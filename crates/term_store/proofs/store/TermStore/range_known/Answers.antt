@@ -9,5 +9,6 @@ use Rattle.term_store.proofs.store.TermStore.range_known.Goals as goal
 
 pub returns : goal.returns
 returns c =
-    same_sight (ends_of c.interval_known.result) (interval Wide (root_of c.args.self.now) (root_of c.args.self.now) (term_at (all c.args.self.now) c.args.id)) c.wide_known.result.mark (mark Wide (root_of c.args.self.now) (root_of c.args.self.now) (term_at (all c.args.self.now) c.args.id))
+    same_sight (ends_of c.interval_known.result) (interval Wide (root_of c.args.self.now) (root_of c.args.self.now) (term_at (all c.args.self.now) c.args.id)) c.wide_known.result.mark
+    (mark Wide (root_of c.args.self.now) (root_of c.args.self.now) (term_at (all c.args.self.now) c.args.id))
     c.interval_known.ensures (ap (λ (s : Sight). s.mark) c.wide_known.ensures)

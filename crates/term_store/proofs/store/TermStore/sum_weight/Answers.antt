@@ -15,7 +15,8 @@ overflow_add-sum c =
     let none : Signed = record { subtracted = false; term = 0 } in
     let part : Signed = get_or c.args.parts.now (c.loop-i.i - 1) none in
     let few : Fits w64 (length c.args.parts.now) = search rules in
-    let room = sum_room_at (root_of c.args.self.now) c.args.self.now.items.items c.args.parts.now c.loop-i.i part.term c.loop-i.sum c.from-sum.result c.requires.sound.built few.fits c.loop-i.invariant (c.from-sum.ensures ∙ c.weight_known-weight.ensures) in
+    let room = sum_room_at (root_of c.args.self.now) c.args.self.now.items.items c.args.parts.now c.loop-i.i part.term c.loop-i.sum c.from-sum.result c.requires.sound.built few.fits
+    c.loop-i.invariant (c.from-sum.ensures ∙ c.weight_known-weight.ensures) in
     record { fits = omega (arith, room) }
 
 pub returns : goal.returns

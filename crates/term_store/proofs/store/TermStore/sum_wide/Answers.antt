@@ -19,4 +19,5 @@ with_part-sum-requires-clause-times c =
 pub with_part-sum-requires-clause-plus : goal.with_part-sum-requires-clause-plus
 with_part-sum-requires-clause-plus c =
     let none : Signed = record { subtracted = false; term = 0 } in
-    wide_sum_fit (root_of c.args.self.now) c.args.self.now.items.items c.args.parts.now c.loop-i.i none c.wide_known-wide.result c.loop-i.sum c.requires.sound.built c.requires.small c.loop-i-test.true c.loop-i.auto.i c.wide_known-wide.ensures c.loop-i.invariant
+    wide_sum_fit (root_of c.args.self.now) c.args.self.now.items.items c.args.parts.now c.loop-i.i none c.wide_known-wide.result c.loop-i.sum c.requires.sound.built c.requires.small
+    c.loop-i-test.true c.loop-i.auto.i c.wide_known-wide.ensures c.loop-i.invariant

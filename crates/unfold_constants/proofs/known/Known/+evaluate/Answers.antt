@@ -13,6 +13,6 @@ ends-returns t c =
     let upper : c.unwrap_or-2.result ≡ unwrap_or c.args.whole (place_of c.args.hi.now) = c.unwrap_or-2.ensures ∙ ap (λ tree. unwrap_or c.args.whole (place_of tree)) c.hi.view_is in
     let fits_least : SFits w64 c.in_ok-least.least = search rules in
     let fits_greatest : SFits w64 c.in_ok-greatest.greatest = search rules in
-    ends_found c.few_ends.result (known_in c.args.self.now) c.args.whole c.args.lo.now c.args.hi.now c.unwrap_or.result c.unwrap_or-2.result c.in_ok-least.least
+    ends_found c.checked_ends.result (known_in c.args.self.now) c.args.whole c.args.lo.now c.args.hi.now c.unwrap_or.result c.unwrap_or-2.result c.in_ok-least.least
     c.in_ok-greatest.greatest _ _ c.args.count.now.counted c.number.new.count.counted c.number-2.new.count.counted lower upper c.in_ok-least.ensures.value
-    c.in_ok-greatest.ensures.value (to_z-of_z w64 c.in_ok-least.least fits_least) (to_z-of_z w64 c.in_ok-greatest.greatest fits_greatest) (c.few_ends.ensures c.number-2.new.count.counted)
+    c.in_ok-greatest.ensures.value (to_z-of_z w64 c.in_ok-least.least fits_least) (to_z-of_z w64 c.in_ok-greatest.greatest fits_greatest) (c.checked_ends.ensures c.number-2.new.count.counted)

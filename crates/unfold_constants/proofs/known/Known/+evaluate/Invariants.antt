@@ -5,7 +5,8 @@ use Rattle.sopl_ast.specs.Ranges.{range_of}
 use Rattle.sopl_ast.specs.Sight.{shape_of_kind}
 use Rattle.sopl_ast.specs.Weight.{weight, weight_shape, weight_of_trees, weight_of_terms, weight_factors, weight_of_binders, weight_range}
 use Rattle.sopl_ast.specs.Known.{with_bound}
-use Rattle.unfold_tables.specs.Tables.{now_of, shown}
+use Rattle.sopl_ast.specs.References.{now_of}
+use Rattle.unfold_tables.specs.Tables.{shown}
 use Rattle.unfold_constants.specs.Here.{known_in}
 use Rattle.unfold_constants.proofs.Body.{weight_of_body}
 use Rattle.unfold_constants.specs.Evaluation as spec

@@ -1,8 +1,9 @@
 -- Each loop has walked through the parts so far; and each call goes down in weight.
 use Rattle.std.proofs.Common.{◌≡◌, ◌+◌, ◌*◌, drop, map, length}
 use Rattle.sopl_ast.specs.Lists.{trees, terms, factors, binders}
+use Rattle.sopl_ast.specs.References.{now_of}
 use Rattle.sopl_ast.specs.Weight.{weight, weight_of_trees, weight_of_terms, weight_factors, weight_of_binders}
-use Rattle.unfold_tables.specs.Tables.{now_of, shown}
+use Rattle.unfold_tables.specs.Tables.{shown}
 use Rattle.unfold_constants.specs.Here.{known_in}
 use Rattle.unfold_constants.specs.Traversal as spec
 use Rattle.unfold_constants.proofs.Body.{weight_of_body}

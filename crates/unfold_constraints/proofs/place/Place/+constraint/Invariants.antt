@@ -4,11 +4,11 @@ use Rattle.sopl_ast.specs.Constraints.{cons_tree}
 use Rattle.sopl_ast.specs.Lists.{binders}
 use Rattle.sopl_ast.specs.Weight.{weight_of_binders}
 use Rattle.sopl_ast.specs.Whole.{conses}
+use Rattle.sopl_ast.specs.WholeWeight.{weight_cons, weight_conses}
 use Rattle.unfold_constants.specs.Here.{known_in}
 use Rattle.unfold_tables.specs.Tables.{shown}
 use Rattle.unfold_constraints.specs.Shown.{found_in}
 use Rattle.unfold_constraints.specs.Stepping as spec
-use Rattle.unfold_constraints.specs.Weights.{weight_cons, weight_conses}
 use Rattle.unfold_constraints.proofs.place.Place.+constraint.Given as goal
 
 abbrev pub decreases-constraint : goal.decreases-constraint

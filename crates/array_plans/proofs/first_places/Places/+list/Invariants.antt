@@ -1,0 +1,15 @@
+use Rattle.std.proofs.Common.{◌≡◌, ◌+◌, ◌*◌, ◌++◌, length, drop}
+use Rattle.array_plans.specs.Kept.{places_behind}
+use Rattle.array_plans.proofs.Ordering.{each_behind}
+use Rattle.array_plans.proofs.first_places.Places.+list.Given as goal
+
+abbrev pub decreases-list : goal.decreases-list
+decreases-list l = 2 * length l.sets.now
+
+abbrev pub decreases-list_behind : goal.decreases-list_behind
+decreases-list_behind l = 2 * length l.later.now + 1
+
+abbrev pub invariant-list-set : goal.invariant-list-set
+invariant-list-set l =
+    (l.index.items ≡ l.fn.index.items)
+    × (l.order.items ++ each_behind l.self l.fn.index.items l.later (drop l.number-index l.number-items) ≡ l.fn.order.items ++ places_behind l.self l.fn.index.items l.sets)

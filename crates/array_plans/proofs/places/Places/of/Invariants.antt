@@ -1,9 +1,0 @@
-use Rattle.std.proofs.Common.{◌≡◌, ℤ, List, map, drop}
-use Rattle.sopl_ast.specs.Numbers.{or_else}
-use Rattle.array_plans.specs.Kept.{now_of, place_in}
-use Rattle.array_plans.specs.Plans.{place_among}
-use Rattle.array_plans.proofs.places.Places.of.Given as goal
-
-abbrev pub invariant-given : goal.invariant-given
-invariant-given l =
-    (other : List ℤ) → or_else (place_in l.places other) (place_among l.place (map now_of (drop l.place l.given)) other) ≡ place_among 0 (map now_of l.given) other

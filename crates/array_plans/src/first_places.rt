@@ -1,0 +1,93 @@
+//! Which of some indices is the first that is the same as another.
+
+ghost use Rattle.std.specs.Prelude.{◌≡◌, ◌++◌, ◌∷◌, [], List, ℤ, Some, None, map, IfOk, OnOk, if◌then◌else◌};
+ghost use Rattle.sopl_ast.specs.Numbers.{or_else};
+ghost use Rattle.sopl_ast.specs.References.{now_of};
+ghost use Rattle.box_rules.specs.Arrays.{same_index};
+ghost use Rattle.array_plans.specs.Kept.{place_in, places_behind};
+ghost use Rattle.array_plans.specs.Plans.{place_among};
+
+use indexmap::IndexMap;
+use std::alloc::{AllocError, Global};
+
+/// The first place of each of some indices.
+#[derive(Drop)]
+pub(crate) struct Places {
+    first: IndexMap<Vec<i64>, usize>,
+}
+
+#[tactic(auto, using(crate::proofs::Ordering::ordering))]
+impl Places {
+    /// The places of these indices.
+    #[tactic(auto, using(crate::proofs::Noting::place_noted))]
+    pub(crate) fn of(alloc: Global, given: &[&[i64]]) -> Result<Places, AllocError>
+        ensures { IfOk result (λ places. (index : List ℤ) → place_in places index ≡ place_among 0 (map now_of given.now) index) }
+    {
+        let mut places = Places {
+            first: IndexMap::new(alloc),
+        };
+        'given: for place in 0..given.len() {
+            places.note(alloc, given[place], place)?;
+        }
+        Ok(places)
+    }
+
+    /// Notes that an index stands at a place, unless it stands before.
+    fn note(&mut self, alloc: Global, index: &[i64], place: usize) -> Result<(), AllocError>
+        ensures { OnOk result ((other : List ℤ) → place_in self.new other
+            ≡ or_else (place_in self.old other) (if same_index index.now other then Some place else None)) }
+    {
+        if self.first.get(index).is_some() {
+            return Ok(());
+        }
+        let key = Vec::from_slice(alloc, index)?;
+        self.first.insert(key, place)?;
+        Ok(())
+    }
+
+    /// The place of an index, if it is one of them.
+    fn place(&self, index: &[i64]) -> Option<usize>
+        ensures { result ≡ place_in self.now index.now }
+    {
+        self.first.get(index).copied()
+    }
+
+    /// Puts the place of each index of sets, behind the numbers that stand there, behind others.
+    #[cycle(list)]
+    pub(crate) fn list(
+        &self,
+        index: &mut Vec<i64>,
+        sets: &[Vec<i64>],
+        order: &mut Vec<Option<usize>>,
+    ) -> Result<(), AllocError>
+        ensures kept { OnOk result (index.new.items ≡ index.old.items) }
+        ensures added { OnOk result (order.new.items ≡ order.old.items ++ places_behind self.now index.old.items sets.now) }
+    {
+        let Some((set, later)) = sets.split_first() else {
+            order.push(self.place(index.as_slice()))?;
+            return Ok(());
+        };
+        'set: for number in set.as_slice() {
+            self.list_behind(number, index, later, order)?;
+        }
+        Ok(())
+    }
+
+    /// The same for one number of the first set.
+    #[cycle(list)]
+    fn list_behind(
+        &self,
+        number: &i64,
+        index: &mut Vec<i64>,
+        later: &[Vec<i64>],
+        order: &mut Vec<Option<usize>>,
+    ) -> Result<(), AllocError>
+        ensures kept { OnOk result (index.new.items ≡ index.old.items) }
+        ensures added { OnOk result (order.new.items ≡ order.old.items ++ places_behind self.now (index.old.items ++ number.now ∷ []) later.now) }
+    {
+        index.push(*number)?;
+        self.list(index, later, order)?;
+        index.pop();
+        Ok(())
+    }
+}

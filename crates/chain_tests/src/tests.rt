@@ -1,0 +1,4 @@
+//! Long chains of operations, and programs.
+
+mod chains;
+mod programs;

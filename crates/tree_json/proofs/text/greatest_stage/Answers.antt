@@ -1,9 +1,0 @@
-use Rattle.std.proofs.Common.{ap, ◌∙◌}
-use Rattle.sopl_ast.specs.Instances.{Decision}
-use Rattle.tree_json.proofs.Stages.{last_step}
-use Rattle.tree_json.proofs.text.greatest_stage.Goals as goal
-
-pub decisions-preserved : goal.decisions-preserved
-decisions-preserved c =
-    c.max-last.ensures
-    ∙ last_step c.args.decisions.now c.decisions.decision-index c.decision-item.result c.decisions.last c.decision.inside.stage c.decisions-test.true c.decision-item.is (ap (λ (d : Decision). d.stage) c.decision.view_is) c.decisions.invariant
