@@ -1,11 +1,8 @@
 -- What binders give, where their ranges pass.
-use Rattle.std.proofs.Common.{◌≡◌, refl, sym, ap, ap₂, subst, ◌∙◌, ℕ, ◌-◌, ◌≤◌, ℤ, length, take, drop, get_or, arith, List, [], ◌∷◌, ◌++◌, Option, Some, None, is_some, T, option_map, option_and_then}
-use Rattle.std.proofs.Math.Seq.{take-length}
-use Rattle.std.proofs.lemmas.List.{append_assoc, append-nil}
+use Rattle.std.proofs.Common.{◌≡◌, refl, sym, ap, subst, ◌∙◌, ℕ, ℤ, List, [], ◌∷◌, ◌++◌, Option, Some, None, is_some, T, option_map, option_and_then}
 use Rattle.std.specs.List.{flat_map, AllByRecursion}
 use Rattle.std.specs.Option.{unwrap_or}
 use Rattle.sopl_ast.specs.Tree.{Range, Named, Ends, Binders, no_binder, binder, place_of}
-use Rattle.sopl_ast.specs.Lists.{BinderTree, binders}
 use Rattle.sopl_ast.specs.Numbers.{both_of, all_of, joined, up_to, count_between}
 use Rattle.sopl_ast.specs.Known.{Known, with_bound}
 use Rattle.sopl_ast.specs.Constants.{value_or_zero, bindings, all_bindings, numbers_of, numbers_in}
@@ -49,10 +46,6 @@ all_there f g (n ∷ ns) all = one_there (f n) (g n) (all_of f ns) (flat_map g n
 -- the places at each of some numbers of a name
 abbrev pub places_at : Known → List ℕ → Binders → List ℤ → List Known
 places_at known name more ns = flat_map (λ n. all_bindings (with_bound name n known) more) ns
-
--- the ranges of the binders that follow pass at each of some numbers of a name
-abbrev pub AreMetAt : Known → Option ℕ → List ℕ → Binders → List ℤ → Type 0
-AreMetAt known whole name more ns = AllByRecursion (λ number. AreMet (with_bound name number known) whole more) ns
 
 module _ (known : Known) (whole : Option ℕ) (name : List ℕ) (at : ℕ) (range : Range) (more : Binders) where
   -- the places of a binder, where those that follow it have theirs
@@ -106,51 +99,3 @@ bodies_pass (binder name at range more) known whole each is =
     (λ n counted. bodies_pass more (with_bound name n known) whole each (passes_counted (binding_occurrences (with_bound name n known) whole more each) counted))
     (numbers_in known range)
     (each_passes (λ number. Counted ∷ binding_occurrences (with_bound name number known) whole more each) (numbers_in known range) both.1)))
-
--- what is left to be added, where these places are found: those of each number that is left, whose binders pass
-pub record IsLeft (known : Known) (whole : Option ℕ) (name : List ℕ) (more : Binders) (left : List ℤ) (found all : List Known) : Type 0 where
-  pub met : AreMetAt known whole name more left
-  pub places : found ++ places_at known name more left ≡ all
-
--- at first, all numbers are left
-pub left_first : (known : Known) (whole : Option ℕ) (name : List ℕ) (at : ℕ) (range : Range) (more bs : Binders) (left : List ℤ) (found : List Known)
-    → bs ≡ binder name at range more → AreMet known whole bs → left ≡ numbers_in known range
-    → IsLeft known whole name more left found (found ++ all_bindings known bs)
-left_first known whole name at range more bs left found same are is =
-    let met : AreMet known whole (binder name at range more) = subst (AreMet known whole) same are in
-    record {
-      met = subst (AreMetAt known whole name more) (sym is) met.1;
-      places = ap (λ l. found ++ places_at known name more l) is
-          ∙ ap (λ l. found ++ l) (sym (ap (all_bindings known) same ∙ places_step known whole name at range more met));
-    }
-
--- the first binder, and those that follow it
-pub first_binder : (over : List BinderTree) (b d : BinderTree) → 1 ≤ length over → b ≡ get_or over 0 d
-    → binders over ≡ binder b.name b.at b.range (binders (take (length over - 1) (drop 1 over)))
-first_binder [] b d one is = absurd (omega (arith, one))
-first_binder (x ∷ xs) b d one is =
-    let few : length xs ≡ length (x ∷ xs) - 1 = omega arith in
-    ap₂ (λ (y : BinderTree) ys. binder y.name y.at y.range (binders ys)) (sym is) (sym (subst (λ n. take n xs ≡ xs) few (take-length xs)))
-
-module _ (known : Known) (whole : Option ℕ) (name : List ℕ) (more : Binders) (left : List ℤ) (found all : List Known) where
-  -- the binders that follow pass at the first number
-  pub left_met : (n : ℤ) (ns : List ℤ) → left ≡ n ∷ ns → IsLeft known whole name more left found all → AreMet (with_bound name n known) whole more
-  left_met n ns is l = (subst (AreMetAt known whole name more) is l.met).0
-
-  -- the places of the first number are added
-  pub left_more : (n : ℤ) (ns : List ℤ) (here : Known) (later : List Known) → left ≡ n ∷ ns → here ≡ with_bound name n known
-      → later ≡ found ++ all_bindings here more → IsLeft known whole name more left found all → IsLeft known whole name more ns later all
-  left_more n ns here later is at added l =
-      record {
-        met = (subst (AreMetAt known whole name more) is l.met).1;
-        places = ap (λ f. f ++ places_at known name more ns) (added ∙ ap (λ k. found ++ all_bindings k more) at)
-            ∙ append_assoc found (all_bindings (with_bound name n known) more) (places_at known name more ns)
-            ∙ ap (λ rest. found ++ places_at known name more rest) (sym is)
-            ∙ l.places;
-      }
-
-  -- no number is left
-  pub left_none : left ≡ [] → IsLeft known whole name more left found all → found ≡ all
-  left_none is l = sym (ap (λ rest. found ++ places_at known name more rest) is ∙ append-nil found) ∙ l.places
-
-pub ruleset binding = (left_met, left_none)

@@ -1,7 +1,7 @@
 -- Bound names one by one.
 use Rattle.std.proofs.Common.{◌≡◌, sym, ap, ◌∙◌, ℕ, ◌+◌, ◌<◌, ◌≤◌, ℤ, List, [], ◌∷◌, ◌++◌, map, length, get_or, drop}
 use Rattle.std.proofs.lemmas.List.{at_drop_more, at_drop_all, append_assoc, append-nil}
-use Rattle.sopl_ast.specs.Known.{Binding, Known, with_bound}
+use Rattle.sopl_ast.specs.Known.{Known, with_bound}
 use Rattle.unfold_laws.specs.Conditions.{placed}
 use Rattle.unfold_constraints.specs.Bindings.{binding_of}
 

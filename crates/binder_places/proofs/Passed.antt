@@ -1,5 +1,5 @@
 -- What is answered at a constant place that passes.
-use Rattle.std.proofs.Common.{◌≡◌, refl, sym, ap, subst, ◌∙◌, inl, inr, ℕ, ℤ, pos, Bool, true, false, not, List, [], Option, Some, Result, Ok, Err, IfOk, IfErr, is_ok, true≢false}
+use Rattle.std.proofs.Common.{◌≡◌, refl, sym, ap, subst, ◌∙◌, inl, inr, ℕ, ℤ, pos, Bool, true, false, not, List, [], Some, Result, Ok, Err, IfOk, IfErr, is_ok, true≢false}
 use Rattle.std.specs.Option.{unwrap_or}
 use Rattle.std.specs.Ordering.{int_eq}
 use Rattle.std.specs.declared.alloc.AllocError.{AllocError}

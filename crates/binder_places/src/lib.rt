@@ -10,5 +10,5 @@ mod tests;
 
 pub use bindings::all_places;
 pub use constants::divisor;
-pub use instances::known_at;
+pub use instances::{condition_at, known_at};
 pub use laws::{bodies_pass, expressions_are_walked, ranges_pass};

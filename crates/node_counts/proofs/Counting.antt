@@ -82,17 +82,6 @@ module _ {A : Type 0} (P : A → Type 0) (f : A → ℕ) (left : List A) (all : 
   pub left_none : left ≡ [] → IsLeft P f n left all → n ≡ capped all
   left_none is l = l.is ∙ ap capped (ap (λ rest. fold (λ a y. a + f y) l.front rest) (sym is) ∙ l.sum)
 
--- the first of what is left in a loop, as it is and as it is seen
-pub next_is : {A : Type 0} (xs : List A) (i : ℕ) (x : A) → i < length xs → x ≡ get_or xs i x → drop i xs ≡ x ∷ drop (i + 1) xs
-next_is xs i x below at = at_drop_more (λ l. l) xs i x below ∙ ap (λ y. y ∷ drop (i + 1) xs) (sym at)
-
-pub next_seen : {A B : Type 0} (seen : A → B) (xs : List A) (i : ℕ) (x : A) → i < length xs → x ≡ get_or xs i x
-    → map seen (drop i xs) ≡ seen x ∷ map seen (drop (i + 1) xs)
-next_seen seen xs i x below at = ap (map seen) (next_is xs i x below at)
-
-pub none_is : {A : Type 0} (xs : List A) (i : ℕ) → length xs ≤ i → drop i xs ≡ []
-none_is xs i past = at_drop_all (λ l. l) xs i past
-
 -- one of two ways
 pub either : {A B C : Type 0} → (A → C) → (B → C) → A ⊎ B → C
 either f g (inl a) = f a

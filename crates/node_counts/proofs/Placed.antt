@@ -21,12 +21,6 @@ use Rattle.binder_places.specs.Walked.{IsWalked}
 use Rattle.binder_places.proofs.Walking.{expressions_are_walked}
 use Rattle.node_counts.specs.Counted.{capped, nodes_at}
 
--- the condition with a number, as it is looked up
-pub condition_there : (conditions : List (Bor Tree)) (text : ℕ) (e : Bor Tree) → text < length conditions → e ≡ get_or conditions text e
-    → slice_get (map now_of conditions) text ≡ Some e.now
-condition_there conditions text e below at =
-    slice_get-map now_of conditions text ∙ ap (option_map now_of) (slice_get_read conditions (length conditions) text e refl below at)
-
 module _ (known here : Known) (conditions : List Tree) (text : ℕ) (bound : List Binding) (is : IsMet known conditions text bound) (at : here ≡ placed known bound) where
   -- it is there
   pub met_below : text < length conditions

@@ -14,20 +14,12 @@ ghost use Rattle.unfold_tables.specs.Tables.{table_known};
 
 use crate::counts::Nodes;
 use crate::expressions::nodes_of;
-use binder_places::known_at;
+use binder_places::{condition_at, known_at};
 use sopl_ast::{Expr, Model};
 use sopl_unfold::{ChanceItem, Env, Ground, HardItem};
 use std::alloc::{AllocError, Global};
 use unfold_constants::Known;
 use unfold_tables::Table;
-
-/// The condition with this number.
-fn condition_at<'a>(conditions: &[&'a Expr], text: u32) -> &'a Expr
-    requires exists { text < length conditions.now }
-    ensures at { slice_get (map now_of conditions.now) text ≡ Some result.now }
-{
-    conditions[text as usize]
-}
 
 /// The nodes of the condition with this number, where binders give this.
 fn nodes_of_condition<'a>(

@@ -18,7 +18,7 @@ ghost use Rattle.unfold_laws.specs.Conditions.{IsMet, IsThreshold};
 ghost use Rattle.unfold_tables.specs.Tables.{table_known};
 
 use crate::scenarios::conditions_of;
-use binder_places::known_at;
+use binder_places::{condition_at, known_at};
 use place_names::Setting;
 use scene_terms::Work;
 use sopl_ast::Expr;
@@ -26,14 +26,6 @@ use sopl_base::Fault;
 use sopl_term::CondId;
 use sopl_unfold::{ChanceItem, Env, HardItem};
 use std::alloc::Global;
-
-/// The condition with this number.
-fn condition_at<'a>(conditions: &[&'a Expr], text: u32) -> &'a Expr
-    requires exists { text < length conditions.now }
-    ensures at { slice_get (map now_of conditions.now) text ≡ Some result.now }
-{
-    conditions[text as usize]
-}
 
 /// The condition with this number in each scenario, where binders give this.
 fn instances_of<'a>(

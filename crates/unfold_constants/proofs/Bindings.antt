@@ -1,6 +1,7 @@
 -- Bound names, one by one.
-use Rattle.std.proofs.Common.{◌≡◌, refl, sym, ap, ◌∙◌, ℕ, ◌+◌, ◌<◌, ◌≤◌, ℤ, true, false, cond, List, [], ◌∷◌, ◌++◌, length, get_or, drop, Some, None}
-use Rattle.std.proofs.lemmas.List.{at_drop_more, at_drop_all}
+use Rattle.std.proofs.Common.{◌≡◌, refl, sym, ap, ◌∙◌, ℕ, zero, suc, ◌+◌, ◌-◌, ◌<◌, ◌≤◌, ℤ, true, false, cond, List, [], ◌∷◌, ◌++◌, length, get_or, take, drop, Some, None, arith}
+use Rattle.std.proofs.lemmas.List.{at_drop_more, at_drop_all, length-append}
+use Rattle.std.proofs.Math.Seq.{take-append_seam}
 use Rattle.std.specs.Borrow.{Bor}
 use Rattle.sopl_ast.specs.Known.{bound_value, is_at}
 use Rattle.unfold_constants.specs.Here.{bindings_in}
@@ -10,6 +11,28 @@ pub bindings_more : (bound : List (Bor (List ℕ) × ℤ)) (b : Bor (List ℕ)) 
     → bindings_in (bound ++ (b, value) ∷ []) ≡ bindings_in bound ++ (record { name = b.now; value = value }) ∷ []
 bindings_more [] b value = refl
 bindings_more (first ∷ later) b value = ap (λ rest. (record { name = first.0.now; value = first.1 }) ∷ rest) (bindings_more later b value)
+
+-- a list without its last item
+pub take_front : {A : Type 0} (xs : List A) (x : A) → take (length (xs ++ x ∷ []) - 1) (xs ++ x ∷ []) ≡ xs
+take_front xs x = (λ i. take (one_fewer i) (xs ++ x ∷ [])) ∙ take-append_seam xs (x ∷ [])
+  where
+    one_fewer : length (xs ++ x ∷ []) - 1 ≡ length xs
+    one_fewer = omega (arith, length-append xs (x ∷ []))
+
+bindings_taken : (n : ℕ) (bound : List (Bor (List ℕ) × ℤ)) → bindings_in (take n bound) ≡ take n (bindings_in bound)
+bindings_taken zero bound = refl
+bindings_taken (suc n) [] = refl
+bindings_taken (suc n) (first ∷ later) = ap (λ rest. (record { name = first.0.now; value = first.1 }) ∷ rest) (bindings_taken n later)
+
+bindings_length : (bound : List (Bor (List ℕ) × ℤ)) → length (bindings_in bound) ≡ length bound
+bindings_length [] = refl
+bindings_length (first ∷ later) = ap suc (bindings_length later)
+
+-- one name fewer
+pub bindings_fewer : (bound fewer : List (Bor (List ℕ) × ℤ)) → fewer ≡ take (length bound - 1) bound
+    → bindings_in fewer ≡ take (length (bindings_in bound) - 1) (bindings_in bound)
+bindings_fewer bound fewer is =
+    ap bindings_in is ∙ bindings_taken (length bound - 1) bound ∙ (λ i. take (sym (bindings_length bound) i - 1) (bindings_in bound))
 
 module _ (name : List ℕ) (index : List ℤ) (bound : List (Bor (List ℕ) × ℤ)) (i : ℕ) where
   -- the next bound name is another

@@ -142,7 +142,7 @@ mutual
       (λ xs most p q i. Some (both_of (λ tasks m. one_or_zero (are_within m tasks))
       ((sym (task_each (λ here. c.value here start) (λ here. c.value here duration) (λ here. c.value here demand) (c.bindings known bs)) ∙ ap (option_map tasks_of) p) i) (q i)))
 
-  agree_numbers : (es : Trees) (known : Known) (whole : ℕ) (found : List ℤ)
+  pub agree_numbers : (es : Trees) (known : Known) (whole : ℕ) (found : List ℤ)
       → Agrees (w.numbers known whole found es) (constants_occurrences known whole es) (option_map (λ xs. found ++ xs) (c.values known es))
   agree_numbers no_tree known whole found = agree_done found (Some (found ++ [])) (ap Some (append-nil found))
   agree_numbers (tree e es) known whole found =

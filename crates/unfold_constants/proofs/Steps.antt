@@ -4,7 +4,7 @@ use Rattle.std.proofs.lemmas.List.{append_assoc}
 use Rattle.sopl_base.specs.declared.fault.Fault.{Fault}
 use Rattle.sopl_base.specs.declared.fault.Fault.TheVariants.{Limit, NoMemory}
 use Rattle.sopl_ast.specs.Numbers.{count_between}
-use Rattle.sopl_ast.specs.Occurrences.{Occurrence, Counted, Refused, Passed, excess, met, most_counted, most_numbers, no_value, too_many}
+use Rattle.sopl_ast.specs.Occurrences.{Occurrence, Counted, Passed, excess, met, most_counted, most_numbers, no_value, too_many}
 use Rattle.unfold_laws.proofs.Passing.{behind, met_append}
 use Rattle.unfold_constants.specs.CountedAnswers.{Fails}
 use Rattle.unfold_constants.specs.Evaluation.{Step, ◌>>=◌, continued, done, given, count_one, checked_between}

@@ -8,7 +8,7 @@ use Rattle.sopl_ast.specs.Tree.{Tree, Shape, Trees, Terms, Factors, Binders, Nod
 use Rattle.sopl_ast.specs.Known.{Known, with_bound}
 use Rattle.sopl_ast.specs.Occurrences as m
 use Rattle.sopl_ast.specs.Occurrences.{Occurrence, Counted, refused_unless, is_zero}
-use Rattle.unfold_constants.specs.Evaluation.{Step, ◌>>=◌, done}
+use Rattle.unfold_constants.specs.Evaluation.{Step, ◌>>=◌, done, for_each}
 use Rattle.unfold_constants.specs.Traversal as k
 use Rattle.unfold_constants.proofs.Steps.{Agrees, counted, agree_done, agree_bind, agree_bind_two, agree_then, agree_count}
 use Rattle.unfold_constants.proofs.EvaluationAgreement.{agree_number, agree_range}
@@ -38,7 +38,7 @@ meets_divisor known e =
 
 -- a step for each of some numbers
 pub meets_all : (next : ℤ → Step (Unit {0})) (occurrences : ℤ → List Occurrence) → ((n : ℤ) → Meets (next n) (occurrences n))
-    → (ns : List ℤ) → Meets (k.for_all next ns) (flat_map (λ n. Counted ∷ occurrences n) ns)
+    → (ns : List ℤ) → Meets (for_each (λ n u. next n) ns tt) (flat_map (λ n. Counted ∷ occurrences n) ns)
 meets_all next occurrences a [] = meets_done
 meets_all next occurrences a (n ∷ ns) = agree_bind_two agree_count (λ u is. a n) (λ u is. meets_all next occurrences a ns)
 
@@ -69,7 +69,7 @@ mutual
       (λ here. meets_bind (meets_walk start here) (meets_bind (meets_walk duration here) (meets_last (meets_walk demand here)))))
       (meets_walk capacity known)
 
-  meets_trees : (es : Trees) (known : Known) → Meets (k.walk_all known es) (m.expressions_occurrences known es)
+  pub meets_trees : (es : Trees) (known : Known) → Meets (k.walk_all known es) (m.expressions_occurrences known es)
   meets_trees no_tree known = meets_done
   meets_trees (tree e es) known = meets_bind (meets_walk e known) (meets_trees es known)
 
@@ -88,6 +88,6 @@ mutual
   meets_over no_binder known body each a = a known
   meets_over (binder name at range more) known body each a =
       agree_bind (agree_range range known None) (λ ns is.
-      subst (λ v. Meets (k.for_all (λ n. k.over (with_bound name n known) more body) ns)
+      subst (λ v. Meets (for_each (λ n u. k.over (with_bound name n known) more body) ns tt)
       (flat_map (λ n. Counted ∷ m.binding_occurrences (with_bound name n known) None more each) (unwrap_or v []))) (sym is)
       (meets_all _ (λ n. m.binding_occurrences (with_bound name n known) None more each) (λ n. meets_over more (with_bound name n known) body each a) ns))

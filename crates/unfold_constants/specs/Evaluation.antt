@@ -1,6 +1,6 @@
 -- What evaluating an expression in a constant place answers, step by step, with how many things were counted. These steps are the code's own: no public
 -- clause cites them.
-use Rattle.std.specs.Prelude.{ℕ, ◌+◌, nat_lt, ℤ, pos, neg_ℤ, ◌+ℤ◌, not, ◌||◌, List, [], ◌∷◌, ◌++◌, nat_le, Option, Some, None, option_and_then, Result, Ok, Err, if◌then◌else◌}
+use Rattle.std.specs.Prelude.{ℕ, ◌+◌, nat_lt, ℤ, pos, neg_ℤ, ◌+ℤ◌, not, ◌||◌, List, [], ◌∷◌, ◌++◌, drop, nat_le, Option, Some, None, option_and_then, Result, Ok, Err, if◌then◌else◌}
 use Rattle.std.specs.Option.{unwrap_or}
 use Rattle.std.specs.List.{list_all, list_any}
 use Rattle.std.specs.Int.{int_min, int_max}
@@ -10,7 +10,7 @@ use Rattle.sopl_base.specs.declared.fault.Fault.TheVariants.{Text, Limit}
 use Rattle.sopl_ast.specs.declared.operators.MulOp.{MulOp}
 use Rattle.sopl_ast.specs.Tree as t
 use Rattle.sopl_ast.specs.Tree.{Tree, Shape, Trees, Terms, Factors, Binders, Range, Node, no_tree, tree, no_term, term, no_factor, factor, no_binder, binder, Named, Ends, place_of}
-use Rattle.sopl_ast.specs.Lists.{trees}
+use Rattle.sopl_ast.specs.Lists.{BinderTree, trees, binders}
 use Rattle.unfold_tables.specs.Tables.{tasks_of}
 use Rattle.sopl_ast.specs.Numbers.{up_to, count_between, total, extreme, one_or_zero, compares, applied, all_distinct, are_within}
 use Rattle.sopl_ast.specs.Known.{Known, with_bound, known_value, set_named, ascending}
@@ -51,7 +51,7 @@ checked_between lo hi count =
     else Err (Limit (excess 208 (pos (count_between lo hi)) (pos most_numbers)))
 
 -- what is found for each of some numbers, which are counted, behind what was found
-abbrev pub for_each : (ℤ → List ℤ → Step (List ℤ)) → List ℤ → List ℤ → Step (List ℤ)
+abbrev pub for_each : {A : Type 0} → (ℤ → A → Step A) → List ℤ → A → Step A
 for_each next [] found = done found
 for_each next (n ∷ ns) found = (count_one >>= (λ u. next n found)) >>= (λ xs. for_each next ns xs)
 
@@ -128,13 +128,9 @@ multiplied known whole before op e = number known whole e >>= (λ x. given whole
 abbrev pub each_of : ℕ → List Tree → Known → List ℤ → Step (List ℤ)
 each_of whole body here found = numbers here whole found (trees body)
 
--- what is found where one more binder has taken a value, which is counted
-abbrev pub bound : Known → ℕ → List ℕ → ℤ → Binders → (Known → List ℤ → Step (List ℤ)) → List ℤ → Step (List ℤ)
-bound known whole name value more body found = count_one >>= (λ u. over (with_bound name value known) whole more body found)
-
--- what is found where a name takes each of some values, and binders follow
-abbrev pub through : Known → ℕ → List ℕ → Binders → (Known → List ℤ → Step (List ℤ)) → List ℤ → List ℤ → Step (List ℤ)
-through known whole name more body ns found = for_each (λ n xs. over (with_bound name n known) whole more body xs) ns found
+-- what is found for binders of which so many have values
+abbrev pub inside : ℕ → List BinderTree → (Known → List ℤ → Step (List ℤ)) → ℕ → Known → List ℤ → Step (List ℤ)
+inside whole bs body depth here found = over here whole (binders (drop depth bs)) body found
 
 -- the starts, lengths and demands of tasks for each way in which binders take their values
 abbrev pub task_numbers : Known → ℕ → Binders → Tree → Tree → Tree → Step (List ℤ)

@@ -1,5 +1,5 @@
 -- What is known at a place.
-use Rattle.std.specs.Prelude.{ℕ, ℤ, List, [], ◌∷◌}
+use Rattle.std.specs.Prelude.{ℕ, ◌-◌, ℤ, List, [], ◌∷◌, length, take}
 use Rattle.std.specs.Borrow.{Bor}
 use Rattle.unfold_constants.specs.declared.known.Known as declared
 use Rattle.unfold_tables.specs.Tables.{items, table_known}
@@ -13,3 +13,7 @@ bindings_in (first ∷ later) = (record { name = first.0.now; value = first.1 })
 -- what is known at a place
 abbrev pub known_in : declared.Known → Known
 known_in place = record (table_known place.table.now) { bound = bindings_in (items place.bound) }
+
+-- what is known without the value that was given last
+abbrev pub without_last : Known → Known
+without_last known = record known { bound = take (length known.bound - 1) known.bound }

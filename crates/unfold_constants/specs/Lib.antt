@@ -1,3 +1,4 @@
+pub mod Choosing
 pub mod CountedAnswers
 pub mod Evaluation
 pub mod Here

@@ -1,15 +1,15 @@
 -- What walking through an expression of a constraint answers, step by step, with how many things were counted. These steps are the code's own: no public
 -- clause cites them.
-use Rattle.std.specs.Prelude.{ℕ, ℤ, pos, Bool, true, false, not, List, [], ◌∷◌, None, Ok, Err}
+use Rattle.std.specs.Prelude.{ℕ, pos, Bool, true, false, not, List, drop, None, Ok, Err}
 use Rattle.std.specs.Ordering.{int_eq}
 use Rattle.sopl_base.specs.declared.fault.Fault.TheVariants.{Text}
 use Rattle.sopl_ast.specs.declared.operators.MulOp.{MulOp}
 use Rattle.sopl_ast.specs.declared.operators.MulOp.TheVariants.{Times, Div, Mod}
 use Rattle.sopl_ast.specs.Tree as t
 use Rattle.sopl_ast.specs.Tree.{Tree, Shape, Trees, Terms, Factors, Binders, Node, no_tree, tree, no_term, term, no_factor, factor, no_binder, binder, place_of}
-use Rattle.sopl_ast.specs.Lists.{trees}
+use Rattle.sopl_ast.specs.Lists.{BinderTree, trees, binders}
 use Rattle.sopl_ast.specs.Known.{Known, with_bound}
-use Rattle.unfold_constants.specs.Evaluation.{Step, ◌>>=◌, done, count_one, number, range_numbers}
+use Rattle.unfold_constants.specs.Evaluation.{Step, ◌>>=◌, done, for_each, number, range_numbers}
 
 -- a refusal with this code at this place, unless a test holds
 abbrev pub unless : Bool → ℕ → ℕ → Step (Unit {0})
@@ -19,11 +19,6 @@ unless false code at count = Err (Text (record { code = code; at = at }))
 -- a divisor has a value, which is not 0
 abbrev pub divisor : Known → Tree → Step (Unit {0})
 divisor known e = number known (place_of e) e >>= (λ x. unless (not (int_eq x (pos 0))) 110 (place_of e))
-
--- a step for each of some numbers, which are counted
-abbrev pub for_all : (ℤ → Step (Unit {0})) → List ℤ → Step (Unit {0})
-for_all next [] = done tt
-for_all next (n ∷ ns) = (count_one >>= (λ u. next n)) >>= (λ u. for_all next ns)
 
 abbrev mutual
   pub walk : Known → Tree → Step (Unit {0})
@@ -67,7 +62,7 @@ abbrev mutual
   pub over : Known → Binders → (Known → Step (Unit {0})) → Step (Unit {0})
   over known no_binder body = body known
   over known (binder name at range more) body =
-      range_numbers known None range >>= (λ ns. for_all (λ n. over (with_bound name n known) more body) ns)
+      range_numbers known None range >>= (λ ns. for_each (λ n u. over (with_bound name n known) more body) ns tt)
 
 -- a product from its first part on
 abbrev pub walk_product : Known → Tree → Factors → Step (Unit {0})
@@ -83,13 +78,9 @@ walk_factor known Mod e = divisor known e
 abbrev pub walk_body : List Tree → Known → Step (Unit {0})
 walk_body body here = walk_all here (trees body)
 
--- a name takes each of some values, and binders follow
-abbrev pub through : Known → List ℕ → Binders → (Known → Step (Unit {0})) → List ℤ → Step (Unit {0})
-through known name more body ns = for_all (λ n. over (with_bound name n known) more body) ns
-
--- a name has taken a value, which is counted
-abbrev pub bound : Known → List ℕ → ℤ → Binders → (Known → Step (Unit {0})) → Step (Unit {0})
-bound known name value more body = count_one >>= (λ u. over (with_bound name value known) more body)
+-- binders of which so many have values
+abbrev pub inside : List BinderTree → (Known → Step (Unit {0})) → ℕ → Known → Unit {0} → Step (Unit {0})
+inside bs body depth here u = over here (binders (drop depth bs)) body
 
 -- the start, the length and the demand of tasks for each way in which binders take their values
 abbrev pub walk_tasks : Known → Binders → Tree → Tree → Tree → Step (Unit {0})

@@ -1,12 +1,13 @@
 //! The value of an expression in a constant place.
 
-ghost use Rattle.std.specs.Prelude.{◌≡◌, ◌≤◌, ◌^◌, [], map, IfOk, IfSome, Some, pos, ℕ, option_and_then};
+ghost use Rattle.std.specs.Prelude.{◌≡◌, ◌≤◌, ◌^◌, [], map, IfOk, IfSome, OnOk, Some, pos, ℕ, option_and_then};
 ghost use Rattle.std.specs.Int.RustNames.{unsigned_abs};
 ghost use Rattle.sopl_ast.specs.Lists.{trees, terms, factors, binders};
 ghost use Rattle.sopl_ast.specs.Ranges.{range_of};
 ghost use Rattle.sopl_ast.specs.Sight.{shape_of_kind};
 ghost use Rattle.sopl_ast.specs.Tree as t;
 ghost use Rattle.sopl_ast.specs.Tree.{place_of};
+ghost use Rattle.unfold_constants.specs.Choosing.{Leads, entered, give_name, leave_name, open_in, remaining};
 ghost use Rattle.unfold_constants.specs.CountedAnswers.{Answers};
 ghost use Rattle.unfold_tables.specs.Tables.{items, shown, ends_in};
 ghost use Rattle.unfold_constants.specs.Here.{known_in};
@@ -14,8 +15,9 @@ ghost use Rattle.sopl_ast.specs.Constants.{within};
 ghost use Rattle.sopl_ast.specs.Numbers.{one_or_zero as truth_number};
 ghost use Rattle.sopl_ast.specs.References.{now_of};
 ghost use Rattle.unfold_constants.specs.Evaluation as spec;
-ghost use Rattle.unfold_constants.specs.Evaluation.{each_of};
+ghost use Rattle.unfold_constants.specs.Evaluation.{each_of, inside};
 
+use crate::choices::Choices;
 use crate::known::Known;
 use sopl_ast::{Binder, Binders, Expr, Exprs, Factors, Kind, MulOp, Name, RangeText};
 use sopl_base::{CmpOp, Fault, codes};
@@ -78,7 +80,7 @@ fn sized(worth: Option<i128>) -> Option<i64>
     }
 }
 
-#[tactic(auto, using(sopl_ast::proofs::Lighter::lighter, crate::proofs::Body::parts))]
+#[tactic(auto, using(sopl_ast::proofs::Lighter::lighter, crate::proofs::Body::parts, crate::proofs::Growing::growing))]
 impl<'a> Known<'a> {
     /// The value of an expression, inside the one that begins at `whole`.
     #[cycle(evaluate)]
@@ -382,55 +384,42 @@ impl<'a> Known<'a> {
         ensures { Answers (λ u. found.new.items) count.new.counted result
             (spec.over (known_in self.now) body.now.whole (binders over.now) (each_of body.now.whole (map now_of body.now.parts.now)) found.old.items count.old.counted) }
     {
-        match over {
-            [] => self.each_of(count, body, found),
-            [first, more @ ..] => {
-                let numbers = self.range_numbers(count, Some(body.whole), &first.range)?;
-                self.through(count, &first.name, &numbers, more, body, found)
-            }
-        }
-    }
-
-    /// The same where a name takes each of some values, and binders follow.
-    #[cycle(evaluate)]
-    fn through(
-        &self,
-        count: &mut Count,
-        name: &'a Name,
-        numbers: &Numbers<'_>,
-        more: &'a [Binder],
-        body: &Body<'a, '_>,
-        found: &mut Vec<i64>,
-    ) -> Result<(), Fault>
-        ensures { Answers (λ u. found.new.items) count.new.counted result
-            (spec.through (known_in self.now) body.now.whole name.now (binders more.now) (each_of body.now.whole (map now_of body.now.parts.now)) (shown numbers.now) found.old.items
-            count.old.counted) }
-    {
-        let mut left = *numbers;
-        'numbers: while let Some((number, later)) = left.split_first() {
-            self.bound(count, name, number, more, body, found)?;
-            left = later;
+        let mut choices = Choices::new(self)?;
+        Known::enter(&mut choices, count, over, body, found)?;
+        'choices: while choices.advance()? {
+            count.add()?;
+            Known::enter(&mut choices, count, over, body, found)?;
         }
         Ok(())
     }
 
-    /// The same where a name has taken a value, which is counted.
+    /// Adds to `found` what a body is worth where all binders have values; else opens the name of the next one, whose range is evaluated.
     #[cycle(evaluate)]
-    fn bound(
-        &self,
+    fn enter(
+        choices: &mut Choices<'a>,
         count: &mut Count,
-        name: &'a Name,
-        number: i64,
-        more: &'a [Binder],
+        over: &'a [Binder],
         body: &Body<'a, '_>,
         found: &mut Vec<i64>,
     ) -> Result<(), Fault>
-        ensures { Answers (λ u. found.new.items) count.new.counted result
-            (spec.bound (known_in self.now) body.now.whole name.now number (binders more.now) (each_of body.now.whole (map now_of body.now.parts.now)) found.old.items count.old.counted) }
+        ensures leads { Leads
+            (entered give_name leave_name (inside body.now.whole over.now (each_of body.now.whole (map now_of body.now.parts.now))) (known_in choices.old.here) (open_in choices.old)
+            found.old.items count.old.counted)
+            (remaining give_name leave_name (inside body.now.whole over.now (each_of body.now.whole (map now_of body.now.parts.now))) (known_in choices.new.here) (open_in choices.new)
+            found.new.items count.new.counted)
+            result }
+        ensures grows { OnOk result (count.old.counted ≤ count.new.counted) }
     {
-        count.add()?;
-        let here = self.with(name, number)?;
-        here.over(count, more, body, found)
+        let Some(binder) = over.get(choices.depth()) else {
+            choices.here.each_of(count, body, found)?;
+            choices.leave();
+            return Ok(());
+        };
+        let numbers = choices
+            .here
+            .range_numbers(count, Some(body.whole), &binder.range)?;
+        choices.open(&binder.name, &numbers)?;
+        Ok(())
     }
 
     /// Adds to `found` what each part of a body is worth.

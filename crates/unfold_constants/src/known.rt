@@ -1,9 +1,9 @@
 //! What is known at a constant place.
 
-ghost use Rattle.std.specs.Prelude.{◌≡◌, [], IfOk, option_map};
+ghost use Rattle.std.specs.Prelude.{◌≡◌, [], IfOk, OnOk, option_map};
 ghost use Rattle.sopl_ast.specs.Known.{with_bound, is_at, bound_value, known_value, set_named, ascending};
 ghost use Rattle.unfold_tables.specs.Tables.{table_known, number_set, shown};
-ghost use Rattle.unfold_constants.specs.Here.{known_in, bindings_in};
+ghost use Rattle.unfold_constants.specs.Here.{known_in, bindings_in, without_last};
 
 use sopl_ast::Name;
 use std::alloc::{AllocError, Global};
@@ -40,18 +40,21 @@ impl<'a> Known<'a> {
         })
     }
 
-    /// The same, with one more name that has this value.
+    /// Gives one more name this value.
     #[tactic(auto, using(crate::proofs::Bindings::bindings_more))]
-    pub fn with(&self, name: &'a Name, value: i64) -> Result<Known<'a>, AllocError>
-        ensures { IfOk result (λ known. known_in known ≡ with_bound name.now value (known_in self.now)) }
+    pub fn bind(&mut self, name: &'a Name, value: i64) -> Result<(), AllocError>
+        ensures { OnOk result (known_in self.new ≡ with_bound name.now value (known_in self.old)) }
     {
-        let mut bound = Vec::from_slice(self.alloc, self.bound.as_slice())?;
-        bound.push((name, value))?;
-        Ok(Known {
-            alloc: self.alloc,
-            table: self.table,
-            bound,
-        })
+        self.bound.push((name, value))?;
+        Ok(())
+    }
+
+    /// Takes away the name that was given its value last.
+    #[tactic(auto, using(crate::proofs::Bindings::bindings_fewer))]
+    pub fn forget(&mut self)
+        ensures { known_in self.new ≡ without_last (known_in self.old) }
+    {
+        self.bound.pop();
     }
 
     /// The bound names with their values, in the order in which they were bound.

@@ -2,11 +2,13 @@
 //! Its tests stand in `text_tests`.
 #![tactic(auto)]
 
+mod choices;
 mod constant_places;
 mod evaluate;
 mod known;
 mod refusals;
 mod walk;
 
+pub use choices::Choices;
 pub use known::Known;
 pub use refusals::unless;

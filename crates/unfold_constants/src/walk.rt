@@ -1,21 +1,22 @@
 //! Expressions of constraints and objectives: what is met in their constant places, which are divisors and the ranges of binders.
 
-ghost use Rattle.std.specs.Prelude.{map};
+ghost use Rattle.std.specs.Prelude.{◌≤◌, map, OnOk};
 ghost use Rattle.sopl_ast.specs.Lists.{trees, terms, factors, binders};
 ghost use Rattle.sopl_ast.specs.References.{now_of};
 ghost use Rattle.sopl_ast.specs.Tree as t;
+ghost use Rattle.unfold_constants.specs.Choosing.{Leads, entered, give_name, leave_name, open_in, remaining};
 ghost use Rattle.unfold_constants.specs.CountedAnswers.{Answers};
-ghost use Rattle.unfold_tables.specs.Tables.{shown};
 ghost use Rattle.unfold_constants.specs.Here.{known_in};
 ghost use Rattle.unfold_constants.specs.Traversal as spec;
 
+use crate::choices::Choices;
 use crate::evaluate::TaskText;
 use crate::known::Known;
-use sopl_ast::{Binder, Binders, Expr, Factors, Kind, MulOp, Name};
+use sopl_ast::{Binder, Binders, Expr, Factors, Kind, MulOp};
 use sopl_base::{Fault, codes};
-use unfold_tables::{Count, Numbers};
+use unfold_tables::Count;
 
-#[tactic(auto, using(sopl_ast::proofs::Lighter::lighter, crate::proofs::Body::parts))]
+#[tactic(auto, using(sopl_ast::proofs::Lighter::lighter, crate::proofs::Body::parts, crate::proofs::Growing::growing))]
 impl<'a> Known<'a> {
     /// Walks through an expression.
     #[cycle(walk)]
@@ -146,52 +147,37 @@ impl<'a> Known<'a> {
         ensures { Answers (λ u. u) count.new.counted result
             (spec.over (known_in self.now) (binders over.now) (spec.walk_body (map now_of body.now)) count.old.counted) }
     {
-        match over {
-            [] => self.walk_body(count, body),
-            [first, more @ ..] => {
-                let numbers = self.range_numbers(count, None, &first.range)?;
-                self.walk_through(count, &first.name, &numbers, more, body)
-            }
-        }
-    }
-
-    /// The same where a name takes each of some values, and binders follow.
-    #[cycle(walk)]
-    fn walk_through(
-        &self,
-        count: &mut Count,
-        name: &'a Name,
-        numbers: &Numbers<'_>,
-        more: &'a [Binder],
-        body: &[&'a Expr],
-    ) -> Result<(), Fault>
-        ensures { Answers (λ u. u) count.new.counted result
-            (spec.through (known_in self.now) name.now (binders more.now) (spec.walk_body (map now_of body.now)) (shown numbers.now) count.old.counted) }
-    {
-        let mut left = *numbers;
-        'numbers: while let Some((number, later)) = left.split_first() {
-            self.walk_bound(count, name, number, more, body)?;
-            left = later;
+        let mut choices = Choices::new(self)?;
+        Known::walk_inside(&mut choices, count, over, body)?;
+        'choices: while choices.advance()? {
+            count.add()?;
+            Known::walk_inside(&mut choices, count, over, body)?;
         }
         Ok(())
     }
 
-    /// The same where a name has taken a value, which is counted.
+    /// Walks through the expressions of `body` where all binders have values; else opens the name of the next one, whose range is evaluated.
     #[cycle(walk)]
-    fn walk_bound(
-        &self,
+    fn walk_inside(
+        choices: &mut Choices<'a>,
         count: &mut Count,
-        name: &'a Name,
-        number: i64,
-        more: &'a [Binder],
+        over: &'a [Binder],
         body: &[&'a Expr],
     ) -> Result<(), Fault>
-        ensures { Answers (λ u. u) count.new.counted result
-            (spec.bound (known_in self.now) name.now number (binders more.now) (spec.walk_body (map now_of body.now)) count.old.counted) }
+        ensures leads { Leads
+            (entered give_name leave_name (spec.inside over.now (spec.walk_body (map now_of body.now))) (known_in choices.old.here) (open_in choices.old) tt count.old.counted)
+            (remaining give_name leave_name (spec.inside over.now (spec.walk_body (map now_of body.now))) (known_in choices.new.here) (open_in choices.new) tt count.new.counted)
+            result }
+        ensures grows { OnOk result (count.old.counted ≤ count.new.counted) }
     {
-        count.add()?;
-        let here = self.with(name, number)?;
-        here.walk_over(count, more, body)
+        let Some(binder) = over.get(choices.depth()) else {
+            choices.here.walk_body(count, body)?;
+            choices.leave();
+            return Ok(());
+        };
+        let numbers = choices.here.range_numbers(count, None, &binder.range)?;
+        choices.open(&binder.name, &numbers)?;
+        Ok(())
     }
 
     /// Walks through the expressions of a body.

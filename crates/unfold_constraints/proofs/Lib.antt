@@ -3,3 +3,4 @@ pub mod Copies
 pub mod Answered
 pub mod Found
 pub mod SteppingAgreement
+pub mod Entering

@@ -13,7 +13,7 @@ use Rattle.sopl_ast.specs.Tree.{Tree, Binders, no_binder, binder, place_of}
 use Rattle.sopl_ast.specs.Unfolding as stated
 use Rattle.sopl_ast.specs.Unfolding.{ConstraintInstance, hard_instance, chance_instance, conditions_of, hards_among, chances_among, is_threshold, threshold_occurrences}
 use Rattle.sopl_ast.specs.Whole.{ConsTree, ConsTrees, ForallTree, BlockTree, HardTree, ChanceTree, no_cons, cons}
-use Rattle.unfold_constants.specs.Evaluation.{Step, ◌>>=◌, done}
+use Rattle.unfold_constants.specs.Evaluation.{Step, ◌>>=◌, done, for_each}
 use Rattle.unfold_constants.specs.Traversal as k
 use Rattle.unfold_constants.proofs.EvaluationAgreement.{agree_number, agree_range}
 use Rattle.unfold_constants.proofs.Steps.{Agrees, At, counted, agree_value, agree_done, agree_bind, agree_bind_two, agree_then, agree_count}
@@ -79,7 +79,7 @@ more_places result found more (Some heres) (Some later) is =
 -- what is found for each of some numbers
 agree_each : (result : Known → List ConstraintInstance) (next : ℤ → Found → Step Found) (marks : ℤ → List Occurrence) (here : ℤ → Option (List Known))
     → ((n : ℤ) (found : Found) → Agrees (next n found) (marks n) (at_all result found (here n)))
-    → (ns : List ℤ) (found : Found) → Agrees (s.for_each next ns found) (flat_map (λ n. Counted ∷ marks n) ns) (at_all result found (places here ns))
+    → (ns : List ℤ) (found : Found) → Agrees (for_each next ns found) (flat_map (λ n. Counted ∷ marks n) ns) (at_all result found (places here ns))
 agree_each result next marks here a [] found = agree_done found (Some (behind found [])) (ap Some (behind_nothing found))
 agree_each result next marks here a (n ∷ ns) found =
     agree_bind_two agree_count (λ u is. a n found) (λ more is.
@@ -96,7 +96,7 @@ agree_bindings body each result adds no_binder known found =
     agree_value (ap (λ xs. Some (behind found xs)) (sym (append-nil (result known)))) (adds known found)
 agree_bindings body each result adds (binder name at range more) known found =
     agree_bind (agree_range range known None) (λ ns is.
-    subst (λ v. Agrees (s.for_each (λ n xs. s.over (with_bound name n known) more body xs) ns found)
+    subst (λ v. Agrees (for_each (λ n xs. s.over (with_bound name n known) more body xs) ns found)
     (flat_map (λ n. Counted ∷ binding_occurrences (with_bound name n known) None more each) (unwrap_or v []))
     (at_all result found (option_and_then (λ numbers. places (λ n. c.bindings (with_bound name n known) more) numbers) v)))
     (sym is)
@@ -145,7 +145,7 @@ agree_chance known text e p q found =
     (λ t at. ap (λ o. Some (s.with_chance found text known.bound (unwrap_or o t).0 (unwrap_or o t).1)) at)))
 
 mutual
-  agree_constraint : (tree : ConsTree) (known : Known) (first : ℕ) (found : Found)
+  pub agree_constraint : (tree : ConsTree) (known : Known) (first : ℕ) (found : Found)
       → Agrees (s.constraint known first tree found) (stated.constraint_occurrences known tree) (Some (behind found (stated.constraint_instances known first tree)))
   agree_constraint (ForallTree bs tree) known first found =
       agree_over _ (λ here. stated.constraint_occurrences here tree) (λ here. stated.constraint_instances here first tree) (λ here more. agree_constraint tree here first more) bs known found

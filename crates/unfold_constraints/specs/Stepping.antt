@@ -1,11 +1,12 @@
 -- What walking through constraints answers, step by step, with how many things were counted. These steps are the code's own: no public clause cites them.
-use Rattle.std.specs.Prelude.{ℕ, ◌+◌, ℤ, List, [], ◌∷◌, ◌++◌, length, None}
+use Rattle.std.specs.Prelude.{ℕ, ◌+◌, ℤ, List, [], ◌∷◌, ◌++◌, drop, length, None}
 use Rattle.sopl_ast.specs.Instances.{Hard, Chance}
 use Rattle.sopl_ast.specs.Known.{Binding, Known, with_bound}
+use Rattle.sopl_ast.specs.Lists.{BinderTree, binders}
 use Rattle.sopl_ast.specs.Tree.{Tree, Binders, no_binder, binder, place_of}
 use Rattle.sopl_ast.specs.Unfolding.{conditions_of, is_threshold}
 use Rattle.sopl_ast.specs.Whole.{ConsTree, ConsTrees, ForallTree, BlockTree, HardTree, ChanceTree, no_cons, cons}
-use Rattle.unfold_constants.specs.Evaluation.{Step, ◌>>=◌, done, count_one, number, range_numbers}
+use Rattle.unfold_constants.specs.Evaluation.{Step, ◌>>=◌, done, count_one, for_each, number, range_numbers}
 use Rattle.unfold_constants.specs.Traversal.{walk, unless}
 
 -- the instances that were found, hard ones and chance ones
@@ -42,11 +43,6 @@ hard known text e found = condition known e >>= (λ u. done (with_hard found tex
 abbrev pub chance : Known → ℕ → Tree → Tree → Tree → Found → Step Found
 chance known text e p q found = condition known e >>= (λ u. threshold known p q >>= (λ t. done (with_chance found text known.bound t.0 t.1)))
 
--- what is found for each of some numbers, which are counted, behind what was found
-abbrev pub for_each : (ℤ → Found → Step Found) → List ℤ → Found → Step Found
-for_each next [] found = done found
-for_each next (n ∷ ns) found = (count_one >>= (λ u. next n found)) >>= (λ more. for_each next ns more)
-
 -- what is found for each way in which binders take their values, the last one fastest
 abbrev pub over : Known → Binders → (Known → Found → Step Found) → Found → Step Found
 over known no_binder body found = body known found
@@ -71,10 +67,6 @@ abbrev mutual
 abbrev pub part : ℕ → ConsTree → Known → Found → Step Found
 part first c here found = constraint here first c found
 
--- a name takes each of some values, and binders follow
-abbrev pub through : Known → List ℕ → Binders → (Known → Found → Step Found) → List ℤ → Found → Step Found
-through known name more body ns found = for_each (λ n more_found. over (with_bound name n known) more body more_found) ns found
-
--- a name has taken a value, which is counted
-abbrev pub bound : Known → List ℕ → ℤ → Binders → (Known → Found → Step Found) → Found → Step Found
-bound known name value more body found = count_one >>= (λ u. over (with_bound name value known) more body found)
+-- what is found for binders of which so many have values
+abbrev pub inside : List BinderTree → (Known → Found → Step Found) → ℕ → Known → Found → Step Found
+inside bs body depth here found = over here (binders (drop depth bs)) body found

@@ -44,13 +44,13 @@ impl Instances {
     }
 }
 
-impl<'a> Place<'a> {
+impl<'a, 'b> Place<'a, 'b> {
     /// Counts an instance, and walks through its condition.
     fn condition(&self, count: &mut Count, e: &'a Expr) -> Result<(), Fault>
-        ensures { Answers (λ u. u) count.new.counted result (spec.condition (known_in self.now.known) e.now count.old.counted) }
+        ensures { Answers (λ u. u) count.new.counted result (spec.condition (known_in self.now.known.now) e.now count.old.counted) }
     {
         count_one(count)?;
-        expression_at(&self.known, count, e)
+        expression_at(self.known, count, e)
     }
 
     /// Adds the instance of a hard constraint, of which the condition has this number.
@@ -62,7 +62,7 @@ impl<'a> Place<'a> {
         found: &mut Instances,
     ) -> Result<(), Fault>
         ensures { Answers (λ u. found_in found.new) count.new.counted result
-            (spec.hard (known_in self.now.known) text e.now (found_in found.old) count.old.counted) }
+            (spec.hard (known_in self.now.known.now) text e.now (found_in found.old) count.old.counted) }
     {
         self.condition(count, e)?;
         found.add_hard(text, self.env()?)?;
@@ -80,7 +80,7 @@ impl<'a> Place<'a> {
         found: &mut Instances,
     ) -> Result<(), Fault>
         ensures { Answers (λ u. found_in found.new) count.new.counted result
-            (spec.chance (known_in self.now.known) text cond.now p.now q.now (found_in found.old) count.old.counted) }
+            (spec.chance (known_in self.now.known.now) text cond.now p.now q.now (found_in found.old) count.old.counted) }
     {
         self.condition(count, cond)?;
         let threshold = self.threshold(count, p, q)?;

@@ -17,6 +17,7 @@ use crate::place::Place;
 use sopl_ast::{Cons, ConsList, Expr};
 use sopl_base::Fault;
 use std::alloc::{AllocError, Global};
+use unfold_constants::Known;
 use unfold_tables::{Count, Table};
 
 /// The instances of constraints, behind the declarations that have filled the table.
@@ -30,18 +31,22 @@ pub fn instances(
     ensures hards { IfOk result (λ found. found.hards.items ≡ hards_among (all_constraint_instances (table_known table.now) 0 (conses (cons_trees body.now)))) }
     ensures chances { IfOk result (λ found. found.chances.items ≡ chances_among (all_constraint_instances (table_known table.now) 0 (conses (cons_trees body.now)))) }
 {
-    let place = Place::new(alloc, table);
+    let known = Known::new(alloc, table);
+    let place = Place {
+        alloc,
+        known: &known,
+    };
     all_instances(&place, count, body)
 }
 
 /// The same, as a step.
 fn all_instances<'a>(
-    place: &Place<'a>,
+    place: &Place<'a, '_>,
     count: &mut Count,
     body: &'a ConsList,
 ) -> Result<Instances, Fault>
     ensures { Answers found_in count.new.counted result
-        (spec.constraints (known_in place.now.known) 0 (conses (cons_trees body.now)) spec.nothing_found count.old.counted) }
+        (spec.constraints (known_in place.now.known.now) 0 (conses (cons_trees body.now)) spec.nothing_found count.old.counted) }
 {
     let mut found = Instances::new(place.alloc);
     place.constraints(count, 0, body.as_slice(), &mut found)?;

@@ -30,7 +30,7 @@ impl Threshold {
     }
 }
 
-impl<'a> Place<'a> {
+impl<'a, 'b> Place<'a, 'b> {
     /// The threshold of a chance constraint; both of its parts are constant places, and are evaluated before it is judged.
     pub fn threshold(
         &self,
@@ -39,10 +39,10 @@ impl<'a> Place<'a> {
         whole: &'a Expr,
     ) -> Result<Threshold, Fault>
         ensures { Answers threshold_in count.new.counted result
-            (spec.threshold (known_in self.now.known) part.now whole.now count.old.counted) }
+            (spec.threshold (known_in self.now.known.now) part.now whole.now count.old.counted) }
     {
-        let p = constant_at(&self.known, count, part)?;
-        let q = constant_at(&self.known, count, whole)?;
+        let p = constant_at(self.known, count, part)?;
+        let q = constant_at(self.known, count, whole)?;
         let threshold = Threshold { p, q };
         unless(threshold.is_right(), codes::THRESHOLD, part.at)?;
         Ok(threshold)

@@ -1,25 +1,27 @@
 //! The walk through constraints, which adds the instances that it meets.
 
-ghost use Rattle.std.specs.Prelude.{◌≡◌, map};
+ghost use Rattle.std.specs.Prelude.{◌≤◌, map, OnOk};
 ghost use Rattle.sopl_ast.specs.Constraints.{cons_tree};
 ghost use Rattle.sopl_ast.specs.Lists.{binders};
 ghost use Rattle.sopl_ast.specs.Whole.{ForallTree, conses};
+ghost use Rattle.unfold_constants.specs.Choosing.{Leads, entered, give_name, leave_name, open_in, remaining};
 ghost use Rattle.unfold_constants.specs.CountedAnswers.{Answers};
 ghost use Rattle.unfold_constants.specs.Here.{known_in};
 ghost use Rattle.unfold_constraints.specs.Shown.{found_in};
 ghost use Rattle.unfold_constraints.specs.Stepping as spec;
-ghost use Rattle.unfold_tables.specs.Tables.{shown};
 
-use crate::calls::{count_one, numbers_at};
+use crate::calls::numbers_at;
 use crate::items::Instances;
 use crate::numbering::behind;
 use crate::place::{Part, Place};
-use sopl_ast::{Binder, Binders, Cons, Name};
+use sopl_ast::{Binder, Binders, Cons};
 use sopl_base::Fault;
-use unfold_tables::{Count, Numbers};
+use std::alloc::Global;
+use unfold_constants::Choices;
+use unfold_tables::Count;
 
-#[tactic(auto, using(sopl_ast::proofs::ConstraintTrees::constraints, crate::proofs::Parts::parts))]
-impl<'a> Place<'a> {
+#[tactic(auto, using(sopl_ast::proofs::ConstraintTrees::constraints, crate::proofs::Parts::parts, crate::proofs::Entering::growing, unfold_constants::proofs::Growing::growing))]
+impl<'a, 'b> Place<'a, 'b> {
     /// Adds the instances of a constraint, of which the first condition has this number.
     #[cycle(constraint)]
     fn constraint(
@@ -30,7 +32,7 @@ impl<'a> Place<'a> {
         found: &mut Instances,
     ) -> Result<(), Fault>
         ensures { Answers (λ u. found_in found.new) count.new.counted result
-            (spec.constraint (known_in self.now.known) first (cons_tree constraint.now) (found_in found.old) count.old.counted) }
+            (spec.constraint (known_in self.now.known.now) first (cons_tree constraint.now) (found_in found.old) count.old.counted) }
     {
         match constraint {
             Cons::Forall(over, inner) => self.forall(count, first, over, inner, found),
@@ -50,7 +52,7 @@ impl<'a> Place<'a> {
         found: &mut Instances,
     ) -> Result<(), Fault>
         ensures { Answers (λ u. found_in found.new) count.new.counted result
-            (spec.constraints (known_in self.now.known) first (conses (map cons_tree parts.now)) (found_in found.old) count.old.counted) }
+            (spec.constraints (known_in self.now.known.now) first (conses (map cons_tree parts.now)) (found_in found.old) count.old.counted) }
     {
         let mut next = first;
         'parts: for part in parts {
@@ -71,7 +73,7 @@ impl<'a> Place<'a> {
         found: &mut Instances,
     ) -> Result<(), Fault>
         ensures { Answers (λ u. found_in found.new) count.new.counted result
-            (spec.constraint (known_in self.now.known) first (ForallTree (binders over.now) (cons_tree constraint.now)) (found_in found.old) count.old.counted) }
+            (spec.constraint (known_in self.now.known.now) first (ForallTree (binders over.now) (cons_tree constraint.now)) (found_in found.old) count.old.counted) }
     {
         let part = Part { first, constraint };
         self.over(count, over.as_slice(), &part, found)
@@ -87,57 +89,46 @@ impl<'a> Place<'a> {
         found: &mut Instances,
     ) -> Result<(), Fault>
         ensures { Answers (λ u. found_in found.new) count.new.counted result
-            (spec.over (known_in self.now.known) (binders over.now) (spec.part part.now.first (cons_tree part.now.constraint.now)) (found_in found.old) count.old.counted) }
+            (spec.over (known_in self.now.known.now) (binders over.now) (spec.part part.now.first (cons_tree part.now.constraint.now)) (found_in found.old) count.old.counted) }
     {
-        match over {
-            [] => self.constraint(count, part.first, part.constraint, found),
-            [binder, more @ ..] => {
-                let numbers = numbers_at(&self.known, count, &binder.range)?;
-                self.through(count, &binder.name, &numbers, more, part, found)
-            }
-        }
-    }
-
-    /// The same where a name takes each of some values, and binders follow.
-    #[cycle(constraint)]
-    fn through(
-        &self,
-        count: &mut Count,
-        name: &'a Name,
-        numbers: &Numbers<'_>,
-        more: &'a [Binder],
-        part: &Part<'a>,
-        found: &mut Instances,
-    ) -> Result<(), Fault>
-        ensures { Answers (λ u. found_in found.new) count.new.counted result
-            (spec.through (known_in self.now.known) name.now (binders more.now) (spec.part part.now.first (cons_tree part.now.constraint.now)) (shown numbers.now)
-            (found_in found.old) count.old.counted) }
-    {
-        let mut left = *numbers;
-        'numbers: while let Some((number, later)) = left.split_first() {
-            self.bound(count, name, number, more, part, found)?;
-            left = later;
+        let mut choices = Choices::new(self.known)?;
+        Place::enter(self.alloc, &mut choices, count, over, part, found)?;
+        'choices: while choices.advance()? {
+            count.add()?;
+            Place::enter(self.alloc, &mut choices, count, over, part, found)?;
         }
         Ok(())
     }
 
-    /// The same where a name has taken a value, which is counted.
+    /// Adds the instances of a part where all binders have values; else opens the name of the next one, whose range is evaluated.
     #[cycle(constraint)]
-    fn bound(
-        &self,
+    fn enter(
+        alloc: Global,
+        choices: &mut Choices<'a>,
         count: &mut Count,
-        name: &'a Name,
-        number: i64,
-        more: &'a [Binder],
+        over: &'a [Binder],
         part: &Part<'a>,
         found: &mut Instances,
     ) -> Result<(), Fault>
-        ensures { Answers (λ u. found_in found.new) count.new.counted result
-            (spec.bound (known_in self.now.known) name.now number (binders more.now) (spec.part part.now.first (cons_tree part.now.constraint.now))
-            (found_in found.old) count.old.counted) }
+        ensures leads { Leads
+            (entered give_name leave_name (spec.inside over.now (spec.part part.now.first (cons_tree part.now.constraint.now))) (known_in choices.old.here) (open_in choices.old)
+            (found_in found.old) count.old.counted)
+            (remaining give_name leave_name (spec.inside over.now (spec.part part.now.first (cons_tree part.now.constraint.now))) (known_in choices.new.here) (open_in choices.new)
+            (found_in found.new) count.new.counted)
+            result }
+        ensures grows { OnOk result (count.old.counted ≤ count.new.counted) }
     {
-        count_one(count)?;
-        let here = self.with(name, number)?;
-        here.over(count, more, part, found)
+        let Some(binder) = over.get(choices.depth()) else {
+            let place = Place {
+                alloc,
+                known: &choices.here,
+            };
+            place.constraint(count, part.first, part.constraint, found)?;
+            choices.leave();
+            return Ok(());
+        };
+        let numbers = numbers_at(&choices.here, count, &binder.range)?;
+        choices.open(&binder.name, &numbers)?;
+        Ok(())
     }
 }

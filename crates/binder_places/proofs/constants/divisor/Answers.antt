@@ -1,4 +1,4 @@
-use Rattle.std.proofs.Common.{◌≡◌, ◌≤◌, ◌^◌, ℤ, pos, false, Some, IfOk}
+use Rattle.std.proofs.Common.{◌≡◌, ◌≤◌, ◌^◌, pos, false, Some}
 use Rattle.std.specs.Int.RustNames.{unsigned_abs}
 use Rattle.std.specs.Ordering.{int_eq}
 use Rattle.sopl_ast.specs.Constants.{value}

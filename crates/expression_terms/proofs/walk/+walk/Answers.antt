@@ -15,7 +15,8 @@ use Rattle.sopl_ast.specs.Weight.{weight}
 use Rattle.term_nodes.specs.Things.{term_at}
 use Rattle.unfold_constants.specs.Here.{known_in}
 use Rattle.expression_terms.specs.Made.{MakesCond, MakesConds, MakesParts, MakesTerm, MakesTerms}
-use Rattle.expression_terms.proofs.Loops.{conds_end, conds_fault, left_first, left_holds, left_more, next_is, next_seen, none_is, none_seen, parts_end, parts_fault, terms_end, terms_fault}
+use Rattle.expression_terms.proofs.Loops.{conds_end, conds_fault, left_first, left_holds, left_more, parts_end, parts_fault, terms_end, terms_fault}
+use Rattle.binder_places.proofs.Loops.{next_is, next_seen, none_is, none_seen}
 use Rattle.expression_terms.proofs.Parts.{all_hold, chain_is, conditions_are, index_is, instances_are, places_are, sum_is, terms_hold}
 use Rattle.expression_terms.proofs.Products.{factored_fault, factored_holds, factored_more, product_fault}
 use Rattle.expression_terms.proofs.Steps.{cond_is, term_is}

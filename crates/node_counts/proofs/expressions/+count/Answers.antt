@@ -9,7 +9,8 @@ use Rattle.sopl_ast.specs.Weight.{weight}
 use Rattle.unfold_constants.specs.Here.{known_in}
 use Rattle.binder_places.specs.Walked.{IsWalked}
 use Rattle.node_counts.specs.Counted.{capped}
-use Rattle.node_counts.proofs.Counting.{all_sum, term_sum, factor_sum, all_walked, terms_walked, factors_walked, either, left_first, left_holds, left_more, left_none, next_is, next_seen, none_is}
+use Rattle.node_counts.proofs.Counting.{all_sum, term_sum, factor_sum, all_walked, terms_walked, factors_walked, either, left_first, left_holds, left_more, left_none}
+use Rattle.binder_places.proofs.Loops.{next_is, next_seen, none_is}
 use Rattle.node_counts.proofs.expressions.+count.Goals as goal
 
 pub nodes_of-returns-in_ok-inside-in-Cumulative : goal.nodes_of-returns-in_ok-inside-in-Cumulative

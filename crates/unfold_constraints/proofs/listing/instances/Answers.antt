@@ -11,16 +11,16 @@ use Rattle.unfold_constraints.proofs.listing.instances.Goals as goal
 pub returns-clause-met : goal.returns-clause-met
 returns-clause-met c =
     walks_so found_in _ _ c.all_instances.result (agree_constraints (conses (cons_trees c.args.body.now)) (table_known c.args.table.now) 0 nothing_found)
-    (rw c.new-place.ensures at c.all_instances.ensures)
+    (rw c.new-known.ensures at c.all_instances.ensures)
 
 pub returns-clause-hards : goal.returns-clause-hards
 returns-clause-hards c =
     hards_is _ c.all_instances.result
     (worth_so found_in _ _ c.all_instances.result (agree_constraints (conses (cons_trees c.args.body.now)) (table_known c.args.table.now) 0 nothing_found)
-    (rw c.new-place.ensures at c.all_instances.ensures))
+    (rw c.new-known.ensures at c.all_instances.ensures))
 
 pub returns-clause-chances : goal.returns-clause-chances
 returns-clause-chances c =
     chances_is _ c.all_instances.result
     (worth_so found_in _ _ c.all_instances.result (agree_constraints (conses (cons_trees c.args.body.now)) (table_known c.args.table.now) 0 nothing_found)
-    (rw c.new-place.ensures at c.all_instances.ensures))
+    (rw c.new-known.ensures at c.all_instances.ensures))

@@ -1,14 +1,14 @@
 -- Each loop has evaluated the parts so far; and each call goes down in weight.
-use Rattle.std.proofs.Common.{◌≡◌, ◌+◌, ◌*◌, ◌≤◌, [], drop, map, length, pos, unsigned_abs}
+use Rattle.std.proofs.Common.{◌≡◌, ◌+◌, ◌-◌, ◌*◌, ◌≤◌, [], drop, map, pos, unsigned_abs}
 use Rattle.sopl_ast.specs.Lists.{trees, terms, factors, binders}
 use Rattle.sopl_ast.specs.Ranges.{range_of}
 use Rattle.sopl_ast.specs.Sight.{shape_of_kind}
 use Rattle.sopl_ast.specs.Weight.{weight, weight_shape, weight_of_trees, weight_of_terms, weight_factors, weight_of_binders, weight_range}
-use Rattle.sopl_ast.specs.Known.{with_bound}
+use Rattle.sopl_ast.specs.Occurrences.{most_counted}
 use Rattle.sopl_ast.specs.References.{now_of}
-use Rattle.unfold_tables.specs.Tables.{shown}
 use Rattle.unfold_constants.specs.Here.{known_in}
 use Rattle.unfold_constants.proofs.Body.{weight_of_body}
+use Rattle.unfold_constants.specs.Choosing.{give_name, leave_name, open_in, remaining}
 use Rattle.unfold_constants.specs.Evaluation as spec
 use Rattle.unfold_constants.proofs.known.Known.+evaluate.Given as goal
 
@@ -23,19 +23,19 @@ invariant-product-parts l =
     ≡ spec.whole_product (known_in l.self) l.whole l.parts.first (factors l.parts.others) l.fn.count.counted
 
 abbrev pub decreases-number : goal.decreases-number
-decreases-number l = 3 * weight l.e.now + 1
+decreases-number l = 4 * weight l.e.now + 1
 
 abbrev pub decreases-untested : goal.decreases-untested
-decreases-untested l = 3 * weight_shape (shape_of_kind l.kind.now)
+decreases-untested l = 4 * weight_shape (shape_of_kind l.kind.now)
 
 abbrev pub decreases-numbers : goal.decreases-numbers
-decreases-numbers l = 3 * weight_of_trees l.parts.now
+decreases-numbers l = 4 * weight_of_trees l.parts.now
 
 abbrev pub decreases-product : goal.decreases-product
-decreases-product l = 3 * (weight l.parts.now.first + weight_factors (factors l.parts.now.others)) + 2
+decreases-product l = 4 * (weight l.parts.now.first + weight_factors (factors l.parts.now.others)) + 2
 
 abbrev pub decreases-multiplied : goal.decreases-multiplied
-decreases-multiplied l = 3 * weight l.part.now.1 + 2
+decreases-multiplied l = 4 * weight l.part.now.1 + 2
 
 abbrev pub invariant-sum-parts : goal.invariant-sum-parts
 invariant-sum-parts l = record {
@@ -45,67 +45,48 @@ invariant-sum-parts l = record {
 }
 
 abbrev pub decreases-sum : goal.decreases-sum
-decreases-sum l = 3 * weight_of_terms l.parts.now
+decreases-sum l = 4 * weight_of_terms l.parts.now
 
 abbrev pub decreases-element : goal.decreases-element
-decreases-element l = 3 * weight_of_trees l.parts.now + 1
+decreases-element l = 4 * weight_of_trees l.parts.now + 1
 
 abbrev pub decreases-compared : goal.decreases-compared
-decreases-compared l = 3 * weight l.a.now + 3 * weight l.b.now + 2
+decreases-compared l = 4 * weight l.a.now + 4 * weight l.b.now + 2
 
 abbrev pub decreases-all : goal.decreases-all
-decreases-all l = 3 * weight_of_trees l.parts.now + 1
+decreases-all l = 4 * weight_of_trees l.parts.now + 1
 
 abbrev pub decreases-some : goal.decreases-some
-decreases-some l = 3 * weight_of_trees l.parts.now + 1
+decreases-some l = 4 * weight_of_trees l.parts.now + 1
 
 abbrev pub decreases-implied : goal.decreases-implied
-decreases-implied l = 3 * weight l.a.now + 3 * weight l.b.now + 2
+decreases-implied l = 4 * weight l.a.now + 4 * weight l.b.now + 2
 
 abbrev pub decreases-least : goal.decreases-least
-decreases-least l = 3 * weight_of_trees l.parts.now + 1
+decreases-least l = 4 * weight_of_trees l.parts.now + 1
 
 abbrev pub decreases-greatest : goal.decreases-greatest
-decreases-greatest l = 3 * weight_of_trees l.parts.now + 1
+decreases-greatest l = 4 * weight_of_trees l.parts.now + 1
 
 abbrev pub decreases-summed : goal.decreases-summed
-decreases-summed l = 3 * weight_of_binders l.over.now + 3 * weight l.e.now + 5
+decreases-summed l = 4 * weight_of_binders l.over.now + 4 * weight l.e.now + 5
 
 abbrev pub decreases-differ : goal.decreases-differ
-decreases-differ l = 3 * weight_of_binders l.over.now + 3 * weight l.e.now + 5
-
-abbrev pub decreases-over : goal.decreases-over
-decreases-over l = 3 * weight_of_binders l.over.now + 3 * weight_of_body l.body.now.parts.now + 3
-
-abbrev pub decreases-bound : goal.decreases-bound
-decreases-bound l = 3 * weight_of_binders l.more.now + 3 * weight_of_body l.body.now.parts.now + 4
+decreases-differ l = 4 * weight_of_binders l.over.now + 4 * weight l.e.now + 5
 
 abbrev pub decreases-each_of : goal.decreases-each_of
-decreases-each_of l = 3 * weight_of_body l.body.now.parts.now + 2
+decreases-each_of l = 4 * weight_of_body l.body.now.parts.now + 2
 
 abbrev pub decreases-range_numbers : goal.decreases-range_numbers
-decreases-range_numbers l = 3 * weight_range (range_of l.range.now) + 2
+decreases-range_numbers l = 4 * weight_range (range_of l.range.now) + 2
 
 abbrev pub decreases-fit : goal.decreases-fit
 decreases-fit l =
-    3 * weight_of_binders l.over.now + 3 * (weight l.task.now.start.now + weight l.task.now.duration.now + weight l.task.now.demand.now) + 3 * weight l.capacity.now + 5
+    4 * weight_of_binders l.over.now + 4 * (weight l.task.now.start.now + weight l.task.now.duration.now + weight l.task.now.demand.now) + 4 * weight l.capacity.now + 6
 
 abbrev pub decreases-task_numbers : goal.decreases-task_numbers
 decreases-task_numbers l =
-    3 * weight_of_binders l.over.now + 3 * (weight l.task.now.start.now + weight l.task.now.duration.now + weight l.task.now.demand.now) + 4
-
-abbrev pub decreases-through : goal.decreases-through
-decreases-through l = 3 * weight_of_binders l.more.now + 3 * weight_of_body l.body.now.parts.now + 5
-
-abbrev pub decreases-through-numbers : goal.decreases-through-numbers
-decreases-through-numbers l = length (shown l.left)
-
-abbrev pub invariant-through-numbers : goal.invariant-through-numbers
-invariant-through-numbers l =
-    spec.for_each (λ n xs. spec.over (with_bound l.name n (known_in l.self)) l.body.whole (binders l.more) (spec.each_of l.body.whole (map now_of l.body.parts.now)) xs)
-    (shown l.left) l.found.items l.count.counted
-    ≡ spec.for_each (λ n xs. spec.over (with_bound l.name n (known_in l.self)) l.body.whole (binders l.more) (spec.each_of l.body.whole (map now_of l.body.parts.now)) xs)
-    (shown l.numbers) l.fn.found.items l.fn.count.counted
+    4 * weight_of_binders l.over.now + 4 * (weight l.task.now.start.now + weight l.task.now.duration.now + weight l.task.now.demand.now) + 5
 
 abbrev pub invariant-each_of-body : goal.invariant-each_of-body
 invariant-each_of-body l =
@@ -113,4 +94,19 @@ invariant-each_of-body l =
     ≡ spec.numbers (known_in l.self) l.body.whole l.fn.found.items (trees (map now_of l.body.parts.now)) l.fn.count.counted
 
 abbrev pub decreases-ends : goal.decreases-ends
-decreases-ends l = 3 * (weight l.lo.now + weight l.hi.now) + 3
+decreases-ends l = 4 * (weight l.lo.now + weight l.hi.now) + 3
+
+abbrev pub decreases-over : goal.decreases-over
+decreases-over l = 4 * weight_of_binders l.over.now + 4 * weight_of_body l.body.now.parts.now + 4
+
+abbrev pub invariant-over-choices : goal.invariant-over-choices
+invariant-over-choices l =
+    remaining give_name leave_name (spec.inside l.body.whole l.over (spec.each_of l.body.whole (map now_of l.body.parts.now))) (known_in l.choices.here) (open_in l.choices)
+    l.found.items l.count.counted
+    ≡ spec.over (known_in l.self) l.body.whole (binders l.over) (spec.each_of l.body.whole (map now_of l.body.parts.now)) l.fn.found.items l.fn.count.counted
+
+abbrev pub decreases-over-choices : goal.decreases-over-choices
+decreases-over-choices l = most_counted - l.count.counted
+
+abbrev pub decreases-enter : goal.decreases-enter
+decreases-enter l = 4 * weight_of_binders l.over.now + 4 * weight_of_body l.body.now.parts.now + 3
