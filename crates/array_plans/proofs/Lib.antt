@@ -1,4 +1,5 @@
 pub mod Planned
 mod Noting
 mod Ordering
+mod Singles
 mod Columns

@@ -21,7 +21,7 @@ module _ (places : Places) (numbers : List ℤ) where
   each_behind later set = flat_map (λ n. places_behind places (numbers ++ n ∷ []) later) set
 
   -- the indices of one set and of those that follow
-  set_behind : (rest : List (List ℤ)) (set : List ℤ)
+  pub set_behind : (rest : List (List ℤ)) (set : List ℤ)
       → map (λ more. place_in places (numbers ++ more)) (flat_map (λ n. map (λ more. n ∷ more) rest) set)
       ≡ flat_map (λ n. map (λ more. place_in places ((numbers ++ n ∷ []) ++ more)) rest) set
   set_behind rest [] = refl

@@ -1,10 +1,11 @@
 //! Which of some indices is the first that is the same as another.
 
-ghost use Rattle.std.specs.Prelude.{◌≡◌, ◌++◌, ◌∷◌, [], List, ℤ, Some, None, map, IfOk, OnOk, if◌then◌else◌};
+ghost use Rattle.std.specs.Prelude.{◌≡◌, ◌≤◌, ◌+◌, ◌++◌, ◌∷◌, [], List, ℤ, Some, None, length, map, take, IfOk, IfSome, OnOk, if◌then◌else◌};
 ghost use Rattle.sopl_ast.specs.Numbers.{or_else};
 ghost use Rattle.sopl_ast.specs.References.{now_of};
 ghost use Rattle.box_rules.specs.Arrays.{same_index};
-ghost use Rattle.array_plans.specs.Kept.{place_in, places_behind};
+ghost use Rattle.array_plans.specs.Kept.{place_in, places_behind, sets_in};
+ghost use Rattle.array_plans.specs.declared.first_places.Places.{Places};
 ghost use Rattle.array_plans.specs.Plans.{place_among};
 
 use indexmap::IndexMap;
@@ -52,9 +53,27 @@ impl Places {
         self.first.get(index).copied()
     }
 
-    /// Puts the place of each index of sets, behind the numbers that stand there, behind others.
+    /// Puts the place of each index of sets, behind the numbers that stand there, behind others. A call stands inside another for a set of two numbers or more alone.
     #[cycle(list)]
     pub(crate) fn list(
+        &self,
+        index: &mut Vec<i64>,
+        sets: &[Vec<i64>],
+        order: &mut Vec<Option<usize>>,
+    ) -> Result<(), AllocError>
+        ensures kept { OnOk result (index.new.items ≡ index.old.items) }
+        ensures added { OnOk result (order.new.items ≡ order.old.items ++ places_behind self.now index.old.items sets.now) }
+    {
+        let before = index.len();
+        let left = put_singles(index, sets)?;
+        self.list_first(index, left, order)?;
+        index.truncate(before);
+        Ok(())
+    }
+
+    /// The same, for each number of the first set.
+    #[cycle(list)]
+    fn list_first(
         &self,
         index: &mut Vec<i64>,
         sets: &[Vec<i64>],
@@ -89,5 +108,33 @@ impl Places {
         self.list(index, later, order)?;
         index.pop();
         Ok(())
+    }
+}
+
+/// Puts the number of each set at the front that has one alone behind others, and gives the sets that are left.
+#[tactic(auto, using(crate::proofs::Singles::singles))]
+fn put_singles<'a>(index: &mut Vec<i64>, sets: &'a [Vec<i64>]) -> Result<&'a [Vec<i64>], AllocError>
+    ensures kept { IfOk result (λ left. take (length index.old.items) index.new.items ≡ index.old.items) }
+    ensures fewer { IfOk result (λ left. length left.now ≤ length sets.now) }
+    ensures places { IfOk result (λ left. (places : Places) → places_behind places index.new.items left.now ≡ places_behind places index.old.items sets.now) }
+{
+    let mut left = sets;
+    'singles: while let Some((number, later)) = single(left) {
+        index.push(number)?;
+        left = later;
+    }
+    Ok(left)
+}
+
+/// The number of the first set, where it has one alone, and the other sets.
+#[tactic(auto, using(crate::proofs::Singles::one_number))]
+fn single(sets: &[Vec<i64>]) -> Option<(i64, &[Vec<i64>])>
+    ensures number { IfSome result (λ first. sets_in sets.now ≡ (first.0 ∷ []) ∷ sets_in first.1.now) }
+    ensures fewer { IfSome result (λ first. length first.1.now + 1 ≡ length sets.now) }
+{
+    let (set, later) = sets.split_first()?;
+    match set.as_slice() {
+        [number] => Some((*number, later)),
+        _ => None,
     }
 }

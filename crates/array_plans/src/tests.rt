@@ -26,7 +26,7 @@ fn is_planned(
 
 #[test]
 fn plans_by_indices(rt: HostRuntime) -> Result<(), AllocError> {
-    let rows: [(&[&[i64]], &[&[i64]], &[Option<usize>]); 5] = [
+    let rows: [(&[&[i64]], &[&[i64]], &[Option<usize>]); 6] = [
         (&[], &[&[]], &[]),
         (&[&[]], &[], &[Some(0)]),
         (
@@ -43,6 +43,11 @@ fn plans_by_indices(rt: HostRuntime) -> Result<(), AllocError> {
             &[&[1, 4], &[2]],
             &[&[1, 2], &[0, 4]],
             &[None, Some(0), None, None],
+        ),
+        (
+            &[&[7, 2, 5, 0], &[7, 1, 5, 0]],
+            &[&[7], &[1, 2], &[5], &[0]],
+            &[Some(1), Some(0)],
         ),
     ];
     for (given, sets, order) in rows {

@@ -19,6 +19,7 @@ use Rattle.unfold_constants.proofs.Steps.{Agrees, At, agree_value, agree_occurre
 use Rattle.unfold_constants.proofs.TraversalAgreement.{meets_unless}
 use Rattle.unfold_declarations.specs.Declaring as s
 use Rattle.unfold_declarations.specs.Declaring.{Entry}
+use Rattle.unfold_declarations.specs.Places.{each_number}
 use Rattle.unfold_declarations.proofs.Indices.{map_twice, map_same, flat_map_indices, map_indices, one_longer}
 
 -- what is met, and then an answer
@@ -50,7 +51,7 @@ agree_entry known e index found =
 -- something for each of some numbers
 agree_each : (next : ℤ → List Entry → Step (List Entry)) (marks : ℤ → List Occurrence) (result : ℤ → List Entry)
     → ((n : ℤ) (found : List Entry) → Agrees (next n found) (marks n) (Some (found ++ result n)))
-    → (ns : List ℤ) (found : List Entry) → Agrees (s.each_number next ns found) (flat_map marks ns) (Some (found ++ flat_map result ns))
+    → (ns : List ℤ) (found : List Entry) → Agrees (each_number next ns found) (flat_map marks ns) (Some (found ++ flat_map result ns))
 agree_each next marks result a [] found = agree_done found (Some (found ++ [])) (ap Some (append-nil found))
 agree_each next marks result a (n ∷ ns) found =
     agree_bind (a n found) (λ more is.

@@ -1,3 +1,5 @@
+pub mod Walking
+pub mod Filling
 pub mod Parts
 pub mod Indices
 pub mod DeclaringAgreement

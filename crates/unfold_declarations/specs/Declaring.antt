@@ -1,5 +1,5 @@
 -- What evaluating declarations answers, step by step, with how many things were counted. These steps are the code's own: no public clause cites them.
-use Rattle.std.specs.Prelude.{ℕ, nat_eq, ℤ, List, [], ◌∷◌, ◌++◌, length, Option, None, Result, Ok, Err}
+use Rattle.std.specs.Prelude.{ℕ, nat_eq, ℤ, List, [], ◌∷◌, ◌++◌, length, drop, Option, None, Result, Ok, Err}
 use Rattle.std.specs.BTreeSet.{insert_key}
 use Rattle.std.specs.Ordering.{int_cmp}
 use Rattle.sopl_base.specs.declared.fault.Fault.{Fault}
@@ -11,6 +11,7 @@ use Rattle.sopl_ast.specs.Occurrences.{Occurrence, Counted, met, constant_place,
 use Rattle.sopl_ast.specs.Arrays.{Dimension, taking}
 use Rattle.unfold_constants.specs.Evaluation.{Step, ◌>>=◌, done}
 use Rattle.unfold_constants.specs.Traversal.{unless}
+use Rattle.unfold_declarations.specs.Places.{Place, each_number}
 
 -- an answer behind what was met
 abbrev pub behind : {A : Type 0} → A → Result ℕ Fault → Result (A × ℕ) Fault
@@ -38,11 +39,6 @@ abbrev pub dimensions : Known → List Dimension → List DimTree → Step (List
 dimensions known found [] = done found
 dimensions known found (d ∷ ds) =
     reached (range_occurrences known None d.range) (numbers_in known d.range) >>= (λ ns. dimensions known (found ++ (record { name = d.binder; numbers = ns }) ∷ []) ds)
-
--- what is found for each of some numbers, behind what was found
-abbrev pub each_number : (ℤ → List Entry → Step (List Entry)) → List ℤ → List Entry → Step (List Entry)
-each_number next [] found = done found
-each_number next (n ∷ ns) found = next n found >>= (λ more. each_number next ns more)
 
 -- one element, which is counted
 abbrev pub entry : Known → Tree → List ℤ → List Entry → Step (List Entry)
@@ -75,9 +71,9 @@ entries known dims x = dimensions known [] dims >>= (λ ds. part known ds [] x [
 abbrev pub part_at : Known → Option (List ℕ) → ℤ → List Dimension → List ℤ → InitTree → List Entry → Step (List Entry)
 part_at known name n ds index x found = part (taking name n known) ds (index ++ n ∷ []) x found
 
--- an expression for each index that begins so, and has this number next
-abbrev pub fill_at : Known → Option (List ℕ) → ℤ → List Dimension → Tree → List ℤ → List Entry → Step (List Entry)
-fill_at known name n ds e index found = fill (taking name n known) ds e (index ++ n ∷ []) found
+-- what is found behind a place where so many dimensions have numbers
+abbrev pub inside : List Dimension → Tree → ℕ → Place → List Entry → Step (List Entry)
+inside ds e depth place found = fill place.known (drop depth ds) e place.index found
 
 -- the elements of a set, with those that were found
 abbrev pub elements : Known → List ℤ → Trees → Step (List ℤ)

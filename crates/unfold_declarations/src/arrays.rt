@@ -1,13 +1,15 @@
-//! The dimensions of arrays, and the fronts of their indices.
+//! The dimensions of arrays, the fronts of their indices, and the walk through them.
 
-ghost use Rattle.std.specs.Prelude.{◌≡◌, [], ◌∷◌, ◌++◌, option_map, IfOk, OnOk};
+ghost use Rattle.std.specs.Prelude.{◌≡◌, [], ◌∷◌, ◌++◌, length, option_map, if◌then◌else◌, Some, None, IfOk, OnOk};
 ghost use Rattle.sopl_ast.specs.Arrays.{taking as taking_in, dimensions_of, dimension_occurrences};
+ghost use Rattle.unfold_constants.specs.Choosing.{advanced, left};
 ghost use Rattle.unfold_constants.specs.CountedAnswers.{Answers};
 ghost use Rattle.unfold_tables.specs.Tables.{shown};
 ghost use Rattle.unfold_tables.specs.Walks.{Walks};
 ghost use Rattle.unfold_constants.specs.Here.{known_in};
 ghost use Rattle.unfold_declarations.specs.Declaring as spec;
-ghost use Rattle.unfold_declarations.specs.Shown.{dimensions_in};
+ghost use Rattle.unfold_declarations.specs.Places.{any_empty as any_empty_in, give_dimension, leave_dimension, losing};
+ghost use Rattle.unfold_declarations.specs.Shown.{dimensions_in, dimensions_open, front_in, open_dimension};
 
 use crate::calls::numbers_at;
 use smallvec::SmallVec;
@@ -70,18 +72,17 @@ fn add<'a>(
     Ok(())
 }
 
-/// What is known where the name of a dimension, if it has one, stands for a number.
-fn with_number<'a>(
-    known: &Known<'a>,
-    name: Option<&'a Name>,
-    number: i64,
-) -> Result<Known<'a>, AllocError>
-    ensures { IfOk result (λ here. known_in here ≡ taking_in (option_map (λ n. n.now) name.entry) number (known_in known.now)) }
+/// Whether one of the dimensions has no numbers, so that there is no index.
+#[tactic(auto, using(crate::proofs::Walking::emptiness))]
+pub fn any_empty(dimensions: &[Dimension<'_>]) -> bool
+    ensures { result ≡ any_empty_in (dimensions_in dimensions.now) }
 {
-    match name {
-        None => known.copy(),
-        Some(name) => known.with(name, number),
+    'dimensions: for dimension in dimensions {
+        if dimension.numbers.has_length(0) {
+            return true;
+        }
     }
+    false
 }
 
 /// Where elements of an array are evaluated: what is known there, and the front of their indices.
@@ -90,6 +91,26 @@ pub struct Front<'a> {
     pub alloc: Global,
     pub known: Known<'a>,
     pub index: SmallVec<i64, 4>,
+}
+
+/// A name, if there is one, stands for a number.
+fn bind<'a>(known: &mut Known<'a>, name: Option<&'a Name>, number: i64) -> Result<(), AllocError>
+    ensures { OnOk result (known_in known.new ≡ taking_in (option_map (λ n. n.now) name.entry) number (known_in known.old)) }
+{
+    match name {
+        None => Ok(()),
+        Some(name) => known.bind(name, number),
+    }
+}
+
+/// Takes away what a name, if there is one, stands for; it is the last one that was bound.
+fn forget(known: &mut Known<'_>, name: Option<&Name>)
+    ensures { known_in known.new ≡ losing (option_map (λ n. n.now) name.entry) (known_in known.old) }
+{
+    match name {
+        None => {}
+        Some(_) => known.forget(),
+    }
 }
 
 impl<'a> Front<'a> {
@@ -105,18 +126,112 @@ impl<'a> Front<'a> {
         })
     }
 
-    /// The same with one number more of a dimension, for which the dimension's name stands, if it has one.
-    pub fn longer(&self, dimension: &Dimension<'a>, number: i64) -> Result<Front<'a>, AllocError>
-        ensures known { IfOk result (λ front. known_in front.known ≡ taking_in (option_map (λ n. n.now) dimension.now.name) number (known_in self.now.known)) }
-        ensures index { IfOk result (λ front. front.index.items ≡ self.now.index.items ++ number ∷ []) }
+    /// The same once more.
+    fn copy(&self) -> Result<Front<'a>, AllocError>
+        ensures { IfOk result (λ front. front_in front ≡ front_in self.now) }
     {
-        let known = with_number(&self.known, dimension.name, number)?;
-        let mut index = SmallVec::from_slice(self.alloc, self.index.as_slice())?;
-        index.push(number)?;
         Ok(Front {
             alloc: self.alloc,
-            known,
-            index,
+            known: self.known.copy()?,
+            index: SmallVec::from_slice(self.alloc, self.index.as_slice())?,
         })
+    }
+
+    /// The same with one number more of a dimension, for which its name stands, if it has one.
+    pub(crate) fn longer(
+        &self,
+        name: Option<&'a Name>,
+        number: i64,
+    ) -> Result<Front<'a>, AllocError>
+        ensures { IfOk result (λ front. front_in front ≡ give_dimension (option_map (λ n. n.now) name.entry) number (front_in self.now)) }
+    {
+        let mut front = self.copy()?;
+        front.take(name, number)?;
+        Ok(front)
+    }
+
+    /// Adds a number of a dimension, for which its name stands, if it has one.
+    fn take(&mut self, name: Option<&'a Name>, number: i64) -> Result<(), AllocError>
+        ensures { OnOk result (front_in self.new ≡ give_dimension (option_map (λ n. n.now) name.entry) number (front_in self.old)) }
+    {
+        bind(&mut self.known, name, number)?;
+        self.index.push(number)?;
+        Ok(())
+    }
+
+    /// Takes away the number of a dimension, the last one, and what its name stands for.
+    fn leave(&mut self, name: Option<&Name>)
+        ensures { front_in self.new ≡ leave_dimension (option_map (λ n. n.now) name.entry) (front_in self.old) }
+    {
+        forget(&mut self.known, name);
+        self.index.pop();
+    }
+}
+
+/// The dimensions that are open, the innermost last, each with the numbers that it has not had yet; and the front of the indices in which all of them but perhaps
+/// the innermost have taken a number. However many there are, no call stands inside another for them.
+#[derive(Drop)]
+pub struct IndexWalk<'a> {
+    pub front: Front<'a>,
+    kept: Vec<Dimension<'a>>,
+}
+
+#[tactic(auto, using(crate::proofs::Walking::walking))]
+impl<'a> IndexWalk<'a> {
+    /// Where the indices begin with a front, and no dimension behind it is open.
+    pub fn new(front: &Front<'a>) -> Result<IndexWalk<'a>, AllocError>
+        ensures front { IfOk result (λ walk. front_in walk.front ≡ front_in front.now) }
+        ensures kept { IfOk result (λ walk. dimensions_open walk ≡ []) }
+    {
+        Ok(IndexWalk {
+            front: front.copy()?,
+            kept: Vec::new(front.alloc),
+        })
+    }
+
+    /// How many dimensions are open.
+    pub fn depth(&self) -> usize
+        ensures { result ≡ length (dimensions_open self.now) }
+    {
+        self.kept.len()
+    }
+
+    /// Opens a dimension inside the others.
+    pub fn begin(&mut self, dimension: &Dimension<'a>) -> Result<(), AllocError>
+        ensures front { OnOk result (front_in self.new.front ≡ front_in self.old.front) }
+        ensures kept { OnOk result (dimensions_open self.new ≡ open_dimension dimension.now ∷ dimensions_open self.old) }
+    {
+        self.kept.push(*dimension)?;
+        Ok(())
+    }
+
+    /// The innermost dimension, if one is open, gives its number up.
+    pub fn leave(&mut self)
+        ensures front { front_in self.new.front ≡ left leave_dimension (front_in self.old.front) (dimensions_open self.old) }
+        ensures kept { dimensions_open self.new ≡ dimensions_open self.old }
+    {
+        if let Some(dimension) = self.kept.last() {
+            self.front.leave(dimension.name);
+        }
+    }
+
+    /// Gives the innermost dimension that has a number left the next one, and closes those inside it, which have none; false where no dimension has one left.
+    pub fn advance(&mut self) -> Result<bool, AllocError>
+        ensures { IfOk result (λ more. (if more then Some (front_in self.new.front, dimensions_open self.new) else None)
+            ≡ advanced give_dimension leave_dimension (front_in self.old.front) (dimensions_open self.old)) }
+    {
+        'kept: while let Some(dimension) = self.kept.pop() {
+            if let Some((number, later)) = dimension.numbers.split_first() {
+                let name = dimension.name;
+                self.begin(&Dimension {
+                    name,
+                    numbers: later,
+                })?;
+                self.front.take(name, number)?;
+                return Ok(true);
+            }
+            self.leave();
+        }
+        Ok(false)
     }
 }

@@ -1,15 +1,17 @@
 //! The elements of constants.
 
-ghost use Rattle.std.specs.Prelude.{◌≡◌, ◌∷◌, ◌++◌, [], map, option_map};
+ghost use Rattle.std.specs.Prelude.{◌≡◌, ◌≤◌, ◌+◌, ◌∷◌, drop, length, map, option_map, true, OnOk};
 ghost use Rattle.sopl_ast.specs.Inits.{init_tree};
 ghost use Rattle.sopl_ast.specs.Whole.{inits, Many};
+ghost use Rattle.unfold_constants.specs.Choosing.{Leads};
 ghost use Rattle.unfold_constants.specs.CountedAnswers.{Answers};
 ghost use Rattle.unfold_tables.specs.Tables.{elements_in, shown};
 ghost use Rattle.unfold_constants.specs.Here.{known_in};
 ghost use Rattle.unfold_declarations.specs.Declaring as spec;
-ghost use Rattle.unfold_declarations.specs.Shown.{dimension_in, dimensions_in};
+ghost use Rattle.unfold_declarations.specs.Places.{any_empty as any_empty_in, entered, give_dimension, leave_dimension, remaining, turns, turns_left};
+ghost use Rattle.unfold_declarations.specs.Shown.{dimension_in, dimensions_in, dimensions_open, front_in};
 
-use crate::arrays::{Dimension, Front, listed_dimensions};
+use crate::arrays::{Dimension, Front, IndexWalk, any_empty, listed_dimensions};
 use crate::calls::{constant_at, count_one};
 use sopl_ast::{Dim, Expr, Init};
 use sopl_base::{Fault, codes};
@@ -31,8 +33,23 @@ pub fn entries<'a>(
     let left = listed_dimensions(alloc, known, count, dims)?;
     let front = Front::new(alloc, known)?;
     let mut found = Elements::new(alloc);
-    part(&front, count, left.as_slice(), init, &mut found)?;
+    let dimensions = left.as_slice();
+    let hollow = any_empty(dimensions);
+    part(
+        &front,
+        count,
+        &Left { dimensions, hollow },
+        init,
+        &mut found,
+    )?;
     Ok(found)
+}
+
+/// The dimensions that are left behind the front of an index, and whether one of them has no numbers, so that no index begins so.
+#[derive(Clone, Copy)]
+struct Left<'a, 'b> {
+    dimensions: &'b [Dimension<'a>],
+    hollow: bool,
 }
 
 /// Adds the elements that initial values give to the indices with this front.
@@ -41,21 +58,23 @@ pub fn entries<'a>(
 fn part<'a>(
     front: &Front<'a>,
     count: &mut Count,
-    left: &[Dimension<'a>],
+    left: &Left<'a, '_>,
     init: &'a Init,
     found: &mut Elements,
 ) -> Result<(), Fault>
+    requires { left.now.hollow ≡ true → any_empty_in (dimensions_in left.now.dimensions.now) ≡ true }
     ensures { Answers (λ u. elements_in found.new) count.new.counted result
-        (spec.part (known_in front.now.known) (dimensions_in left.now) front.now.index.items (init_tree init.now)
+        (spec.part (known_in front.now.known) (dimensions_in left.now.dimensions.now) front.now.index.items (init_tree init.now)
         (elements_in found.old) count.old.counted) }
 {
     match init {
         Init::One(e) => fill(front, count, left, e, found),
-        Init::Many { at, parts } => match left {
+        Init::Many { at, parts } => match left.dimensions {
             [] => Ok(()),
-            [first, later @ ..] => {
-                let parts = parts.as_slice();
-                bracket(front, count, first, later, *at, parts, found)
+            [first, dimensions @ ..] => {
+                let hollow = left.hollow;
+                let later = Left { dimensions, hollow };
+                bracket(front, count, first, &later, *at, parts.as_slice(), found)
             }
         },
     }
@@ -68,13 +87,14 @@ fn bracket<'a>(
     front: &Front<'a>,
     count: &mut Count,
     first: &Dimension<'a>,
-    later: &[Dimension<'a>],
+    later: &Left<'a, '_>,
     at: usize,
     parts: &'a [Init],
     found: &mut Elements,
 ) -> Result<(), Fault>
+    requires { later.now.hollow ≡ true → any_empty_in (dimension_in first.now ∷ dimensions_in later.now.dimensions.now) ≡ true }
     ensures { Answers (λ u. elements_in found.new) count.new.counted result
-        (spec.part (known_in front.now.known) (dimension_in first.now ∷ dimensions_in later.now) front.now.index.items (Many at (inits (map init_tree parts.now)))
+        (spec.part (known_in front.now.known) (dimension_in first.now ∷ dimensions_in later.now.dimensions.now) front.now.index.items (Many at (inits (map init_tree parts.now)))
         (elements_in found.old) count.old.counted) }
 {
     unless(
@@ -92,12 +112,13 @@ fn parts_in<'a>(
     front: &Front<'a>,
     count: &mut Count,
     first: &Dimension<'a>,
-    later: &[Dimension<'a>],
+    later: &Left<'a, '_>,
     parts: &'a [Init],
     found: &mut Elements,
 ) -> Result<(), Fault>
+    requires { later.now.hollow ≡ true → any_empty_in (dimension_in first.now ∷ dimensions_in later.now.dimensions.now) ≡ true }
     ensures { Answers (λ u. elements_in found.new) count.new.counted result
-        (spec.parts_in (known_in front.now.known) (option_map (λ n. n.now) first.now.name) (dimensions_in later.now) (shown first.now.numbers)
+        (spec.parts_in (known_in front.now.known) (option_map (λ n. n.now) first.now.name) (dimensions_in later.now.dimensions.now) (shown first.now.numbers)
         front.now.index.items (inits (map init_tree parts.now))
         (elements_in found.old) count.old.counted) }
 {
@@ -119,77 +140,70 @@ fn part_at<'a>(
     count: &mut Count,
     first: &Dimension<'a>,
     number: i64,
-    later: &[Dimension<'a>],
+    later: &Left<'a, '_>,
     x: &'a Init,
     found: &mut Elements,
 ) -> Result<(), Fault>
+    requires { later.now.hollow ≡ true → any_empty_in (dimensions_in later.now.dimensions.now) ≡ true }
     ensures { Answers (λ u. elements_in found.new) count.new.counted result
-        (spec.part_at (known_in front.now.known) (option_map (λ n. n.now) first.now.name) number (dimensions_in later.now) front.now.index.items
+        (spec.part_at (known_in front.now.known) (option_map (λ n. n.now) first.now.name) number (dimensions_in later.now.dimensions.now) front.now.index.items
         (init_tree x.now)
         (elements_in found.old) count.old.counted) }
 {
-    let here = front.longer(first, number)?;
+    let here = front.longer(first.name, number)?;
     part(&here, count, later, x, found)
 }
 
 /// Adds an element for each index with this front.
-#[cycle(fill)]
+#[tactic(auto, using(crate::proofs::Filling::filling))]
 fn fill<'a>(
     front: &Front<'a>,
+    count: &mut Count,
+    left: &Left<'a, '_>,
+    e: &'a Expr,
+    found: &mut Elements,
+) -> Result<(), Fault>
+    requires { left.now.hollow ≡ true → any_empty_in (dimensions_in left.now.dimensions.now) ≡ true }
+    ensures { Answers (λ u. elements_in found.new) count.new.counted result
+        (spec.fill (known_in front.now.known) (dimensions_in left.now.dimensions.now) e.now front.now.index.items
+        (elements_in found.old) count.old.counted) }
+{
+    if left.hollow {
+        return Ok(());
+    }
+    let mut walk = IndexWalk::new(front)?;
+    enter(&mut walk, count, left.dimensions, e, found)?;
+    'walk: while walk.advance()? {
+        enter(&mut walk, count, left.dimensions, e, found)?;
+    }
+    Ok(())
+}
+
+/// Adds an element where all dimensions have numbers; else opens the next one.
+#[tactic(auto, using(crate::proofs::Filling::filling))]
+fn enter<'a>(
+    walk: &mut IndexWalk<'a>,
     count: &mut Count,
     left: &[Dimension<'a>],
     e: &'a Expr,
     found: &mut Elements,
 ) -> Result<(), Fault>
-    ensures { Answers (λ u. elements_in found.new) count.new.counted result
-        (spec.fill (known_in front.now.known) (dimensions_in left.now) e.now front.now.index.items
-        (elements_in found.old) count.old.counted) }
+    ensures leads { Leads
+        (entered give_dimension leave_dimension (spec.inside (dimensions_in left.now) e.now) (front_in walk.old.front) (dimensions_open walk.old)
+        (elements_in found.old) count.old.counted)
+        (remaining give_dimension leave_dimension (spec.inside (dimensions_in left.now) e.now) (front_in walk.new.front) (dimensions_open walk.new)
+        (elements_in found.new) count.new.counted)
+        result }
+    ensures turns { OnOk result (turns_left (dimensions_in left.now) (dimensions_open walk.new)
+        ≤ turns (drop (length (dimensions_open walk.old)) (dimensions_in left.now)) + turns_left (dimensions_in left.now) (dimensions_open walk.old)) }
 {
-    match left {
-        [] => add_entry(front, count, e, found),
-        [first, later @ ..] => fill_through(front, count, first, later, e, found),
-    }
-}
-
-/// The same for the numbers of a dimension, and the dimensions behind it.
-#[cycle(fill)]
-fn fill_through<'a>(
-    front: &Front<'a>,
-    count: &mut Count,
-    first: &Dimension<'a>,
-    later: &[Dimension<'a>],
-    e: &'a Expr,
-    found: &mut Elements,
-) -> Result<(), Fault>
-    ensures { Answers (λ u. elements_in found.new) count.new.counted result
-        (spec.fill (known_in front.now.known) (dimension_in first.now ∷ dimensions_in later.now) e.now front.now.index.items
-        (elements_in found.old) count.old.counted) }
-{
-    let mut left = first.numbers;
-    'numbers: while let Some((number, behind)) = left.split_first() {
-        fill_at(front, count, first, number, later, e, found)?;
-        left = behind;
-    }
+    let Some(dimension) = left.get(walk.depth()) else {
+        add_entry(&walk.front, count, e, found)?;
+        walk.leave();
+        return Ok(());
+    };
+    walk.begin(dimension)?;
     Ok(())
-}
-
-/// The same for one number of a dimension.
-#[cycle(fill)]
-fn fill_at<'a>(
-    front: &Front<'a>,
-    count: &mut Count,
-    first: &Dimension<'a>,
-    number: i64,
-    later: &[Dimension<'a>],
-    e: &'a Expr,
-    found: &mut Elements,
-) -> Result<(), Fault>
-    ensures { Answers (λ u. elements_in found.new) count.new.counted result
-        (spec.fill_at (known_in front.now.known) (option_map (λ n. n.now) first.now.name) number (dimensions_in later.now) e.now front.now.index.items
-        (elements_in found.old) count.old.counted) }
-{
-    let here = front.longer(first, number)?;
-    fill(&here, count, later, e, found)
 }
 
 /// Adds an element, which is counted.

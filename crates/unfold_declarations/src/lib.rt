@@ -8,6 +8,6 @@ mod declare;
 mod elements;
 mod sets;
 
-pub use arrays::{Dimension, Front, dimensions};
+pub use arrays::{Dimension, Front, IndexWalk, any_empty, dimensions};
 pub use calls::{constant_at, count_one};
 pub use declare::{declare_constant, declare_range, declare_set};

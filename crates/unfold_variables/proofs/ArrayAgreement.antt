@@ -11,6 +11,7 @@ use Rattle.sopl_ast.specs.Declarations.{domain_occurrences, stage_occurrences, o
 use Rattle.unfold_constants.specs.Evaluation.{Step}
 use Rattle.unfold_constants.proofs.Steps.{Agrees, agree_value, agree_occurrences, agree_done}
 use Rattle.unfold_declarations.proofs.DeclaringAgreement.{agree_reached}
+use Rattle.unfold_declarations.specs.Places.{each_number}
 use Rattle.unfold_declarations.proofs.Indices.{map_same, flat_map_indices, map_indices, one_longer}
 use Rattle.unfold_variables.specs.Listing as s
 use Rattle.unfold_variables.proofs.ElementAgreement.{agree_next, agree_last, agree_decision, agree_stochastic}
@@ -18,7 +19,7 @@ use Rattle.unfold_variables.proofs.ElementAgreement.{agree_next, agree_last, agr
 -- something for each of some numbers
 agree_each : {A : Type 0} (next : ℤ → List A → Step (List A)) (occurrences : ℤ → List Occurrence) (result : ℤ → List A)
     → ((n : ℤ) (found : List A) → Agrees (next n found) (occurrences n) (Some (found ++ result n)))
-    → (ns : List ℤ) (found : List A) → Agrees (s.each_number next ns found) (flat_map occurrences ns) (Some (found ++ flat_map result ns))
+    → (ns : List ℤ) (found : List A) → Agrees (each_number next ns found) (flat_map occurrences ns) (Some (found ++ flat_map result ns))
 agree_each next occurrences result a [] found = agree_done found (Some (found ++ [])) (ap Some (append-nil found))
 agree_each next occurrences result a (n ∷ ns) found =
     agree_next _ (found ++ result n) (a n found)

@@ -1,3 +1,4 @@
+pub mod Listed
 pub mod Results
 pub mod Repeated
 pub mod ElementAgreement

@@ -1,6 +1,6 @@
 -- What evaluating declarations of decisions and stochastic variables answers, step by step, with how many things were counted. These steps are the code's
 -- own: no public clause cites them.
-use Rattle.std.specs.Prelude.{ℕ, ℤ, pos, int_le, ◌&&◌, not, List, [], ◌∷◌, ◌++◌, Option, Some, None}
+use Rattle.std.specs.Prelude.{ℕ, ℤ, pos, int_le, ◌&&◌, not, List, [], ◌∷◌, ◌++◌, drop, Option, Some, None}
 use Rattle.std.specs.BTreeSet.{insert_key}
 use Rattle.std.specs.List.{list_any}
 use Rattle.std.specs.Ordering.{int_cmp, int_eq}
@@ -15,6 +15,7 @@ use Rattle.sopl_ast.specs.Occurrences.{too_many}
 use Rattle.unfold_constants.specs.Evaluation.{Step, ◌>>=◌, done}
 use Rattle.unfold_constants.specs.Traversal.{unless}
 use Rattle.unfold_declarations.specs.Declaring.{reached, constant, count_one}
+use Rattle.unfold_declarations.specs.Places.{Place, each_number}
 
 -- a stage that stands at a place
 abbrev pub placed_stage : ℕ → ℤ → Step ℕ
@@ -74,20 +75,15 @@ abbrev pub stochastic : Known → List ℕ → List (Tree × Tree) → Option Tr
 stochastic known name dist e index =
     outcomes known [] [] dist >>= (λ os. stage known e >>= (λ k. done (record { name = name; index = index; outcomes = os; stage = k })))
 
--- what is found for each of some numbers, behind what was found
-abbrev pub each_number : {A : Type 0} → (ℤ → List A → Step (List A)) → List ℤ → List A → Step (List A)
-each_number next [] found = done found
-each_number next (n ∷ ns) found = next n found >>= (λ more. each_number next ns more)
-
 -- what stands at each index that begins so, behind what was found; each is counted
 abbrev pub listed : {A : Type 0} → (Known → List ℤ → Step A) → Known → List Dimension → List ℤ → List A → Step (List A)
 listed element known [] index found = count_one >>= (λ u. element known index >>= (λ x. done (found ++ x ∷ [])))
 listed element known (d ∷ ds) index found =
     each_number (λ n more. listed element (taking d.name n known) ds (index ++ n ∷ []) more) d.numbers found
 
--- the same for one number of a dimension
-abbrev pub listed_at : {A : Type 0} → (Known → List ℤ → Step A) → Known → Option (List ℕ) → ℤ → List Dimension → List ℤ → List A → Step (List A)
-listed_at element known name n ds index found = listed element (taking name n known) ds (index ++ n ∷ []) found
+-- what is found behind a place where so many dimensions have numbers
+abbrev pub inside : {A : Type 0} → (Known → List ℤ → Step A) → List Dimension → ℕ → Place → List A → Step (List A)
+inside element ds depth place found = listed element place.known (drop depth ds) place.index found
 
 -- what stands at each index of an array
 abbrev pub array : {A : Type 0} → (Known → List ℤ → Step A) → Known → List DimTree → Step (List A)

@@ -1,11 +1,13 @@
 //! The walk through the indices of an array.
 
-ghost use Rattle.std.specs.Prelude.{◌≡◌, ℕ, ℤ, List, Result, [], ◌∷◌, ◌++◌, option_map, OnOk};
+ghost use Rattle.std.specs.Prelude.{◌≡◌, ◌≤◌, ◌+◌, ℕ, ℤ, List, Result, [], ◌∷◌, ◌++◌, drop, length, OnOk};
 ghost use Rattle.sopl_base.specs.declared.fault.Fault.{Fault as FaultValue};
 ghost use Rattle.sopl_ast.specs.Known.{Known as KnownValue};
+ghost use Rattle.unfold_constants.specs.Choosing.{Leads};
 ghost use Rattle.unfold_constants.specs.CountedAnswers.{Answers};
 ghost use Rattle.unfold_constants.specs.Here.{known_in};
-ghost use Rattle.unfold_declarations.specs.Shown.{dimension_in, dimensions_in};
+ghost use Rattle.unfold_declarations.specs.Places.{entered, give_dimension, leave_dimension, remaining, turns, turns_left};
+ghost use Rattle.unfold_declarations.specs.Shown.{dimensions_in, dimensions_open, front_in};
 ghost use Rattle.unfold_variables.specs.Listing as spec;
 
 use crate::calls::dimensions_at;
@@ -13,7 +15,7 @@ use sopl_ast::Dim;
 use sopl_base::Fault;
 use std::alloc::{AllocError, Global};
 use unfold_constants::Known;
-use unfold_declarations::{Dimension, Front, count_one};
+use unfold_declarations::{Dimension, Front, IndexWalk, any_empty, count_one};
 use unfold_tables::Count;
 
 /// What stands at each index of an array.
@@ -45,7 +47,7 @@ pub fn array<'a, T: Drop, E: Element<T>>(
 }
 
 /// Adds what stands at each index with this front.
-#[cycle(listed)]
+#[tactic(auto, using(crate::proofs::Listed::listing))]
 fn listed<'a, T: Drop, E: Element<T>>(
     front: &Front<'a>,
     count: &mut Count,
@@ -56,51 +58,42 @@ fn listed<'a, T: Drop, E: Element<T>>(
     ensures { Answers (λ u. found.new.items) count.new.counted result
         (spec.listed (E.step element.now) (known_in front.now.known) (dimensions_in left.now) front.now.index.items found.old.items count.old.counted) }
 {
-    match left {
-        [] => add(front, count, element, found),
-        [first, later @ ..] => listed_through(front, count, first, later, element, found),
+    if any_empty(left) {
+        return Ok(());
     }
-}
-
-/// The same for the numbers of a dimension, and the dimensions behind it.
-#[cycle(listed)]
-fn listed_through<'a, T: Drop, E: Element<T>>(
-    front: &Front<'a>,
-    count: &mut Count,
-    first: &Dimension<'a>,
-    later: &[Dimension<'a>],
-    element: &E,
-    found: &mut Vec<T>,
-) -> Result<(), Fault>
-    ensures { Answers (λ u. found.new.items) count.new.counted result
-        (spec.listed (E.step element.now) (known_in front.now.known) (dimension_in first.now ∷ dimensions_in later.now) front.now.index.items
-        found.old.items count.old.counted) }
-{
-    let mut left = first.numbers;
-    'numbers: while let Some((number, behind)) = left.split_first() {
-        listed_at(front, count, first, number, later, element, found)?;
-        left = behind;
+    let mut walk = IndexWalk::new(front)?;
+    enter(&mut walk, count, left, element, found)?;
+    'walk: while walk.advance()? {
+        enter(&mut walk, count, left, element, found)?;
     }
     Ok(())
 }
 
-/// The same for one number of a dimension.
-#[cycle(listed)]
-fn listed_at<'a, T: Drop, E: Element<T>>(
-    front: &Front<'a>,
+/// Adds what stands at an index where all dimensions have numbers; else opens the next one.
+#[tactic(auto, using(crate::proofs::Listed::listing))]
+fn enter<'a, T: Drop, E: Element<T>>(
+    walk: &mut IndexWalk<'a>,
     count: &mut Count,
-    first: &Dimension<'a>,
-    number: i64,
-    later: &[Dimension<'a>],
+    left: &[Dimension<'a>],
     element: &E,
     found: &mut Vec<T>,
 ) -> Result<(), Fault>
-    ensures { Answers (λ u. found.new.items) count.new.counted result
-        (spec.listed_at (E.step element.now) (known_in front.now.known) (option_map (λ n. n.now) first.now.name) number (dimensions_in later.now)
-        front.now.index.items found.old.items count.old.counted) }
+    ensures leads { Leads
+        (entered give_dimension leave_dimension (spec.inside (E.step element.now) (dimensions_in left.now)) (front_in walk.old.front) (dimensions_open walk.old)
+        found.old.items count.old.counted)
+        (remaining give_dimension leave_dimension (spec.inside (E.step element.now) (dimensions_in left.now)) (front_in walk.new.front) (dimensions_open walk.new)
+        found.new.items count.new.counted)
+        result }
+    ensures turns { OnOk result (turns_left (dimensions_in left.now) (dimensions_open walk.new)
+        ≤ turns (drop (length (dimensions_open walk.old)) (dimensions_in left.now)) + turns_left (dimensions_in left.now) (dimensions_open walk.old)) }
 {
-    let here = front.longer(first, number)?;
-    listed(&here, count, later, element, found)
+    let Some(dimension) = left.get(walk.depth()) else {
+        add(&walk.front, count, element, found)?;
+        walk.leave();
+        return Ok(());
+    };
+    walk.begin(dimension)?;
+    Ok(())
 }
 
 /// Adds what stands at an index, which is counted.

@@ -10,7 +10,7 @@ ghost use Rattle.unfold_variables.specs.Listing as spec;
 
 use crate::calls::checked_values;
 use sopl_ast::{Expr, Name, RangeText};
-use sopl_base::{Fault, codes};
+use sopl_base::{Fault, codes, limits};
 use unfold_constants::{Known, unless};
 use unfold_declarations::constant_at;
 use unfold_tables::{Count, Ends, NumberSet};
@@ -23,7 +23,7 @@ pub fn stage<'a>(known: &Known<'a>, count: &mut Count, e: Option<&'a Expr>) -> R
         return Ok(1);
     };
     let number = constant_at(known, count, e)?;
-    if number < 1 || number > 24 {
+    if number < 1 || number > i64::from(limits::STAGE) {
         return Err(Fault::refused(codes::STAGE, e.at));
     }
     Ok(number as u32)

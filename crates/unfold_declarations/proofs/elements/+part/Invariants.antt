@@ -1,4 +1,4 @@
-use Rattle.std.proofs.Common.{◌≡◌, ◌+◌, ◌*◌, drop, map, option_map}
+use Rattle.std.proofs.Common.{◌≡◌, ◌+◌, ◌*◌, true, nat_eq, ◌||◌, drop, length, map, option_map}
 use Rattle.std.specs.Borrow.{Bor}
 use Rattle.std.specs.Prelude.{ℕ, List}
 use Rattle.sopl_ast.specs.Inits.{init_tree}
@@ -7,6 +7,7 @@ use Rattle.sopl_ast.specs.WholeWeight.{weight_init, weight_inits}
 use Rattle.unfold_tables.specs.Tables.{elements_in, shown}
 use Rattle.unfold_constants.specs.Here.{known_in}
 use Rattle.unfold_declarations.specs.Declaring as spec
+use Rattle.unfold_declarations.specs.Places.{any_empty}
 use Rattle.unfold_declarations.specs.Shown.{dimensions_in}
 use Rattle.unfold_declarations.proofs.elements.+part.Given as goal
 
@@ -23,8 +24,11 @@ abbrev pub decreases-bracket : goal.decreases-bracket
 decreases-bracket l = 3 * weight_inits (inits (map init_tree l.parts.now)) + 1
 
 abbrev pub invariant-parts_in-parts : goal.invariant-parts_in-parts
-invariant-parts_in-parts l =
-    spec.parts_in (known_in l.front.known) (option_map (λ (n : Bor (List ℕ)). n.now) l.first.name) (dimensions_in l.later) (shown l.left) l.front.index.items
-    (inits (map init_tree (drop l.x-index l.parts))) (elements_in l.found) l.count.counted
-    ≡ spec.parts_in (known_in l.front.known) (option_map (λ (n : Bor (List ℕ)). n.now) l.first.name) (dimensions_in l.later) (shown l.first.numbers) l.front.index.items
-    (inits (map init_tree l.parts)) (elements_in l.fn.found) l.fn.count.counted
+invariant-parts_in-parts l = record {
+  walked :
+      spec.parts_in (known_in l.front.known) (option_map (λ (n : Bor (List ℕ)). n.now) l.first.name) (dimensions_in l.later.dimensions.now) (shown l.left) l.front.index.items
+      (inits (map init_tree (drop l.x-index l.parts))) (elements_in l.found) l.count.counted
+      ≡ spec.parts_in (known_in l.front.known) (option_map (λ (n : Bor (List ℕ)). n.now) l.first.name) (dimensions_in l.later.dimensions.now) (shown l.first.numbers) l.front.index.items
+      (inits (map init_tree l.parts)) (elements_in l.fn.found) l.fn.count.counted;
+  hollow : l.later.hollow ≡ true → (nat_eq 0 (length (shown l.left)) || any_empty (dimensions_in l.later.dimensions.now)) ≡ true;
+}
