@@ -1,5 +1,5 @@
 -- What the tables of names hold.
-use Rattle.std.proofs.Common.{◌≡◌, refl, sym, ap, ◌∙◌, Bool, true, false, ◌||◌, true≢false, cond, ℕ, List, [], ◌∷◌, ◌++◌, map, Option, Some, nat_eq}
+use Rattle.std.proofs.Common.{◌≡◌, refl, sym, ap, ◌∙◌, Bool, true, false, ◌||◌, true≢false, cond, ℕ, List, [], ◌∷◌, ◌++◌, map, Option, None, Some, is_some, nat_eq}
 use Rattle.std.specs.Cmp.Lexicographic.{pointwise, nat_list_eq_equiv}
 use Rattle.std.specs.List.{list_any}
 use Rattle.std.specs.Map.{lookup}
@@ -11,7 +11,7 @@ use Rattle.indexmap.specs.IndexMap.{insert_entry}
 use Rattle.sopl_ast.specs.Mistakes as m
 use Rattle.sopl_ast.specs.Mistakes.{Scope, entity_of}
 use Rattle.sopl_types.specs.declared.names.Entity.{Entity}
-use Rattle.sopl_types.specs.Known.{seen, entered, bound_over}
+use Rattle.sopl_types.specs.Entered.{seen, entered, bound_over}
 
 choice : {X Y : Type 0} (f : X → Y) (b : Bool) (x : X) (r : Option X) → option_map f (cond b (Some x) r) ≡ cond b (Some (f x)) (option_map f r)
 choice f true x r = refl
@@ -85,3 +85,37 @@ bound_any f (x ∷ xs) name scope =
     merged true false = refl
     merged false true = refl
     merged false false = refl
+
+seen_some : (r : Option Entity) → is_some (option_map seen r) ≡ is_some r
+seen_some None = refl
+seen_some (Some entity) = refl
+
+some_where : (there : Bool) (entity : m.Entity) → is_some (cond there (Some entity) None) ≡ there
+some_where true entity = refl
+some_where false entity = refl
+
+module _ {X : Type 0} (f : X → List ℕ) (xs : List X) where
+  -- a table of bound names has those alone
+  pub tabled_any : (name : List ℕ) (found : Option Entity) → option_map seen found ≡ entity_of (bound_over (map f xs) []) name →
+      is_some found ≡ list_any (λ x. bytes_eq (f x) name) xs
+  tabled_any name found is = sym (seen_some found) ∙ ap is_some (is ∙ bound_any f xs name []) ∙ some_where (list_any (λ x. bytes_eq (f x) name) xs) (m.Constant 0)
+
+  -- a table of bound names, with one more
+  pub tabled_push : (ys : List X) (x : X) (old new : Scope) → ys ≡ xs ++ x ∷ [] →
+      ((name : List ℕ) → entity_of old name ≡ entity_of (bound_over (map f xs) []) name) →
+      ((name : List ℕ) → entity_of new name ≡ entity_of ((f x, m.Constant 0) ∷ old) name) →
+      (name : List ℕ) → entity_of new name ≡ entity_of (bound_over (map f ys) []) name
+  tabled_push ys x old new pushed before after name =
+      after name
+      ∙ ap (cond (bytes_eq (f x) name) (Some (m.Constant 0))) (before name)
+      ∙ sym (ap (λ zs. entity_of (bound_over (map f zs) []) name) pushed ∙ ap (λ scope. entity_of scope name) (bound_push f xs x []))
+
+-- a name that is bound
+pub bound_there : {X : Type 0} (f : X → List ℕ) (xs : List X) (name : List ℕ) (scope : Scope) → list_any (λ x. bytes_eq (f x) name) xs ≡ true →
+    entity_of (bound_over (map f xs) scope) name ≡ Some (m.Constant 0)
+bound_there f xs name scope there = bound_any f xs name scope ∙ ap (λ t. cond t (Some (m.Constant 0)) (entity_of scope name)) there
+
+-- a name that is not
+pub bound_not_there : {X : Type 0} (f : X → List ℕ) (xs : List X) (name : List ℕ) (scope : Scope) → list_any (λ x. bytes_eq (f x) name) xs ≡ false →
+    entity_of (bound_over (map f xs) scope) name ≡ entity_of scope name
+bound_not_there f xs name scope there = bound_any f xs name scope ∙ ap (λ t. cond t (Some (m.Constant 0)) (entity_of scope name)) there

@@ -1,35 +1,15 @@
--- What the tables of names hold, as the names that are known at a place.
-use Rattle.std.specs.Prelude.{ℕ, map, List, [], ◌∷◌}
-use Rattle.std.specs.declared.alloc.Global.{Global}
-use Rattle.std.specs.declared.vec.Vec.{Vec}
-use Rattle.sopl_ast.specs.Mistakes as m
+-- The names that are known at a place: those of the lists around it, the outermost first, behind the declared ones.
+use Rattle.std.specs.Prelude.{map}
 use Rattle.sopl_ast.specs.Mistakes.{Scope}
-use Rattle.sopl_types.specs.declared.names.Entity.{Entity}
-use Rattle.sopl_types.specs.declared.names.Entity.TheVariants.{Constant, Variable, RangeName, SetName}
-use Rattle.sopl_types.specs.declared.names.Declared.{Declared}
 use Rattle.sopl_types.specs.declared.names.Names.{Names}
+use Rattle.sopl_types.specs.declared.names.Outer.{Outer, Top, Inside'}
+use Rattle.sopl_types.specs.Entered.{bound_over, declared_in}
 
--- what a name stands for
-abbrev pub seen : Entity → m.Entity
-seen (Constant dims) = m.Constant dims
-seen (Variable dims) = m.Variable dims
-seen RangeName = m.RangeName
-seen SetName = m.SetName
+-- the names that are known around a list
+abbrev pub known_outside : Outer → Scope
+known_outside (Top declared) = declared_in declared.now
+known_outside (Inside' bound at outer) = bound_over (map (λ name. name.now) bound.now.names.items) (known_outside outer)
 
--- the entries of a table, as names
-abbrev pub entered : List (Vec ℕ Global × Entity) → Scope
-entered [] = []
-entered (e ∷ es) = (e.0.items, seen e.1) ∷ entered es
-
--- bound names, behind those that were known
-abbrev pub bound_over : List (List ℕ) → Scope → Scope
-bound_over [] scope = scope
-bound_over (name ∷ names) scope = bound_over names ((name, m.Constant 0) ∷ scope)
-
--- the declared names
-abbrev pub declared_in : Declared → Scope
-declared_in declared = entered declared.entries.entries
-
--- the declared names and the bound ones
+-- those, and the names of the list
 abbrev pub known_in : Names → Scope
-known_in names = bound_over (map (λ name. name.now) names.bound.items) (declared_in names.declared.now)
+known_in names = bound_over (map (λ name. name.now) names.bound.names.items) (known_outside names.outer)

@@ -1,4 +1,5 @@
 pub mod Earliest
+pub mod Entered
 pub mod Known
 pub mod Depths
 pub mod Outcome

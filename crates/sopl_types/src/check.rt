@@ -9,7 +9,7 @@ ghost use Rattle.sopl_ast.specs.Origin.{IsFromTokens};
 ghost use Rattle.sopl_ast.specs.WholeModel.{goal_tree, whole};
 ghost use Rattle.sopl_base.specs.declared.fault.Fault.TheVariants.{NoMemory};
 ghost use Rattle.sopl_types.specs.Earliest.{earliest};
-ghost use Rattle.sopl_types.specs.Known.{declared_in};
+ghost use Rattle.sopl_types.specs.Entered.{declared_in};
 ghost use Rattle.sopl_types.specs.Outcome.{IsFirstFault};
 
 use crate::declarations::declarations;

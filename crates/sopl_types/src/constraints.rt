@@ -49,7 +49,7 @@ impl<'a> Names<'a> {
     {
         match constraint {
             Cons::Forall(over, inner) => {
-                let within = self.bind(over.as_slice())?;
+                let within = (&*self).bind(over.as_slice())?;
                 let first = within.names.constraint(inner)?;
                 Ok(earlier(within.first, first))
             }

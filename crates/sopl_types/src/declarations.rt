@@ -7,7 +7,8 @@ ghost use Rattle.sopl_ast.specs.Mistakes.{of_declaration, of_declarations, decla
 ghost use Rattle.sopl_ast.specs.Inits.{init_tree};
 ghost use Rattle.sopl_ast.specs.Ranges.{range_of};
 ghost use Rattle.sopl_types.specs.Earliest.{earliest};
-ghost use Rattle.sopl_types.specs.Known.{declared_in, known_in};
+ghost use Rattle.sopl_types.specs.Entered.{declared_in};
+ghost use Rattle.sopl_types.specs.Known.{known_in};
 
 use crate::expressions::Within;
 use crate::inits::wrong_depth;
@@ -49,11 +50,11 @@ impl<'a> Names<'a> {
     }
 
     /// The names behind dimensions, and the first mistake of the dimensions.
-    fn dims(&self, dims: &'a [Dim]) -> Result<Within<'a>, AllocError>
+    fn dims(&'a self, dims: &'a [Dim]) -> Result<Within<'a>, AllocError>
         ensures names { IfOk result (λ within. known_in within.names ≡ bind_dims dims.now (known_in self.now)) }
         ensures first { IfOk result (λ within. within.first ≡ earliest (of_dims (known_in self.now) (known_in self.now) dims.now)) }
     {
-        let mut names = self.copy()?;
+        let mut names = Names::inside(self);
         let mut first = None;
         'dims: for dim in dims {
             first = earlier(first, self.dim(&names, dim)?);
@@ -91,7 +92,7 @@ impl<'a> Names<'a> {
     }
 
     /// The first mistake of a declaration of constants behind its name.
-    fn constants(&self, dims: &'a Dims, value: &'a Init) -> Result<Option<Refusal>, AllocError>
+    fn constants(&'a self, dims: &'a Dims, value: &'a Init) -> Result<Option<Refusal>, AllocError>
         ensures { IfOk result (λ first. first ≡ earliest (of_dims (known_in self.now) (known_in self.now) dims.now
             ++ (of_init (bind_dims dims.now (known_in self.now)) (init_tree value.now)
             ++ first_of (wrong_depths (length dims.now) 0 (init_tree value.now))))) }
@@ -157,7 +158,7 @@ impl<'a> Names<'a> {
                 init,
             } => {
                 let own = known(self.entity(name), *at);
-                Ok(earlier(own, self.constants(dims, init)?))
+                Ok(earlier(own, (&*self).constants(dims, init)?))
             }
             Decl::Range { name, at, lo, hi } => {
                 let own = known(self.entity(name), *at);

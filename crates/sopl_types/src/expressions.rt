@@ -64,13 +64,13 @@ impl<'a> Names<'a> {
                 Ok(earlier(first, self.condition(constant, b)?))
             }
             Kind::Sum(over, a) | Kind::AllDifferent(over, a) => {
-                self.under(constant, over.as_slice(), a)
+                (&*self).under(constant, over.as_slice(), a)
             }
             Kind::Least(parts) | Kind::Greatest(parts) => {
                 self.numbers(constant, parts.as_slice())
             }
             Kind::Cumulative(over, start, length, demand, capacity) => {
-                let within = self.bind(over.as_slice())?;
+                let within = (&*self).bind(over.as_slice())?;
                 let first = within.names.triple(constant, start, length, demand)?;
                 let first = earlier(within.first, first);
                 Ok(earlier(first, self.number(constant, capacity)?))
@@ -107,7 +107,7 @@ impl<'a> Names<'a> {
     /// The first mistake of binders, and of an expression behind them in the place of a number.
     #[cycle(walk)]
     fn under(
-        &self,
+        &'a self,
         constant: bool,
         over: &'a [Binder],
         e: &'a Expr,
@@ -186,11 +186,11 @@ impl<'a> Names<'a> {
 
     /// The names behind binders, and the first mistake of the binders.
     #[cycle(walk)]
-    pub fn bind(&self, over: &'a [Binder]) -> Result<Within<'a>, AllocError>
+    pub fn bind(&'a self, over: &'a [Binder]) -> Result<Within<'a>, AllocError>
         ensures names { IfOk result (λ within. known_in within.names ≡ spec.bind (binders over.now) (known_in self.now)) }
         ensures first { IfOk result (λ within. within.first ≡ earliest (of_binders (known_in self.now) (binders over.now))) }
     {
-        let mut names = self.copy()?;
+        let mut names = Names::inside(self);
         let mut first = None;
         'over: for binder in over {
             first = earlier(first, names.binder(binder)?);

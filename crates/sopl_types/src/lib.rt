@@ -2,6 +2,7 @@
 //! Its tests stand in `text_tests`.
 #![tactic(auto)]
 
+mod bound;
 mod check;
 mod constraints;
 mod declarations;

@@ -6,7 +6,7 @@ ghost use Rattle.sopl_ast.specs.Mistakes as spec;
 ghost use Rattle.sopl_ast.specs.Mistakes.{mistake_unless, unknown_name, known_name, no_range, no_condition, of_use};
 ghost use Rattle.sopl_ast.specs.Sight.{shape_of_kind};
 ghost use Rattle.sopl_types.specs.Earliest.{sooner, earlier_of, earliest};
-ghost use Rattle.sopl_types.specs.Known.{seen};
+ghost use Rattle.sopl_types.specs.Entered.{seen};
 
 use crate::names::Entity;
 use sopl_ast::{Expr, Kind};

@@ -1,15 +1,16 @@
 //! What the names of a model stand for.
 
-ghost use Rattle.std.specs.Prelude.{◌≡◌, ℕ, List, [], ◌∷◌, OnOk, IfOk};
-ghost use Rattle.std.specs.List.{list_any};
+ghost use Rattle.std.specs.Prelude.{◌≡◌, ℕ, List, [], ◌∷◌, OnOk};
 ghost use Rattle.std.specs.Option.{option_map};
-ghost use Rattle.std.specs.Str.{bytes_eq};
 ghost use Rattle.sopl_ast.specs.Mistakes.{Constant, entity_of};
-ghost use Rattle.sopl_types.specs.Known.{seen, bound_over, declared_in, known_in};
+ghost use Rattle.sopl_types.specs.Entered.{seen, declared_in};
+ghost use Rattle.sopl_types.specs.Known.{known_in, known_outside};
 
+use crate::bound::Bound;
 use indexmap::IndexMap;
 use sopl_ast::Name;
 use std::alloc::{AllocError, Global};
+use std::mem;
 
 /// What a name stands for: a constant or a variable with so many dimensions, a range, or a set. A
 /// name that goes over a range is a constant.
@@ -48,19 +49,45 @@ impl Declared {
     }
 
     /// What a declared name stands for.
-    fn entity(&self, name: &Name) -> Option<Entity>
+    pub fn entity(&self, name: &Name) -> Option<Entity>
         ensures { option_map seen result ≡ entity_of (declared_in self.now) name.now }
     {
         self.entries.get(name.as_slice()).copied()
     }
 }
 
-/// The names that are known at a place: the declared ones, and those that go over a range there.
+/// The names that are known around a list of names that go over ranges: the declared ones, or those of
+/// a list and what is known around it.
+#[derive(Clone, Copy)]
+pub enum Outer<'a> {
+    Top(&'a Declared),
+    Inside(&'a Bound<'a>, &'a Outer<'a>),
+}
+
+impl<'a> Outer<'a> {
+    /// What a name stands for.
+    fn entity(&self, name: &Name) -> Option<Entity>
+        ensures { option_map seen result ≡ entity_of (known_outside self.now) name.now }
+    {
+        match self {
+            Outer::Top(declared) => declared.entity(name),
+            Outer::Inside(bound, outer) => {
+                if bound.has(name) {
+                    return Some(Entity::Constant(0));
+                }
+                outer.entity(name)
+            }
+        }
+    }
+}
+
+/// The names that are known at a place: those that go over a range in the list there, and those that
+/// are known around it.
 #[derive(Drop)]
 pub struct Names<'a> {
     alloc: Global,
-    declared: &'a Declared,
-    bound: Vec<&'a Name>,
+    outer: Outer<'a>,
+    bound: Bound<'a>,
 }
 
 impl<'a> Names<'a> {
@@ -70,28 +97,29 @@ impl<'a> Names<'a> {
     {
         Names {
             alloc,
-            declared,
-            bound: Vec::new(alloc),
+            outer: Outer::Top(declared),
+            bound: Bound::new(alloc),
         }
     }
 
-    /// The same names once more.
-    pub fn copy(&self) -> Result<Names<'a>, AllocError>
-        ensures { IfOk result (λ names. known_in names ≡ known_in self.now) }
+    /// The same names, around a list that has none yet; it takes no memory.
+    pub fn inside(names: &'a Names<'a>) -> Self
+        ensures { known_in result ≡ known_in names.now }
     {
-        let bound = Vec::from_slice(self.alloc, self.bound.as_slice())?;
-        Ok(Names {
-            alloc: self.alloc,
-            declared: self.declared,
-            bound,
-        })
+        Names {
+            alloc: names.alloc,
+            outer: Outer::Inside(&names.bound, &names.outer),
+            bound: Bound::new(names.alloc),
+        }
     }
 
     /// Adds a name that goes over a range.
     pub fn add(&mut self, name: &'a Name) -> Result<(), AllocError>
         ensures { OnOk result (known_in self.new ≡ (name.now, Constant 0) ∷ known_in self.old) }
     {
-        self.bound.push(name)?;
+        let none = Bound::new(self.alloc);
+        let bound = mem::replace(&mut self.bound, none);
+        self.bound = bound.with(self.alloc, name)?;
         Ok(())
     }
 
@@ -99,22 +127,9 @@ impl<'a> Names<'a> {
     pub fn entity(&self, name: &Name) -> Option<Entity>
         ensures { option_map seen result ≡ entity_of (known_in self.now) name.now }
     {
-        if is_among(self.bound.as_slice(), name) {
+        if self.bound.has(name) {
             return Some(Entity::Constant(0));
         }
-        self.declared.entity(name)
+        self.outer.entity(name)
     }
-}
-
-/// Whether both names have the same bytes.
-fn same(a: &Name, b: &Name) -> bool
-    ensures { result ≡ bytes_eq a.now b.now }
-{
-    a.as_slice() == b.as_slice()
-}
-
-fn is_among(names: &[&Name], name: &Name) -> bool
-    ensures { result ≡ list_any (λ other. bytes_eq other.now name.now) names.now }
-{
-    names.iter().any(|other| same(other, name))
 }

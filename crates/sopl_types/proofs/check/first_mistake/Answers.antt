@@ -2,7 +2,7 @@ use Rattle.std.proofs.Common.{ap, ◌∙◌, []}
 use Rattle.sopl_ast.specs.Mistakes.{entity_of, of_declarations, declare_all}
 use Rattle.sopl_ast.specs.WholeModel.{whole}
 use Rattle.sopl_types.specs.Earliest.{earlier_of, earliest}
-use Rattle.sopl_types.specs.Known.{declared_in}
+use Rattle.sopl_types.specs.Entered.{declared_in}
 use Rattle.sopl_types.proofs.Same.{Same}
 use Rattle.sopl_types.proofs.Whole.{whole_model}
 use Rattle.sopl_types.proofs.check.first_mistake.Goals as goal

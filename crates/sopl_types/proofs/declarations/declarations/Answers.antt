@@ -2,7 +2,7 @@ use Rattle.std.proofs.Common.{ap, ◌∙◌, ◌+◌, drop, map}
 use Rattle.sopl_ast.specs.Decls.{declaration}
 use Rattle.sopl_ast.specs.Mistakes.{of_declarations}
 use Rattle.sopl_types.specs.Earliest.{earlier_of, earliest}
-use Rattle.sopl_types.specs.Known.{declared_in}
+use Rattle.sopl_types.specs.Entered.{declared_in}
 use Rattle.sopl_types.proofs.DeclLemmas.{decls_more, names_more}
 use Rattle.sopl_types.proofs.declarations.declarations.Goals as goal
 

@@ -3,7 +3,7 @@ use Rattle.std.proofs.Common.{◌≡◌, List, ℕ, [], drop, map}
 use Rattle.sopl_ast.specs.Decls.{declaration}
 use Rattle.sopl_ast.specs.Mistakes.{entity_of, of_declarations, declare_all}
 use Rattle.sopl_types.specs.Earliest.{earlier_of, earliest}
-use Rattle.sopl_types.specs.Known.{declared_in}
+use Rattle.sopl_types.specs.Entered.{declared_in}
 use Rattle.sopl_types.proofs.declarations.declarations.Given as goal
 
 abbrev pub invariant-decls : goal.invariant-decls

@@ -1,6 +1,6 @@
 use Rattle.std.proofs.Common.{ap, ◌∙◌, ◌∷◌}
 use Rattle.sopl_ast.specs.Mistakes.{entity_of}
-use Rattle.sopl_types.specs.Known.{seen, entered, declared_in}
+use Rattle.sopl_types.specs.Entered.{seen, entered, declared_in}
 use Rattle.sopl_types.proofs.Scopes.{entered_insert}
 use Rattle.sopl_types.proofs.names.Declared.declare.Goals as goal
 

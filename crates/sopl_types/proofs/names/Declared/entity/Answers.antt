@@ -1,7 +1,7 @@
 use Rattle.std.proofs.Common.{ap, ◌∙◌}
 use Rattle.std.specs.Option.{option_map}
 use Rattle.sopl_ast.specs.Mistakes.{entity_of}
-use Rattle.sopl_types.specs.Known.{seen, declared_in}
+use Rattle.sopl_types.specs.Entered.{seen, declared_in}
 use Rattle.sopl_types.proofs.Scopes.{entered_lookup}
 use Rattle.sopl_types.proofs.names.Declared.entity.Goals as goal
 

@@ -1,0 +1,30 @@
+-- What the tables of names hold, as the names that are known at a place.
+use Rattle.std.specs.Prelude.{ℕ, List, [], ◌∷◌}
+use Rattle.std.specs.declared.alloc.Global.{Global}
+use Rattle.std.specs.declared.vec.Vec.{Vec}
+use Rattle.sopl_ast.specs.Mistakes as m
+use Rattle.sopl_ast.specs.Mistakes.{Scope}
+use Rattle.sopl_types.specs.declared.names.Entity.{Entity}
+use Rattle.sopl_types.specs.declared.names.Entity.TheVariants.{Constant, Variable, RangeName, SetName}
+use Rattle.sopl_types.specs.declared.names.Declared.{Declared}
+
+-- what a name stands for
+abbrev pub seen : Entity → m.Entity
+seen (Constant dims) = m.Constant dims
+seen (Variable dims) = m.Variable dims
+seen RangeName = m.RangeName
+seen SetName = m.SetName
+
+-- the entries of a table, as names
+abbrev pub entered : List (Vec ℕ Global × Entity) → Scope
+entered [] = []
+entered (e ∷ es) = (e.0.items, seen e.1) ∷ entered es
+
+-- bound names, behind those that were known
+abbrev pub bound_over : List (List ℕ) → Scope → Scope
+bound_over [] scope = scope
+bound_over (name ∷ names) scope = bound_over names ((name, m.Constant 0) ∷ scope)
+
+-- the declared names
+abbrev pub declared_in : Declared → Scope
+declared_in declared = entered declared.entries.entries
