@@ -1,0 +1,5 @@
+pub mod Counting
+pub mod Crowding
+pub mod Tight
+pub mod Times
+pub mod Truths

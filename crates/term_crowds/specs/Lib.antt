@@ -1,0 +1,3 @@
+pub mod Crowds
+pub mod Laws
+pub mod WorkedCrowds
