@@ -65,6 +65,8 @@ node_sound root items (node.Not c) built = none_sound root _ refl refl
 node_sound root items (node.All conds) built = none_sound root _ refl refl
 node_sound root items (node.Any conds) built = none_sound root _ refl refl
 node_sound root items (node.Implies a c) built = none_sound root _ refl refl
+node_sound root items (node.AllDifferent terms) built = none_sound root _ refl refl
+node_sound root items (node.Cumulative tasks capacity) built = none_sound root _ refl refl
 node_sound root items (node.Table t) built = none_sound root _ refl refl
 
 pub cond_sound : (root : Box) (items : List Item) (id : ℕ) → IsBuilt root items → AreSound root (cond_at (things items) id)

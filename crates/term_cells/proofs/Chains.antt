@@ -63,6 +63,8 @@ left_of_node root all (node.Not c) = refl
 left_of_node root all (node.All conds) = refl
 left_of_node root all (node.Any conds) = refl
 left_of_node root all (node.Implies a c) = refl
+left_of_node root all (node.AllDifferent terms) = refl
+left_of_node root all (node.Cumulative tasks capacity) = refl
 left_of_node root all (node.Table t) = refl
 
 left_at : (root : Box) (all : List Thing) (id : ℕ) (item : Item) → IsAt root all id item → left_mentions root (term_at all id) ≡ told root all (left_in item.node)

@@ -1,5 +1,5 @@
 -- Sets of cells, as ascending lists, the cells of linear forms, and those of the operands of a term.
-use Rattle.std.specs.Prelude.{ℕ, List, [], map}
+use Rattle.std.specs.Prelude.{ℕ, List, [], ◌++◌, map}
 use Rattle.std.specs.BTreeSet.{insert_key}
 use Rattle.std.specs.List.{fold}
 use Rattle.std.specs.Ordering.{nat_cmp}
@@ -7,6 +7,8 @@ use Rattle.box_problem.specs.Box.{Box}
 use Rattle.box_rules.specs.Forms.{Coefficient}
 use Rattle.box_rules.specs.Terms.{Term, Product, Quotient, Remainder, Size}
 use Rattle.cell_mentions.specs.Mentions.{mentions}
+use Rattle.term_nodes.specs.declared.nodes.Task.{Task}
+use Rattle.term_nodes.specs.Things.{Thing, term_at}
 
 -- a set with the cells of a list put in
 abbrev pub with_cells : List ℕ → List ℕ → List ℕ
@@ -30,3 +32,8 @@ other_mentions root (Quotient a divisor) = []
 other_mentions root (Remainder a divisor) = []
 other_mentions root (Size a) = []
 other_mentions root t = mentions root t
+
+-- what the start, the length and the demand of a task mention
+abbrev pub task_mentions : Box → List Thing → Task → List ℕ
+task_mentions root all t =
+    mentions root (term_at all t.start) ++ (mentions root (term_at all t.duration) ++ mentions root (term_at all t.demand))

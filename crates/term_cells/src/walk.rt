@@ -4,16 +4,16 @@ ghost use Rattle.std.specs.Prelude.{◌≡◌, ◌<◌, ◌++◌, [], IfNone, If
 ghost use Rattle.box_rules.specs.Terms as term;
 ghost use Rattle.box_rules.specs.Rules as rule;
 ghost use Rattle.term_rules.specs.Shown.{box_in, form_of};
-ghost use Rattle.term_nodes.specs.Built.{AllBelow, IsBuilt, PartsBelow};
-ghost use Rattle.term_nodes.specs.Things.{cond_at, conds_at, parts_at, table_at, term_at, terms_at, things};
-ghost use Rattle.cell_mentions.specs.Mentions.{cond_mentions, conds_mention, mentions, parts_mention, table_mentions, terms_mention};
-ghost use Rattle.term_cells.specs.Cells.{form_cells, left_mentions, other_mentions, with_cells};
+ghost use Rattle.term_nodes.specs.Built.{AllBelow, IsBuilt, PartsBelow, TasksBelow};
+ghost use Rattle.term_nodes.specs.Things.{cond_at, conds_at, parts_at, table_at, tasks_at, term_at, terms_at, things};
+ghost use Rattle.cell_mentions.specs.Mentions.{cond_mentions, conds_mention, mentions, parts_mention, table_mentions, tasks_mention, terms_mention};
+ghost use Rattle.term_cells.specs.Cells.{form_cells, left_mentions, other_mentions, task_mentions, with_cells};
 
 use crate::elements::{put_elements, put_form};
 use crate::kept::put;
 use std::alloc::AllocError;
 use std::collections::BTreeSet;
-use term_nodes::{Item, Node, Signed, item_at, table_at};
+use term_nodes::{Item, Node, Signed, Task, item_at, table_at};
 use term_rules::{BoxView, Form};
 
 /// Nodes, and the root box that they were built over, which no call here reads.
@@ -85,6 +85,8 @@ impl<'a> Nodes<'a> {
             Node::All(_) => Ok(()),
             Node::Any(_) => Ok(()),
             Node::Implies(_, _) => Ok(()),
+            Node::AllDifferent(_) => Ok(()),
+            Node::Cumulative(_, _) => Ok(()),
             Node::Table(_) => Ok(()),
         }
     }
@@ -228,6 +230,10 @@ impl<'a> Nodes<'a> {
             Node::All(conds) => self.conds(id, conds.as_slice(), cells),
             Node::Any(conds) => self.conds(id, conds.as_slice(), cells),
             Node::Implies(a, c) => self.both_conds(id, *a, *c, cells),
+            Node::AllDifferent(terms) => self.terms(id, terms.as_slice(), cells),
+            Node::Cumulative(tasks, capacity) => {
+                self.tasks_and_capacity(id, tasks.as_slice(), *capacity, cells)
+            }
             Node::Table(_) => Ok(()),
         }
     }
@@ -264,5 +270,54 @@ impl<'a> Nodes<'a> {
     {
         self.cond(a, cells)?;
         self.cond(c, cells)
+    }
+
+    /// Puts the cells that the numbers of a task mention into a set.
+    #[cycle(term)]
+    #[tactic(auto, using(crate::proofs::Walking::three_lists))]
+    fn task(&self, limit: u32, task: &Task, cells: &mut BTreeSet<u32>) -> Result<(), AllocError>
+        requires built { IsBuilt (box_in self.now.root) self.now.items.now }
+        requires start { task.now.start < limit }
+        requires duration { task.now.duration < limit }
+        requires demand { task.now.demand < limit }
+        ensures { OnOk result (cells.new.keys ≡ with_cells cells.old.keys (task_mentions (box_in self.now.root) (things self.now.items.now) task.now)) }
+    {
+        self.term(task.start, cells)?;
+        self.term(task.duration, cells)?;
+        self.term(task.demand, cells)
+    }
+
+    /// Puts the cells that several tasks mention into a set.
+    #[cycle(term)]
+    #[tactic(auto, using(crate::proofs::Walking::next_task, crate::proofs::Walking::no_task_left))]
+    fn tasks(&self, limit: u32, tasks: &[Task], cells: &mut BTreeSet<u32>) -> Result<(), AllocError>
+        requires built { IsBuilt (box_in self.now.root) self.now.items.now }
+        requires below { TasksBelow limit tasks.now }
+        ensures { OnOk result (cells.new.keys ≡ with_cells cells.old.keys (tasks_mention (box_in self.now.root) (tasks_at (things self.now.items.now) tasks.now))) }
+    {
+        'tasks: for task in tasks {
+            self.task(limit, task, cells)?;
+        }
+        Ok(())
+    }
+
+    /// Puts the cells that several tasks and a capacity mention into a set.
+    #[cycle(term)]
+    #[tactic(auto, using(crate::proofs::Inserting::two_lists))]
+    fn tasks_and_capacity(
+        &self,
+        limit: u32,
+        tasks: &[Task],
+        capacity: u32,
+        cells: &mut BTreeSet<u32>,
+    ) -> Result<(), AllocError>
+        requires built { IsBuilt (box_in self.now.root) self.now.items.now }
+        requires below { TasksBelow limit tasks.now }
+        requires capacity { capacity < limit }
+        ensures { OnOk result (cells.new.keys ≡ with_cells cells.old.keys (tasks_mention (box_in self.now.root) (tasks_at (things self.now.items.now) tasks.now)
+            ++ mentions (box_in self.now.root) (term_at (things self.now.items.now) capacity))) }
+    {
+        self.tasks(limit, tasks, cells)?;
+        self.term(capacity, cells)
     }
 }

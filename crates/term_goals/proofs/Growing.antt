@@ -118,6 +118,8 @@ leaf_of root all (node.Not c) leaf other = cc
 leaf_of root all (node.All conds) leaf other = cc
 leaf_of root all (node.Any conds) leaf other = cc
 leaf_of root all (node.Implies a c) leaf other = cc
+leaf_of root all (node.AllDifferent terms) leaf other = cc
+leaf_of root all (node.Cumulative tasks capacity) leaf other = cc
 leaf_of root all (node.Table t) leaf other = cc
 
 pub leaf_form : (root : Box) (all : List Thing) (id : ℕ) (item : Item) (x : Node) → IsAt root all id item → item.node ≡ x → is_leaf x ≡ true → item.facts.form.plain ≡ false

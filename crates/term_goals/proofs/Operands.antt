@@ -47,6 +47,8 @@ bare_of root all (node.Not c) none = tt
 bare_of root all (node.All conds) none = tt
 bare_of root all (node.Any conds) none = tt
 bare_of root all (node.Implies a c) none = tt
+bare_of root all (node.AllDifferent terms) none = tt
+bare_of root all (node.Cumulative tasks capacity) none = tt
 bare_of root all (node.Table t) none = tt
 
 pub bare_at : (root : Box) (all : List Thing) (id : ℕ) (item : Item) (x : Node) → IsAt root all id item → item.node ≡ x → is_product x ≡ false → IsBare root (term_at all id)

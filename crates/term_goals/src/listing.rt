@@ -93,6 +93,8 @@ fn operand(here: &Here, atom: &Atom) -> Option<Atom>
         Node::All(_) => None,
         Node::Any(_) => None,
         Node::Implies(_, _) => None,
+        Node::AllDifferent(_) => None,
+        Node::Cumulative(_, _) => None,
         Node::Table(_) => None,
     }
 }
@@ -149,6 +151,8 @@ fn add_bare(list: &mut Vec<Atom>, here: &Here, atom: &Atom) -> Result<(), AllocE
         Node::All(_) => add_leaf(list, here, atom),
         Node::Any(_) => add_leaf(list, here, atom),
         Node::Implies(_, _) => add_leaf(list, here, atom),
+        Node::AllDifferent(_) => add_leaf(list, here, atom),
+        Node::Cumulative(_, _) => add_leaf(list, here, atom),
         Node::Table(_) => add_leaf(list, here, atom),
     }
 }

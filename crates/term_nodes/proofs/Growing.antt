@@ -5,13 +5,14 @@ use Rattle.box_problem.specs.Box.{Box}
 use Rattle.term_nodes.specs.declared.nodes.Node.{Node}
 use Rattle.term_nodes.specs.declared.nodes.Node.TheVariants as node
 use Rattle.term_nodes.specs.declared.nodes.Signed.{Signed}
+use Rattle.term_nodes.specs.declared.nodes.Task.{Task}
 use Rattle.term_nodes.specs.declared.items.Item.{Item}
 use Rattle.box_rules.specs.Terms as rule
 use Rattle.box_rules.specs.Forms as forms
 use Rattle.box_rules.specs.Rules.{form}
 use Rattle.term_operations.specs.Made.{operation_term, extreme_term}
-use Rattle.term_nodes.specs.Things.{Thing, a_term, a_cond, term_in, cond_in, table_in, term_at, cond_at, table_at, thing_at, thing_of, parts_at, terms_at, conds_at, things, things_from}
-use Rattle.term_nodes.specs.Built.{IsAt, IsBuilt, IsNew, IsBelow, IsSound, IsRight, PartsBelow, AllBelow, facts_of}
+use Rattle.term_nodes.specs.Things.{Thing, a_term, a_cond, term_in, cond_in, table_in, term_at, cond_at, table_at, thing_at, thing_of, parts_at, terms_at, conds_at, tasks_at, things, things_from}
+use Rattle.term_nodes.specs.Built.{IsAt, IsBuilt, IsNew, IsBelow, IsSound, IsRight, PartsBelow, AllBelow, TasksBelow, facts_of}
 use Rattle.term_nodes.proofs.Reading.{length_things}
 
 things_after : (known : List Thing) (items : List Item) (item : Item) → things_from known (items ++ item ∷ []) ≡ things_from known items ++ thing_of (things_from known items) item.node ∷ []
@@ -58,6 +59,14 @@ conds_stay all more n (id ∷ ids) most below =
     ap (λ (c : rule.Cond). rule.condition c (conds_at (all ++ more ∷ []) ids)) (cond_stays all more n id most below.0)
     ∙ ap (rule.condition (cond_at all id)) (conds_stay all more n ids most below.1)
 
+tasks_stay : (all : List Thing) (more : Thing) (n : ℕ) (tasks : List Task) → n ≤ length all → TasksBelow n tasks → tasks_at (all ++ more ∷ []) tasks ≡ tasks_at all tasks
+tasks_stay all more n [] most below = refl
+tasks_stay all more n (t ∷ tasks) most below =
+    ap (λ (s : rule.Term). rule.task s (term_at (all ++ more ∷ []) t.duration) (term_at (all ++ more ∷ []) t.demand) (tasks_at (all ++ more ∷ []) tasks)) (term_stays all more n t.start most below.0.0)
+    ∙ ap (λ (d : rule.Term). rule.task (term_at all t.start) d (term_at (all ++ more ∷ []) t.demand) (tasks_at (all ++ more ∷ []) tasks)) (term_stays all more n t.duration most below.0.1.0)
+    ∙ ap (λ (m : rule.Term). rule.task (term_at all t.start) (term_at all t.duration) m (tasks_at (all ++ more ∷ []) tasks)) (term_stays all more n t.demand most below.0.1.1)
+    ∙ ap (rule.task (term_at all t.start) (term_at all t.duration) (term_at all t.demand)) (tasks_stay all more n tasks most below.1)
+
 two_terms : (make : rule.Term → rule.Term → Thing) (all : List Thing) (more : Thing) (n a b : ℕ) → n ≤ length all → a < n → b < n → make (term_at (all ++ more ∷ []) a) (term_at (all ++ more ∷ []) b)
     ≡ make (term_at all a) (term_at all b)
 two_terms make all more n a b most left right =
@@ -84,6 +93,10 @@ thing_stays all more n (node.Any conds) most below = ap (λ (cs : rule.Conds). a
 thing_stays all more n (node.Implies a c) most below =
     ap (λ (t : rule.Cond). a_cond (rule.Implies t (cond_at (all ++ more ∷ []) c))) (cond_stays all more n a most below.0)
     ∙ ap (λ (t : rule.Cond). a_cond (rule.Implies (cond_at all a) t)) (cond_stays all more n c most below.1)
+thing_stays all more n (node.AllDifferent terms) most below = ap (λ (ts : rule.Terms). a_cond (rule.AllDifferent ts)) (terms_stay all more n terms.items most below)
+thing_stays all more n (node.Cumulative tasks capacity) most below =
+    ap (λ (ts : rule.Tasks). a_cond (rule.Cumulative ts (term_at (all ++ more ∷ []) capacity))) (tasks_stay all more n tasks.items most below.0)
+    ∙ ap (λ (t : rule.Term). a_cond (rule.Cumulative (tasks_at all tasks.items) t)) (term_stays all more n capacity most below.1)
 thing_stays all more n (node.Table t) most below = refl
 
 right_stays : (root : Box) (all : List Thing) (more : Thing) (n : ℕ) (x : Node) → n ≤ length all → IsBelow n x → IsRight root all x → IsRight root (all ++ more ∷ []) x
@@ -102,6 +115,8 @@ right_stays root all more n (node.Not c) most below is = tt
 right_stays root all more n (node.All conds) most below is = tt
 right_stays root all more n (node.Any conds) most below is = tt
 right_stays root all more n (node.Implies a c) most below is = tt
+right_stays root all more n (node.AllDifferent terms) most below is = tt
+right_stays root all more n (node.Cumulative tasks capacity) most below is = tt
 right_stays root all more n (node.Table t) most below is = tt
 
 -- what stands at a number, old or new

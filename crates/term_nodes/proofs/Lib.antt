@@ -6,3 +6,6 @@ pub mod Ranges
 pub mod Growing
 pub mod Elements
 pub mod Links
+pub mod Crowding
+pub mod Tasking
+pub mod Indexing

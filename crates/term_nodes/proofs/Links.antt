@@ -48,6 +48,8 @@ below_node id (node.Not c) a is below = absurd (no_some a is)
 below_node id (node.All conds) a is below = absurd (no_some a is)
 below_node id (node.Any conds) a is below = absurd (no_some a is)
 below_node id (node.Implies b c) a is below = absurd (no_some a is)
+below_node id (node.AllDifferent terms) a is below = absurd (no_some a is)
+below_node id (node.Cumulative tasks capacity) a is below = absurd (no_some a is)
 below_node id (node.Table t) a is below = absurd (no_some a is)
 
 operand_of_node : (all : List Thing) (n : Node) (a : ℕ) → left_in n ≡ Some a → term_at all a ≡ left_operand (term_in (thing_of all n))
@@ -64,6 +66,8 @@ operand_of_node all (node.Not c) a is = absurd (no_some a is)
 operand_of_node all (node.All conds) a is = absurd (no_some a is)
 operand_of_node all (node.Any conds) a is = absurd (no_some a is)
 operand_of_node all (node.Implies b c) a is = absurd (no_some a is)
+operand_of_node all (node.AllDifferent terms) a is = absurd (no_some a is)
+operand_of_node all (node.Cumulative tasks capacity) a is = absurd (no_some a is)
 operand_of_node all (node.Table t) a is = absurd (no_some a is)
 
 -- where it has none
@@ -81,6 +85,8 @@ alone_in_node all (node.Not c) is = refl
 alone_in_node all (node.All conds) is = refl
 alone_in_node all (node.Any conds) is = refl
 alone_in_node all (node.Implies b c) is = refl
+alone_in_node all (node.AllDifferent terms) is = refl
+alone_in_node all (node.Cumulative tasks capacity) is = refl
 alone_in_node all (node.Table t) is = refl
 
 -- the node of a number

@@ -17,6 +17,7 @@ use Rattle.term_operations.specs.Made.{IsPossible}
 use Rattle.term_nodes.specs.declared.nodes.Node.{Node}
 use Rattle.term_nodes.specs.declared.nodes.Node.TheVariants as node
 use Rattle.term_nodes.specs.declared.nodes.Signed.{Signed}
+use Rattle.term_nodes.specs.declared.nodes.Task.{Task}
 use Rattle.term_nodes.specs.declared.items.Item.{Item}
 use Rattle.term_nodes.specs.declared.items.Facts as own
 use Rattle.term_nodes.specs.Things.{Thing, term_in, cond_in, table_in, term_at, thing_at, thing_of, things}
@@ -101,6 +102,10 @@ abbrev pub AllBelow : ℕ → List ℕ → Type 0
 AllBelow id [] = Unit {0}
 AllBelow id (x ∷ xs) = (x < id) × AllBelow id xs
 
+abbrev pub TasksBelow : ℕ → List Task → Type 0
+TasksBelow id [] = Unit {0}
+TasksBelow id (t ∷ tasks) = ((t.start < id) × ((t.duration < id) × (t.demand < id))) × TasksBelow id tasks
+
 abbrev pub IsBelow : ℕ → Node → Type 0
 IsBelow id (node.Constant z) = Unit {0}
 IsBelow id (node.Cell cell) = Unit {0}
@@ -115,6 +120,8 @@ IsBelow id (node.Not c) = c < id
 IsBelow id (node.All conds) = AllBelow id conds.items
 IsBelow id (node.Any conds) = AllBelow id conds.items
 IsBelow id (node.Implies a c) = (a < id) × (c < id)
+IsBelow id (node.AllDifferent terms) = AllBelow id terms.items
+IsBelow id (node.Cumulative tasks capacity) = TasksBelow id tasks.items × (capacity < id)
 IsBelow id (node.Table t) = Unit {0}
 
 -- a divisor can be reckoned with, and the form of a comparison is that of the difference
@@ -133,6 +140,8 @@ IsRight root all (node.Not c) = Unit {0}
 IsRight root all (node.All conds) = Unit {0}
 IsRight root all (node.Any conds) = Unit {0}
 IsRight root all (node.Implies a c) = Unit {0}
+IsRight root all (node.AllDifferent terms) = Unit {0}
+IsRight root all (node.Cumulative tasks capacity) = Unit {0}
 IsRight root all (node.Table t) = Unit {0}
 
 -- what stands at a number

@@ -2,3 +2,4 @@ pub mod Things
 pub mod Built
 pub mod Seen
 pub mod Operands
+pub mod Tasks

@@ -1,5 +1,5 @@
 -- What terms are over a box.
-use Rattle.std.specs.Prelude.{List}
+use Rattle.std.specs.Prelude.{ℕ, ℤ, List, Option}
 use Rattle.box_problem.specs.Box.{Box, IsBox, Inside}
 use Rattle.box_rules.specs.Ends as ends
 use Rattle.std.specs.List.{fold}
@@ -10,7 +10,11 @@ use Rattle.box_rules.specs.declared.answers.Defined.{Defined}
 use Rattle.term_operations.specs.declared.extremes.Extreme.{Extreme}
 use Rattle.term_operations.specs.Made.{picked}
 use Rattle.term_rules.specs.Shown.{box_in, ends_of}
+use Rattle.term_tables.specs.Within.{Known, all_covered, allowed_ends, seen_ends, seen_mark, with_dimensions}
+use Rattle.box_rules.specs.Globals.{TaskEnds}
 use Rattle.term_nodes.specs.declared.evaluation.Here.{Here}
+use Rattle.term_nodes.specs.declared.nodes.Task.{Task}
+use Rattle.term_nodes.specs.Things.{tasks_at, terms_at, things}
 use Rattle.term_nodes.specs.declared.evaluation.Sight as own
 use Rattle.term_nodes.specs.Built.{IsBuilt}
 
@@ -45,6 +49,25 @@ element_sight b table marks intervals = record {
   ends = rule.element_ends rule.Near b intervals table;
   mark = rule.element_mark table marks intervals;
 }
+
+-- an element of which the mark of all indices is given, and what is known of them
+abbrev pub known_sight : Box → Table → Defined → Option Known → Sight
+known_sight b table mark known = record {
+  ends = seen_ends b table (allowed_ends b table known);
+  mark = seen_mark mark (all_covered known) (allowed_ends b table known);
+}
+
+-- and one of which the mark of the indices behind these is given, and what is known of those
+abbrev pub indexed_sight : rule.Reading → Box → Box → Table → Terms → List (List ℤ) → Defined → Known → Sight
+indexed_sight reading root b table at sets mark known =
+    known_sight b table (both (all_marks (rule.marks reading root b at)) mark) (with_dimensions (rule.intervals reading root b at) sets known)
+
+-- the intervals of several terms over the box, and those of several tasks
+abbrev pub intervals_seen : Here → List ℕ → List ends.Ends
+intervals_seen here ids = rule.intervals rule.Near (box_in here.root) (box_in here.view) (terms_at (things here.items.now) ids)
+
+abbrev pub tasks_seen : Here → List Task → List TaskEnds
+tasks_seen here tasks = rule.task_ends rule.Near (box_in here.root) (box_in here.view) (tasks_at (things here.items.now) tasks)
 
 -- what a term is over the root, by the wide reading
 abbrev pub wide_sight : Box → Term → Sight

@@ -6,6 +6,7 @@ use Rattle.term_tables.specs.Kept.{table_of}
 use Rattle.term_nodes.specs.declared.nodes.Node.{Node}
 use Rattle.term_nodes.specs.declared.nodes.Node.TheVariants as node
 use Rattle.term_nodes.specs.declared.nodes.Signed.{Signed}
+use Rattle.term_nodes.specs.declared.nodes.Task.{Task}
 use Rattle.term_nodes.specs.declared.items.Item.{Item}
 
 pub data Thing : Type 0 where
@@ -62,6 +63,10 @@ abbrev pub conds_at : List Thing → List ℕ → rule.Conds
 conds_at all [] = rule.no_cond
 conds_at all (id ∷ ids) = rule.condition (cond_at all id) (conds_at all ids)
 
+abbrev pub tasks_at : List Thing → List Task → rule.Tasks
+tasks_at all [] = rule.no_task
+tasks_at all (t ∷ tasks) = rule.task (term_at all t.start) (term_at all t.duration) (term_at all t.demand) (tasks_at all tasks)
+
 -- what a node is, where its operands are known
 abbrev pub thing_of : List Thing → Node → Thing
 thing_of all (node.Constant z) = a_term (rule.Constant z)
@@ -77,6 +82,8 @@ thing_of all (node.Not c) = a_cond (rule.Not (cond_at all c))
 thing_of all (node.All conds) = a_cond (rule.All (conds_at all conds.items))
 thing_of all (node.Any conds) = a_cond (rule.Any (conds_at all conds.items))
 thing_of all (node.Implies a c) = a_cond (rule.Implies (cond_at all a) (cond_at all c))
+thing_of all (node.AllDifferent terms) = a_cond (rule.AllDifferent (terms_at all terms.items))
+thing_of all (node.Cumulative tasks capacity) = a_cond (rule.Cumulative (tasks_at all tasks.items) (term_at all capacity))
 thing_of all (node.Table t) = a_table (table_of t)
 
 -- what all nodes are, behind those that are known

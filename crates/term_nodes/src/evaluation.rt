@@ -1,20 +1,22 @@
 //! What terms and conditions are over a box.
 
-ghost use Rattle.std.specs.Prelude.{◌≡◌, ◌<◌, ◌≤◌, ◌++◌, length, negsuc, pos};
+ghost use Rattle.std.specs.Prelude.{◌≡◌, ◌<◌, ◌≤◌, [], length, negsuc, pos};
+ghost use Rattle.box_rules.specs.Arrays as arrays;
 ghost use Rattle.box_rules.specs.Ends as ends;
 ghost use Rattle.box_rules.specs.Forms as forms;
 ghost use Rattle.box_rules.specs.Forms.{sign};
 ghost use Rattle.box_rules.specs.Marks as marks;
 ghost use Rattle.box_rules.specs.Rules as rule;
 ghost use Rattle.box_rules.specs.Terms as term;
-ghost use Rattle.box_rules.specs.declared.answers.Defined.TheVariants.{Always};
+ghost use Rattle.box_rules.specs.declared.answers.Defined.TheVariants.{Always, Never};
 ghost use Rattle.term_rules.specs.Shown.{IsFit, box_in, ends_at, ends_of, form_of};
-ghost use Rattle.term_tables.specs.Within.{ranges_of};
+ghost use Rattle.term_tables.specs.Kept.{sets_of, table_of};
+ghost use Rattle.term_tables.specs.Within.{known_of, ranges_of, with_dimensions};
 ghost use Rattle.term_operations.specs.Made.{IsPossible, extreme_term, operation_term, picked};
 ghost use Rattle.term_nodes.specs.Things.{cond_at, conds_at, parts_at, table_at, term_at, terms_at, things};
 ghost use Rattle.term_nodes.specs.Built.{AllBelow, IsSoundTerm, PartsBelow};
 ghost use Rattle.term_nodes.specs.Operands.{left_operand, steps_down};
-ghost use Rattle.term_nodes.specs.Seen.{IsReady, element_sight, extreme_range, sight, sight_of, sum_sight};
+ghost use Rattle.term_nodes.specs.Seen.{IsReady, element_sight, extreme_range, indexed_sight, known_sight, sight, sight_of, sum_sight};
 
 use crate::items::{Item, form_at, item_at, table_at};
 use crate::nodes::{Comparison, Node, Signed};
@@ -23,7 +25,7 @@ use term_operations::{Extreme, Operation};
 use term_rules::{
     BoxView, Ends, Factor, and_truth, both, compared, opposite, or_truth, truth_ends,
 };
-use term_tables::Ranges;
+use term_tables::{Indices, Ranges, Table};
 
 /// The interval of what is no cell in a term, and its mark.
 #[derive(Clone, Copy, Debug)]
@@ -40,6 +42,16 @@ impl Sight {
         Sight {
             ends: Ends::zero(),
             mark: Defined::Always,
+        }
+    }
+
+    /// What is Never defined.
+    pub fn never(ends: Ends) -> Sight
+        ensures { sight_of result ≡ record { ends = ends_of ends; mark = Never } }
+    {
+        Sight {
+            ends,
+            mark: Defined::Never,
         }
     }
 
@@ -157,6 +169,8 @@ impl<'a> Here<'a> {
             Node::All(_) => Sight::clear(),
             Node::Any(_) => Sight::clear(),
             Node::Implies(_, _) => Sight::clear(),
+            Node::AllDifferent(_) => Sight::clear(),
+            Node::Cumulative(_, _) => Sight::clear(),
             Node::Table(_) => Sight::clear(),
         }
     }
@@ -223,6 +237,8 @@ impl<'a> Here<'a> {
             Node::All(_) => *below,
             Node::Any(_) => *below,
             Node::Implies(_, _) => *below,
+            Node::AllDifferent(_) => *below,
+            Node::Cumulative(_, _) => *below,
             Node::Table(_) => *below,
         }
     }
@@ -340,7 +356,7 @@ impl<'a> Here<'a> {
         requires plain { plain ≡ (rule.form (box_in self.now.root) (term.Element (table_at (things self.now.items.now) table) (terms_at (things self.now.items.now) at.now))).plain }
         ensures { sight_of result ≡ sight (box_in self.now.root) (box_in self.now.view) (term.Element (table_at (things self.now.items.now) table) (terms_at (things self.now.items.now) at.now)) }
     {
-        let range = self.element_range(limit, table, at, Defined::Always, &Ranges::End);
+        let range = self.element_range(limit, table, at);
         if plain {
             return Sight {
                 ends: Ends::zero(),
@@ -350,48 +366,93 @@ impl<'a> Here<'a> {
         range
     }
 
-    /// What an element is over the box, where the intervals of the indices behind these are given, and their mark.
+    /// The whole interval of an element over the box, and its mark.
     #[cycle(seen)]
-    #[tactic(auto, using(crate::proofs::Elements::last_index, crate::proofs::Elements::no_index))]
-    pub fn element_range(
+    #[tactic(auto, using(crate::proofs::Indexing::no_table_there))]
+    pub fn element_range(&self, limit: u32, table: u32, at: &[u32]) -> Sight
+        requires ready { IsReady self.now }
+        requires exists { limit ≤ length self.now.items.now }
+        requires below { AllBelow limit at.now }
+        ensures { sight_of result ≡ element_sight (box_in self.now.view) (table_at (things self.now.items.now) table)
+            (marks.all_marks (rule.marks rule.Near (box_in self.now.root) (box_in self.now.view) (terms_at (things self.now.items.now) at.now)))
+            (rule.intervals rule.Near (box_in self.now.root) (box_in self.now.view) (terms_at (things self.now.items.now) at.now)) }
+    {
+        let Some(found) = table_at(self.items, table) else {
+            return Sight::never(Ends::zero());
+        };
+        if found.elements.is_empty() {
+            return Sight::never(Ends::zero());
+        }
+        self.indexed(
+            limit,
+            found,
+            at,
+            found.sets.as_slice(),
+            &Indices::none(),
+            &Ranges::End,
+        )
+    }
+
+    /// What an element is over the box, where that of the indices behind these is given, and their dimensions: those of one number say yes or no,
+    /// and calls nest for the others alone, which an array of n elements has no more than the binary digits of n.
+    #[cycle(seen)]
+    #[tactic(auto, using(crate::proofs::Indexing::next_narrow, crate::proofs::Indexing::next_wide, crate::proofs::Indexing::no_set_left, crate::proofs::Indexing::no_index_left))]
+    fn indexed(
         &self,
         limit: u32,
-        table: u32,
+        found: &Table,
         at: &[u32],
-        mark: Defined,
+        sets: &[Vec<i64>],
+        indices: &Indices,
         behind: &Ranges,
     ) -> Sight
         requires ready { IsReady self.now }
         requires exists { limit ≤ length self.now.items.now }
         requires below { AllBelow limit at.now }
-        ensures { sight_of result ≡ element_sight (box_in self.now.view) (table_at (things self.now.items.now) table)
-            (marks.both (marks.all_marks (rule.marks rule.Near (box_in self.now.root) (box_in self.now.view) (terms_at (things self.now.items.now) at.now))) mark)
-            (rule.intervals rule.Near (box_in self.now.root) (box_in self.now.view) (terms_at (things self.now.items.now) at.now) ++ ranges_of behind.now) }
+        requires complete { length (table_of found.now).items ≡ length (arrays.indices (table_of found.now).sets) }
+        ensures { sight_of result ≡ indexed_sight rule.Near (box_in self.now.root) (box_in self.now.view) (table_of found.now) (terms_at (things self.now.items.now) at.now)
+            (sets_of sets.now) indices.now.mark (known_of indices.now (ranges_of behind.now)) }
     {
-        let Some((last, before)) = at.split_last() else {
-            return self.element_within(table, mark, behind);
-        };
-        let range = self.range(*last);
-        let ranges = Ranges::First(range.ends, &*behind);
-        self.element_range(limit, table, before, both(range.mark, mark), &ranges)
+        let mut left = at;
+        let mut dimensions = sets;
+        let mut known = *indices;
+        while let Some((last, before)) = left.split_last() {
+            let Some((set, others)) = dimensions.split_last() else {
+                return Sight::never(found.hull(&self.view));
+            };
+            let range = self.range(*last);
+            let more = known.with(&range.ends, range.mark, set.as_slice());
+            if set.len() != 1 {
+                let ranges = Ranges::First(range.ends, &*behind);
+                return self.indexed(limit, found, before, others, &more, &ranges);
+            }
+            left = before;
+            dimensions = others;
+            known = more;
+        }
+        self.after_indices(found, dimensions, &known, behind)
     }
 
-    /// What an element is over the box, where the intervals of its indices are given, and their mark.
-    #[tactic(auto, using(crate::proofs::Elements::within_table, crate::proofs::Elements::within_none))]
-    pub fn element_within(&self, table: u32, mark: Defined, ranges: &Ranges) -> Sight
-        requires ready { IsReady self.now }
-        ensures { sight_of result ≡ element_sight (box_in self.now.view) (table_at (things self.now.items.now) table) mark (ranges_of ranges.now) }
+    /// What an element is over the box, where all its indices are known: Never where it has more dimensions.
+    #[tactic(auto, using(crate::proofs::Indexing::sets_left, crate::proofs::Indexing::no_sets_left))]
+    pub fn after_indices(
+        &self,
+        found: &Table,
+        sets: &[Vec<i64>],
+        indices: &Indices,
+        ranges: &Ranges,
+    ) -> Sight
+        requires complete { length (table_of found.now).items ≡ length (arrays.indices (table_of found.now).sets) }
+        ensures { sight_of result ≡ known_sight (box_in self.now.view) (table_of found.now) indices.now.mark
+            (with_dimensions [] (sets_of sets.now) (known_of indices.now (ranges_of ranges.now))) }
     {
-        let Some(found) = table_at(self.items, table) else {
-            return Sight {
-                ends: Ends::zero(),
-                mark: Defined::Never,
-            };
-        };
-        let within = found.within(ranges, &self.view);
+        if !sets.is_empty() {
+            return Sight::never(found.hull(&self.view));
+        }
+        let within = found.within(ranges, indices, &self.view);
         Sight {
             ends: within.ends,
-            mark: both(mark, within.mark),
+            mark: within.mark,
         }
     }
 
@@ -433,6 +494,10 @@ impl<'a> Here<'a> {
             Node::All(conds) => self.all(id, conds.as_slice()),
             Node::Any(conds) => self.any(id, conds.as_slice()),
             Node::Implies(a, c) => self.implies(id, *a, *c),
+            Node::AllDifferent(terms) => self.all_different(id, terms.as_slice()),
+            Node::Cumulative(tasks, capacity) => {
+                self.cumulative(id, tasks.as_slice(), *capacity)
+            }
             Node::Table(_) => Truth::True,
         }
     }

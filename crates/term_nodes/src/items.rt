@@ -81,6 +81,8 @@ pub fn table_at(items: &[Item], id: u32) -> Option<&Table>
         Node::All(_) => None,
         Node::Any(_) => None,
         Node::Implies(_, _) => None,
+        Node::AllDifferent(_) => None,
+        Node::Cumulative(_, _) => None,
     }
 }
 

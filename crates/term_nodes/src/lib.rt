@@ -3,12 +3,14 @@
 #![tactic(auto)]
 
 mod chains;
+mod different;
 mod evaluation;
+mod fitting;
 mod items;
 mod nodes;
 mod pushes;
 
 pub use evaluation::{Here, Sight, factor};
 pub use items::{Facts, Item, form_at, item_at, table_at};
-pub use nodes::{Comparison, Node, Signed};
+pub use nodes::{Comparison, Node, Signed, Task};
 pub use pushes::push;

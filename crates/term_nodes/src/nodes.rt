@@ -15,6 +15,14 @@ pub struct Signed {
     pub term: u32,
 }
 
+/// A task, by the numbers of its start, its length and its demand.
+#[derive(Clone, Copy, Debug, PartialEq, Eq)]
+pub struct Task {
+    pub start: u32,
+    pub duration: u32,
+    pub demand: u32,
+}
+
 /// A comparison, and the linear form of the left operand minus the right one.
 #[derive(Drop)]
 pub struct Comparison {
@@ -40,6 +48,8 @@ pub enum Node {
     All(Vec<u32>),
     Any(Vec<u32>),
     Implies(u32, u32),
+    AllDifferent(Vec<u32>),
+    Cumulative(Vec<Task>, u32),
     Table(Table),
 }
 
@@ -62,6 +72,8 @@ impl Node {
             Node::All(_) => None,
             Node::Any(_) => None,
             Node::Implies(_, _) => None,
+            Node::AllDifferent(_) => None,
+            Node::Cumulative(_, _) => None,
             Node::Table(_) => None,
         }
     }

@@ -1,11 +1,9 @@
 -- Comparisons and their linear forms.
-use Rattle.std.proofs.Common.{◌≡◌, ◌∙◌, refl, ap, sym, arith, ℕ, ◌<◌, negsuc, Bool, true, false, ◌&&◌, List, length, [], ◌∷◌, Option, Some, None, option_map, if◌then◌else◌, get_or, inl, inr}
-use Rattle.std.proofs.lemmas.Bool.{cases_lt}
-use Rattle.std.proofs.lemmas.List.{get_or_default}
+use Rattle.std.proofs.Common.{◌≡◌, ◌∙◌, refl, ap, sym, arith, ℕ, ◌<◌, negsuc, Bool, true, false, ◌&&◌, List, length, [], ◌∷◌, Option, Some, None, option_map, if◌then◌else◌, Vec, Global}
 use Rattle.sopl_base.specs.declared.comparison.CmpOp.{CmpOp}
 use Rattle.box_rules.proofs.FormValues.{by_bool}
-use Rattle.term_nodes.proofs.Reading.{nothing_past}
 use Rattle.term_program.specs.declared.program.Program.{Program}
+use Rattle.term_program.specs.declared.shapes.Form.{Form}
 use Rattle.term_program.specs.declared.shapes.Form.TheVariants as shape
 use Rattle.term_program.specs.Programs.{IsMade, root_in, things_in}
 use Rattle.box_problem.specs.Box.{Box}
@@ -17,10 +15,11 @@ use Rattle.term_nodes.specs.declared.items.Item.{Item}
 use Rattle.term_nodes.specs.declared.nodes.Node.{Node}
 use Rattle.term_nodes.specs.declared.nodes.Node.TheVariants as node
 use Rattle.term_nodes.specs.declared.nodes.Comparison.{Comparison}
+use Rattle.term_nodes.specs.declared.nodes.Task.{Task}
 use Rattle.term_nodes.specs.Built.{IsAt, IsBuilt}
 use Rattle.term_nodes.specs.Things.{Thing, nothing, cond_in, cond_at, term_at, thing_at, thing_of, things}
 use Rattle.term_nodes.proofs.Steps.{below_at, right_at}
-use Rattle.term_program.specs.Comparisons.{Difference, IsComparison, difference_of, is_comparison, is_linear_pair, linear_in, shape_in}
+use Rattle.term_program.specs.Comparisons.{Difference, IsComparison, difference_of, global_shape, is_comparison, is_linear_pair, linear_in, shape_in}
 
 -- a node is a comparison
 abbrev pub is_compare : Node → Bool
@@ -54,6 +53,8 @@ other_cond all (node.Not c) other = refl
 other_cond all (node.All conds) other = refl
 other_cond all (node.Any conds) other = refl
 other_cond all (node.Implies a c) other = refl
+other_cond all (node.AllDifferent terms) other = refl
+other_cond all (node.Cumulative tasks capacity) other = refl
 other_cond all (node.Table t) other = refl
 
 pub not_compared : (root : Box) (all : List Thing) (id : ℕ) (item : Item) (x : Node) → IsAt root all id item → item.node ≡ x → is_compare x ≡ false → is_comparison (cond_at all id) ≡ false
@@ -96,38 +97,43 @@ no_comparison root (Implies a c) other = refl
 no_comparison root (AllDifferent terms) other = refl
 no_comparison root (Cumulative tasks capacity) other = refl
 
--- no condition that is built is of all terms or of tasks
-abbrev is_global : Cond → Bool
-is_global (AllDifferent terms) = true
-is_global (Cumulative tasks capacity) = true
+-- which of the global conditions a node is
+abbrev pub is_global : Node → Bool
+is_global (node.AllDifferent terms) = true
+is_global (node.Cumulative tasks capacity) = true
 is_global other = false
 
-node_global : (all : List Thing) (x : Node) → is_global (cond_in (thing_of all x)) ≡ false
-node_global all (node.Constant z) = refl
-node_global all (node.Cell cell) = refl
-node_global all (node.Sum parts) = refl
-node_global all (node.Product a b) = refl
-node_global all (node.Operation op a) = refl
-node_global all (node.Extreme e first later) = refl
-node_global all (node.Element table at) = refl
-node_global all (node.Number c) = refl
-node_global all (node.Compare c) = refl
-node_global all (node.Not c) = refl
-node_global all (node.All conds) = refl
-node_global all (node.Any conds) = refl
-node_global all (node.Implies a c) = refl
-node_global all (node.Table t) = refl
+node_global : (all : List Thing) (x : Node) → is_global x ≡ false → shape.Other ≡ global_shape (cond_in (thing_of all x))
+node_global all (node.Constant z) other = refl
+node_global all (node.Cell cell) other = refl
+node_global all (node.Sum parts) other = refl
+node_global all (node.Product a b) other = refl
+node_global all (node.Operation op a) other = refl
+node_global all (node.Extreme e first later) other = refl
+node_global all (node.Element table at) other = refl
+node_global all (node.Number c) other = refl
+node_global all (node.Compare c) other = refl
+node_global all (node.Not c) other = refl
+node_global all (node.All conds) other = refl
+node_global all (node.Any conds) other = refl
+node_global all (node.Implies a c) other = refl
+node_global all (node.AllDifferent terms) other = cc
+node_global all (node.Cumulative tasks capacity) other = cc
+node_global all (node.Table t) other = refl
 
-no_global : (root : Box) (items : List Item) (id : ℕ) → IsBuilt root items → is_global (cond_at (things items) id) ≡ false
-no_global root [] id all = ap (λ (t : Thing). is_global (cond_in t)) (nothing_past [] id (omega arith))
-no_global root (first ∷ rest) id all =
-    elim (cases_lt id (length (first ∷ rest))) [
-      | inl there ↦
-          let items : List Item = first ∷ rest in
-          let at : IsAt root (things items) id (get_or items id first) = all.each id (get_or items id first) there (get_or_default items id first (get_or items id first) there) in
-          ap (λ (t : Thing). is_global (cond_in t)) at.thing ∙ node_global (things items) (get_or items id first).node
-      | inr past ↦ ap (λ (t : Thing). is_global (cond_in t)) (nothing_past (first ∷ rest) id past)
-    ]
+pub not_global : (root : Box) (all : List Thing) (id : ℕ) (item : Item) (x : Node) → IsAt root all id item → item.node ≡ x → is_global x ≡ false → shape.Other ≡ global_shape (cond_at all id)
+not_global root all id item x at is other = node_global all x other ∙ sym (ap global_shape (cond_is root all id item x at is))
+
+pub different_there : (root : Box) (all : List Thing) (id : ℕ) (item : Item) (terms : Vec ℕ Global) → IsAt root all id item → item.node ≡ node.AllDifferent terms
+    → shape.AllDifferent ≡ global_shape (cond_at all id)
+different_there root all id item terms at is = sym (ap global_shape (cond_is root all id item (node.AllDifferent terms) at is))
+
+pub cumulative_there : (root : Box) (all : List Thing) (id : ℕ) (item : Item) (tasks : Vec Task Global) (capacity : ℕ) → IsAt root all id item → item.node ≡ node.Cumulative tasks capacity
+    → shape.Cumulative ≡ global_shape (cond_at all id)
+cumulative_there root all id item tasks capacity at is = sym (ap global_shape (cond_is root all id item (node.Cumulative tasks capacity) at is))
+
+pub nothing_global : (all : List Thing) (id : ℕ) → thing_at all id ≡ nothing → shape.Other ≡ global_shape (cond_at all id)
+nothing_global all id none = sym (ap (λ (t : Thing). global_shape (cond_in t)) none)
 
 pair : Box → CmpOp → Term → Term → Difference
 pair root op a b = record { op = op; form = forms.plus_form (negsuc 0) (form root a) (form root b) }
@@ -144,17 +150,29 @@ pair_shape root op a b none =
     by_bool (λ t. if_linear t (pair root op a b) ≡ None → shape.Other ≡ (if t then shape.Linear else shape.Other)) (is_linear_pair root a b)
     (λ met is. absurd (is_some_not (pair root op a b) is)) (λ unmet is. refl) none
 
-other_shape : (root : Box) (c : Cond) → is_global c ≡ false → linear_in root c ≡ None → shape.Other ≡ shape_in root c
-other_shape root (Compare op a b) other none = pair_shape root op a b none
-other_shape root (Not c) other none = refl
-other_shape root (All conds) other none = refl
-other_shape root (Any conds) other none = refl
-other_shape root (Implies a c) other none = refl
-other_shape root (AllDifferent terms) other none = cc
-other_shape root (Cumulative tasks capacity) other none = cc
+none_shape : (root : Box) (c : Cond) → linear_in root c ≡ None → global_shape c ≡ shape_in root c
+none_shape root (Compare op a b) none = pair_shape root op a b none
+none_shape root (Not c) none = refl
+none_shape root (All conds) none = refl
+none_shape root (Any conds) none = refl
+none_shape root (Implies a c) none = refl
+none_shape root (AllDifferent terms) none = refl
+none_shape root (Cumulative tasks capacity) none = refl
 
-pub built_shape : (p : Program) (id : ℕ) → IsMade p → linear_in (root_in p) (cond_at (things_in p) id) ≡ None → shape.Other ≡ shape_in (root_in p) (cond_at (things_in p) id)
-built_shape p id made none = other_shape (root_in p) (cond_at (things_in p) id) (no_global (root_in p) p.draft.store.items.items id made.draft.store.built) none
+pub linear_shape : (root : Box) (c : Cond) (d : Difference) → linear_in root c ≡ Some d → shape.Linear ≡ shape_in root c
+unfolding pair
+linear_shape root (Compare op a b) d is =
+    by_bool (λ t. if_linear t (pair root op a b) ≡ Some d → shape.Linear ≡ (if t then shape.Linear else shape.Other)) (is_linear_pair root a b)
+    (λ met some. refl) (λ unmet none. cc) is
+linear_shape root (Not c) d is = cc
+linear_shape root (All conds) d is = cc
+linear_shape root (Any conds) d is = cc
+linear_shape root (Implies a c) d is = cc
+linear_shape root (AllDifferent terms) d is = cc
+linear_shape root (Cumulative tasks capacity) d is = cc
+
+pub other_shape : (root : Box) (c : Cond) (s : Form) → s ≡ global_shape c → linear_in root c ≡ None → s ≡ shape_in root c
+other_shape root c s is none = is ∙ none_shape root c none
 
 -- a condition of the form of linear comparisons is one
 no_shape : (root : Box) (c : Cond) → shape_in root c ≡ shape.Linear → ¬ linear_in root c ≡ None

@@ -42,6 +42,12 @@ pub record IsComparison (root : Box) (things : List Thing) (id : ℕ) (c : Compa
   pub left : c.left < length things
   pub right : c.right < length things
 
+-- which of the global conditions a condition is
+abbrev pub global_shape : Cond → Form
+global_shape (AllDifferent terms) = Form.AllDifferent
+global_shape (Cumulative tasks capacity) = Form.Cumulative
+global_shape other = Form.Other
+
 -- the form of a condition
 abbrev pub shape_in : Box → Cond → Form
 shape_in root (AllDifferent terms) = Form.AllDifferent

@@ -8,7 +8,7 @@ ghost use Rattle.term_nodes.specs.Things.{cond_at, term_at};
 ghost use Rattle.term_rules.specs.Shown.{cells_of};
 ghost use Rattle.term_program.specs.declared.shapes.Form.TheVariants.{Linear};
 ghost use Rattle.term_program.specs.Programs.{IsMade, root_in, things_in};
-ghost use Rattle.term_program.specs.Comparisons.{IsComparison, difference_of, is_comparison, linear_in, shape_in};
+ghost use Rattle.term_program.specs.Comparisons.{IsComparison, difference_of, global_shape, is_comparison, linear_in, shape_in};
 
 use crate::ids::CondId;
 use crate::program::Program;
@@ -77,6 +77,8 @@ impl Program {
             Node::All(_) => None,
             Node::Any(_) => None,
             Node::Implies(_, _) => None,
+            Node::AllDifferent(_) => None,
+            Node::Cumulative(_, _) => None,
             Node::Table(_) => None,
         }
     }
@@ -100,15 +102,46 @@ impl Program {
         Some(comparison)
     }
 
+    /// Which of the global conditions a condition is, or that it is none.
+    #[tactic(auto, using(crate::proofs::Comparisons::different_there, crate::proofs::Comparisons::cumulative_there, crate::proofs::Comparisons::not_global, crate::proofs::Comparisons::nothing_global))]
+    fn global_form(&self, cond: u32) -> Form
+        requires made { IsMade self.now }
+        ensures { result ≡ global_shape (cond_at (things_in self.now) cond) }
+    {
+        let root = self.draft.store.root();
+        let here = self.draft.store.here(&root);
+        let Some(item) = item_at(here.items, cond) else {
+            return Form::Other;
+        };
+        match &item.node {
+            Node::AllDifferent(_) => Form::AllDifferent,
+            Node::Cumulative(_, _) => Form::Cumulative,
+            Node::Constant(_) => Form::Other,
+            Node::Cell(_) => Form::Other,
+            Node::Sum(_) => Form::Other,
+            Node::Product(_, _) => Form::Other,
+            Node::Operation(_, _) => Form::Other,
+            Node::Extreme(_, _, _) => Form::Other,
+            Node::Element(_, _) => Form::Other,
+            Node::Number(_) => Form::Other,
+            Node::Compare(_) => Form::Other,
+            Node::Not(_) => Form::Other,
+            Node::All(_) => Form::Other,
+            Node::Any(_) => Form::Other,
+            Node::Implies(_, _) => Form::Other,
+            Node::Table(_) => Form::Other,
+        }
+    }
+
     /// What form a condition has.
-    #[tactic(auto, using(crate::proofs::Comparisons::built_shape))]
+    #[tactic(auto, using(crate::proofs::Comparisons::linear_shape, crate::proofs::Comparisons::other_shape))]
     pub fn form(&self, cond: CondId) -> Form
         requires made { IsMade self.now }
         ensures { result ≡ shape_in (root_in self.now) (cond_at (things_in self.now) cond.0) }
     {
         match self.linear(cond.0) {
             Some(_) => Form::Linear,
-            None => Form::Other,
+            None => self.global_form(cond.0),
         }
     }
 

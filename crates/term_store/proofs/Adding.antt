@@ -16,13 +16,15 @@ use Rattle.box_rules.specs.declared.answers.Truth.{Truth}
 use Rattle.box_rules.specs.declared.answers.Truth.TheVariants.{False, Unknown, True}
 use Rattle.box_rules.specs.Laws.{IsProper, IsProperCond, AreProperConds}
 use Rattle.term_nodes.specs.declared.nodes.Node.{Node}
+use Rattle.term_nodes.specs.declared.nodes.Task.{Task}
 use Rattle.term_nodes.specs.declared.nodes.Node.TheVariants as node
 use Rattle.term_nodes.specs.declared.items.Item.{Item}
 use Rattle.term_nodes.specs.declared.items.Facts as own
-use Rattle.term_nodes.specs.Things.{Thing, a_cond, a_term, thing_of, cond_in, cond_at, conds_at, things}
-use Rattle.term_nodes.specs.Built.{IsAt, IsBuilt, IsBelow, IsRight, IsNew, IsSound, AllBelow, facts_of, kept, of_atom, of_form, of_truth}
+use Rattle.term_nodes.specs.Things.{Thing, a_cond, a_term, thing_of, cond_in, cond_at, conds_at, tasks_at, term_at, terms_at, things}
+use Rattle.term_nodes.specs.Built.{IsAt, IsBuilt, IsBelow, IsRight, IsNew, IsSound, AllBelow, TasksBelow, facts_of, kept, of_atom, of_form, of_truth}
 use Rattle.term_nodes.proofs.Reading.{length_things, nothing_past}
-use Rattle.term_nodes.proofs.Ready.{nothing_small, no_table_is}
+use Rattle.term_nodes.proofs.Ready.{nothing_small, no_table_is, small_term, terms_proper}
+use Rattle.term_store.proofs.Ranging.{tasks_proper}
 
 pub proper_at : (root : Box) (items : List Item) (id : ℕ) → IsBuilt root items → IsProperCond (cond_at (things items) id)
 proper_at root [] id all = tt
@@ -76,6 +78,27 @@ new_any root items conds facts all there is = record {
   below = there;
   kept = is;
   sound = sound_cond root (rule.Any (conds_at (things items) conds.items)) (propers_at root items conds.items all);
+  right = tt;
+}
+
+pub new_all_different : (root : Box) (items : List Item) (terms : Vec ℕ Global) (facts : own.Facts) → IsBuilt root items → AllBelow (length items) terms.items → kept facts
+    ≡ of_truth (truth Wide root root (rule.AllDifferent (terms_at (things items) terms.items))) → IsNew root items (record { node = node.AllDifferent terms; facts = facts })
+new_all_different root items terms facts all there is = record {
+  below = there;
+  kept = is;
+  sound = sound_cond root (rule.AllDifferent (terms_at (things items) terms.items)) (terms_proper root items terms.items all);
+  right = tt;
+}
+
+pub new_cumulative : (root : Box) (items : List Item) (tasks : Vec Task Global) (capacity : ℕ) (facts : own.Facts) → IsBuilt root items → TasksBelow (length items) tasks.items
+    → capacity < length items → kept facts ≡ of_truth (truth Wide root root (rule.Cumulative (tasks_at (things items) tasks.items) (term_at (things items) capacity)))
+    → IsNew root items (record { node = node.Cumulative tasks capacity; facts = facts })
+new_cumulative root items tasks capacity facts all there below is = record {
+  below = (there, below);
+  kept = is;
+  sound =
+      sound_cond root (rule.Cumulative (tasks_at (things items) tasks.items) (term_at (things items) capacity))
+      (tasks_proper root items tasks.items all, (small_term root items capacity all).proper);
   right = tt;
 }
 

@@ -4,25 +4,28 @@ use Rattle.std.proofs.Common.{append_assoc, append-nil, refl, ap, subst, sym, �
 use Rattle.std.specs.List.{list_all}
 use Rattle.std.proofs.lemmas.List.{at_drop_more, at_drop_all}
 use Rattle.box_problem.specs.Box.{Box}
-use Rattle.box_rules.specs.Arrays.{item_at}
+use Rattle.box_rules.specs.Arrays.{indices, item_at}
 use Rattle.box_rules.specs.Ends as ends
 use Rattle.box_rules.specs.Forms.{Form, atom_form, is_constant}
-use Rattle.box_rules.specs.Marks.{both}
-use Rattle.box_rules.specs.Rules.{Near, Wide, form, forms, atoms, mark, intervals, unless_folded, item_form, item_ends, element_form, element_ends, element_mark}
+use Rattle.box_rules.specs.Marks.{all_marks}
+use Rattle.box_rules.specs.Rules.{Near, Wide, form, forms, atoms, mark, marks, intervals, unless_folded, item_form, item_ends, element_form, element_ends}
 use Rattle.box_rules.specs.Sizes.{size}
 use Rattle.box_rules.specs.Laws.{IsTable}
 use Rattle.box_rules.specs.Terms as rule
 use Rattle.box_rules.specs.declared.answers.Defined.{Defined}
+use Rattle.box_rules.specs.declared.answers.Defined.TheVariants.{Never, Always}
 use Rattle.box_rules.specs.declared.answers.Truth.TheVariants.{True}
-use Rattle.term_tables.specs.Kept.{items_of, table_of}
+use Rattle.term_tables.specs.Kept.{items_of, sets_of, table_of}
+use Rattle.term_tables.specs.Within.{known_of, none_known}
+use Rattle.term_tables.specs.declared.ranges.Indices.{Indices}
 use Rattle.term_tables.specs.declared.tables.Table as own
 use Rattle.term_nodes.specs.declared.nodes.Node.TheVariants as node
 use Rattle.term_nodes.specs.declared.items.Item.{Item}
 use Rattle.term_nodes.specs.declared.items.Facts as facts
 use Rattle.term_nodes.specs.Things.{Thing, no_table, a_term, term_at, terms_at, table_at, things}
 use Rattle.term_nodes.specs.Built.{AllBelow, IsBuilt, IsNew, facts_of, kept, of_truth}
-use Rattle.term_nodes.specs.Seen.{Sight, element_sight, range}
-use Rattle.term_nodes.proofs.Elements.{behind, last_index, no_index}
+use Rattle.term_nodes.specs.Seen.{Sight, indexed_sight}
+use Rattle.term_nodes.proofs.Indexing.{indexed_whole, no_items_there, none_seen}
 use Rattle.term_nodes.proofs.Ready.{nothing_small, table_proper, terms_proper}
 use Rattle.term_tables.proofs.Reaching.{all_read}
 use Rattle.term_store.specs.Atoms.{any_element, of_folded, size_of_folded}
@@ -50,20 +53,21 @@ pub numbers_form : (table : rule.Table) (fs : List Form) (v : Option rule.Item) 
 numbers_form table fs v all found =
     ap item_form found ∙ sym (ap (λ (b : Bool). if b then item_form (item_at table (map (λ (f : Form). f.constant) fs)) else atom_form) all)
 
--- the mark of an element by the wide reading, one index after the other
-pub no_wide : (root b : Box) (here all : List Thing) (table : ℕ) (at : List ℕ) (m : Defined) (es : List ends.Ends) (r : Sight) → length at ≡ 0 → r ≡ element_sight b (table_at here table) m es
-    → here ≡ all → r.mark ≡ (behind Wide root root all at m es (table_at all table)).mark
-no_wide root b here all table at m es r none is same =
-    ap (λ (s : Sight). s.mark) is
-    ∙ ap (λ (ts : List Thing). element_mark (table_at ts table) m es) same
-    ∙ ap (λ (s : Sight). s.mark) (no_index Wide root root all at m es (table_at all table) none)
+-- the mark of an element by the wide reading
+pub no_table_wide : (root : Box) (table : rule.Table) (ts : rule.Terms) → no_table ≡ table → Never ≡ mark Wide root root (rule.Element table ts)
+no_table_wide root table ts missing =
+    sym (ap (λ (s : Sight). s.mark) (none_seen root (intervals Wide root root ts) (all_marks (marks Wide root root ts)) no_table refl))
+    ∙ ap (λ (t : rule.Table). mark Wide root root (rule.Element t ts)) missing
 
-pub last_wide : (root : Box) (all : List Thing) (table : ℕ) (at xs : List ℕ) (x : ℕ) (m n : Defined) (es : List ends.Ends) (r : Sight) → at ≡ xs ++ x ∷ [] → r ≡ range Wide root root (term_at all x)
-    → n ≡ (behind Wide root root all xs (both r.mark m) (r.ends ∷ es) (table_at all table)).mark → n ≡ (behind Wide root root all at m es (table_at all table)).mark
-last_wide root all table at xs x m n es r is seen later =
-    later
-    ∙ ap (λ (s : Sight). (behind Wide root root all xs (both s.mark m) (s.ends ∷ es) (table_at all table)).mark) seen
-    ∙ ap (λ (s : Sight). s.mark) (last_index Wide root root all at xs x m es (table_at all table) is)
+pub no_items_wide : (root : Box) (t : own.Table) (table : rule.Table) (ts : rule.Terms) → table_of t ≡ table → length t.elements.items ≡ 0 → Never ≡ mark Wide root root (rule.Element table ts)
+no_items_wide root t table ts found none =
+    ap (λ (s : Sight). s.mark) (no_items_there root t table (all_marks (marks Wide root root ts)) (intervals Wide root root ts) (ends.exactly (pos 0)) _ found none refl refl)
+
+pub whole_wide : (root : Box) (all : List Thing) (t : own.Table) (table : rule.Table) (at : List ℕ) (sets : List (Vec ℤ Global)) (known : Indices) (s : Sight) → table_of t ≡ table
+    → length (table_of t).items ≡ length (indices (table_of t).sets) → sets ≡ t.sets.items → known.mark ≡ Always → known_of known [] ≡ none_known
+    → s ≡ indexed_sight Wide root root (table_of t) (terms_at all at) (sets_of sets) known.mark (known_of known []) → s.mark ≡ mark Wide root root (rule.Element table (terms_at all at))
+whole_wide root all t table at sets known s found complete sets_are marked nothing is =
+    ap (λ (r : Sight). r.mark) (indexed_whole Wide root root all t table at sets known s found complete sets_are marked nothing is)
 
 -- an element that may be any of the array's
 module _ (root : Box) (table : rule.Table) (ts : rule.Terms) (is_table : IsTable table) (none : item_form None ≡ element_form table (forms root ts)) where

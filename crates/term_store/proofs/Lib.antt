@@ -6,3 +6,4 @@ pub mod Multiplying
 pub mod Folding
 pub mod Indexing
 pub mod KnownItems
+pub mod Ranging

@@ -1,6 +1,7 @@
 //! Arrays are added, and their elements.
 
-ghost use Rattle.std.specs.Prelude.{◌≡◌, ◌<◌, ◌++◌, Some, length, map, IfOk, OnErr, option_map};
+ghost use Rattle.std.specs.Prelude.{◌≡◌, ◌<◌, Some, length, map, IfOk, OnErr, option_map};
+ghost use Rattle.box_rules.specs.Arrays as arrays;
 ghost use Rattle.box_rules.specs.Arrays.{item_at};
 ghost use Rattle.box_rules.specs.Ends as ends;
 ghost use Rattle.box_rules.specs.Forms as forms;
@@ -10,10 +11,10 @@ ghost use Rattle.box_rules.specs.Rules as rule;
 ghost use Rattle.box_rules.specs.Sizes as sizes;
 ghost use Rattle.box_rules.specs.Terms as term;
 ghost use Rattle.term_rules.specs.Shown.{box_in, ends_of, form_of};
-ghost use Rattle.term_tables.specs.Kept.{item_of, table_of};
-ghost use Rattle.term_tables.specs.Within.{ranges_of};
+ghost use Rattle.term_tables.specs.Kept.{item_of, sets_of, table_of};
+ghost use Rattle.term_tables.specs.Within.{known_of, ranges_of};
 ghost use Rattle.term_nodes.specs.Built.{AllBelow, facts_of, kept};
-ghost use Rattle.term_nodes.specs.Seen.{sight_of};
+ghost use Rattle.term_nodes.specs.Seen.{indexed_sight, sight_of};
 ghost use Rattle.term_nodes.specs.Things.{a_table, a_term, table_at, terms_at};
 ghost use Rattle.term_store.specs.Atoms.{any_element, of_item, size_of_item};
 ghost use Rattle.term_store.specs.Stores.{IsAdded, IsMeasured, IsSoundStore, all, root_of};
@@ -27,7 +28,7 @@ use sopl_base::Fault;
 use std::alloc::{AllocError, Global};
 use term_nodes::{Facts, Node, Sight, table_at};
 use term_rules::{BoxView, Ends, Factor, Form, both, weight_of};
-use term_tables::{Element, Ranges, Table};
+use term_tables::{Element, Indices, Ranges, Table};
 
 /// The form of an element, where its size is at most 2^40.
 fn item_form(alloc: Global, element: &Element, root: &BoxView) -> Result<Form, Fault>
@@ -140,28 +141,69 @@ impl TermStore {
         ensures { result ≡ rule.mark rule.Near (root_of self.now) (root_of self.now) (term.Element (table_at (all self.now) table) (terms_at (all self.now) at.now)) }
     {
         let root = self.root();
-        let here = self.here(&root);
-        here.element_range(self.count(), table, at, Defined::Always, &Ranges::End)
-            .mark
+        self.here(&root).element_range(self.count(), table, at).mark
     }
 
-    /// The mark of an element over the root box by the wide reading, where the intervals of the indices behind these are given, and their
-    /// mark.
-    #[tactic(auto, using(crate::proofs::Indexing::no_wide))]
-    fn element_wide_mark(&self, table: u32, at: &[u32], mark: Defined, behind: &Ranges) -> Defined
+    /// The mark of an element over the root box by the wide reading.
+    #[tactic(auto, using(crate::proofs::Indexing::no_table_wide, crate::proofs::Indexing::no_items_wide))]
+    fn element_wide_mark(&self, table: u32, at: &[u32]) -> Defined
         requires sound { IsSoundStore self.now }
         requires exist { AllBelow (length self.now.items.items) at.now }
-        ensures { result ≡ rule.element_mark (table_at (all self.now) table)
-            (marks.both (marks.all_marks (rule.marks rule.Wide (root_of self.now) (root_of self.now) (terms_at (all self.now) at.now))) mark)
-            (rule.intervals rule.Wide (root_of self.now) (root_of self.now) (terms_at (all self.now) at.now) ++ ranges_of behind.now) }
+        ensures { result ≡ rule.mark rule.Wide (root_of self.now) (root_of self.now) (term.Element (table_at (all self.now) table) (terms_at (all self.now) at.now)) }
     {
-        let Some((last, before)) = at.split_last() else {
-            let root = self.root();
-            return self.here(&root).element_within(table, mark, behind).mark;
+        let Some(found) = table_at(self.items.as_slice(), table) else {
+            return Defined::Never;
         };
-        let range = self.range_known(*last);
-        let ranges = Ranges::First(range.ends, &*behind);
-        self.element_wide_mark(table, before, both(range.mark, mark), &ranges)
+        if found.elements.is_empty() {
+            return Defined::Never;
+        }
+        self.wide_indexed(
+            found,
+            at,
+            found.sets.as_slice(),
+            &Indices::none(),
+            &Ranges::End,
+        )
+        .mark
+    }
+
+    /// What an element is over the root box by the wide reading of its indices, where that of the indices behind these is given, and their
+    /// dimensions: those of one number say yes or no, and calls nest for the others alone.
+    #[tactic(auto, using(term_nodes::proofs::Indexing::no_set_left, term_nodes::proofs::Indexing::no_index_left))]
+    fn wide_indexed(
+        &self,
+        found: &Table,
+        at: &[u32],
+        sets: &[Vec<i64>],
+        indices: &Indices,
+        behind: &Ranges,
+    ) -> Sight
+        requires sound { IsSoundStore self.now }
+        requires exist { AllBelow (length self.now.items.items) at.now }
+        requires complete { length (table_of found.now).items ≡ length (arrays.indices (table_of found.now).sets) }
+        ensures { sight_of result ≡ indexed_sight rule.Wide (root_of self.now) (root_of self.now) (table_of found.now) (terms_at (all self.now) at.now)
+            (sets_of sets.now) indices.now.mark (known_of indices.now (ranges_of behind.now)) }
+    {
+        let root = self.root();
+        let here = self.here(&root);
+        let mut left = at;
+        let mut dimensions = sets;
+        let mut known = *indices;
+        while let Some((last, before)) = left.split_last() {
+            let Some((set, others)) = dimensions.split_last() else {
+                return Sight::never(found.hull(&root));
+            };
+            let range = self.range_known(*last);
+            let more = known.with(&range.ends, range.mark, set.as_slice());
+            if set.len() != 1 {
+                let ranges = Ranges::First(range.ends, &*behind);
+                return self.wide_indexed(found, before, others, &more, &ranges);
+            }
+            left = before;
+            dimensions = others;
+            known = more;
+        }
+        here.after_indices(found, dimensions, &known, behind)
     }
 
     /// What an element is over the root box, by the wide reading: any of the array's.
@@ -172,7 +214,7 @@ impl TermStore {
     {
         Sight {
             ends: self.hull_known(table),
-            mark: self.element_wide_mark(table, at, Defined::Always, &Ranges::End),
+            mark: self.element_wide_mark(table, at),
         }
     }
 
@@ -191,9 +233,9 @@ impl TermStore {
         mark
     }
 
-    /// The mark of all indices over the root box, by the wide reading.
+    /// The mark of several terms over the root box, all together, by the wide reading.
     #[tactic(auto, using(crate::proofs::KnownItems::next_wide, crate::proofs::KnownItems::none_wide, term_nodes::proofs::Steps::cond_below))]
-    fn wide_marks(&self, at: &[u32]) -> Defined
+    pub(crate) fn wide_marks(&self, at: &[u32]) -> Defined
         requires sound { IsSoundStore self.now }
         requires exist { AllBelow (length self.now.items.items) at.now }
         ensures { result ≡ marks.all_marks (rule.marks rule.Wide (root_of self.now) (root_of self.now) (terms_at (all self.now) at.now)) }

@@ -6,6 +6,7 @@ mod comparisons;
 mod elements;
 mod extremes;
 mod folded;
+mod globals;
 mod known;
 mod operations;
 mod over;

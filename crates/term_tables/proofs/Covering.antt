@@ -1,13 +1,12 @@
 -- Whether each number of an interval is in a set, number by number.
-use Rattle.std.proofs.Common.{◌≡◌, ℕ, suc, ◌+◌, ℤ, pos, negsuc, ◌+ℤ◌, ◌≤ℤ◌, ◌<ℤ◌, Bool, true, false, ◌&&◌, List, [], ◌∷◌, length, nat_eq, Vec, Global, arith, refl, ap, sym, ◌∙◌}
+use Rattle.std.proofs.Common.{◌≡◌, ℕ, zero, suc, ◌+◌, ◌<◌, ◌||◌, get_or, ℤ, pos, negsuc, ◌+ℤ◌, ◌≤ℤ◌, ◌<ℤ◌, Bool, true, false, ◌&&◌, List, [], ◌∷◌, length, arith, refl, ap, ◌∙◌}
 use Rattle.std.specs.Int.{int_gap}
 use Rattle.std.specs.List.{list_all, list_any}
 use Rattle.std.specs.Ordering.{int_eq}
 use Rattle.std.proofs.lemmas.Int.{ints}
 use Rattle.box_problem.proofs.Counts.{gap_leads}
-use Rattle.box_rules.specs.Arrays.{counted_up, is_covered, are_covered}
-use Rattle.box_rules.specs.Ends.{Ends, ends}
-use Rattle.term_tables.specs.Kept.{sets_of}
+use Rattle.box_rules.specs.Arrays.{counted_up, is_covered}
+use Rattle.box_rules.specs.Ends.{ends}
 
 -- each of so many numbers from one on is in a set
 abbrev all_in : List ℤ → ℤ → ℕ → Bool
@@ -47,29 +46,19 @@ last_covered number high set there past =
     ap (λ (n : ℕ). all_in set number (n + 1)) (gap_over number high past)
     ∙ there_is (list_any (int_eq number) set) true there
 
--- one dimension after the other
-pub no_range : (rs : List Ends) (sets : List (Vec ℤ Global)) → rs ≡ [] → are_covered rs (sets_of sets) ≡ nat_eq (length sets) 0
-no_range rs [] none = ap (λ (es : List Ends). are_covered es []) none
-no_range rs (set ∷ sets) none = ap (λ (es : List Ends). are_covered es (sets_of (set ∷ sets))) none ∙ sym (not_none (length sets))
+-- a number that stands at a place of a set
+pub number_there : (number : ℤ) (set : List ℤ) (place : ℕ) (here : ℤ) → place < length set → here ≡ get_or set place here → int_eq here number ≡ true → list_any (int_eq number) set ≡ true
+number_there number [] place here there at same = absurd (omega (arith, there))
+number_there number (z ∷ set) zero here there at same = or_here (int_eq number z) (list_any (int_eq number) set) (flipped here z number at same)
   where
-    not_none : (n : ℕ) → nat_eq (suc n) 0 ≡ false
-    not_none n = grind arith
+    or_here : (a b : Bool) → a ≡ true → (a || b) ≡ true
+    or_here true b p = refl
+    or_here false b p = absurd (cc)
 
-pub no_set : (rs : List Ends) (r : Ends) (later : List Ends) (sets : List (Vec ℤ Global)) → rs ≡ r ∷ later → length sets ≡ 0 → are_covered rs (sets_of sets) ≡ false
-no_set rs r later [] is none = ap (λ (es : List Ends). are_covered es []) is
-no_set rs r later (set ∷ sets) is none = absurd (omega (arith, none))
-
-set_is : (rs : List Ends) (r : Ends) (later : List Ends) (sets : List (Vec ℤ Global)) (set : Vec ℤ Global) (behind : List (Vec ℤ Global)) (b : Bool) → rs ≡ r ∷ later → sets ≡ set ∷ behind
-    → is_covered r set.items ≡ b → are_covered rs (sets_of sets) ≡ (b && are_covered later (sets_of behind))
-set_is rs r later sets set behind b is first covered =
-    ap (λ (es : List Ends). are_covered es (sets_of sets)) is
-    ∙ ap (λ (ss : List (Vec ℤ Global)). are_covered (r ∷ later) (sets_of ss)) first
-    ∙ ap (λ (c : Bool). c && are_covered later (sets_of behind)) covered
-
-pub set_missed : (rs : List Ends) (r : Ends) (later : List Ends) (sets : List (Vec ℤ Global)) (set : Vec ℤ Global) (behind : List (Vec ℤ Global)) → rs ≡ r ∷ later → sets ≡ set ∷ behind
-    → is_covered r set.items ≡ false → are_covered rs (sets_of sets) ≡ false
-set_missed rs r later sets set behind is first missed = set_is rs r later sets set behind false is first missed
-
-pub set_covered : (rs : List Ends) (r : Ends) (later : List Ends) (sets : List (Vec ℤ Global)) (set : Vec ℤ Global) (behind : List (Vec ℤ Global)) → rs ≡ r ∷ later → sets ≡ set ∷ behind
-    → is_covered r set.items ≡ true → are_covered rs (sets_of sets) ≡ are_covered later (sets_of behind)
-set_covered rs r later sets set behind is first covered = set_is rs r later sets set behind true is first covered
+    flipped : (here z number : ℤ) → here ≡ z → int_eq here number ≡ true → int_eq number z ≡ true
+    flipped here z number is same = grind (arith, ints)
+number_there number (z ∷ set) (suc place) here there at same = or_later (int_eq number z) (list_any (int_eq number) set) (number_there number set place here (omega (arith, there)) at same)
+  where
+    or_later : (a b : Bool) → b ≡ true → (a || b) ≡ true
+    or_later true b p = refl
+    or_later false b p = p

@@ -4,3 +4,5 @@ pub mod Reaching
 pub mod Hulls
 pub mod Distinct
 pub mod Apart
+pub mod Narrow
+pub mod Indexed

@@ -1,18 +1,17 @@
 -- The elements whose indices lie within intervals, one dimension after the other.
 use Rattle.std.proofs.Common.{◌≡◌, ℕ, suc, ◌+◌, ◌*◌, ◌<◌, ◌≤◌, ℤ, Bool, true, false, ◌&&◌, List, [], ◌∷◌, ◌++◌, map, length, get_or, take, drop, Option, Some, None, if◌then◌else◌}
-use Rattle.std.proofs.Common.{arith, refl, ap, sym, ◌∙◌, Vec, Global}
+use Rattle.std.proofs.Common.{arith, refl, ap, subst, sym, ◌∙◌, Vec, Global}
 use Rattle.std.specs.List.{filter, fold}
 use Rattle.std.proofs.lemmas.List.Elements.{filter-append}
 use Rattle.std.proofs.lemmas.List.{at_drop_more, at_drop_all, length-drop, take-map, drop-map}
 use Rattle.box_problem.specs.Box.{Box}
-use Rattle.box_rules.specs.declared.answers.Defined.TheVariants.{Never}
-use Rattle.box_rules.specs.Arrays.{Entry, indices, paired, entries, lies_in, reached, are_covered}
+use Rattle.box_rules.specs.Arrays.{Entry, indices, paired, entries, lies_in}
 use Rattle.box_rules.specs.Ends.{Ends, has, hull, hull_of}
-use Rattle.box_rules.specs.Rules.{Near, item_ends, if_any, element_ends, reached_mark}
+use Rattle.box_rules.specs.Rules.{item_ends}
 use Rattle.box_rules.specs.Terms.{Item, Table}
 use Rattle.term_tables.specs.declared.elements.Element.{Element}
 use Rattle.term_tables.specs.Kept.{item_of, items_of, sets_of}
-use Rattle.term_tables.specs.Within.{joined, grown, reached_ends}
+use Rattle.term_tables.specs.Within.{IsWideFirst, is_one, wide_sets, joined, grown, reached_ends}
 use Rattle.term_tables.proofs.Blocks.{all_under, under, length_under, length_all, paired_append}
 
 -- intervals of entries
@@ -31,7 +30,7 @@ grown_append found [] ys = refl
 grown_append found (x ∷ xs) ys = grown_append (Some (joined found x)) xs ys
 
 -- the entries under a number are those below it, or none
-under_in : (b : Box) (r : Ends) (rs : List Ends) (number : ℤ) (lists : List (List ℤ)) (items : List Item) → has r number ≡ true → item_intervals b (within (r ∷ rs) (paired (under number lists) items))
+pub under_in : (b : Box) (r : Ends) (rs : List Ends) (number : ℤ) (lists : List (List ℤ)) (items : List Item) → has r number ≡ true → item_intervals b (within (r ∷ rs) (paired (under number lists) items))
     ≡ item_intervals b (within rs (paired lists items))
 under_in b r rs number [] items there = refl
 under_in b r rs number (xs ∷ lists) [] there = refl
@@ -46,7 +45,7 @@ under_in b r rs number (xs ∷ lists) (item ∷ items) there =
     kept true x y some others same is = ap (λ (i : Item). item_ends b i ∷ item_intervals b some) same ∙ ap (λ (es : List Ends). item_ends b y.item ∷ es) is
     kept false x y some others same is = is
 
-under_out : (b : Box) (r : Ends) (rs : List Ends) (number : ℤ) (lists : List (List ℤ)) (items : List Item) → has r number ≡ false
+pub under_out : (b : Box) (r : Ends) (rs : List Ends) (number : ℤ) (lists : List (List ℤ)) (items : List Item) → has r number ≡ false
     → item_intervals b (within (r ∷ rs) (paired (under number lists) items)) ≡ []
 under_out b r rs number [] items out = refl
 under_out b r rs number (xs ∷ lists) [] out = refl
@@ -59,7 +58,7 @@ under_out b r rs number (xs ∷ lists) (item ∷ items) out =
 abbrev pub of_blocks : Box → Ends → List Ends → List ℤ → List (List ℤ) → List Item → List Ends
 of_blocks b r rs set lists items = item_intervals b (within (r ∷ rs) (paired (all_under set lists) items))
 
-block_first : (b : Box) (r : Ends) (rs : List Ends) (number : ℤ) (set : List ℤ) (lists : List (List ℤ)) (items : List Item) → length lists ≤ length items → of_blocks b r rs (number ∷ set) lists items
+pub block_first : (b : Box) (r : Ends) (rs : List Ends) (number : ℤ) (set : List ℤ) (lists : List (List ℤ)) (items : List Item) → length lists ≤ length items → of_blocks b r rs (number ∷ set) lists items
     ≡ item_intervals b (within (r ∷ rs) (paired (under number lists) (take (length lists) items))) ++ of_blocks b r rs set lists (drop (length lists) items)
 block_first b r rs number set lists items most =
     ap (λ (es : List Entry). item_intervals b (within (r ∷ rs) es)) (
@@ -153,28 +152,38 @@ grown_some a [] = refl
 grown_some a (x ∷ xs) = grown_some (hull a x) xs
 
 -- the walk begins
-pub sets_still : (b : Box) (sets : List (Vec ℤ Global)) (elements : List Element) (found : Option Ends) → 0 < length sets → length elements ≡ length (indices (sets_of sets)) → found
-    ≡ grown found (reached_ends b [] (sets_of sets) (items_of elements))
-sets_still b [] elements found some complete = absurd (omega (arith, some))
-sets_still b (set ∷ sets) elements found some complete =
-    sym (sets_left b set.items (sets_of sets) (items_of elements) found (count elements ∙ complete))
+wide_again : (sets : List (Vec ℤ Global)) (set : Vec ℤ Global) (later : List (Vec ℤ Global)) → IsWideFirst (sets_of sets) → sets ≡ set ∷ later → wide_sets (sets_of sets)
+    ≡ set.items ∷ wide_sets (sets_of later)
+wide_again sets set later wide is =
+    let first : is_one set.items ≡ false = subst (λ (ss : List (Vec ℤ Global)). IsWideFirst (sets_of ss)) is wide in
+    ap (λ (ss : List (Vec ℤ Global)). wide_sets (sets_of ss)) is
+    ∙ ap (λ (one : Bool). if one then wide_sets (sets_of later) else set.items ∷ wide_sets (sets_of later)) first
+
+pub wide_first : (sets some : List (Vec ℤ Global)) (set : Vec ℤ Global) (later : List (Vec ℤ Global)) (numbers : List ℤ) → wide_sets (sets_of some) ≡ wide_sets (sets_of sets)
+    → IsWideFirst (sets_of some) → some ≡ set ∷ later → numbers ≡ set.items → wide_sets (sets_of sets) ≡ numbers ∷ wide_sets (sets_of later)
+wide_first sets some set later numbers same wide is numbers_are =
+    sym same ∙ wide_again some set later wide is ∙ ap (λ (xs : List ℤ). xs ∷ wide_sets (sets_of later)) (sym numbers_are)
+
+pub sets_still : (b : Box) (sets : List (Vec ℤ Global)) (elements : List Element) (found : Option Ends) → 0 < length sets → IsWideFirst (sets_of sets)
+    → length elements ≡ length (indices (wide_sets (sets_of sets))) → found ≡ grown found (reached_ends b [] (wide_sets (sets_of sets)) (items_of elements))
+sets_still b [] elements found some wide complete = absurd (omega (arith, some))
+sets_still b (set ∷ sets) elements found some wide complete =
+    let is = wide_again (set ∷ sets) set sets wide refl in
+    sym (ap (λ (ss : List (List ℤ)). grown found (reached_ends b [] ss (items_of elements))) is
+    ∙ sets_left b set.items (wide_sets (sets_of sets)) (items_of elements) found (count elements ∙ complete ∙ ap (λ (ss : List (List ℤ)). length (indices ss)) is))
   where
     count : (xs : List Element) → length (items_of xs) ≡ length xs
     count [] = refl
     count (x ∷ xs) = ap suc (count xs)
 
-pub sets_first : (b : Box) (rs : List Ends) (r : Ends) (later : List Ends) (sets : List (Vec ℤ Global)) (set : Vec ℤ Global) (behind : List (Vec ℤ Global)) (numbers : List ℤ) (items : List Item)
-    → rs ≡ r ∷ later → sets ≡ set ∷ behind → numbers ≡ set.items → of_blocks b r later numbers (indices (sets_of behind)) items ≡ reached_ends b rs (sets_of sets) items
-sets_first b rs r later sets set behind numbers items is first same =
-    ap (λ (xs : List ℤ). of_blocks b r later xs (indices (sets_of behind)) items) same
-    ∙ sym (ap (λ (es : List Ends). reached_ends b es (sets_of sets) items) is ∙ ap (λ (ss : List (Vec ℤ Global)). reached_ends b (r ∷ later) (sets_of ss) items) first)
+pub sets_first : (b : Box) (rs : List Ends) (r : Ends) (later : List Ends) (sets : List (List ℤ)) (numbers : List ℤ) (behind : List (List ℤ)) (items : List Item)
+    → rs ≡ r ∷ later → sets ≡ numbers ∷ behind → of_blocks b r later numbers (indices behind) items ≡ reached_ends b rs sets items
+sets_first b rs r later sets numbers behind items is first =
+    sym (ap (λ (es : List Ends). reached_ends b es sets items) is ∙ ap (λ (ss : List (List ℤ)). reached_ends b (r ∷ later) ss items) first)
 
-pub sets_count : (sets : List (Vec ℤ Global)) (set : Vec ℤ Global) (behind : List (Vec ℤ Global)) (numbers : List ℤ) → sets ≡ set ∷ behind → numbers ≡ set.items → length (indices (sets_of sets))
-    ≡ length numbers * length (indices (sets_of behind))
-sets_count sets set behind numbers first same =
-    ap (λ (ss : List (Vec ℤ Global)). length (indices (sets_of ss))) first
-    ∙ length_all set.items (indices (sets_of behind))
-    ∙ ap (λ (xs : List ℤ). length xs * length (indices (sets_of behind))) (sym same)
+pub sets_count : (sets : List (List ℤ)) (numbers : List ℤ) (behind : List (List ℤ)) → sets ≡ numbers ∷ behind → length (indices sets) ≡ length numbers * length (indices behind)
+sets_count sets numbers behind first =
+    ap (λ (ss : List (List ℤ)). length (indices ss)) first ∙ length_all numbers (indices behind)
 
 -- and ends
 pub no_number : (b : Box) (r : Ends) (later : List Ends) (sets : List (List ℤ)) (numbers : List ℤ) (i : ℕ) (items : List Item) (hull : Option Ends) → length numbers ≤ i
@@ -205,43 +214,32 @@ entries_items b (xs ∷ lists) (item ∷ items) complete = ap (λ (es : List End
 pub all_read : (b : Box) (table : Table) → length table.items ≡ length (indices table.sets) → item_intervals b (entries table) ≡ map (item_ends b) table.items
 all_read b table complete = entries_items b (indices table.sets) table.items complete
 
-no_intervals : (b : Box) (es : List Entry) → item_intervals b es ≡ [] → es ≡ []
+pub no_intervals : (b : Box) (es : List Entry) → item_intervals b es ≡ [] → es ≡ []
 no_intervals b [] none = refl
 no_intervals b (e ∷ es) none = absurd (cc)
 
-pub none_seen : (b : Box) (rs : List Ends) (table : Table) → grown None (reached_ends b rs table.sets table.items) ≡ None → reached rs table ≡ []
-none_seen b rs table none = no_intervals b (reached rs table) (none_grown (item_intervals b (reached rs table)) none)
-
-pub none_ends : (b : Box) (rs : List Ends) (table : Table) (a : Ends) → length table.items ≡ length (indices table.sets) → grown None (reached_ends b rs table.sets table.items) ≡ None
-    → a ≡ hull_of (map (item_ends b) table.items) → a ≡ element_ends Near b rs table
-none_ends b rs table a complete none is =
-    is ∙ ap hull_of (sym (all_read b table complete))
-    ∙ sym (ap (λ (es : List Entry). hull_of (item_intervals b (if_any es (entries table)))) (none_seen b rs table none))
-
-pub none_mark : (b : Box) (rs : List Ends) (table : Table) → grown None (reached_ends b rs table.sets table.items) ≡ None → Never ≡ reached_mark (are_covered rs table.sets) (reached rs table)
-none_mark b rs table none = sym (ap (reached_mark (are_covered rs table.sets)) (none_seen b rs table none))
-
-some_read : (b : Box) (es all : List Entry) (a : Ends) → grown None (item_intervals b es) ≡ Some a → a ≡ hull_of (item_intervals b (if_any es all))
-some_read b [] all a is = absurd (cc)
-some_read b (e ∷ es) all a is = some_grown (item_intervals b (e ∷ es)) a is
-
-pub some_ends : (b : Box) (rs : List Ends) (table : Table) (a : Ends) → grown None (reached_ends b rs table.sets table.items) ≡ Some a → a ≡ element_ends Near b rs table
-some_ends b rs table a is = some_read b (reached rs table) (entries table) a is
-
--- what is found in an array as it is kept
-pub looked : (b : Box) (rs : List Ends) (sets ss : List (Vec ℤ Global)) (elements es : List Element) (found v : Option Ends) → ss ≡ sets → es ≡ elements → found
-    ≡ grown None (reached_ends b rs (sets_of ss) (items_of es)) → found ≡ v → grown None (reached_ends b rs (sets_of sets) (items_of elements)) ≡ v
-looked b rs sets ss elements es found v same_sets same_elements is is_v =
-    sym (
-    is
-    ∙ ap (λ (xs : List (Vec ℤ Global)). grown None (reached_ends b rs (sets_of xs) (items_of es))) same_sets
-    ∙ ap (λ (xs : List Element). grown None (reached_ends b rs (sets_of sets) (items_of xs))) same_elements
-    )
-    ∙ is_v
-
 -- how many elements each number of the first set has
-pub width_is : (elements : List Element) (sets : List (Vec ℤ Global)) (set : Vec ℤ Global) (behind : List (Vec ℤ Global)) (numbers : List ℤ) (width i : ℕ)
-    → ((w : ℕ) → 0 < length numbers → length elements ≡ length numbers * w → width ≡ w) → i < length numbers → sets ≡ set ∷ behind → numbers ≡ set.items → length elements
-    ≡ length (indices (sets_of sets)) → width ≡ length (indices (sets_of behind))
-width_is elements sets set behind numbers width i divided there first same complete =
-    divided (length (indices (sets_of behind))) (omega (arith, there)) (complete ∙ sets_count sets set behind numbers first same)
+pub width_is : (elements : List Element) (sets : List (List ℤ)) (numbers : List ℤ) (behind : List (List ℤ)) (width i : ℕ)
+    → ((w : ℕ) → 0 < length numbers → length elements ≡ length numbers * w → width ≡ w) → i < length numbers → sets ≡ numbers ∷ behind → length elements ≡ length (indices sets)
+    → width ≡ length (indices behind)
+width_is elements sets numbers behind width i divided there first complete =
+    divided (length (indices behind)) (omega (arith, there)) (complete ∙ sets_count sets numbers behind first)
+
+-- dimensions of one number are passed by
+pub none_wide : (sets : List (Vec ℤ Global)) → length sets ≡ 0 → IsWideFirst (sets_of sets)
+none_wide [] none = tt
+none_wide (set ∷ sets) none = absurd (omega (arith, none))
+
+pub one_test : (set : List ℤ) → (length set ≡ 1 → is_one set ≡ true) × ((length set ≡ 1 → ⊥) → is_one set ≡ false)
+one_test [] = ((λ one. absurd (omega (arith, one))), (λ other. refl))
+one_test (n ∷ []) = ((λ one. refl), (λ other. absurd (other refl)))
+one_test (n ∷ (m ∷ set)) = ((λ one. absurd (omega (arith, one))), (λ other. refl))
+
+pub passed_one : (sets : List (Vec ℤ Global)) (set : Vec ℤ Global) (later : List (Vec ℤ Global)) → sets ≡ set ∷ later → length set.items ≡ 1 → wide_sets (sets_of sets) ≡ wide_sets (sets_of later)
+passed_one sets set later is one =
+    ap (λ (ss : List (Vec ℤ Global)). wide_sets (sets_of ss)) is
+    ∙ ap (λ (b : Bool). if b then wide_sets (sets_of later) else set.items ∷ wide_sets (sets_of later)) ((one_test set.items).0 one)
+
+pub first_wide : (sets : List (Vec ℤ Global)) (set : Vec ℤ Global) (later : List (Vec ℤ Global)) → sets ≡ set ∷ later → (length set.items ≡ 1 → ⊥) → IsWideFirst (sets_of sets)
+first_wide sets set later is other =
+    subst (λ (ss : List (Vec ℤ Global)). IsWideFirst (sets_of ss)) (sym is) ((one_test set.items).1 other)

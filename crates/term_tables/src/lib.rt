@@ -7,5 +7,5 @@ mod ranges;
 mod tables;
 
 pub use elements::Element;
-pub use ranges::{Ranges, Within, covered};
+pub use ranges::{Indices, Ranges, Within, covered};
 pub use tables::Table;

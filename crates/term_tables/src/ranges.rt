@@ -1,20 +1,21 @@
 //! The elements of an array whose indices lie within intervals.
 
-ghost use Rattle.std.specs.Prelude.{◌≡◌, ◌+ℤ◌, ◌<ℤ◌, pos, [], Some, length, option_map};
+ghost use Rattle.std.specs.Prelude.{◌≡◌, ◌+ℤ◌, ◌<ℤ◌, ◌&&◌, pos, [], None, Some, if◌then◌else◌, length, option_map};
 ghost use Rattle.std.specs.List.{list_any};
 ghost use Rattle.std.specs.Ordering.{int_eq};
 ghost use Rattle.box_rules.specs.Arrays as arrays;
 ghost use Rattle.box_rules.specs.Ends as intervals;
-ghost use Rattle.box_rules.specs.Rules as rule;
+ghost use Rattle.box_rules.specs.Marks as marks;
+ghost use Rattle.box_rules.specs.declared.answers.Defined.TheVariants.{Always, Maybe};
 ghost use Rattle.term_rules.specs.Shown.{box_in, ends_of};
 ghost use Rattle.term_tables.specs.Kept.{items_of, sets_of, table_of};
-ghost use Rattle.term_tables.specs.Within.{grown, joined, ranges_of, reached_ends};
+ghost use Rattle.term_tables.specs.Within.{IsWideFirst, allowed_ends, grown, has_one, joined, known_of, none_known, ranges_of, reached_ends, seen_ends, seen_mark, wide_sets};
 
 use crate::elements::Element;
 use crate::lookups::width;
 use crate::tables::Table;
 use box_rules::Defined;
-use term_rules::{BoxView, Ends};
+use term_rules::{BoxView, Ends, both};
 
 /// The intervals of the indices of an element, that of the first dimension first; they take no memory but that of the calls that reckon
 /// them.
@@ -45,6 +46,34 @@ fn has_number(set: &[i64], number: &i64) -> bool
     set.iter().any(|here| *number == *here)
 }
 
+/// Whether two numbers are the same.
+fn is_same(a: &i64, b: &i64) -> bool
+    ensures { result ≡ int_eq a.now b.now }
+{
+    *a == *b
+}
+
+/// The same, where the number is looked for at one place first.
+#[tactic(auto, using(crate::proofs::Covering::number_there))]
+fn has_number_at(set: &[i64], place: usize, number: &i64) -> bool
+    ensures { result ≡ list_any (int_eq number.now) set.now }
+{
+    if place < set.len() {
+        if is_same(&set[place], number) {
+            return true;
+        }
+    }
+    has_number(set, number)
+}
+
+/// The place of a number in a set that ascends; where it does not, any.
+fn place_in(set: &[i64], number: &i64) -> usize {
+    match set.binary_search(number) {
+        Ok(place) => place,
+        Err(_) => 0,
+    }
+}
+
 /// The interval without its first number.
 fn behind_first(ends: &Ends) -> Ends
     requires more { ends.now.low <ℤ ends.now.high }
@@ -62,11 +91,13 @@ pub fn covered(ends: &Ends, set: &[i64]) -> bool
     ensures { result ≡ arrays.is_covered (ends_of ends.now) set.now }
 {
     let mut left = *ends;
-    while has_number(set, &left.low) {
+    let mut place = place_in(set, &left.low);
+    while has_number_at(set, place, &left.low) {
         if left.low >= left.high {
             return true;
         }
         left = behind_first(&left);
+        place = place.wrapping_add(1);
     }
     false
 }
@@ -81,6 +112,22 @@ fn with_more(found: Option<Ends>, here: &Ends) -> Option<Ends>
     }
 }
 
+/// The dimensions from the first one on whose set has not one number alone.
+#[tactic(auto, using(crate::proofs::Reaching::first_wide, crate::proofs::Reaching::passed_one, crate::proofs::Reaching::none_wide))]
+fn from_wide(sets: &[Vec<i64>]) -> &[Vec<i64>]
+    ensures same { wide_sets (sets_of result.now) ≡ wide_sets (sets_of sets.now) }
+    ensures first { IsWideFirst (sets_of result.now) }
+{
+    let mut left = sets;
+    while let Some((set, later)) = left.split_first() {
+        if set.len() != 1 {
+            return left;
+        }
+        left = later;
+    }
+    left
+}
+
 /// The hull of what was found and of the element that is left where no dimension is.
 fn with_last(
     sets: &[Vec<i64>],
@@ -88,8 +135,9 @@ fn with_last(
     view: &BoxView,
     found: Option<Ends>,
 ) -> Option<Ends>
-    requires complete { length elements.now ≡ length (arrays.indices (sets_of sets.now)) }
-    ensures { option_map ends_of result ≡ grown (option_map ends_of found) (reached_ends (box_in view.now) [] (sets_of sets.now) (items_of elements.now)) }
+    requires wide { IsWideFirst (sets_of sets.now) }
+    requires complete { length elements.now ≡ length (arrays.indices (wide_sets (sets_of sets.now))) }
+    ensures { option_map ends_of result ≡ grown (option_map ends_of found) (reached_ends (box_in view.now) [] (wide_sets (sets_of sets.now)) (items_of elements.now)) }
 {
     if !sets.is_empty() {
         return found;
@@ -97,7 +145,7 @@ fn with_last(
     with_more(found, &elements[0].ends(view))
 }
 
-/// The hull of what was found and of the elements whose indices lie within intervals.
+/// The hull of what was found and of the elements whose indices lie within intervals, one for each dimension of two numbers or more.
 fn reached(
     ranges: &Ranges,
     sets: &[Vec<i64>],
@@ -105,13 +153,14 @@ fn reached(
     view: &BoxView,
     found: Option<Ends>,
 ) -> Option<Ends>
-    requires complete { length elements.now ≡ length (arrays.indices (sets_of sets.now)) }
-    ensures { option_map ends_of result ≡ grown (option_map ends_of found) (reached_ends (box_in view.now) (ranges_of ranges.now) (sets_of sets.now) (items_of elements.now)) }
+    requires complete { length elements.now ≡ length (arrays.indices (wide_sets (sets_of sets.now))) }
+    ensures { option_map ends_of result ≡ grown (option_map ends_of found) (reached_ends (box_in view.now) (ranges_of ranges.now) (wide_sets (sets_of sets.now)) (items_of elements.now)) }
 {
+    let wide = from_wide(sets);
     let Ranges::First(ends, later) = ranges else {
-        return with_last(sets, elements, view, found);
+        return with_last(wide, elements, view, found);
     };
-    let Some((set, behind)) = sets.split_first() else {
+    let Some((set, behind)) = wide.split_first() else {
         return found;
     };
     let numbers = set.as_slice();
@@ -129,52 +178,118 @@ fn reached(
     hull
 }
 
-/// Whether each index within intervals is one that the sets have.
-fn covers(ranges: &Ranges, sets: &[Vec<i64>]) -> bool
-    ensures { result ≡ arrays.are_covered (ranges_of ranges.now) (sets_of sets.now) }
+/// Whether an interval has the number of a set that has one alone.
+fn allows(ends: &Ends, set: &[i64]) -> bool
+    ensures { result ≡ has_one (ends_of ends.now) set.now }
 {
-    let Ranges::First(ends, later) = ranges else {
-        return sets.is_empty();
-    };
-    let Some((set, behind)) = sets.split_first() else {
-        return false;
-    };
-    if !covered(ends, set.as_slice()) {
-        return false;
+    if set.len() != 1 {
+        return true;
     }
-    covers(later, behind)
+    has(ends, &set[0])
+}
+
+/// What is known of the indices of an element, from the last one to the first: the mark of all, whether each number that they may have is in its
+/// set, and whether those of dimensions of one number may have that number. Of these nothing else is kept, so that they may be any number.
+#[derive(Clone, Copy, Debug)]
+pub struct Indices {
+    pub mark: Defined,
+    pub covered: bool,
+    pub allowed: bool,
+}
+
+impl Indices {
+    /// No index is known yet.
+    pub fn none() -> Indices
+        ensures mark { result.mark ≡ Always }
+        ensures known { known_of result [] ≡ none_known }
+    {
+        Indices {
+            mark: Defined::Always,
+            covered: true,
+            allowed: true,
+        }
+    }
+
+    /// Whether an index more has only numbers of its set, as the others have.
+    fn covered_with(&self, ends: &Ends, set: &[i64]) -> bool
+        ensures { result ≡ (arrays.is_covered (ends_of ends.now) set.now && self.now.covered) }
+    {
+        if !self.covered {
+            return false;
+        }
+        covered(ends, set)
+    }
+
+    /// Whether an index more may have the number of its set, if that is one alone, as the others may.
+    fn allowed_with(&self, ends: &Ends, set: &[i64]) -> bool
+        ensures { result ≡ (has_one (ends_of ends.now) set.now && self.now.allowed) }
+    {
+        if !self.allowed {
+            return false;
+        }
+        allows(ends, set)
+    }
+
+    /// The mark of the element, where its indices allow some.
+    fn reached_mark(&self) -> Defined
+        ensures { result ≡ (if self.now.covered then self.now.mark else marks.both self.now.mark Maybe) }
+    {
+        if self.covered {
+            return self.mark;
+        }
+        both(self.mark, Defined::Maybe)
+    }
+
+    /// With an index in front, of which the interval, the mark and the set are given.
+    pub fn with(&self, ends: &Ends, mark: Defined, set: &[i64]) -> Indices
+        ensures mark { result.mark ≡ marks.both mark self.now.mark }
+        ensures covered { result.covered ≡ (arrays.is_covered (ends_of ends.now) set.now && self.now.covered) }
+        ensures allowed { result.allowed ≡ (has_one (ends_of ends.now) set.now && self.now.allowed) }
+    {
+        Indices {
+            mark: both(mark, self.mark),
+            covered: self.covered_with(ends, set),
+            allowed: self.allowed_with(ends, set),
+        }
+    }
 }
 
 impl Table {
-    /// What is seen over a box where the indices lie within intervals: the elements that these allow, or all where they allow none; Never
-    /// where they allow none, Always where each index that they allow is one of the array's.
-    pub fn within(&self, ranges: &Ranges, view: &BoxView) -> Within
+    /// The elements that the intervals of indices allow over a box, of which this is known: their hull, if there are any.
+    fn allowed_hull(&self, ranges: &Ranges, indices: &Indices, view: &BoxView) -> Option<Ends>
         requires complete { length (table_of self.now).items ≡ length (arrays.indices (table_of self.now).sets) }
-        ensures ends { ends_of result.ends ≡ rule.element_ends rule.Near (box_in view.now) (ranges_of ranges.now) (table_of self.now) }
-        ensures mark { result.mark ≡ rule.reached_mark (arrays.are_covered (ranges_of ranges.now) (table_of self.now).sets) (arrays.reached (ranges_of ranges.now) (table_of self.now)) }
+        ensures { option_map ends_of result ≡ grown None (allowed_ends (box_in view.now) (table_of self.now) (Some (known_of indices.now (ranges_of ranges.now)))) }
     {
-        let found = reached(
+        if !indices.allowed {
+            return None;
+        }
+        reached(
             ranges,
             self.sets.as_slice(),
             self.elements.as_slice(),
             view,
             None,
-        );
-        let Some(ends) = found else {
+        )
+    }
+
+    /// What is seen over a box where this is known of the indices, and the intervals are given of those of dimensions of two numbers or more:
+    /// the hull of the elements that these allow, or of all where they allow none; Never where they allow none, and no more defined than
+    /// the indices.
+    #[tactic(auto, using(crate::proofs::Indexed::none_ends, crate::proofs::Indexed::none_mark, crate::proofs::Indexed::some_ends, crate::proofs::Indexed::some_mark))]
+    pub fn within(&self, ranges: &Ranges, indices: &Indices, view: &BoxView) -> Within
+        requires complete { length (table_of self.now).items ≡ length (arrays.indices (table_of self.now).sets) }
+        ensures ends { ends_of result.ends ≡ seen_ends (box_in view.now) (table_of self.now) (allowed_ends (box_in view.now) (table_of self.now) (Some (known_of indices.now (ranges_of ranges.now)))) }
+        ensures mark { result.mark ≡ seen_mark indices.now.mark indices.now.covered (allowed_ends (box_in view.now) (table_of self.now) (Some (known_of indices.now (ranges_of ranges.now)))) }
+    {
+        let Some(ends) = self.allowed_hull(ranges, indices, view) else {
             return Within {
                 ends: self.hull(view),
                 mark: Defined::Never,
             };
         };
-        if covers(ranges, self.sets.as_slice()) {
-            return Within {
-                ends,
-                mark: Defined::Always,
-            };
-        }
         Within {
             ends,
-            mark: Defined::Maybe,
+            mark: indices.reached_mark(),
         }
     }
 }

@@ -20,6 +20,12 @@ grid_is table rows columns sets first second four =
     table_is table ((pos 1 ∷ pos 2 ∷ []) ∷ (pos 2 ∷ pos 3 ∷ []) ∷ []) (ap sets_of sets ∙ ap (λ (s : List ℤ). s ∷ columns.items ∷ []) first
     ∙ ap (λ (s : List ℤ). (pos 1 ∷ pos 2 ∷ []) ∷ s ∷ []) second) four refl
 
+pub row_is : (table : Table) (rows columns layers : Vec ℤ Global) → table.sets.items ≡ rows ∷ columns ∷ layers ∷ [] → rows.items ≡ pos 1 ∷ pos 2 ∷ [] → columns.items ≡ pos 4 ∷ []
+    → layers.items ≡ pos 3 ∷ [] → length table.elements.items ≡ 2 → IsTable (table_of table)
+row_is table rows columns layers sets first second third two =
+    table_is table ((pos 1 ∷ pos 2 ∷ []) ∷ (pos 4 ∷ []) ∷ (pos 3 ∷ []) ∷ []) (ap sets_of sets ∙ ap (λ (s : List ℤ). s ∷ columns.items ∷ layers.items ∷ []) first
+    ∙ ap (λ (s : List ℤ). (pos 1 ∷ pos 2 ∷ []) ∷ s ∷ layers.items ∷ []) second ∙ ap (λ (s : List ℤ). (pos 1 ∷ pos 2 ∷ []) ∷ (pos 4 ∷ []) ∷ s ∷ []) third) two refl
+
 -- an array that a builder is given by its terms
 pub built_is : (things : List Thing) (sets : List (List ℤ)) (items : List TermId) → sets ≡ (pos 1 ∷ pos 3 ∷ []) ∷ [] → length items ≡ 2 → IsTable (builder.table_of things sets items)
 built_is things sets items is two = record {

@@ -5,7 +5,7 @@ ghost use Rattle.box_rules.specs.Laws.{IsTable};
 ghost use Rattle.term_tables.specs.Kept.{table_of};
 ghost use Rattle.term_store.specs.Stores.{IsSoundStore};
 
-use super::{compare, marked, pair};
+use super::{compare, empty, marked, pair};
 use box_rules::Defined;
 use sopl_base::{CmpOp, Fault, Interval};
 use std::alloc::{AllocError, Global};
@@ -26,6 +26,8 @@ fn indexed(alloc: Global) -> Result<TermStore, AllocError>
         (3, 9),
         (4, 9),
         (2, 3),
+        (4, 4),
+        (3, 3),
     ] {
         if let Some(interval) = Interval::new(lo, hi) {
             roots.push(interval)?;
@@ -36,7 +38,7 @@ fn indexed(alloc: Global) -> Result<TermStore, AllocError>
 }
 
 /// The element of an array at an index.
-fn at_one(store: &mut TermStore, table: u32, index: u32) -> Result<u32, Fault>
+pub(crate) fn at_one(store: &mut TermStore, table: u32, index: u32) -> Result<u32, Fault>
     requires sound { IsSoundStore store.old }
     ensures sound { IsSoundStore store.new }
 {
@@ -79,6 +81,40 @@ fn grid(alloc: Global) -> Result<Table, AllocError>
             Element::Fixed(23),
         ],
     )?;
+    Ok(Table { sets, elements })
+}
+
+/// The element of an array of three dimensions.
+fn at_three(
+    store: &mut TermStore,
+    table: u32,
+    row: u32,
+    column: u32,
+    layer: u32,
+) -> Result<u32, Fault>
+    requires sound { IsSoundStore store.old }
+    ensures sound { IsSoundStore store.new }
+{
+    let count = store.count();
+    if table >= count || row >= count || column >= count || layer >= count {
+        return Err(Fault::NoMemory);
+    }
+    store.element(table, &[row, column, layer])
+}
+
+/// An array over 1 and 2, over 4 and over 3.
+#[tactic(auto, using(crate::proofs::Arrays::row_is))]
+fn row(alloc: Global) -> Result<Table, AllocError>
+    ensures proper { IfOk result (λ table. IsTable (table_of table)) }
+{
+    let rows = Vec::from_slice(alloc, &[1, 2])?;
+    let columns = Vec::from_slice(alloc, &[4])?;
+    let layers = Vec::from_slice(alloc, &[3])?;
+    let mut sets = Vec::new(alloc);
+    sets.push(rows)?;
+    sets.push(columns)?;
+    sets.push(layers)?;
+    let elements = Vec::from_slice(alloc, &[Element::Fixed(143), Element::Fixed(243)])?;
     Ok(Table { sets, elements })
 }
 
@@ -145,6 +181,54 @@ fn at_pairs(store: &mut TermStore, array: Table) -> Result<bool, Fault>
     Ok(true)
 }
 
+/// Elements of three dimensions, two of which have one number, at cells.
+fn at_triples(store: &mut TermStore, array: Table) -> Result<bool, Fault>
+    requires sound { IsSoundStore store.old }
+    requires proper { IsTable (table_of array) }
+    ensures sound { IsSoundStore store.new }
+{
+    let table = store.table(array)?;
+    for (row, column, layer, hull, mark) in [
+        (3, 8, 9, (143, 243), Defined::Always),
+        (2, 8, 9, (243, 243), Defined::Always),
+        (4, 8, 9, (143, 243), Defined::Maybe),
+        (1, 6, 7, (143, 143), Defined::Maybe),
+        (3, 6, 2, (143, 243), Defined::Never),
+        (1, 7, 9, (143, 243), Defined::Never),
+    ] {
+        let first = store.cell(row)?;
+        let second = store.cell(column)?;
+        let third = store.cell(layer)?;
+        let id = at_three(store, table, first, second, third)?;
+        if !marked(store, id, hull.0, hull.1, mark) {
+            return Ok(false);
+        }
+    }
+    Ok(true)
+}
+
+/// An element at more indices than an array of one dimension has, one of an array of two at one index, and one of an array that has none.
+fn at_others(store: &mut TermStore, one: Table, two: Table, none: Table) -> Result<bool, Fault>
+    requires sound { IsSoundStore store.old }
+    requires one { IsTable (table_of one) }
+    requires two { IsTable (table_of two) }
+    requires none { IsTable (table_of none) }
+    ensures sound { IsSoundStore store.new }
+{
+    let one = store.table(one)?;
+    let two = store.table(two)?;
+    let none = store.table(none)?;
+    let index = store.cell(1)?;
+    let more = at_two(store, one, index, index)?;
+    let fewer = at_one(store, two, index)?;
+    let nowhere = seen(store, none, 3, (0, 0), Defined::Never)?;
+    Ok(
+        nowhere
+            && marked(store, more, -7, 10, Defined::Never)
+            && marked(store, fewer, -7, 23, Defined::Never),
+    )
+}
+
 /// Elements of 10 at 1 and x at 3, at elements of 3 at 1 and 1 at 3.
 fn at_elements(store: &mut TermStore, array: Table, inner: Table) -> Result<bool, Fault>
     requires sound { IsSoundStore store.old }
@@ -195,6 +279,17 @@ fn elements_at_cells(rt: HostRuntime) {
     assert_eq!(rt; at_cells(&mut store, array), Ok(true));
     let array = grid(rt.alloc()).expect(&rt, "memory");
     assert_eq!(rt; at_pairs(&mut store, array), Ok(true));
+    let array = row(rt.alloc()).expect(&rt, "memory");
+    assert_eq!(rt; at_triples(&mut store, array), Ok(true));
+}
+
+#[test]
+fn elements_at_other_dimensions(rt: HostRuntime) {
+    let mut store = indexed(rt.alloc()).expect(&rt, "memory");
+    let one = pair(rt.alloc(), Element::Fixed(10), Element::Free(0)).expect(&rt, "memory");
+    let two = grid(rt.alloc()).expect(&rt, "memory");
+    let none = empty(rt.alloc()).expect(&rt, "memory");
+    assert_eq!(rt; at_others(&mut store, one, two, none), Ok(true));
 }
 
 #[test]

@@ -9,5 +9,5 @@ pub loop-left-preserved : goal.loop-left-preserved
 loop-left-preserved c =
     let below : c.loop-left.left.low <ℤ c.loop-left.left.high = first_of (search rules, grind (arith, ints)) in
     c.loop-left.invariant
-    ∙ next_covered c.loop-left.left.low c.loop-left.left.high c.args.set.now (sym c.has_number.ensures ∙ c.loop-left-test.true) below
+    ∙ next_covered c.loop-left.left.low c.loop-left.left.high c.args.set.now (sym c.has_number_at.ensures ∙ c.loop-left-test.true) below
     ∙ ap (λ (a : Ends). is_covered a c.args.set.now) (sym c.behind_first-left.ensures)

@@ -6,7 +6,7 @@ use Rattle.term_store.proofs.store.TermStore.element_mark.Goals as goal
 
 pub element_range-requires-clause-exists : goal.element_range-requires-clause-exists
 element_range-requires-clause-exists c =
-    omega (arith, c.count.ensures.count, ap (λ (ts : List Thing). length ts) c.here-here.ensures.things, length_things c.here-here.result.items.now)
+    omega (arith, c.count.ensures.count, ap (λ (ts : List Thing). length ts) c.here.ensures.things, length_things c.here.result.items.now)
 
 pub element_range-requires-clause-below : goal.element_range-requires-clause-below
 element_range-requires-clause-below c =

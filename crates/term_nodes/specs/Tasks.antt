@@ -1,0 +1,22 @@
+-- Tasks over a box.
+use Rattle.std.specs.Prelude.{List}
+use Rattle.box_problem.specs.Box.{Box}
+use Rattle.box_rules.specs.Globals.{TaskEnds}
+use Rattle.box_rules.specs.Marks.{both}
+use Rattle.box_rules.specs.Rules.{Near, interval, mark}
+use Rattle.box_rules.specs.declared.answers.Defined.{Defined}
+use Rattle.term_nodes.specs.declared.nodes.Task.{Task}
+use Rattle.term_nodes.specs.Things.{Thing, term_at}
+
+-- the intervals of a task's numbers
+abbrev pub task_seen : Box → Box → List Thing → Task → TaskEnds
+task_seen root b all t = record {
+  start = interval Near root b (term_at all t.start);
+  duration = interval Near root b (term_at all t.duration);
+  demand = interval Near root b (term_at all t.demand);
+}
+
+-- the mark of all three
+abbrev pub mark_seen : Box → Box → List Thing → Task → Defined
+mark_seen root b all t =
+    both (mark Near root b (term_at all t.start)) (both (mark Near root b (term_at all t.duration)) (mark Near root b (term_at all t.demand)))
