@@ -20,20 +20,17 @@ fn place_in(alloc: Global, text: &str) -> Result<Option<usize>, Fault> {
 const TEXTS: &str = "\
 range R = 1..3; dvar int x[R] in 1..2; subject to { allDifferent(all(i in R) x[i]); } -> 52
 range R = 1..2; dvar int s[R] in 0..3; subject to { cumulative(all(i in R) (s[i], 2, 1), 1); s[1] <= s[2]; } -> 52
-range R = 1..2; int a[R] = [5, 7]; dvar int x in R; subject to { a[x] == 5; } -> 65
-range R = 1..2; int a[R] = [5, 7]; dvar int x in R; subject to { 5 == a[3 - x]; } -> 70
-range R = 1..2; int a[R] = [5, 7]; dvar int x[R] in R; subject to { a[x[1]] == 5; } -> 68
-range R = 1..2; int a[R] = [5, 7]; dvar int x in R; subject to { a[a[x]] == 5; } -> 65
-range R = 1..2; int a[R][R] = 5; dvar int x in R; subject to { a[1][1] + a[1][x] == 5; } -> 73
-range R = 1..2; int a[R] = [5, 7]; dvar int x in R; subject to { a[(x == 1) + 1] == 5; } -> 65
-range R = 1..2; int a[R] = [5, 7]; dvar int x in R; maximize expected(x - a[x]); subject to { x == 1; } -> 74
-range R = 1..2; int a[R] = [5, 7]; dvar int x in R; maximize expected(2 * a[x]); subject to { a[x] == 5; } -> 74
-range R = 1..2; int a[R] = [5, 7]; dvar int x in R; subject to { x == 1; forall(i in R) { i == 1; prob(a[x] == 5) >= 1/2; } a[x] == 7; } -> 103
+range R = 1..2; int a[R] = [5, 7]; dvar int x in R; maximize expected(x - cumulative(all(i in R) (x, 1, 1), a[x])); subject to { x == 1; } -> 74
+range R = 1..2; int a[R] = [5, 7]; dvar int x in R; maximize expected(2 * allDifferent(all(i in R) a[x])); subject to { cumulative(all(i in R) (x, 1, 1), 1); } -> 74
+range R = 1..2; int a[R] = [5, 7]; dvar int x in R; subject to { x == 1; forall(i in R) { i == 1; prob(allDifferent(all(j in R) x + j)) >= 1/2; } cumulative(all(i in R) (x, 1, 1), 1); } -> 103
+range R = 1..2; int a[R] = [5, 7]; dvar int x in R; subject to { a[1 + allDifferent(all(i in R) x)] == 5; } -> 71
 range R = 1..2; dvar int x[R] in R; subject to { !(x[1] == 1 => (x[2] == 1 && allDifferent(all(i in R) x[i]))); } -> 78
 range R = 1..2; dvar int x[R] in R; subject to { min(1, abs(-allDifferent(all(i in R) x[i])), 2) == x[1] * 2; } -> 61
 range R = 1..2; dvar int x[R] in R; subject to { x[1] * 2 * allDifferent(all(i in R) x[i]) div 2 == 1; } -> 60
-range R = 1..2; int a[R] = [1, 2]; dvar int x[R] in R; subject to { sum(i in R) (x[i] + a[x[i]]) == 1 || max(a[x[1]], 1) == 1; } -> 88
-range N = 1..0; range R = 1..2; int a[R] = [5, 7]; dvar int x in R; subject to { forall(i in N) a[x] == i; } -> 96
+range R = 1..2; dvar int x[R] in R; subject to { sum(i in R) (x[i] + allDifferent(all(j in R) x[j])) == 1 || max(x[1], 1) == 1; } -> 69
+range N = 1..0; range R = 1..2; dvar int x in R; subject to { forall(i in N) allDifferent(all(j in R) x + i); } -> 77
+range R = 1..2; int a[R] = [5, 7]; dvar int x in R; subject to { a[a[x]] == 5; } -> none
+range R = 1..2; int a[R][R] = 5; dvar int x in R; maximize expected(a[1][x]); subject to { a[1][1] + a[1][(x == 1) + 1] == 5; } -> none
 range R = 1..2; int a[R] = [5, 7]; dvar int x[i in 1..2] in R; subject to { x[1] == 1; x[a[1] - 4] == 1; } -> none
 range R = 1..2; int a[R] = [5, 7]; stoch int d in {1:1, 3:1}; dvar int x in 0..1; maximize expected(x); subject to { !(a[d] == 7); } -> none
 range R = 1..2; int a[R] = [1, 2]; stoch int d[R] in {1:1, 2:1}; dvar int x[R] in R; subject to { forall(i in R) x[d[a[i]]] <= 2 * d[i]; } -> none

@@ -30,70 +30,70 @@ divides known e is =
     record { passes = is; number = there.0; is = there.1; nonzero = divisor_nonzero known e there.0 is there.1 }
 
 mutual
-  pub built : (e : Tree) (known : Known) (ds : List (List ℕ)) → Passes (expression_occurrences known e) → places ds e ≡ [] → IsBuildable known e
-  built (Node at shape) known ds is none = shape_built shape at known ds is (none_both (if is_unsupported ds shape then at ∷ [] else []) (part_places ds shape) none)
+  pub built : (e : Tree) (known : Known) → Passes (expression_occurrences known e) → places e ≡ [] → IsBuildable known e
+  built (Node at shape) known is none = shape_built shape at known is (none_both (if is_unsupported shape then at ∷ [] else []) (part_places shape) none)
 
-  shape_built : (shape : Shape) (at : ℕ) (known : Known) (ds : List (List ℕ)) → Passes (parts_occurrences known shape)
-      → ((if is_unsupported ds shape then at ∷ [] else []) ≡ []) × (part_places ds shape ≡ []) → ShapeIsBuildable known shape
-  shape_built (t.Lit z) at known ds is none = tt
-  shape_built (t.Name name) at known ds is none = tt
-  shape_built (t.Index name es) at known ds is none = all_built es known ds is none.1
-  shape_built (t.Neg e) at known ds is none = built e known ds is none.1
-  shape_built (t.Add parts) at known ds is none = terms_built parts known ds is none.1
-  shape_built (t.Mul first others) at known ds is none =
+  shape_built : (shape : Shape) (at : ℕ) (known : Known) → Passes (parts_occurrences known shape)
+      → ((if is_unsupported shape then at ∷ [] else []) ≡ []) × (part_places shape ≡ []) → ShapeIsBuildable known shape
+  shape_built (t.Lit z) at known is none = tt
+  shape_built (t.Name name) at known is none = tt
+  shape_built (t.Index name es) at known is none = all_built es known is none.1
+  shape_built (t.Neg e) at known is none = built e known is none.1
+  shape_built (t.Add parts) at known is none = terms_built parts known is none.1
+  shape_built (t.Mul first others) at known is none =
       let both = parts_pass (expression_occurrences known first) (factors_occurrences known others) is in
-      let nones = none_both (places ds first) (factor_places ds others) none.1 in
-      (built first known ds both.0 nones.0, factors_built others known ds both.1 nones.1)
-  shape_built (t.Cmp op a b) at known ds is none =
+      let nones = none_both (places first) (factor_places others) none.1 in
+      (built first known both.0 nones.0, factors_built others known both.1 nones.1)
+  shape_built (t.Cmp op a b) at known is none =
       let both = parts_pass (expression_occurrences known a) (expression_occurrences known b) is in
-      let nones = none_both (places ds a) (places ds b) none.1 in
-      (built a known ds both.0 nones.0, built b known ds both.1 nones.1)
-  shape_built (t.Not e) at known ds is none = built e known ds is none.1
-  shape_built (t.And es) at known ds is none = all_built es known ds is none.1
-  shape_built (t.Or es) at known ds is none = all_built es known ds is none.1
-  shape_built (t.Implies a b) at known ds is none =
+      let nones = none_both (places a) (places b) none.1 in
+      (built a known both.0 nones.0, built b known both.1 nones.1)
+  shape_built (t.Not e) at known is none = built e known is none.1
+  shape_built (t.And es) at known is none = all_built es known is none.1
+  shape_built (t.Or es) at known is none = all_built es known is none.1
+  shape_built (t.Implies a b) at known is none =
       let both = parts_pass (expression_occurrences known a) (expression_occurrences known b) is in
-      let nones = none_both (places ds a) (places ds b) none.1 in
-      (built a known ds both.0 nones.0, built b known ds both.1 nones.1)
-  shape_built (t.Sum bs e) at known ds is none = (
+      let nones = none_both (places a) (places b) none.1 in
+      (built a known both.0 nones.0, built b known both.1 nones.1)
+  shape_built (t.Sum bs e) at known is none = (
     ranges_pass bs known None (λ here. expression_occurrences here e) is,
     each_of (λ (here : Known). (here.constants ≡ known.constants) × Passes (expression_occurrences here e)) (λ (here : Known). (here.constants ≡ known.constants) × IsBuildable here e)
-        (λ here both. (both.0, built e here ds both.1 none.1)) (all_bindings known bs)
+        (λ here both. (both.0, built e here both.1 none.1)) (all_bindings known bs)
         (all_given (λ (here : Known). here.constants ≡ known.constants) (λ name n here same. same) bs known (λ here. expression_occurrences here e) refl is),
   )
-  shape_built (t.Least es) at known ds is none = all_built es known ds is none.1
-  shape_built (t.Greatest es) at known ds is none = all_built es known ds is none.1
-  shape_built (t.Abs e) at known ds is none = built e known ds is none.1
-  shape_built (t.AllDifferent bs e) at known ds is none = not_none at none.0
-  shape_built (t.Cumulative bs start duration demand capacity) at known ds is none = not_none at none.0
+  shape_built (t.Least es) at known is none = all_built es known is none.1
+  shape_built (t.Greatest es) at known is none = all_built es known is none.1
+  shape_built (t.Abs e) at known is none = built e known is none.1
+  shape_built (t.AllDifferent bs e) at known is none = not_none at none.0
+  shape_built (t.Cumulative bs start duration demand capacity) at known is none = not_none at none.0
 
-  all_built : (es : Trees) (known : Known) (ds : List (List ℕ)) → Passes (expressions_occurrences known es) → all_places ds es ≡ [] → AreBuildable known es
-  all_built no_tree known ds is none = tt
-  all_built (tree e es) known ds is none =
+  all_built : (es : Trees) (known : Known) → Passes (expressions_occurrences known es) → all_places es ≡ [] → AreBuildable known es
+  all_built no_tree known is none = tt
+  all_built (tree e es) known is none =
       let both = parts_pass (expression_occurrences known e) (expressions_occurrences known es) is in
-      let nones = none_both (places ds e) (all_places ds es) none in
-      (built e known ds both.0 nones.0, all_built es known ds both.1 nones.1)
+      let nones = none_both (places e) (all_places es) none in
+      (built e known both.0 nones.0, all_built es known both.1 nones.1)
 
-  terms_built : (parts : Terms) (known : Known) (ds : List (List ℕ)) → Passes (terms_occurrences known parts) → term_places ds parts ≡ [] → TermsAreBuildable known parts
-  terms_built no_term known ds is none = tt
-  terms_built (term minus e more) known ds is none =
+  terms_built : (parts : Terms) (known : Known) → Passes (terms_occurrences known parts) → term_places parts ≡ [] → TermsAreBuildable known parts
+  terms_built no_term known is none = tt
+  terms_built (term minus e more) known is none =
       let both = parts_pass (expression_occurrences known e) (terms_occurrences known more) is in
-      let nones = none_both (places ds e) (term_places ds more) none in
-      (built e known ds both.0 nones.0, terms_built more known ds both.1 nones.1)
+      let nones = none_both (places e) (term_places more) none in
+      (built e known both.0 nones.0, terms_built more known both.1 nones.1)
 
-  factors_built : (parts : Factors) (known : Known) (ds : List (List ℕ)) → Passes (factors_occurrences known parts) → factor_places ds parts ≡ [] → FactorsAreBuildable known parts
-  factors_built no_factor known ds is none = tt
-  factors_built (factor Times e more) known ds is none =
+  factors_built : (parts : Factors) (known : Known) → Passes (factors_occurrences known parts) → factor_places parts ≡ [] → FactorsAreBuildable known parts
+  factors_built no_factor known is none = tt
+  factors_built (factor Times e more) known is none =
       let both = parts_pass (expression_occurrences known e) (factors_occurrences known more) is in
-      let nones = none_both (places ds e) (factor_places ds more) none in
-      (built e known ds both.0 nones.0, factors_built more known ds both.1 nones.1)
-  factors_built (factor Div e more) known ds is none =
+      let nones = none_both (places e) (factor_places more) none in
+      (built e known both.0 nones.0, factors_built more known both.1 nones.1)
+  factors_built (factor Div e more) known is none =
       let both = parts_pass (divisor_occurrences known e) (factors_occurrences known more) is in
-      (divides known e both.0, factors_built more known ds both.1 none)
-  factors_built (factor Mod e more) known ds is none =
+      (divides known e both.0, factors_built more known both.1 none)
+  factors_built (factor Mod e more) known is none =
       let both = parts_pass (divisor_occurrences known e) (factors_occurrences known more) is in
-      (divides known e both.0, factors_built more known ds both.1 none)
+      (divides known e both.0, factors_built more known both.1 none)
 
--- whichever names are those of decisions
+-- what passes and is supported
 pub supported_built : (known : Known) (e : Tree) → Passes (expression_occurrences known e) → IsSupported e → IsBuildable known e
-supported_built known e is supported = built e known supported.decisions is supported.none
+supported_built known e is supported = built e known is supported.none

@@ -6,7 +6,7 @@ use Rattle.sopl_ast.specs.Unfolding.{all_conditions, problem_of}
 use Rattle.sopl_ast.specs.Whole.{GoalTree, ModelTree, conses}
 use Rattle.sopl_compile.specs.Posed.{AreSupported}
 use Rattle.unsupported_forms.proofs.Found.{none_is_found}
-use Rattle.unsupported_forms.specs.Forms.{decision_names, places, unsupported_place}
+use Rattle.unsupported_forms.specs.Forms.{places, unsupported_place}
 
 conditions_of_text : (model : ModelTree) → (problem_of model).conditions ≡ all_conditions (conses model.body)
 unfolding problem_of
@@ -15,7 +15,6 @@ conditions_of_text model = refl
 module _ (model : ModelTree) (none : unsupported_place model ≡ None) where
   pub conditions_supported : (conditions : List Tree) → conditions ≡ (problem_of model).conditions → AreSupported conditions
   conditions_supported conditions is text e at = record {
-    decisions = decision_names model.decls;
     none =
         ((none_is_found model).0 none).conditions text e
         (subst (λ (list : List Tree). slice_get list text ≡ Some e) (is ∙ conditions_of_text model) at);
@@ -23,6 +22,5 @@ module _ (model : ModelTree) (none : unsupported_place model ≡ None) where
 
   pub goal_supported : (goal : GoalTree) → model.goal ≡ Some goal → given.IsSupported goal.expr
   goal_supported goal some = record {
-    decisions = decision_names model.decls;
-    none = subst (λ (o : Option GoalTree). IfSome o (λ (g : GoalTree). places (decision_names model.decls) g.expr ≡ [])) some ((none_is_found model).0 none).goal;
+    none = subst (λ (o : Option GoalTree). IfSome o (λ (g : GoalTree). places g.expr ≡ [])) some ((none_is_found model).0 none).goal;
   }

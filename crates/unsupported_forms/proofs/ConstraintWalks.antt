@@ -12,22 +12,22 @@ use Rattle.unsupported_forms.proofs.Minimum.{lesser_none}
 use Rattle.unsupported_forms.proofs.Walks.{walk_more, walk_end}
 
 -- the places in a single expression
-pub in_one : (decisions : List (List ℕ)) (e : Tree) → places_in decisions (e ∷ []) ≡ places decisions e
-in_one decisions e = append-nil (places decisions e)
+pub in_one : (e : Tree) → places_in (e ∷ []) ≡ places e
+in_one e = append-nil (places e)
 
 -- the places in the conditions of constraints
-abbrev in_conditions : List (List ℕ) → List Cons → List ℕ
-in_conditions decisions xs = places_in decisions (all_conditions (conses (map cons_tree xs)))
+abbrev in_conditions : List Cons → List ℕ
+in_conditions xs = places_in (all_conditions (conses (map cons_tree xs)))
 
-module _ (decisions : List (List ℕ)) (first : Option ℕ) (xs : List Cons) (i : ℕ) where
+module _ (first : Option ℕ) (xs : List Cons) (i : ℕ) where
   pub constraints_more : (x : Cons) → i < length xs → x ≡ get_or xs i x →
-      lesser (lesser first (least_of (places_in decisions (conditions_of (cons_tree x))))) (least_of (places_in decisions (all_conditions (conses (map cons_tree (drop (i + 1) xs))))))
-      ≡ lesser first (least_of (places_in decisions (all_conditions (conses (map cons_tree (drop i xs))))))
+      lesser (lesser first (least_of (places_in (conditions_of (cons_tree x))))) (least_of (places_in (all_conditions (conses (map cons_tree (drop (i + 1) xs))))))
+      ≡ lesser first (least_of (places_in (all_conditions (conses (map cons_tree (drop i xs))))))
   constraints_more x below at =
-      walk_more (in_conditions decisions) first xs i (places_in decisions (conditions_of (cons_tree x))) x below at
-      (flat_map-append (places decisions) (conditions_of (cons_tree x)) (all_conditions (conses (map cons_tree (drop (i + 1) xs)))))
+      walk_more in_conditions first xs i (places_in (conditions_of (cons_tree x))) x below at
+      (flat_map-append places (conditions_of (cons_tree x)) (all_conditions (conses (map cons_tree (drop (i + 1) xs)))))
 
-  pub constraints_end : length xs ≤ i → lesser first (least_of (places_in decisions (all_conditions (conses (map cons_tree (drop i xs)))))) ≡ first
-  constraints_end past = walk_end (in_conditions decisions) first xs i refl past
+  pub constraints_end : length xs ≤ i → lesser first (least_of (places_in (all_conditions (conses (map cons_tree (drop i xs)))))) ≡ first
+  constraints_end past = walk_end in_conditions first xs i refl past
 
 pub ruleset constraint_walks = (weight-constraint, lesser_none, in_one, constraints_more, constraints_end)

@@ -4,7 +4,7 @@ use Rattle.std.specs.Option.{option_map_or}
 use Rattle.sopl_ast.specs.Tree.{Tree}
 use Rattle.sopl_ast.specs.Unfolding.{all_conditions}
 use Rattle.sopl_ast.specs.Whole.{GoalTree, conses}
-use Rattle.unsupported_forms.specs.Forms.{decision_names, places, places_in, least_of, unsupported_places}
+use Rattle.unsupported_forms.specs.Forms.{places, places_in, least_of, unsupported_places}
 use Rattle.unsupported_forms.specs.Laws.{PlaceIsLeast, NoneIsFound, NoneIsThere, IsSupported}
 use Rattle.unsupported_forms.proofs.Minimum.{least_found, none_left}
 
@@ -26,41 +26,40 @@ second_nothing (x ∷ xs) ys none = absurd (cc)
 same_tree : (a b : Tree) → Some a ≡ Some b → a ≡ b
 same_tree a b is = ap (λ o. unwrap_or o a) is
 
-module _ (decisions : List (List ℕ)) where
-  -- nothing is in several expressions exactly where nothing is in each
-  none_in_each : (es : List Tree) → places_in decisions es ≡ [] → (i : ℕ) (e : Tree) → slice_get es i ≡ Some e → places decisions e ≡ []
-  none_in_each [] none i e at = absurd (cc)
-  none_in_each (x ∷ xs) none zero e at =
-      ap (places decisions) (sym (same_tree x e at)) ∙ first_nothing (places decisions x) (places_in decisions xs) none
-  none_in_each (x ∷ xs) none (suc i) e at = none_in_each xs (second_nothing (places decisions x) (places_in decisions xs) none) i e at
+-- nothing is in several expressions exactly where nothing is in each
+none_in_each : (es : List Tree) → places_in es ≡ [] → (i : ℕ) (e : Tree) → slice_get es i ≡ Some e → places e ≡ []
+none_in_each [] none i e at = absurd (cc)
+none_in_each (x ∷ xs) none zero e at =
+    ap places (sym (same_tree x e at)) ∙ first_nothing (places x) (places_in xs) none
+none_in_each (x ∷ xs) none (suc i) e at = none_in_each xs (second_nothing (places x) (places_in xs) none) i e at
 
-  none_in_all : (es : List Tree) → ((i : ℕ) (e : Tree) → slice_get es i ≡ Some e → places decisions e ≡ []) → places_in decisions es ≡ []
-  none_in_all [] each = refl
-  none_in_all (x ∷ xs) each =
-      ap (λ found. found ++ places_in decisions xs) (each zero x refl) ∙ none_in_all xs (λ i e at. each (suc i) e at)
+none_in_all : (es : List Tree) → ((i : ℕ) (e : Tree) → slice_get es i ≡ Some e → places e ≡ []) → places_in es ≡ []
+none_in_all [] each = refl
+none_in_all (x ∷ xs) each =
+    ap (λ found. found ++ places_in xs) (each zero x refl) ∙ none_in_all xs (λ i e at. each (suc i) e at)
 
-  -- and so with the objective in front of them
-  none_with_goal : (goal : Option GoalTree) (es : List Tree)
-      → places_in decisions (option_map_or (λ (g : GoalTree). g.expr ∷ []) goal [] ++ es) ≡ []
-      → IfSome goal (λ (g : GoalTree). places decisions g.expr ≡ []) × (places_in decisions es ≡ [])
-  none_with_goal None es none = (tt, none)
-  none_with_goal (Some g) es none =
-      (first_nothing (places decisions g.expr) (places_in decisions es) none, second_nothing (places decisions g.expr) (places_in decisions es) none)
+-- and so with the objective in front of them
+none_with_goal : (goal : Option GoalTree) (es : List Tree)
+    → places_in (option_map_or (λ (g : GoalTree). g.expr ∷ []) goal [] ++ es) ≡ []
+    → IfSome goal (λ (g : GoalTree). places g.expr ≡ []) × (places_in es ≡ [])
+none_with_goal None es none = (tt, none)
+none_with_goal (Some g) es none =
+    (first_nothing (places g.expr) (places_in es) none, second_nothing (places g.expr) (places_in es) none)
 
-  goal_with_none : (goal : Option GoalTree) (es : List Tree) → IfSome goal (λ (g : GoalTree). places decisions g.expr ≡ []) → places_in decisions es ≡ []
-      → places_in decisions (option_map_or (λ (g : GoalTree). g.expr ∷ []) goal [] ++ es) ≡ []
-  goal_with_none None es clean none = none
-  goal_with_none (Some g) es clean none = ap (λ found. found ++ places_in decisions es) clean ∙ none
+goal_with_none : (goal : Option GoalTree) (es : List Tree) → IfSome goal (λ (g : GoalTree). places g.expr ≡ []) → places_in es ≡ []
+    → places_in (option_map_or (λ (g : GoalTree). g.expr ∷ []) goal [] ++ es) ≡ []
+goal_with_none None es clean none = none
+goal_with_none (Some g) es clean none = ap (λ found. found ++ places_in es) clean ∙ none
 
 pub none_is_found : NoneIsFound
 none_is_found model = (λ none. supported (none_left (unsupported_places model) none), λ clean. ap least_of (nothing clean))
   where
     supported : unsupported_places model ≡ [] → IsSupported model
     supported none =
-        let both = none_with_goal (decision_names model.decls) model.goal (all_conditions (conses model.body)) none in
-        record { conditions = none_in_each (decision_names model.decls) (all_conditions (conses model.body)) both.1; goal = both.0 }
+        let both = none_with_goal model.goal (all_conditions (conses model.body)) none in
+        record { conditions = none_in_each (all_conditions (conses model.body)) both.1; goal = both.0 }
 
     nothing : IsSupported model → unsupported_places model ≡ []
     nothing clean =
-        goal_with_none (decision_names model.decls) model.goal (all_conditions (conses model.body)) clean.goal
-        (none_in_all (decision_names model.decls) (all_conditions (conses model.body)) clean.conditions)
+        goal_with_none model.goal (all_conditions (conses model.body)) clean.goal
+        (none_in_all (all_conditions (conses model.body)) clean.conditions)

@@ -20,40 +20,40 @@ module _ {X : Type 0} (F : List X → List ℕ) (first : Option ℕ) (xs : List 
   pub walk_end : F [] ≡ [] → length xs ≤ i → lesser first (least_of (F (drop i xs))) ≡ first
   walk_end none past = ap (λ found. lesser first (least_of found)) (at_drop_all F xs i past ∙ none) ∙ lesser_none first
 
-module _ (decisions : List (List ℕ)) (first : Option ℕ) where
+module _ (first : Option ℕ) where
   pub all_more : (xs : List Tree) (i : ℕ) (x : Tree) → i < length xs → x ≡ get_or xs i x →
-      lesser (lesser first (least_of (places decisions x))) (least_of (all_places decisions (trees (drop (i + 1) xs))))
-      ≡ lesser first (least_of (all_places decisions (trees (drop i xs))))
-  all_more xs i x below at = walk_more (λ ys. all_places decisions (trees ys)) first xs i (places decisions x) x below at refl
+      lesser (lesser first (least_of (places x))) (least_of (all_places (trees (drop (i + 1) xs))))
+      ≡ lesser first (least_of (all_places (trees (drop i xs))))
+  all_more xs i x below at = walk_more (λ ys. all_places (trees ys)) first xs i (places x) x below at refl
 
-  pub all_end : (xs : List Tree) (i : ℕ) → length xs ≤ i → lesser first (least_of (all_places decisions (trees (drop i xs)))) ≡ first
-  all_end xs i past = walk_end (λ ys. all_places decisions (trees ys)) first xs i refl past
+  pub all_end : (xs : List Tree) (i : ℕ) → length xs ≤ i → lesser first (least_of (all_places (trees (drop i xs)))) ≡ first
+  all_end xs i past = walk_end (λ ys. all_places (trees ys)) first xs i refl past
 
   pub terms_more : (xs : List (Bool × Tree)) (i : ℕ) (x : Bool × Tree) → i < length xs → x ≡ get_or xs i x →
-      lesser (lesser first (least_of (places decisions x.1))) (least_of (term_places decisions (terms (drop (i + 1) xs))))
-      ≡ lesser first (least_of (term_places decisions (terms (drop i xs))))
-  terms_more xs i x below at = walk_more (λ ys. term_places decisions (terms ys)) first xs i (places decisions x.1) x below at refl
+      lesser (lesser first (least_of (places x.1))) (least_of (term_places (terms (drop (i + 1) xs))))
+      ≡ lesser first (least_of (term_places (terms (drop i xs))))
+  terms_more xs i x below at = walk_more (λ ys. term_places (terms ys)) first xs i (places x.1) x below at refl
 
-  pub terms_end : (xs : List (Bool × Tree)) (i : ℕ) → length xs ≤ i → lesser first (least_of (term_places decisions (terms (drop i xs)))) ≡ first
-  terms_end xs i past = walk_end (λ ys. term_places decisions (terms ys)) first xs i refl past
+  pub terms_end : (xs : List (Bool × Tree)) (i : ℕ) → length xs ≤ i → lesser first (least_of (term_places (terms (drop i xs)))) ≡ first
+  terms_end xs i past = walk_end (λ ys. term_places (terms ys)) first xs i refl past
 
   pub factors_more : (xs : List (MulOp × Tree)) (i : ℕ) (x : MulOp × Tree) → i < length xs → x ≡ get_or xs i x →
-      lesser (lesser first (least_of (unless_divisor x.0 (places decisions x.1)))) (least_of (factor_places decisions (factors (drop (i + 1) xs))))
-      ≡ lesser first (least_of (factor_places decisions (factors (drop i xs))))
-  factors_more xs i x below at = walk_more (λ ys. factor_places decisions (factors ys)) first xs i (unless_divisor x.0 (places decisions x.1)) x below at refl
+      lesser (lesser first (least_of (unless_divisor x.0 (places x.1)))) (least_of (factor_places (factors (drop (i + 1) xs))))
+      ≡ lesser first (least_of (factor_places (factors (drop i xs))))
+  factors_more xs i x below at = walk_more (λ ys. factor_places (factors ys)) first xs i (unless_divisor x.0 (places x.1)) x below at refl
 
-  pub factors_end : (xs : List (MulOp × Tree)) (i : ℕ) → length xs ≤ i → lesser first (least_of (factor_places decisions (factors (drop i xs)))) ≡ first
-  factors_end xs i past = walk_end (λ ys. factor_places decisions (factors ys)) first xs i refl past
+  pub factors_end : (xs : List (MulOp × Tree)) (i : ℕ) → length xs ≤ i → lesser first (least_of (factor_places (factors (drop i xs)))) ≡ first
+  factors_end xs i past = walk_end (λ ys. factor_places (factors ys)) first xs i refl past
 
 -- an expression that is of such a form itself
-pub found_here : (decisions : List (List ℕ)) (e : Tree) → is_unsupported decisions (shape_of e) ≡ true
-    → least_of (places decisions e) ≡ lesser (Some (place_of e)) (least_of (part_places decisions (shape_of e)))
-found_here decisions (Node at shape) is = ap (λ test. least_of ((if test then at ∷ [] else []) ++ part_places decisions shape)) is
+pub found_here : (e : Tree) → is_unsupported (shape_of e) ≡ true
+    → least_of (places e) ≡ lesser (Some (place_of e)) (least_of (part_places (shape_of e)))
+found_here (Node at shape) is = ap (λ test. least_of ((if test then at ∷ [] else []) ++ part_places shape)) is
 
 -- and one that is not
-pub found_inside : (decisions : List (List ℕ)) (e : Tree) → is_unsupported decisions (shape_of e) ≡ false
-    → least_of (places decisions e) ≡ least_of (part_places decisions (shape_of e))
-found_inside decisions (Node at shape) is = ap (λ test. least_of ((if test then at ∷ [] else []) ++ part_places decisions shape)) is
+pub found_inside : (e : Tree) → is_unsupported (shape_of e) ≡ false
+    → least_of (places e) ≡ least_of (part_places (shape_of e))
+found_inside (Node at shape) is = ap (λ test. least_of ((if test then at ∷ [] else []) ++ part_places shape)) is
 
 -- walks over lists
 pub ruleset walks = (lesser_none, lesser_three, least_both, all_more, all_end, terms_more, terms_end, factors_more, factors_end, found_here, found_inside)

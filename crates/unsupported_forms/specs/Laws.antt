@@ -4,7 +4,7 @@ use Rattle.std.specs.List.{AllByRecursion, Contains}
 use Rattle.sopl_ast.specs.Tree.{Tree}
 use Rattle.sopl_ast.specs.Unfolding.{all_conditions}
 use Rattle.sopl_ast.specs.Whole.{GoalTree, ModelTree, conses}
-use Rattle.unsupported_forms.specs.Forms.{decision_names, places, unsupported_places, unsupported_place}
+use Rattle.unsupported_forms.specs.Forms.{places, unsupported_places, unsupported_place}
 
 -- it is one of the places, and no other place is less
 pub record IsLeast (all : List ℕ) (place : ℕ) : Type 0 where
@@ -16,8 +16,8 @@ PlaceIsLeast = (model : ModelTree) (at : ℕ) → unsupported_place model ≡ So
 
 -- no such form stands in a condition or in the objective
 pub record IsSupported (model : ModelTree) : Type 0 where
-  pub conditions : (text : ℕ) (condition : Tree) → slice_get (all_conditions (conses model.body)) text ≡ Some condition → places (decision_names model.decls) condition ≡ []
-  pub goal : IfSome model.goal (λ (goal : GoalTree). places (decision_names model.decls) goal.expr ≡ [])
+  pub conditions : (text : ℕ) (condition : Tree) → slice_get (all_conditions (conses model.body)) text ≡ Some condition → places condition ≡ []
+  pub goal : IfSome model.goal (λ (goal : GoalTree). places goal.expr ≡ [])
 
 -- so it is exactly where no place is found
 abbrev pub NoneIsFound : Type 0

@@ -44,16 +44,45 @@ dvar int x in 0..5 stage 2; stoch int d in {1:1, 3:1} stage 1; subject to { x ==
 dvar int x in 0..5 stage 1; stoch int d in {1:1, 3:1} stage 1; subject to { x == d; } -> {"answer":"infeasible"}
 "##;
 
+/// Texts with elements at indices in which decisions stand, each with the line on which `solve` ends, worked by hand: in the objective, in hard
+/// and chance constraints, nested, of several dimensions, of a set with gaps, and at indices that may lie outside or always do.
+const ELEMENTS: &str = r##"
+range R = 1..3; int price[R] = [4, 9, 6]; dvar int x in 1..3; maximize expected(price[x]); subject to { } -> {"answer":"optimal","policy":{"decide":[["x",[],2]],"next":[]},"value":"9/1"}
+range R = 1..3; int a[R] = [5, 7, 5]; dvar int x in R; maximize expected(x); subject to { a[x] == 5; } -> {"answer":"optimal","policy":{"decide":[["x",[],3]],"next":[]},"value":"3/1"}
+range R = 1..3; int a[R] = [5, 8, 6]; dvar int x in 0..9; maximize expected(x + a[x]); subject to { } -> {"answer":"optimal","policy":{"decide":[["x",[],2]],"next":[]},"value":"10/1"}
+range R = 1..2; int a[R] = [5, 7]; dvar int x in 0..4; maximize expected(x); subject to { !(a[x] == 7); } -> {"answer":"optimal","policy":{"decide":[["x",[],4]],"next":[]},"value":"4/1"}
+range R = 1..2; int a[R] = [5, 7]; dvar int x in 0..4; maximize expected(x); subject to { a[x] != 7; } -> {"answer":"optimal","policy":{"decide":[["x",[],1]],"next":[]},"value":"1/1"}
+range R = 1..2; int a[R] = [5, 7]; dvar int x in 3..4; minimize expected(x); subject to { !(a[x] <= 9); } -> {"answer":"optimal","policy":{"decide":[["x",[],3]],"next":[]},"value":"3/1"}
+range R = 1..2; int a[R] = [5, 7]; dvar int x in 3..4; subject to { a[x] <= 9; } -> {"answer":"infeasible"}
+range R = 1..3; int a[R] = [2, 3, 1]; dvar int x in R; maximize expected(10*a[a[x]] + x); subject to { } -> {"answer":"optimal","policy":{"decide":[["x",[],1]],"next":[]},"value":"31/1"}
+range R = 1..3; dvar int x[R] in R; maximize expected(x[x[1]] + 10*x[1]); subject to { x[1] != x[3]; x[1] + x[2] + x[3] == 6; } -> {"answer":"optimal","policy":{"decide":[["x",[1],3],["x",[2],1],["x",[3],2]],"next":[]},"value":"32/1"}
+range A = 1..3; range B = 4..4; range C = 0..1; int a[i in A][j in B][k in C] = 10*i + j*k; dvar int x in 0..4; dvar int y in 3..5; dvar int z in 0..1; maximize expected(a[x][y][z]); subject to { a[x][y][z] <= 25; } -> {"answer":"optimal","policy":{"decide":[["x",[],2],["y",[],4],["z",[],1]],"next":[]},"value":"24/1"}
+{int} S = {2, 5, 9}; int a[i in S] = i*i; dvar int x in 0..9; maximize expected(a[x] - 20*x); subject to { } -> {"answer":"optimal","policy":{"decide":[["x",[],2]],"next":[]},"value":"-36/1"}
+{int} S = {1, 3}; int a[i in S] = 1; dvar int x in 1..3; minimize expected(x); subject to { !(a[x] == 1); } -> {"answer":"optimal","policy":{"decide":[["x",[],2]],"next":[]},"value":"2/1"}
+range R = 1..2; int a[R] = [1, 3]; stoch int d in {1:1, 3:2}; dvar int x in 0..2; minimize expected(x); subject to { prob(a[x] >= d) >= 2/3; } -> {"answer":"optimal","policy":{"decide":[["x",[],2]],"next":[]},"value":"6/3"}
+range R = 1..2; int a[R] = [1, 1]; stoch int d in {0:1, 1:1}; dvar int x in 1..2; maximize expected(x); subject to { prob(a[x + d] == 1) >= 1/2; } -> {"answer":"optimal","policy":{"decide":[["x",[],2]],"next":[]},"value":"4/2"}
+range R = 1..2; stoch int d[i in R] in {i:1, 4:1}; dvar int x in R; minimize expected(d[x]); subject to { } -> {"answer":"optimal","policy":{"decide":[["x",[],1]],"next":[]},"value":"10/4"}
+range R = 0..2; stoch int d in {0:1, 1:1} stage 1; dvar int y in 0..1 stage 2; int a[R] = [7, 2, 9]; minimize expected(a[d + y]); subject to { } -> {"answer":"optimal","policy":{"decide":[],"next":[{"seen":[["d",[],0]],"then":{"decide":[["y",[],1]],"next":[]}},{"seen":[["d",[],1]],"then":{"decide":[["y",[],0]],"next":[]}}]},"value":"4/2"}
+range R = 1..3; int a[R] = [9, 4, 6]; stoch int d in {1:1, 2:1}; dvar int x in 1..2; minimize worst(a[x + d] + a[x]); subject to { } -> {"answer":"optimal","policy":{"decide":[["x",[],1]],"next":[]},"value":"15/1"}
+range R = 1..4; int a[R] = [3, 8, 12, 5]; dvar int x in R; maximize expected(min(a[x] mod 5, abs(6 - a[x]))); subject to { } -> {"answer":"optimal","policy":{"decide":[["x",[],1]],"next":[]},"value":"3/1"}
+range R = 1..2; int a[R] = [5, 7]; dvar int x in 0..3; maximize expected(x + a[x] - a[x]); subject to { } -> {"answer":"optimal","policy":{"decide":[["x",[],2]],"next":[]},"value":"2/1"}
+range N = 1..0; int a[N] = 5; dvar int x in 0..1; maximize expected(x); subject to { !(a[x] == 5); } -> {"answer":"optimal","policy":{"decide":[["x",[],1]],"next":[]},"value":"1/1"}
+range R = 0..1; int a[R] = [4, 8]; dvar int x in 0..5; maximize expected(a[x >= 3] - x); subject to { } -> {"answer":"optimal","policy":{"decide":[["x",[],3]],"next":[]},"value":"5/1"}
+range R = 1..2; int a[R] = [5, 7]; dvar int x in 0..3; dvar int y in 0..1; maximize expected(10*x + y); subject to { a[x] == 7 => y == 0; } -> {"answer":"optimal","policy":{"decide":[["x",[],3],["y",[],1]],"next":[]},"value":"31/1"}
+range R = 1..2; int a[R] = [3, 4]; dvar int x in R; subject to { a[a[x]] >= 0; } -> {"answer":"infeasible"}
+"##;
+
 /// Texts with a form that is not solved yet, each with the line on which `solve` ends: its place is the first one's.
 const NOT_YET: &str = r##"
 range R = 1..3; dvar int x[R] in 1..2; subject to { allDifferent(all(i in R) x[i]); } -> {"answer":"refused","at":52,"code":117}
-range R = 1..2; int a[R] = [5, 7]; dvar int x in 1..2; maximize expected(a[x]); subject to { 1 == 2; } -> {"answer":"refused","at":73,"code":117}
+range R = 1..2; int a[R] = [5, 7]; dvar int x in 1..2; maximize expected(a[x] + allDifferent(all(i in R) a[x])); subject to { 1 == 2; } -> {"answer":"refused","at":80,"code":117}
 range R = 1..2; int a[R] = [5, 7]; dvar int x in 1..2; subject to { cumulative(all(i in R) (a[x], 1, 1), 1); } -> {"answer":"refused","at":68,"code":117}
-range T = 1..14; range R = 1..300; stoch int d[T] in {0:1, 1:1}; dvar int x in 0..1; int a[0..1] = [1, 1]; subject to { sum(i in R) a[x] >= 0; } -> {"answer":"refused","at":132,"code":117}
+range T = 1..14; range R = 1..300; stoch int d[T] in {0:1, 1:1}; dvar int x in 0..1; subject to { allDifferent(all(i in R) x + i); } -> {"answer":"refused","at":98,"code":117}
 "##;
 
 /// Texts whose terms pass a limit, each with the line on which `solve` ends.
 const LARGE: &str = r##"
+range T = 1..14; range R = 1..300; stoch int d[T] in {0:1, 1:1}; dvar int x in 0..1; int a[0..1] = [1, 1]; subject to { sum(i in R) a[x] >= 0; } -> {"answer":"limit","code":206,"counted":"9879552","limit":"4194304"}
 range T = 1..14; range R = 1..300; stoch int d[T] in {0:1, 1:1}; subject to { sum(i in R) i >= 0; } -> {"answer":"limit","code":206,"counted":"4964352","limit":"4194304"}
 dvar int x in 0..65535; subject to { x*1099511627776 >= 0; } -> {"answer":"limit","code":207,"counted":"72056494526300160","limit":"1099511627776"}
 dvar int x in 0..65535; maximize expected(x*1099511627776*2); subject to { x*1099511627775 >= 0; } -> {"answer":"limit","code":207,"counted":"72056494526234625","limit":"1099511627776"}
@@ -129,6 +158,7 @@ fn solves(rt: &impl Abort, alloc: Global, table: &str, status: Status) -> Result
 #[test]
 fn whole_texts(rt: HostRuntime) -> Result<(), Fail> {
     solves(&rt, rt.alloc(), SOLVED, Status::Done)?;
+    solves(&rt, rt.alloc(), ELEMENTS, Status::Done)?;
     solves(&rt, rt.alloc(), NOT_YET, Status::Refused)?;
     solves(&rt, rt.alloc(), LARGE, Status::Limit)?;
     Ok(())

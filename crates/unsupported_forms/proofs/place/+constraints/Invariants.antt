@@ -5,13 +5,12 @@ use Rattle.sopl_ast.specs.Unfolding.{all_conditions}
 use Rattle.sopl_ast.specs.Whole.{conses}
 use Rattle.sopl_ast.specs.WholeWeight.{weight_cons, weight_conses}
 use Rattle.unsupported_forms.specs.Forms.{places_in, lesser, least_of}
-use Rattle.unsupported_forms.specs.Shown.{decided}
 use Rattle.unsupported_forms.proofs.place.+constraints.Given as goal
 
 abbrev pub invariant-in_constraints-parts : goal.invariant-in_constraints-parts
 invariant-in_constraints-parts l =
-    lesser l.first (least_of (places_in (decided l.decls) (all_conditions (conses (map cons_tree (drop l.part-index l.parts))))))
-    ≡ least_of (places_in (decided l.decls) (all_conditions (conses (map cons_tree l.parts))))
+    lesser l.first (least_of (places_in (all_conditions (conses (map cons_tree (drop l.part-index l.parts))))))
+    ≡ least_of (places_in (all_conditions (conses (map cons_tree l.parts))))
 
 abbrev pub decreases-in_constraint : goal.decreases-in_constraint
 decreases-in_constraint l = weight_cons (cons_tree l.constraint.now)

@@ -3,21 +3,20 @@ use Rattle.std.proofs.Common.{◌≡◌, ◌+◌, ◌*◌, drop}
 use Rattle.sopl_ast.specs.Lists.{trees, terms, factors}
 use Rattle.sopl_ast.specs.Weight.{weight, weight_of_trees, weight_of_terms, weight_factors}
 use Rattle.unsupported_forms.specs.Forms.{all_places, term_places, factor_places, lesser, least_of}
-use Rattle.unsupported_forms.specs.Shown.{decided}
 use Rattle.unsupported_forms.proofs.walk.+walk.Given as goal
 
 abbrev pub invariant-in_all-parts : goal.invariant-in_all-parts
 invariant-in_all-parts l =
-    lesser l.first (least_of (all_places (decided l.decls) (trees (drop l.part-index l.parts)))) ≡ least_of (all_places (decided l.decls) (trees l.parts))
+    lesser l.first (least_of (all_places (trees (drop l.part-index l.parts)))) ≡ least_of (all_places (trees l.parts))
 
 abbrev pub invariant-in_terms-parts : goal.invariant-in_terms-parts
 invariant-in_terms-parts l =
-    lesser l.first (least_of (term_places (decided l.decls) (terms (drop l.part-index l.parts)))) ≡ least_of (term_places (decided l.decls) (terms l.parts))
+    lesser l.first (least_of (term_places (terms (drop l.part-index l.parts)))) ≡ least_of (term_places (terms l.parts))
 
 abbrev pub invariant-in_factors-parts : goal.invariant-in_factors-parts
 invariant-in_factors-parts l =
-    lesser l.first (least_of (factor_places (decided l.decls) (factors (drop l.part-index l.parts))))
-    ≡ least_of (factor_places (decided l.decls) (factors l.parts))
+    lesser l.first (least_of (factor_places (factors (drop l.part-index l.parts))))
+    ≡ least_of (factor_places (factors l.parts))
 
 abbrev pub decreases-in_expression : goal.decreases-in_expression
 decreases-in_expression l = 3 * weight l.e.now + 1
