@@ -3,7 +3,7 @@ ghost use Rattle.box_rules.specs.Laws.{IsTable};
 ghost use Rattle.term_tables.specs.Kept.{table_of};
 
 use super::*;
-use crate::ranges::{Ranges, covered};
+use crate::ranges::{Indices, Ranges, covered};
 use box_rules::Defined;
 use std::alloc::{AllocError, Global};
 use term_rules::Part;
@@ -133,7 +133,11 @@ fn elements_within_intervals(rt: HostRuntime) {
     ];
     for (first, second, hull, mark) in cases {
         let behind = Ranges::First(ends(second), &Ranges::End);
-        let within = table.within(&Ranges::First(ends(first), &behind), &view);
+        let ranges = Ranges::First(ends(first), &behind);
+        let indices = Indices::none()
+            .with(&ends(second), Defined::Always, &[2, 5, 7])
+            .with(&ends(first), Defined::Always, &[1, 3]);
+        let within = table.within(&ranges, &indices, &view);
         assert_eq!(rt; within.ends, ends(hull));
         assert!(rt; within.mark == mark, "the mark");
     }
