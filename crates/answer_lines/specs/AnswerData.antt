@@ -7,7 +7,7 @@ use Rattle.sopl_base.specs.declared.fault.Excess.{Excess}
 use Rattle.sopl_ast.specs.Instances.{Problem}
 use Rattle.sopl_ast.specs.Policies.{Policy}
 use Rattle.sopl_ast.specs.Optimal.{denominator}
-use Rattle.entry_json.specs.Entries.{whole_number}
+use Rattle.policy_json.specs.Entries.{whole_number}
 use Rattle.policy_json.specs.Nodes.{policy_data}
 
 -- a numerator over a denominator, never reduced

@@ -1,7 +1,12 @@
-//! The lines of answers: one JSON object in compact form, and a line feed.
+//! The lines of answers: one JSON object in compact form, and a line feed; that of the command `tree` has the scenarios of a text, with
+//! their weights, and the numbers of their histories.
 //! Its tests stand in `sopl`.
 #![tactic(auto)]
 
 mod lines;
+mod prefix;
+mod scenes;
+mod text;
 
 pub use lines::{bound_line, found_line, limit_line, optimal_line, refused_line, word_line};
+pub use text::tree_text;

@@ -26,7 +26,7 @@ fn word_answer(alloc: Global, word: &str) -> Result<Value, AllocError>
     json!(in alloc; {"answer": word})
 }
 
-/// The line of an answer that is one word: `{"answer":WORD}` and a line feed. It is refused for want of memory alone.
+/// The line of an answer that is one word: `{"answer":WORD}` and a line feed. It is refused only where memory runs out.
 pub fn word_line(alloc: Global, word: &str) -> Result<String, AllocError>
     ensures text { IfOk result (λ text. string_bytes text ≡ line_of (word_data word.now)) }
 {

@@ -5,3 +5,8 @@ pub mod Counts
 pub mod Steps
 pub mod Opens
 pub mod Points
+pub mod Digits
+pub mod Bits
+pub mod Values
+pub mod Nodes
+pub mod Bounds

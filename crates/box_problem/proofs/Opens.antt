@@ -34,47 +34,47 @@ any_cases : {X : Type 0} (P : X → Type 0) (x : X) (xs : List X) → Any P (x �
 any_cases P x xs some = any_cases_at P x xs some.0 some.1 some.2 some.3 some.4
 
 -- an element in the middle, put at the head
-any_to_head : {X : Type 0} (P : X → Type 0) (x : X) (front back : List X) → Any P (front ++ x ∷ back) → Any P (x ∷ (front ++ back))
+any_to_head : {X : Type 0} (P : X → Type 0) (x : X) (prefix back : List X) → Any P (prefix ++ x ∷ back) → Any P (x ∷ (prefix ++ back))
 any_to_head P x [] back some = some
-any_to_head P x (y ∷ front) back some =
-    elim (any_cases P y (front ++ x ∷ back) some) [
-      | inl here ↦ any_later P x (y ∷ (front ++ back)) (any_here P y (front ++ back) here)
-      | inr later ↦ elim (any_cases P x (front ++ back) (any_to_head P x front back later)) [
-        | inl head ↦ any_here P x (y ∷ (front ++ back)) head
-        | inr rest ↦ any_later P x (y ∷ (front ++ back)) (any_later P y (front ++ back) rest)
+any_to_head P x (y ∷ prefix) back some =
+    elim (any_cases P y (prefix ++ x ∷ back) some) [
+      | inl here ↦ any_later P x (y ∷ (prefix ++ back)) (any_here P y (prefix ++ back) here)
+      | inr later ↦ elim (any_cases P x (prefix ++ back) (any_to_head P x prefix back later)) [
+        | inl head ↦ any_here P x (y ∷ (prefix ++ back)) head
+        | inr rest ↦ any_later P x (y ∷ (prefix ++ back)) (any_later P y (prefix ++ back) rest)
       ]
     ]
 
-any_from_head : {X : Type 0} (P : X → Type 0) (x : X) (front back : List X) → Any P (x ∷ (front ++ back)) → Any P (front ++ x ∷ back)
+any_from_head : {X : Type 0} (P : X → Type 0) (x : X) (prefix back : List X) → Any P (x ∷ (prefix ++ back)) → Any P (prefix ++ x ∷ back)
 any_from_head P x [] back some = some
-any_from_head P x (y ∷ front) back some =
-    elim (any_cases P x (y ∷ (front ++ back)) some) [
-      | inl head ↦ any_later P y (front ++ x ∷ back) (any_from_head P x front back (any_here P x (front ++ back) head))
-      | inr rest ↦ elim (any_cases P y (front ++ back) rest) [
-        | inl here ↦ any_here P y (front ++ x ∷ back) here
-        | inr later ↦ any_later P y (front ++ x ∷ back) (any_from_head P x front back (any_later P x (front ++ back) later))
+any_from_head P x (y ∷ prefix) back some =
+    elim (any_cases P x (y ∷ (prefix ++ back)) some) [
+      | inl head ↦ any_later P y (prefix ++ x ∷ back) (any_from_head P x prefix back (any_here P x (prefix ++ back) head))
+      | inr rest ↦ elim (any_cases P y (prefix ++ back) rest) [
+        | inl here ↦ any_here P y (prefix ++ x ∷ back) here
+        | inr later ↦ any_later P y (prefix ++ x ∷ back) (any_from_head P x prefix back (any_later P x (prefix ++ back) later))
       ]
     ]
 
-all_to_head : {X : Type 0} (P : X → Type 0) (x : X) (front back : List X) → All P (front ++ x ∷ back) → All P (x ∷ (front ++ back))
+all_to_head : {X : Type 0} (P : X → Type 0) (x : X) (prefix back : List X) → All P (prefix ++ x ∷ back) → All P (x ∷ (prefix ++ back))
 all_to_head P x [] back each = each
-all_to_head P x (y ∷ front) back each =
-    let rest = all_to_head P x front back (All-tail P y (front ++ x ∷ back) each) in
-    All-cons P x (y ∷ (front ++ back)) (All-head P x (front ++ back) rest) (All-cons P y (front ++ back) (All-head P y (front ++ x ∷ back) each) (All-tail P x (front ++ back) rest))
+all_to_head P x (y ∷ prefix) back each =
+    let rest = all_to_head P x prefix back (All-tail P y (prefix ++ x ∷ back) each) in
+    All-cons P x (y ∷ (prefix ++ back)) (All-head P x (prefix ++ back) rest) (All-cons P y (prefix ++ back) (All-head P y (prefix ++ x ∷ back) each) (All-tail P x (prefix ++ back) rest))
 
-all_from_head : {X : Type 0} (P : X → Type 0) (x : X) (front back : List X) → All P (x ∷ (front ++ back)) → All P (front ++ x ∷ back)
+all_from_head : {X : Type 0} (P : X → Type 0) (x : X) (prefix back : List X) → All P (x ∷ (prefix ++ back)) → All P (prefix ++ x ∷ back)
 all_from_head P x [] back each = each
-all_from_head P x (y ∷ front) back each =
-    let rest = All-tail P x (y ∷ (front ++ back)) each in
-    All-cons P y (front ++ x ∷ back) (All-head P y (front ++ back) rest)
-    (all_from_head P x front back (All-cons P x (front ++ back) (All-head P x (y ∷ (front ++ back)) each) (All-tail P y (front ++ back) rest)))
+all_from_head P x (y ∷ prefix) back each =
+    let rest = All-tail P x (y ∷ (prefix ++ back)) each in
+    All-cons P y (prefix ++ x ∷ back) (All-head P y (prefix ++ back) rest)
+    (all_from_head P x prefix back (All-cons P x (prefix ++ back) (All-head P x (y ∷ (prefix ++ back)) each) (All-tail P y (prefix ++ back) rest)))
 
 sum_cons : {X : Type 0} (f : X → ℕ) (x : X) (xs : List X) → sum_by f (x ∷ xs) ≡ f x + sum_by f xs
 sum_cons f x xs = omega (arith, sum_by_from f (0 + f x) xs)
 
-sum_to_head : {X : Type 0} (f : X → ℕ) (x : X) (front back : List X) → sum_by f (front ++ x ∷ back) ≡ sum_by f (x ∷ (front ++ back))
-sum_to_head f x front back =
-    omega (arith, sum_by-append f front (x ∷ back), sum_cons f x back, sum_cons f x (front ++ back), sum_by-append f front back)
+sum_to_head : {X : Type 0} (f : X → ℕ) (x : X) (prefix back : List X) → sum_by f (prefix ++ x ∷ back) ≡ sum_by f (x ∷ (prefix ++ back))
+sum_to_head f x prefix back =
+    omega (arith, sum_by-append f prefix (x ∷ back), sum_cons f x back, sum_cons f x (prefix ++ back), sum_by-append f prefix back)
 
 -- what the open boxes cover
 pub covers_at_first : (problem : BoxProblem) (v : Option ℤ) → Lawful problem → Covers problem v (problem.root ∷ [])
@@ -83,15 +83,15 @@ covers_at_first problem v lawful = record {
   cover = λ point q beats. any_here (λ b. InBox b point) problem.root [] q;
 }
 
-pub covers_in_any_order : (problem : BoxProblem) (v : Option ℤ) (b : Box) (front back : List Box) → Covers problem v (front ++ b ∷ back) ↔ Covers problem v (b ∷ (front ++ back))
-covers_in_any_order problem v b front back = (
+pub covers_in_any_order : (problem : BoxProblem) (v : Option ℤ) (b : Box) (prefix back : List Box) → Covers problem v (prefix ++ b ∷ back) ↔ Covers problem v (b ∷ (prefix ++ back))
+covers_in_any_order problem v b prefix back = (
   λ covers. record {
-    inside = all_to_head (λ part. Inside part problem.root) b front back covers.inside;
-    cover = λ point q beats. any_to_head (λ part. InBox part point) b front back (covers.cover point q beats);
+    inside = all_to_head (λ part. Inside part problem.root) b prefix back covers.inside;
+    cover = λ point q beats. any_to_head (λ part. InBox part point) b prefix back (covers.cover point q beats);
   },
   λ covers. record {
-    inside = all_from_head (λ part. Inside part problem.root) b front back covers.inside;
-    cover = λ point q beats. any_from_head (λ part. InBox part point) b front back (covers.cover point q beats);
+    inside = all_from_head (λ part. Inside part problem.root) b prefix back covers.inside;
+    cover = λ point q beats. any_from_head (λ part. InBox part point) b prefix back (covers.cover point q beats);
   },
 )
 
@@ -221,9 +221,9 @@ nodes b = nodes_for (points b)
 pub counts_at_first : (problem : BoxProblem) → Counts problem 0 (problem.root ∷ [])
 counts_at_first problem = record { count = omega (arith, sum_cons nodes problem.root []) }
 
-pub counts_in_any_order : (problem : BoxProblem) (finished : ℕ) (b : Box) (front back : List Box) → Counts problem finished (front ++ b ∷ back) ↔ Counts problem finished (b ∷ (front ++ back))
-counts_in_any_order problem finished b front back =
-    let same = sum_to_head nodes b front back in
+pub counts_in_any_order : (problem : BoxProblem) (finished : ℕ) (b : Box) (prefix back : List Box) → Counts problem finished (prefix ++ b ∷ back) ↔ Counts problem finished (b ∷ (prefix ++ back))
+counts_in_any_order problem finished b prefix back =
+    let same = sum_to_head nodes b prefix back in
     (λ counts. record { count = omega (arith, same, counts.count) }, λ counts. record { count = omega (arith, same, counts.count) })
 
 -- steps leave no more points

@@ -6,3 +6,8 @@ pub mod Covers
 pub mod Reached
 pub mod BoxLaws
 pub mod SearchLaws
+pub mod Bits
+pub mod BitLaws
+pub mod Opens
+pub mod OpenLaws
+pub mod Near

@@ -48,8 +48,8 @@ CoversAtFirst = (problem : BoxProblem) (v : Option ℤ) → Lawful problem → C
 -- the order of the open boxes is free
 abbrev pub CoversInAnyOrder : Type 0
 CoversInAnyOrder =
-    (problem : BoxProblem) (v : Option ℤ) (b : Box) (front back : List Box)
-    → Covers problem v (front ++ b ∷ back) ↔ Covers problem v (b ∷ (front ++ back))
+    (problem : BoxProblem) (v : Option ℤ) (b : Box) (prefix back : List Box)
+    → Covers problem v (prefix ++ b ∷ back) ↔ Covers problem v (b ∷ (prefix ++ back))
 
 -- right steps may be taken in an open box
 abbrev pub CoversAfterSteps : Type 0
@@ -94,8 +94,8 @@ CountsAtFirst = (problem : BoxProblem) → Counts problem 0 (problem.root ∷ []
 
 abbrev pub CountsInAnyOrder : Type 0
 CountsInAnyOrder =
-    (problem : BoxProblem) (finished : ℕ) (b : Box) (front back : List Box)
-    → Counts problem finished (front ++ b ∷ back) ↔ Counts problem finished (b ∷ (front ++ back))
+    (problem : BoxProblem) (finished : ℕ) (b : Box) (prefix back : List Box)
+    → Counts problem finished (prefix ++ b ∷ back) ↔ Counts problem finished (b ∷ (prefix ++ back))
 
 -- right steps leave no more points
 abbrev pub CountsAfterSteps : Type 0

@@ -3,16 +3,16 @@
 //! Each row was worked out by hand. An origin is a number (`Fixed(5)`), a stochastic variable by its number, by stage and then in text order (`Drawn(0)`), or a
 //! decision by its number in text order (`Decided(2)`).
 
-use place_names::Setting;
+use compile_names::Scenarios;
+use scen_accept::{AcceptedProblem, stated_in};
 use sopl_ast::Name;
 use sopl_base::Fault;
 use std::alloc::{AllocError, Global};
 use std::process::Abort;
 use std::test::Fail;
-use text_problem::{Stated, stated_in};
 
 /// The names of a text; there are fewer than 2^32.
-fn setting_of<'a>(alloc: Global, stated: &'a Stated) -> Result<Setting<'a>, Fault> {
+fn setting_of<'a>(alloc: Global, stated: &'a AcceptedProblem) -> Result<Scenarios<'a>, Fault> {
     let stochs = stated.ground.stochs();
     if stochs.len() > u32::MAX as usize {
         return Err(Fault::NoMemory);
@@ -21,7 +21,7 @@ fn setting_of<'a>(alloc: Global, stated: &'a Stated) -> Result<Setting<'a>, Faul
     if decisions.len() > u32::MAX as usize {
         return Err(Fault::NoMemory);
     }
-    Ok(Setting::of(
+    Ok(Scenarios::of(
         alloc,
         stated.ground.table(),
         stochs,
@@ -31,7 +31,7 @@ fn setting_of<'a>(alloc: Global, stated: &'a Stated) -> Result<Setting<'a>, Faul
 }
 
 /// A name without an index, and then the sets and the items of its array.
-fn shown(alloc: Global, setting: &Setting<'_>, name: &str) -> Result<String, AllocError> {
+fn shown(alloc: Global, setting: &Scenarios<'_>, name: &str) -> Result<String, AllocError> {
     let name = Name::from_bytes(alloc, name.as_bytes())?;
     let scalar = setting.scalar(&name);
     let array = setting.array(alloc, &name)?;

@@ -3,15 +3,15 @@
 //! Each number was worked out by hand.
 
 use crate::instances::left_of;
-use binder_places::{divisor, known_at};
+use compile_counts::{divisor, known_at};
+use scen_accept::stated_in;
 use sopl_ast::{Expr, Kind};
 use sopl_base::Fault;
 use sopl_unfold::Ground;
 use std::alloc::Global;
 use std::process::Abort;
 use std::test::Fail;
-use text_problem::stated_in;
-use unfold_constants::Known;
+use unfold_constants::ConstantScope;
 use unfold_tables::Count;
 
 /// What stands behind the first part of the product on the left of a condition.
@@ -24,7 +24,7 @@ fn divisor_in<'a>(conditions: &[&'a Expr], text: u32) -> Option<&'a Expr> {
 
 /// The number of an expression that divides; 0 where it can't.
 #[tactic(auto, using(crate::proofs::Divisors::divisor_passes))]
-fn number_of<'a>(known: &Known<'a>, e: &'a Expr) -> Result<i64, Fault> {
+fn number_of<'a>(known: &ConstantScope<'a>, e: &'a Expr) -> Result<i64, Fault> {
     let mut count = Count::new();
     if known.constant(&mut count, e)? == 0 {
         return Ok(0);

@@ -2,12 +2,12 @@
 //!
 //! Each list was written down by hand.
 
+use scen_accept::stated_in;
 use sopl_ast::Name;
 use sopl_base::Fault;
 use std::alloc::{AllocError, Global};
 use std::process::Abort;
 use std::test::Fail;
-use text_problem::stated_in;
 use unfold_tables::{ConstantElement, Table};
 
 /// Writes elements with their indices.

@@ -3,12 +3,12 @@
 //! The nodes of each text were counted by hand. All but the last have 14 coins, so 16,384 scenarios, and a sum that has 256 nodes with its comparison: what stands
 //! beside it passes the limit of 4,194,304 by 16,384 a node.
 
-use node_counts::node_excess;
+use compile_counts::node_excess;
+use scen_accept::stated_in;
 use sopl_base::Fault;
 use std::alloc::Global;
 use std::process::Abort;
 use std::test::Fail;
-use text_problem::stated_in;
 
 /// How many term nodes a text has, where these are too many.
 fn counted_in(alloc: Global, text: &str) -> Result<Option<i128>, Fault> {

@@ -3,19 +3,19 @@
 //! Each was written down by hand.
 
 use crate::instances::left_of;
-use binder_places::{all_places, known_at};
+use compile_counts::{all_places, known_at};
+use scen_accept::stated_in;
 use sopl_ast::{Expr, Kind};
 use sopl_base::Fault;
 use sopl_unfold::Ground;
 use std::alloc::{AllocError, Global};
 use std::process::Abort;
 use std::test::Fail;
-use text_problem::stated_in;
-use unfold_constants::Known;
+use unfold_constants::ConstantScope;
 use unfold_tables::Count;
 
 /// Writes the bound names of a place with their numbers, and `;` behind them.
-fn put_place(out: &mut String, known: &Known<'_>) -> Result<(), AllocError> {
+fn put_place(out: &mut String, known: &ConstantScope<'_>) -> Result<(), AllocError> {
     for (name, number) in known.bindings() {
         for byte in name.as_slice() {
             out.push(char::from(*byte))?;
@@ -29,7 +29,7 @@ fn put_place(out: &mut String, known: &Known<'_>) -> Result<(), AllocError> {
 fn put_places<'a>(
     out: &mut String,
     alloc: Global,
-    known: &Known<'a>,
+    known: &ConstantScope<'a>,
     e: &'a Expr,
 ) -> Result<(), Fault> {
     let mut count = Count::new();

@@ -2,12 +2,12 @@
 //!
 //! The place of each was marked by hand in its text.
 
+use compile_unsupported::unsupported_place;
+use scen_accept::typed_in;
 use sopl_base::Fault;
 use std::alloc::Global;
 use std::process::Abort;
 use std::test::Fail;
-use text_problem::typed_in;
-use unsupported_forms::unsupported_place;
 
 /// The place that a text gives, or none.
 fn place_in(alloc: Global, text: &str) -> Result<Option<usize>, Fault> {

@@ -21,40 +21,40 @@ pub none_has : {X : Type 0} (y : X) → ¬ Contains [] y
 none_has y has = omega (arith, has.1)
 
 -- an element in the middle, and the others
-pub middle_is : {X : Type 0} (front back : List X) (x : X) → Contains (front ++ x ∷ back) x
-middle_is front back x = Contains-append_right front (x ∷ back) x (first_is x back)
+pub middle_is : {X : Type 0} (prefix back : List X) (x : X) → Contains (prefix ++ x ∷ back) x
+middle_is prefix back x = Contains-append_right prefix (x ∷ back) x (first_is x back)
 
-pub others_have : {X : Type 0} (front back : List X) (x y : X) → Contains (front ++ back) y → Contains (front ++ x ∷ back) y
-others_have front back x y has =
-    elim (Contains-append_cases front back y has) [
-      | inl before ↦ Contains-append_left front (x ∷ back) y before
-      | inr behind ↦ Contains-append_right front (x ∷ back) y (later_has x back y behind)
+pub others_have : {X : Type 0} (prefix back : List X) (x y : X) → Contains (prefix ++ back) y → Contains (prefix ++ x ∷ back) y
+others_have prefix back x y has =
+    elim (Contains-append_cases prefix back y has) [
+      | inl before ↦ Contains-append_left prefix (x ∷ back) y before
+      | inr behind ↦ Contains-append_right prefix (x ∷ back) y (later_has x back y behind)
     ]
 
-pub middle_or_others : {X : Type 0} (front back : List X) (x y : X) → Contains (front ++ x ∷ back) y → (x ≡ y) ⊎ Contains (front ++ back) y
-middle_or_others front back x y has =
-    elim (Contains-append_cases front (x ∷ back) y has) [
-      | inl before ↦ inr (Contains-append_left front back y before)
+pub middle_or_others : {X : Type 0} (prefix back : List X) (x y : X) → Contains (prefix ++ x ∷ back) y → (x ≡ y) ⊎ Contains (prefix ++ back) y
+middle_or_others prefix back x y has =
+    elim (Contains-append_cases prefix (x ∷ back) y has) [
+      | inl before ↦ inr (Contains-append_left prefix back y before)
       | inr behind ↦ elim (first_or_later x back y behind) [
         | inl here ↦ inl here
-        | inr later ↦ inr (Contains-append_right front back y later)
+        | inr later ↦ inr (Contains-append_right prefix back y later)
       ]
     ]
 
 -- a list that has an element is cut there
 pub record IsCutAt {X : Type 0} (xs : List X) (x : X) : Type 0 where
-  pub front : List X
+  pub prefix : List X
   pub back : List X
-  pub is : xs ≡ front ++ x ∷ back
+  pub is : xs ≡ prefix ++ x ∷ back
 
 longer_cut : {X : Type 0} (y : X) (xs : List X) (x : X) → IsCutAt xs x → IsCutAt (y ∷ xs) x
-longer_cut {X} y xs x cut = record { front = y ∷ cut.front; back = cut.back; is = ap (λ (zs : List X). y ∷ zs) cut.is }
+longer_cut {X} y xs x cut = record { prefix = y ∷ cut.prefix; back = cut.back; is = ap (λ (zs : List X). y ∷ zs) cut.is }
 
 pub cut_at : {X : Type 0} (xs : List X) (x : X) → Contains xs x → IsCutAt xs x
 cut_at [] x has = absurd (none_has x has)
 cut_at {X} (y ∷ xs) x has =
     elim (first_or_later y xs x has) [
-      | inl here ↦ record { front = []; back = xs; is = ap (λ (z : X). z ∷ xs) here }
+      | inl here ↦ record { prefix = []; back = xs; is = ap (λ (z : X). z ∷ xs) here }
       | inr later ↦ longer_cut y xs x (cut_at xs x later)
     ]
 
@@ -72,19 +72,19 @@ longer_apart : {X : Type 0} (x : X) (xs : List X) → ((y : X) → Contains xs y
 longer_apart x xs differs apart =
     AllPairs-cons (λ a b. ¬ a ≡ b) x xs (λ k d exists. differs (get_or xs k d) (Contains-get_or xs k d exists)) apart
 
-pub others_apart : {X : Type 0} (front back : List X) (x : X) → AreApart (front ++ x ∷ back) → AreApart (front ++ back)
+pub others_apart : {X : Type 0} (prefix back : List X) (x : X) → AreApart (prefix ++ x ∷ back) → AreApart (prefix ++ back)
 others_apart [] back x apart = later_apart x back apart
-others_apart (y ∷ front) back x apart =
-    longer_apart y (front ++ back)
-    (λ z has. first_apart y (front ++ x ∷ back) z apart (others_have front back x z has))
-    (others_apart front back x (later_apart y (front ++ x ∷ back) apart))
+others_apart (y ∷ prefix) back x apart =
+    longer_apart y (prefix ++ back)
+    (λ z has. first_apart y (prefix ++ x ∷ back) z apart (others_have prefix back x z has))
+    (others_apart prefix back x (later_apart y (prefix ++ x ∷ back) apart))
 
-pub middle_apart : {X : Type 0} (front back : List X) (x y : X) → AreApart (front ++ x ∷ back) → Contains (front ++ back) y → ¬ x ≡ y
+pub middle_apart : {X : Type 0} (prefix back : List X) (x y : X) → AreApart (prefix ++ x ∷ back) → Contains (prefix ++ back) y → ¬ x ≡ y
 middle_apart [] back x y apart has same = first_apart x back y apart has same
-middle_apart (z ∷ front) back x y apart has same =
-    elim (first_or_later z (front ++ back) y has) [
-      | inl here ↦ first_apart z (front ++ x ∷ back) x apart (middle_is front back x) (here ∙ sym same)
-      | inr later ↦ middle_apart front back x y (later_apart z (front ++ x ∷ back) apart) later same
+middle_apart (z ∷ prefix) back x y apart has same =
+    elim (first_or_later z (prefix ++ back) y has) [
+      | inl here ↦ first_apart z (prefix ++ x ∷ back) x apart (middle_is prefix back x) (here ∙ sym same)
+      | inr later ↦ middle_apart prefix back x y (later_apart z (prefix ++ x ∷ back) apart) later same
     ]
 
 pub put_apart : {X : Type 0} (left right : List X) (x : X) → AreApart (left ++ right) → ((y : X) → Contains (left ++ right) y → ¬ x ≡ y) → AreApart (left ++ x ∷ right)

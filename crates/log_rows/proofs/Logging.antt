@@ -18,7 +18,7 @@ use Rattle.box_problem.specs.Rightness.{AllRight}
 use Rattle.log_rows.specs.Rows.{row_at, handed, final_of, box_at, depth_of, depth_at, IsSplit, Hangs, AreOrdered}
 use Rattle.log_rows.specs.Made.{MadeEnd, MadeSplit, Made, best_after, best_at, Pending, pending_at, Logs, AreShallow, open_row, with_open}
 use Rattle.log_rows.specs.LogLaws.{row_of, half, root_alone}
-use Rattle.log_rows.proofs.Places.{IsWithin, hangs_within, row_stays, row_last, final_stays, box_stays, final_last, depth_stays, depth_at_stays, depth_last, hangs_stays, hangs_front}
+use Rattle.log_rows.proofs.Places.{IsWithin, hangs_within, row_stays, row_last, final_stays, box_stays, final_last, depth_stays, depth_at_stays, depth_last, hangs_stays, hangs_prefix}
 use Rattle.log_rows.proofs.Lists.{AreApart, none_has, first_or_later, middle_is, others_have, middle_or_others, others_apart, middle_apart, put_apart}
 use Rattle.log_rows.proofs.Growing.{some_side, IsNewSide, hung, still_hangs, side_hangs, side_in, not_both_sides}
 
@@ -136,10 +136,10 @@ next_best problem rows best x steps end next =
     ∙ (ap (λ (r : Row). best_after problem (best_at problem all (length rows)) r.end (final_of problem.root all (length rows))) (sym (row_last rows row []))
     ∙ ap (λ (n : ℕ). best_at problem all n) (sym (longer rows row))))
 
-next_of : (problem : BoxProblem) (rows : List Row) (x : Pending) (front back : List Pending) (best : Option ℤ) (steps : List Step) (end : EndLine)
-    → Logs problem rows (front ++ x ∷ back) best → AllRight problem best x.at steps → MadeEnd problem best (after_steps x.at steps) end → IsNext problem rows best x steps end
-next_of problem rows x front back best steps end logs right made =
-    let here = logs.placed x (middle_is front back x) in
+next_of : (problem : BoxProblem) (rows : List Row) (x : Pending) (prefix back : List Pending) (best : Option ℤ) (steps : List Step) (end : EndLine)
+    → Logs problem rows (prefix ++ x ∷ back) best → AllRight problem best x.at steps → MadeEnd problem best (after_steps x.at steps) end → IsNext problem rows best x steps end
+next_of problem rows x prefix back best steps end logs right made =
+    let here = logs.placed x (middle_is prefix back x) in
     record {
       ordered = logs.hangs;
       made = logs.made;
@@ -159,15 +159,15 @@ pending_stays root xs ys parent hangs =
     ap (λ (b : Box). pending_with parent b) (box_stays root xs ys parent (hangs_within xs (length xs) parent hangs))
 
 -- the open nodes but x are open still
-other_placed : (problem : BoxProblem) (rows : List Row) (x : Pending) (front back : List Pending) (best : Option ℤ) (steps : List Step) (end : EndLine)
-    → Logs problem rows (front ++ x ∷ back) best → IsNext problem rows best x steps end → (y : Pending) → Contains (front ++ back) y
+other_placed : (problem : BoxProblem) (rows : List Row) (x : Pending) (prefix back : List Pending) (best : Option ℤ) (steps : List Step) (end : EndLine)
+    → Logs problem rows (prefix ++ x ∷ back) best → IsNext problem rows best x steps end → (y : Pending) → Contains (prefix ++ back) y
     → Hangs (rows_with rows x steps end) (length (rows_with rows x steps end)) y.parent × (y ≡ pending_at problem.root (rows_with rows x steps end) y.parent)
-other_placed problem rows x front back best steps end logs next y has =
+other_placed problem rows x prefix back best steps end logs next y has =
     let row = row_of x steps end in
     let all = rows_with rows x steps end in
-    let here = logs.placed y (others_have front back x y has) in
-    let x_is : x ≡ pending_at problem.root rows x.parent = (logs.placed x (middle_is front back x)).1 in
-    let differs : ¬ x.parent ≡ y.parent = λ same. middle_apart front back x y logs.distinct has (x_is ∙ (ap (pending_at problem.root rows) same ∙ sym here.1)) in
+    let here = logs.placed y (others_have prefix back x y has) in
+    let x_is : x ≡ pending_at problem.root rows x.parent = (logs.placed x (middle_is prefix back x)).1 in
+    let differs : ¬ x.parent ≡ y.parent = λ same. middle_apart prefix back x y logs.distinct has (x_is ∙ (ap (pending_at problem.root rows) same ∙ sym here.1)) in
     let last : (row_at all (length rows)).parent ≡ x.parent = ap (λ (r : Row). r.parent) (row_last rows row []) in (
       subst (λ (n : ℕ). Hangs all n y.parent) (sym (longer rows row))
           (still_hangs all (length rows) y.parent (next_ordered problem rows best x steps end next (length rows) (omega (arith, longer rows row)))
@@ -175,45 +175,45 @@ other_placed problem rows x front back best steps end logs next y has =
       here.1 ∙ sym (pending_stays problem.root rows (row ∷ []) y.parent here.0),
     )
 
-among : (problem : BoxProblem) (rows : List Row) (x : Pending) (front back : List Pending) (best : Option ℤ) (row : Row) (parent : Option Parent)
-    → Logs problem rows (front ++ x ∷ back) best → Hangs rows (length rows) parent → ¬ x.parent ≡ parent → Contains (front ++ back) (pending_at problem.root (rows ++ row ∷ []) parent)
-among problem rows x front back best row parent logs hangs differs =
-    subst (λ (y : Pending). Contains (front ++ back) y) (sym (pending_stays problem.root rows (row ∷ []) parent hangs))
-    (elim (middle_or_others front back x (pending_at problem.root rows parent) (logs.listed parent hangs)) [
+among : (problem : BoxProblem) (rows : List Row) (x : Pending) (prefix back : List Pending) (best : Option ℤ) (row : Row) (parent : Option Parent)
+    → Logs problem rows (prefix ++ x ∷ back) best → Hangs rows (length rows) parent → ¬ x.parent ≡ parent → Contains (prefix ++ back) (pending_at problem.root (rows ++ row ∷ []) parent)
+among problem rows x prefix back best row parent logs hangs differs =
+    subst (λ (y : Pending). Contains (prefix ++ back) y) (sym (pending_stays problem.root rows (row ∷ []) parent hangs))
+    (elim (middle_or_others prefix back x (pending_at problem.root rows parent) (logs.listed parent hangs)) [
       | inl same ↦ absurd (differs (ap (λ (y : Pending). y.parent) same))
       | inr other ↦ other
     ])
 
 -- what hangs behind the new row: an open node but x, or a side of the new row
-still_listed : (problem : BoxProblem) (rows : List Row) (x : Pending) (front back : List Pending) (best : Option ℤ) (steps : List Step) (end : EndLine)
-    → Logs problem rows (front ++ x ∷ back) best → (parent : Option Parent) → Hangs (rows_with rows x steps end) (length (rows_with rows x steps end)) parent
-    → Contains (front ++ back) (pending_at problem.root (rows_with rows x steps end) parent) ⊎ IsNewSide (rows_with rows x steps end) (length rows) parent
-still_listed problem rows x front back best steps end logs parent hangs =
+still_listed : (problem : BoxProblem) (rows : List Row) (x : Pending) (prefix back : List Pending) (best : Option ℤ) (steps : List Step) (end : EndLine)
+    → Logs problem rows (prefix ++ x ∷ back) best → (parent : Option Parent) → Hangs (rows_with rows x steps end) (length (rows_with rows x steps end)) parent
+    → Contains (prefix ++ back) (pending_at problem.root (rows_with rows x steps end) parent) ⊎ IsNewSide (rows_with rows x steps end) (length rows) parent
+still_listed problem rows x prefix back best steps end logs parent hangs =
     let row = row_of x steps end in
     let all = rows_with rows x steps end in
     let last : (row_at all (length rows)).parent ≡ x.parent = ap (λ (r : Row). r.parent) (row_last rows row []) in
     elim (hung all (length rows) parent (subst (λ (n : ℕ). Hangs all n parent) (longer rows row) hangs)) [
-      | inl before ↦ inl (among problem rows x front back best row parent logs (hangs_front rows (row ∷ []) (length rows) parent (omega arith) before.0) (λ same. before.1 (last ∙ same)))
+      | inl before ↦ inl (among problem rows x prefix back best row parent logs (hangs_prefix rows (row ∷ []) (length rows) parent (omega arith) before.0) (λ same. before.1 (last ∙ same)))
       | inr new ↦ inr new
     ]
 
-pub logs_after_end : (problem : BoxProblem) (rows : List Row) (x : Pending) (front back : List Pending) (best : Option ℤ) (steps : List Step) (end : EndLine)
-    → Logs problem rows (front ++ x ∷ back) best → AllRight problem best x.at steps
+pub logs_after_end : (problem : BoxProblem) (rows : List Row) (x : Pending) (prefix back : List Pending) (best : Option ℤ) (steps : List Step) (end : EndLine)
+    → Logs problem rows (prefix ++ x ∷ back) best → AllRight problem best x.at steps
     → MadeEnd problem best (after_steps x.at steps) end → ¬ IsSplit end
-    → Logs problem (rows ++ row_of x steps end ∷ []) (front ++ back) (best_after problem best end (after_steps x.at steps))
-logs_after_end problem rows x front back best steps end logs right made isnt =
-    let next = next_of problem rows x front back best steps end logs right made in
+    → Logs problem (rows ++ row_of x steps end ∷ []) (prefix ++ back) (best_after problem best end (after_steps x.at steps))
+logs_after_end problem rows x prefix back best steps end logs right made isnt =
+    let next = next_of problem rows x prefix back best steps end logs right made in
     let row = row_of x steps end in
     record {
       hangs = next_ordered problem rows best x steps end next;
       made = next_made problem rows best x steps end next;
       best_is = next_best problem rows best x steps end next;
-      placed = other_placed problem rows x front back best steps end logs next;
-      listed = λ parent hangs. elim (still_listed problem rows x front back best steps end logs parent hangs) [
+      placed = other_placed problem rows x prefix back best steps end logs next;
+      listed = λ parent hangs. elim (still_listed problem rows x prefix back best steps end logs parent hangs) [
         | inl other ↦ other
         | inr new ↦ absurd (isnt (subst (λ (r : Row). IsSplit r.end) (row_last rows row []) new.split))
       ];
-      distinct = others_apart front back x logs.distinct;
+      distinct = others_apart prefix back x logs.distinct;
     }
 
 -- the two sides of a new row that is split
@@ -271,18 +271,18 @@ half_placed problem rows best x steps cut side next =
 abbrev IsPlaced : Box → List Row → Pending → Type 0
 IsPlaced root rows y = Hangs rows (length rows) y.parent × (y ≡ pending_at root rows y.parent)
 
-pub logs_after_split : (problem : BoxProblem) (rows : List Row) (x : Pending) (front back left right : List Pending) (best : Option ℤ) (steps : List Step) (cut : Cut)
-    → Logs problem rows (front ++ x ∷ back) best → AllRight problem best x.at steps
-    → MadeSplit problem best (after_steps x.at steps) cut → left ++ right ≡ front ++ back
+pub logs_after_split : (problem : BoxProblem) (rows : List Row) (x : Pending) (prefix back left right : List Pending) (best : Option ℤ) (steps : List Step) (cut : Cut)
+    → Logs problem rows (prefix ++ x ∷ back) best → AllRight problem best x.at steps
+    → MadeSplit problem best (after_steps x.at steps) cut → left ++ right ≡ prefix ++ back
     → Logs problem (rows ++ row_of x steps (Split cut) ∷ [])
     (left ++ half (length rows) (after_steps x.at steps) cut Ge ∷ half (length rows) (after_steps x.at steps) cut Le ∷ right) best
-logs_after_split problem rows x front back left right best steps cut logs right_steps made same =
+logs_after_split problem rows x prefix back left right best steps cut logs right_steps made same =
     let end = Split cut in
     let n = length rows in
     let b = after_steps x.at steps in
-    let next = next_of problem rows x front back best steps end logs right_steps made in
+    let next = next_of problem rows x prefix back best steps end logs right_steps made in
     let all = rows_with rows x steps end in
-    let moved : (y : Pending) → Contains (left ++ right) y → Contains (front ++ back) y = λ y has. subst (λ (ys : List Pending). Contains ys y) same has in
+    let moved : (y : Pending) → Contains (left ++ right) y → Contains (prefix ++ back) y = λ y has. subst (λ (ys : List Pending). Contains ys y) same has in
     record {
       hangs = next_ordered problem rows best x steps end next;
       made = next_made problem rows best x steps end next;
@@ -291,16 +291,16 @@ logs_after_split problem rows x front back left right best steps cut logs right_
         | inl high ↦ subst (IsPlaced problem.root all) high (half_placed problem rows best x steps cut Ge next, new_half problem rows best x steps cut Ge next)
         | inr others ↦ elim others [
           | inl low ↦ subst (IsPlaced problem.root all) low (half_placed problem rows best x steps cut Le next, new_half problem rows best x steps cut Le next)
-          | inr other ↦ other_placed problem rows x front back best steps end logs next y (moved y other)
+          | inr other ↦ other_placed problem rows x prefix back best steps end logs next y (moved y other)
         ]
       ];
-      listed = λ parent hangs. elim (still_listed problem rows x front back best steps end logs parent hangs) [
+      listed = λ parent hangs. elim (still_listed problem rows x prefix back best steps end logs parent hangs) [
         | inl other ↦ has_other n b cut left right (pending_at problem.root all parent) (subst (λ (ys : List Pending). Contains ys (pending_at problem.root all parent)) (sym same) other)
         | inr new ↦ subst (λ (p : Option Parent). Contains (sides n b cut left right) (pending_at problem.root all p)) (sym new.is)
             (subst (Contains (sides n b cut left right)) (new_half problem rows best x steps cut new.side next) (has_side n b cut left right new.side))
       ];
-      distinct = sides_apart n b cut left right (subst AreApart (sym same) (others_apart front back x logs.distinct))
-          (λ side y has equal. not_earlier rows n side y.parent (logs.placed y (others_have front back x y (moved y has))).0 (ap (λ (z : Pending). z.parent) equal));
+      distinct = sides_apart n b cut left right (subst AreApart (sym same) (others_apart prefix back x logs.distinct))
+          (λ side y has equal. not_earlier rows n side y.parent (logs.placed y (others_have prefix back x y (moved y has))).0 (ap (λ (z : Pending). z.parent) equal));
     }
 
 pub logs_in_any_order : (problem : BoxProblem) (rows : List Row) (opens others : List Pending) (best : Option ℤ) → Logs problem rows opens best
@@ -339,12 +339,12 @@ other_depth : (problem : BoxProblem) (measure : Box → ℕ) (most : ℕ) (rows 
 other_depth problem measure most rows opens best row y logs shallow has =
     omega (arith, depth_at_stays rows (row ∷ []) y.parent (hangs_within rows (length rows) y.parent (logs.placed y has).0), shallow.opens_are y has)
 
-pub depths_after_end : (problem : BoxProblem) (measure : Box → ℕ) (most : ℕ) (rows : List Row) (x : Pending) (front back : List Pending) (best : Option ℤ) (steps : List Step) (end : EndLine)
-    → Logs problem rows (front ++ x ∷ back) best → AreShallow measure most rows (front ++ x ∷ back)
-    → AreShallow measure most (rows ++ row_of x steps end ∷ []) (front ++ back)
-depths_after_end problem measure most rows x front back best steps end logs shallow = record {
-  rows_are = row_depths measure most rows x (front ++ x ∷ back) (row_of x steps end) refl (middle_is front back x) shallow;
-  opens_are = λ y has. other_depth problem measure most rows (front ++ x ∷ back) best (row_of x steps end) y logs shallow (others_have front back x y has);
+pub depths_after_end : (problem : BoxProblem) (measure : Box → ℕ) (most : ℕ) (rows : List Row) (x : Pending) (prefix back : List Pending) (best : Option ℤ) (steps : List Step) (end : EndLine)
+    → Logs problem rows (prefix ++ x ∷ back) best → AreShallow measure most rows (prefix ++ x ∷ back)
+    → AreShallow measure most (rows ++ row_of x steps end ∷ []) (prefix ++ back)
+depths_after_end problem measure most rows x prefix back best steps end logs shallow = record {
+  rows_are = row_depths measure most rows x (prefix ++ x ∷ back) (row_of x steps end) refl (middle_is prefix back x) shallow;
+  opens_are = λ y has. other_depth problem measure most rows (prefix ++ x ∷ back) best (row_of x steps end) y logs shallow (others_have prefix back x y has);
 }
 
 side_depth : (measure : Box → ℕ) (most : ℕ) (rows : List Row) (x : Pending) (opens : List Pending) (row : Row) (b : Box) (cut : Cut) (side : Side) → row.parent ≡ x.parent → Contains opens x
@@ -353,26 +353,27 @@ side_depth : (measure : Box → ℕ) (most : ℕ) (rows : List Row) (x : Pending
 side_depth measure most rows x opens row b cut side same has shallow less =
     omega (arith, depth_last rows row, ap (depth_at rows) same, shallow.opens_are x has, less)
 
-pub depths_after_split : (problem : BoxProblem) (measure : Box → ℕ) (most : ℕ) (rows : List Row) (x : Pending) (front back left right : List Pending) (best : Option ℤ) (steps : List Step) (cut : Cut)
-    → Logs problem rows (front ++ x ∷ back) best → AreShallow measure most rows (front ++ x ∷ back)
+pub depths_after_split : (problem : BoxProblem) (measure : Box → ℕ) (most : ℕ) (rows : List Row) (x : Pending) (prefix back left right : List Pending) (best : Option ℤ) (steps : List Step) (cut : Cut)
+    → Logs problem rows (prefix ++ x ∷ back) best → AreShallow measure most rows (prefix ++ x ∷ back)
     → measure (handed (after_steps x.at steps) (Split cut) Le) < measure x.at
     → measure (handed (after_steps x.at steps) (Split cut) Ge) < measure x.at
-    → left ++ right ≡ front ++ back
+    → left ++ right ≡ prefix ++ back
     → AreShallow measure most (rows ++ row_of x steps (Split cut) ∷ [])
     (left ++ half (length rows) (after_steps x.at steps) cut Ge ∷ half (length rows) (after_steps x.at steps) cut Le ∷ right)
-depths_after_split problem measure most rows x front back left right best steps cut logs shallow low high same =
+depths_after_split problem measure most rows x prefix back left right best steps cut logs shallow low high same =
     let n = length rows in
     let b = after_steps x.at steps in
     let row = row_of x steps (Split cut) in
-    let opens = front ++ x ∷ back in
+    let opens = prefix ++ x ∷ back in
     record {
-      rows_are = row_depths measure most rows x opens row refl (middle_is front back x) shallow;
+      rows_are = row_depths measure most rows x opens row refl (middle_is prefix back x) shallow;
       opens_are = λ y has. elim (sides_have n b cut left right y has) [
-        | inl is ↦ subst (λ (z : Pending). depth_at (rows ++ row ∷ []) z.parent + measure z.at ≤ most) is (side_depth measure most rows x opens row b cut Ge refl (middle_is front back x) shallow high)
+        | inl is ↦ subst (λ (z : Pending). depth_at (rows ++ row ∷ []) z.parent + measure z.at ≤ most) is
+            (side_depth measure most rows x opens row b cut Ge refl (middle_is prefix back x) shallow high)
         | inr others ↦ elim others [
           | inl is ↦ subst (λ (z : Pending). depth_at (rows ++ row ∷ []) z.parent + measure z.at ≤ most) is
-              (side_depth measure most rows x opens row b cut Le refl (middle_is front back x) shallow low)
-          | inr other ↦ other_depth problem measure most rows opens best row y logs shallow (others_have front back x y (subst (λ (ys : List Pending). Contains ys y) same other))
+              (side_depth measure most rows x opens row b cut Le refl (middle_is prefix back x) shallow low)
+          | inr other ↦ other_depth problem measure most rows opens best row y logs shallow (others_have prefix back x y (subst (λ (ys : List Pending). Contains ys y) same other))
         ]
       ];
     }

@@ -40,25 +40,25 @@ unfolding finals
 final_last root xs x = table_last (last_box root) xs x root
 
 -- the first rows
-pub front_length : (rows : List Row) (i : ℕ) → i < length rows → length (take i rows) ≡ i
-front_length rows i exists = length-take-le i rows (omega arith)
+pub prefix_length : (rows : List Row) (i : ℕ) → i < length rows → length (take i rows) ≡ i
+prefix_length rows i exists = length-take-le i rows (omega arith)
 
-box_of_front : (root : Box) (rows : List Row) (i : ℕ) (parent : Option Parent) → i < length rows → IsWithin (length (take i rows)) parent → box_at root (take i rows) parent ≡ box_at root rows parent
-box_of_front root rows i parent exists within =
+box_of_prefix : (root : Box) (rows : List Row) (i : ℕ) (parent : Option Parent) → i < length rows → IsWithin (length (take i rows)) parent → box_at root (take i rows) parent ≡ box_at root rows parent
+box_of_prefix root rows i parent exists within =
     sym (box_stays root (take i rows) (drop i rows) parent within)
     ∙ ap (λ (xs : List Row). box_at root xs parent) (take-append-drop i rows)
 
-final_from_front : (root : Box) (rows : List Row) (i : ℕ) → i < length rows → final_of root rows i ≡ after_steps (box_at root (take i rows) (row_at rows i).parent) (row_at rows i).steps
+final_from_prefix : (root : Box) (rows : List Row) (i : ℕ) → i < length rows → final_of root rows i ≡ after_steps (box_at root (take i rows) (row_at rows i).parent) (row_at rows i).steps
 unfolding finals
-final_from_front root rows i exists = table_at (last_box root) rows i root exists
+final_from_prefix root rows i exists = table_at (last_box root) rows i root exists
 
 -- a row that hangs ends with the box that its steps leave of the one with which it begins
 pub final_is : (root : Box) (rows : List Row) (i : ℕ) → i < length rows → Hangs rows i (row_at rows i).parent → final_of root rows i ≡ after_steps (start_of root rows i) (row_at rows i).steps
 final_is root rows i exists hangs =
     let parent = (row_at rows i).parent in
-    let within : IsWithin (length (take i rows)) parent = subst (λ (n : ℕ). IsWithin n parent) (sym (front_length rows i exists)) (hangs_within rows i parent hangs) in
-    final_from_front root rows i exists
-    ∙ ap (λ (b : Box). after_steps b (row_at rows i).steps) (box_of_front root rows i parent exists within)
+    let within : IsWithin (length (take i rows)) parent = subst (λ (n : ℕ). IsWithin n parent) (sym (prefix_length rows i exists)) (hangs_within rows i parent hangs) in
+    final_from_prefix root rows i exists
+    ∙ ap (λ (b : Box). after_steps b (row_at rows i).steps) (box_of_prefix root rows i parent exists within)
 
 -- depths
 pub depth_stays : (xs ys : List Row) (k : ℕ) → k < length xs → depth_of (xs ++ ys) k ≡ depth_of xs k
@@ -82,9 +82,9 @@ hangs_stays xs ys i (Some parent) fits hangs = record {
   untaken = λ k before same. hangs.untaken k before (sym (ap (λ (row : Row). row.parent) (row_stays xs ys k (omega arith))) ∙ same);
 }
 
-pub hangs_front : (xs ys : List Row) (i : ℕ) (parent : Option Parent) → i ≤ length xs → Hangs (xs ++ ys) i parent → Hangs xs i parent
-hangs_front xs ys i None fits hangs = hangs
-hangs_front xs ys i (Some parent) fits hangs = record {
+pub hangs_prefix : (xs ys : List Row) (i : ℕ) (parent : Option Parent) → i ≤ length xs → Hangs (xs ++ ys) i parent → Hangs xs i parent
+hangs_prefix xs ys i None fits hangs = hangs
+hangs_prefix xs ys i (Some parent) fits hangs = record {
   earlier = hangs.earlier;
   split = subst (λ (row : Row). IsSplit row.end) (row_stays xs ys parent.node (omega (arith, hangs.earlier))) hangs.split;
   untaken = λ k before same. hangs.untaken k before (ap (λ (row : Row). row.parent) (row_stays xs ys k (omega arith)) ∙ same);

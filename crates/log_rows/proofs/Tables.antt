@@ -47,11 +47,11 @@ table_last {A} entry xs x d =
 pub table_at : {A : Type 0} (entry : List Row → List A → Row → A) (rows : List Row) (i : ℕ) (d : A)
     → i < length rows → get_or (table entry rows) i d ≡ entry (take i rows) (table entry (take i rows)) (get_or rows i no_row)
 table_at {A} entry rows i d exists =
-    let front : length (take i rows) ≡ i = length-take-le i rows (omega arith) in
+    let prefix : length (take i rows) ≡ i = length-take-le i rows (omega arith) in
     let longer : length (take (suc i) rows) ≡ suc i = length-take-le (suc i) rows (omega arith) in
     let row = get_or rows i no_row in
     ap (λ (zs : List Row). get_or (table entry zs) i d) (sym (take-append-drop (suc i) rows))
     ∙ (table_stays entry (take (suc i) rows) (drop (suc i) rows) i d (omega (arith, longer))
     ∙ (ap (λ (zs : List Row). get_or (table entry zs) i d) (take-suc rows i no_row exists)
-    ∙ (ap (λ (n : ℕ). get_or (table entry (take i rows ++ row ∷ [])) n d) (sym front)
+    ∙ (ap (λ (n : ℕ). get_or (table entry (take i rows ++ row ∷ [])) n d) (sym prefix)
     ∙ table_last entry (take i rows) row d)))

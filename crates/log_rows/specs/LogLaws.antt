@@ -35,17 +35,17 @@ LogsAtFirst = (problem : BoxProblem) → Logs problem [] (root_alone problem.roo
 -- an open node is finished and not split
 abbrev pub LogsAfterEnd : Type 0
 LogsAfterEnd =
-    (problem : BoxProblem) (rows : List Row) (x : Pending) (front back : List Pending) (best : Option ℤ) (steps : List Step) (end : EndLine)
-    → Logs problem rows (front ++ x ∷ back) best → AllRight problem best x.at steps
+    (problem : BoxProblem) (rows : List Row) (x : Pending) (prefix back : List Pending) (best : Option ℤ) (steps : List Step) (end : EndLine)
+    → Logs problem rows (prefix ++ x ∷ back) best → AllRight problem best x.at steps
     → MadeEnd problem best (after_steps x.at steps) end → ¬ IsSplit end
-    → Logs problem (rows ++ row_of x steps end ∷ []) (front ++ back) (best_after problem best end (after_steps x.at steps))
+    → Logs problem (rows ++ row_of x steps end ∷ []) (prefix ++ back) (best_after problem best end (after_steps x.at steps))
 
 -- an open node is split, and its two sides stand somewhere among the open nodes, the low side behind the high one
 abbrev pub LogsAfterSplit : Type 0
 LogsAfterSplit =
-    (problem : BoxProblem) (rows : List Row) (x : Pending) (front back left right : List Pending) (best : Option ℤ) (steps : List Step) (cut : Cut)
-    → Logs problem rows (front ++ x ∷ back) best → AllRight problem best x.at steps
-    → MadeSplit problem best (after_steps x.at steps) cut → left ++ right ≡ front ++ back
+    (problem : BoxProblem) (rows : List Row) (x : Pending) (prefix back left right : List Pending) (best : Option ℤ) (steps : List Step) (cut : Cut)
+    → Logs problem rows (prefix ++ x ∷ back) best → AllRight problem best x.at steps
+    → MadeSplit problem best (after_steps x.at steps) cut → left ++ right ≡ prefix ++ back
     → Logs problem (rows ++ row_of x steps (Split cut) ∷ [])
     (left ++ half (length rows) (after_steps x.at steps) cut Ge ∷ half (length rows) (after_steps x.at steps) cut Le ∷ right) best
 
@@ -68,18 +68,18 @@ DepthsAtFirst = (measure : Box → ℕ) (most : ℕ) (root : Box) → measure ro
 
 abbrev pub DepthsAfterEnd : Type 0
 DepthsAfterEnd =
-    (problem : BoxProblem) (measure : Box → ℕ) (most : ℕ) (rows : List Row) (x : Pending) (front back : List Pending) (best : Option ℤ) (steps : List Step) (end : EndLine)
-    → Logs problem rows (front ++ x ∷ back) best → AreShallow measure most rows (front ++ x ∷ back)
-    → AreShallow measure most (rows ++ row_of x steps end ∷ []) (front ++ back)
+    (problem : BoxProblem) (measure : Box → ℕ) (most : ℕ) (rows : List Row) (x : Pending) (prefix back : List Pending) (best : Option ℤ) (steps : List Step) (end : EndLine)
+    → Logs problem rows (prefix ++ x ∷ back) best → AreShallow measure most rows (prefix ++ x ∷ back)
+    → AreShallow measure most (rows ++ row_of x steps end ∷ []) (prefix ++ back)
 
 -- where both sides of a split have less of the measure, their depth is made up for
 abbrev pub DepthsAfterSplit : Type 0
 DepthsAfterSplit =
-    (problem : BoxProblem) (measure : Box → ℕ) (most : ℕ) (rows : List Row) (x : Pending) (front back left right : List Pending) (best : Option ℤ) (steps : List Step) (cut : Cut)
-    → Logs problem rows (front ++ x ∷ back) best → AreShallow measure most rows (front ++ x ∷ back)
+    (problem : BoxProblem) (measure : Box → ℕ) (most : ℕ) (rows : List Row) (x : Pending) (prefix back left right : List Pending) (best : Option ℤ) (steps : List Step) (cut : Cut)
+    → Logs problem rows (prefix ++ x ∷ back) best → AreShallow measure most rows (prefix ++ x ∷ back)
     → measure (handed (after_steps x.at steps) (Split cut) Le) < measure x.at
     → measure (handed (after_steps x.at steps) (Split cut) Ge) < measure x.at
-    → left ++ right ≡ front ++ back
+    → left ++ right ≡ prefix ++ back
     → AreShallow measure most (rows ++ row_of x steps (Split cut) ∷ [])
     (left ++ half (length rows) (after_steps x.at steps) cut Ge ∷ half (length rows) (after_steps x.at steps) cut Le ∷ right)
 

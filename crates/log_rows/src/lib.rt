@@ -1,14 +1,23 @@
-//! The rows of a log: the tree of a search as a table, a row for each node. The functions are empty and state what was proved
-//! of the definitions, so that no body here could be wrong; hence the crate has no must-fail edits.
-//! There is nothing to test.
+//! The rows of a log: the tree of a search as a table, a row for each node, what they claim, and the lines in which they are written. Lines
+//! go to a sink one by one, and take no memory.
 #![tactic(auto)]
 
+mod line;
+mod lines;
 mod log_laws;
+mod row_lines;
 mod rows;
+#[cfg(test)]
+mod tests;
+mod text_laws;
 
+pub use line::Line;
+pub use lines::{put_end, put_footer, put_head, put_node, put_step};
 pub use log_laws::{
     depths_after_end, depths_after_split, depths_at_first, depths_in_any_order, leaves_are_apart,
     leaves_have_points, logs_after_end, logs_after_split, logs_are_accepted, logs_are_small,
     logs_are_true, logs_at_first, logs_in_any_order, logs_with_open,
 };
+pub use row_lines::{put_log, put_row, put_rows, put_steps};
 pub use rows::{Cut, EndLine, Footer, Parent, Row};
+pub use text_laws::texts_are_logs;

@@ -1,4 +1,4 @@
-pub mod Pieces
-pub mod Written
 pub mod Texts
-pub mod LogTexts
+pub mod Ordered
+pub mod Growth
+pub mod Fitting

@@ -1,3 +1,5 @@
-pub mod Lines
-pub mod Ranges
-pub mod LogText
+pub mod Branch
+pub mod Sight
+pub mod Falls
+pub mod Grown
+pub mod Fitting

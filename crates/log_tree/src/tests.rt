@@ -1,133 +1,93 @@
 use super::*;
-use sopl_base::{Reason, Side, Step, Steps};
+use crate::write::put_nodes;
+use log_rows::Footer;
+use sopl_base::{Reason, Steps};
 use sopl_io::MemSink;
 use std::alloc::{AllocError, Global};
 use std::test::Fail;
 
-// The steps of the first row.
-const STEPS: &[Step] = &[
-    Step {
-        reason: Reason::Hard {
-            instance: 3,
-            scenario: 17,
-        },
-        cell: 4,
-        side: Side::Le,
-        k: -12,
-    },
-    Step {
-        reason: Reason::Bound,
-        cell: 4294967295,
-        side: Side::Ge,
-        k: 9223372036854775807,
-    },
-];
+// A root that is closed.
+const CLOSED: &str = "sopl-log 1\nn 0 r\nf c 8\nend infeasible\n";
 
-// The rows: one of each kind of parent, end and reason.
-const ENDS: [(Option<Parent>, EndLine); 6] = [
-    (None, EndLine::Split(Cut { cell: 0, k: -1 })),
-    (
-        Some(Parent {
-            node: 0,
-            side: Side::Le,
-        }),
-        EndLine::Refuted(Reason::Chance { instance: 2 }),
-    ),
-    (
-        Some(Parent {
-            node: 0,
-            side: Side::Ge,
-        }),
-        EndLine::Refuted(Reason::Undefined { scenario: 5 }),
-    ),
-    (
-        Some(Parent {
-            node: 18446744073709551615,
-            side: Side::Ge,
-        }),
-        EndLine::Refuted(Reason::Bound),
-    ),
-    (
-        Some(Parent {
-            node: 1,
-            side: Side::Le,
-        }),
-        EndLine::Point,
-    ),
-    (
-        Some(Parent {
-            node: 1,
-            side: Side::Ge,
-        }),
-        EndLine::Unfinished,
-    ),
-];
+// A root that is split: its high side was finished first, at a point; its low side is split too, and of that side neither side
+// is finished.
+const NODES: &str = "n 0 r\nx 0 -3\nn 1 0 h\nv\nn 2 0 l\nx 1 4\nn 3 2 l\no\nn 4 2 h\no\n";
 
-const LINES: &str =
-    "sopl-log 1\nn 0 r\ns h 3 17 4 le -12\ns b 4294967295 ge 9223372036854775807\nx 0 -1\nn 1 0 l\nf c 2\nn 2 0 h\nf u 5\nn 3 18446744073709551615 h\nf b\nn 4 1 l\nv\nn 5 1 h\no\n";
-
-// What is claimed, and the last line.
-const CLAIMS: [(Footer, &str); 5] = [
-    (Footer::Optimal(-7), "end optimal -7\n"),
-    (Footer::Infeasible, "end infeasible\n"),
-    (Footer::Bounded(None, 3), "end bounded none 3\n"),
-    (Footer::Bounded(Some(0), 3), "end bounded 0 3\n"),
-    (
-        Footer::Optimal(-170141183460469231731687303715884105728),
-        "end optimal -170141183460469231731687303715884105728\n",
-    ),
-];
-
-fn steps_of(alloc: Global, list: &[Step]) -> Result<Steps, AllocError> {
-    let mut steps = Steps::new(alloc);
-    for step in list {
-        steps.push(*step)?;
+fn node(alloc: Global, number: u64, end: End) -> Node {
+    Node {
+        number,
+        line: 0,
+        steps: Steps::new(alloc),
+        end,
     }
-    Ok(steps)
 }
 
-fn row(
-    alloc: Global,
-    parent: Option<Parent>,
-    list: &[Step],
-    end: EndLine,
-) -> Result<Row, AllocError> {
-    let steps = steps_of(alloc, list)?;
-    Ok(Row { parent, steps, end })
+fn side(alloc: Global, number: u64, end: End) -> Result<Option<Box<Node>>, AllocError> {
+    let node = Box::new(alloc, node(alloc, number, end))?;
+    Ok(Some(node))
 }
 
-fn sample(alloc: Global) -> Result<Vec<Row>, AllocError> {
-    let mut rows = Vec::new(alloc);
-    for (parent, end) in ENDS {
-        let steps: &[Step] = if rows.is_empty() { STEPS } else { &[] };
-        rows.push(row(alloc, parent, steps, end)?)?;
-    }
-    Ok(rows)
+fn low_side(alloc: Global) -> Result<Option<Box<Node>>, AllocError> {
+    let low = side(alloc, 3, End::Unfinished)?;
+    let high = side(alloc, 4, End::Unfinished)?;
+    let end = End::Split {
+        cell: 1,
+        cut: 4,
+        low,
+        high,
+    };
+    side(alloc, 2, end)
+}
+
+fn sample(alloc: Global) -> Result<Node, AllocError> {
+    let low = low_side(alloc)?;
+    let high = side(alloc, 1, End::Point)?;
+    let end = End::Split {
+        cell: 0,
+        cut: -3,
+        low,
+        high,
+    };
+    Ok(node(alloc, 0, end))
 }
 
 #[test]
-fn logs_are_written(rt: HostRuntime) -> Result<(), Fail> {
+fn a_closed_root_is_written(rt: HostRuntime) -> Result<(), Fail> {
     let alloc = rt.alloc();
-    let rows = sample(alloc)?;
-    for (footer, last) in CLAIMS {
-        let mut sink = MemSink::new(alloc, 512, Vec::new(alloc))?;
-        put_log(&mut sink, &rows, &footer)?;
-        let expected = format!(in alloc; "{LINES}{last}")?;
-        assert_eq!(rt; sink.bytes(), expected.as_bytes());
-    }
+    let log = Log {
+        root: Node {
+            number: 0,
+            line: 2,
+            steps: Steps::new(alloc),
+            end: End::Refuted(Reason::Chance { instance: 8 }),
+        },
+        nodes: 1,
+        footer: Footer::Infeasible,
+    };
+    let mut sink = MemSink::new(alloc, 64, Vec::new(alloc))?;
+    write_log(&log, &mut sink)?;
+    assert_eq!(rt; sink.bytes(), CLOSED.as_bytes());
     Ok(())
 }
 
 #[test]
-fn a_full_sink_has_a_front(rt: HostRuntime) -> Result<(), Fail> {
+fn nodes_are_written_in_their_order(rt: HostRuntime) -> Result<(), Fail> {
     let alloc = rt.alloc();
-    let rows = sample(alloc)?;
-    for room in [0, 5, 40] {
-        let mut sink = MemSink::new(alloc, room, Vec::new(alloc))?;
-        let outcome = put_log(&mut sink, &rows, &Footer::Infeasible);
-        assert!(rt; outcome.is_err());
-        assert_eq!(rt; sink.bytes().len(), room);
-        assert!(rt; LINES.as_bytes().starts_with(sink.bytes()));
-    }
+    let root = sample(alloc)?;
+    let mut sink = MemSink::new(alloc, 128, Vec::new(alloc))?;
+    put_nodes(&mut sink, &root)?;
+    assert_eq!(rt; sink.bytes(), NODES.as_bytes());
+    Ok(())
+}
+
+#[test]
+fn a_full_sink_has_a_prefix(rt: HostRuntime) -> Result<(), Fail> {
+    let alloc = rt.alloc();
+    let root = sample(alloc)?;
+    let mut sink = MemSink::new(alloc, 30, Vec::new(alloc))?;
+    let outcome = put_nodes(&mut sink, &root);
+    assert!(rt; outcome.is_err());
+    assert_eq!(rt; sink.bytes().len(), 30);
+    assert!(rt; NODES.as_bytes().starts_with(sink.bytes()));
     Ok(())
 }

@@ -5,7 +5,7 @@ use Rattle.std.proofs.lemmas.List.Elements.{All-head, All-tail}
 use Rattle.sopl_ast.specs.Instances.{Outcome, Stochastic}
 use Rattle.sopl_ast.specs.Scenarios.{Scenario, preceded_by, scenarios}
 use Rattle.sopl_ast.specs.Histories.{history}
-use Rattle.history_blocks.proofs.Fronts.{below, differ, not_below, same}
+use Rattle.scen_laws.proofs.Prefixes.{below, differ, not_below, same}
 use Rattle.policy_tree.proofs.Members.{In, In-flat_map, In-map, from_flat_map, from_map}
 use Rattle.policy_json.specs.Nodes.{outcomes_after, seen_after}
 use Rattle.policy_json.specs.Staged.{Ascend}

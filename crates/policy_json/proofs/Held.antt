@@ -12,8 +12,8 @@ use Rattle.sopl_ast.specs.Histories.{history}
 use Rattle.sopl_ast.specs.Policies.{Policy, IsKey, IsPolicy}
 use Rattle.sopl_ast.specs.Numbers.{all_of, both_of}
 use Rattle.policy_tree.proofs.Members.{In, Contains-In, from_enumerate, from_filter}
-use Rattle.entry_json.specs.Entries.{entry_of}
-use Rattle.entry_json.specs.Stages.{last_stage}
+use Rattle.policy_json.specs.Entries.{entry_of}
+use Rattle.policy_json.specs.LastStage.{last_stage}
 use Rattle.policy_json.specs.Nodes.{branch_at, decide_of, decision_entry, node_at, node_of, numbered_in_stage, outcomes_after, outermost_node, policy_data}
 use Rattle.policy_json.specs.Held.{held_data, held_decide, held_entry, held_node_at, held_outermost}
 use Rattle.policy_json.specs.Staged.{IsStaged}

@@ -1,3 +1,6 @@
+pub mod EntryWords
+pub mod LastStages
+pub mod EntryPlain
 pub mod Words
 pub mod Numbers
 pub mod Kept

@@ -13,25 +13,25 @@ use Rattle.sopl_ast.specs.Scenarios.{Scenario, scenarios}
 use Rattle.sopl_ast.specs.Histories.{history, histories}
 use Rattle.sopl_ast.specs.Cells.{Cell, policy_at}
 use Rattle.sopl_ast.specs.Policies.{Policy}
-use Rattle.sopl_meaning.proofs.ScenarioLaws.{map-map}
+use Rattle.lang_laws.proofs.ScenarioLaws.{map-map}
 use Rattle.policy_tree.proofs.Members.{In}
 use Rattle.policy_tree.proofs.CellsOf.{Once-numbered}
 use Rattle.policy_tree.proofs.Found.{found_at}
 use Rattle.policy_tree.proofs.Bijection.{value_at}
 use Rattle.unfold_laws.specs.Bounds.{IsBoundedStochastic}
-use Rattle.scenario_laws.specs.Laws.{rows, seen_before}
-use Rattle.scenario_tree.specs.Layout.{IsTreeOf, cell_at, cell_in, cells_for, value_in}
-use Rattle.history_blocks.specs.Laws.{AreOrderly, FillsBlocks, block_of, next_number, of_stage}
-use Rattle.history_blocks.proofs.Rows.{row_long}
-use Rattle.history_blocks.proofs.Fronts.{of_stage_at, seen_next, seen_within}
-use Rattle.history_blocks.proofs.Blocks.{block_history, block_values, block_within, blocks_divide, blocks_fill, history_long, history_next, next_within, rows_long, some_histories}
-use Rattle.history_blocks.proofs.Histories.{row_is}
-use Rattle.entry_json.specs.Entries.{entry_of, seen_entries}
+use Rattle.scen_laws.specs.Laws.{rows, seen_before}
+use Rattle.sopl_scen.specs.Layout.{IsTreeOf, cell_at, cell_in, cells_for, value_in}
+use Rattle.scen_laws.specs.BlockLaws.{AreOrderly, FillsBlocks, block_of, next_number, of_stage}
+use Rattle.scen_laws.proofs.BlockRows.{row_long}
+use Rattle.scen_laws.proofs.Prefixes.{of_stage_at, seen_next, seen_within}
+use Rattle.scen_laws.proofs.Blocks.{block_history, block_values, block_within, blocks_divide, blocks_fill, history_long, history_next, next_within, rows_long, some_histories}
+use Rattle.scen_laws.proofs.Histories.{row_is}
+use Rattle.policy_json.specs.Entries.{entry_of, seen_entries}
 use Rattle.policy_json.specs.Nodes.{branch_of, decide_of, decided_at, decision_entry, node_at, node_of, numbered_in_stage, outcomes_after, seen_after}
 use Rattle.policy_json.specs.Stages.{number_in, numbers_of}
 use Rattle.policy_json.specs.Steps.{Parts, IsReady, block_in, branch_in, branches_in, decide_in, decided_in, drawn_in, first_in, no_decision, no_variable, node_in, seen_in, shown_in}
-use Rattle.entry_json.proofs.LastStages.{last_stage_few}
-use Rattle.entry_json.specs.Stages.{last_stage}
+use Rattle.policy_json.proofs.LastStages.{last_stage_few}
+use Rattle.policy_json.specs.LastStage.{last_stage}
 use Rattle.policy_json.proofs.Branches.{branch_after}
 use Rattle.policy_json.proofs.Numbers.{IsNumbered, from_numbered}
 use Rattle.policy_json.proofs.Ready.{block_same, bounded, branches_same, no_scenario, orderly, tree_of, values_many}

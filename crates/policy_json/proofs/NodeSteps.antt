@@ -2,7 +2,7 @@
 use Rattle.std.proofs.Common.{◌≡◌, ◌+◌, ◌-◌, ◌*◌, ◌≤◌, ◌<◌, ℕ, zero, suc, List, map, arith, sym, ap, subst, ◌∙◌}
 use Rattle.std.specs.List.{range_with_len}
 use Rattle.serde_json.specs.Data.{Data}
-use Rattle.scenario_tree.specs.Layout.{count_in}
+use Rattle.sopl_scen.specs.Layout.{count_in}
 use Rattle.policy_json.specs.Nodes.{branch_of, node_of}
 use Rattle.policy_json.specs.Steps.{Parts, IsReady, block_in, branch_in, branches_in, decide_in, node_in, seen_in}
 use Rattle.policy_json.proofs.Ready.{branch_room}

@@ -7,9 +7,9 @@ use Rattle.serde_json.specs.View.{items_of}
 use Rattle.serde_json.specs.Written.{has_float, items_have_float}
 use Rattle.sopl_ast.specs.Instances.{Decision, Stochastic}
 use Rattle.sopl_ast.specs.Policies.{Policy}
-use Rattle.entry_json.proofs.Plain.{entry_plain, map_plain}
-use Rattle.entry_json.specs.Entries.{entry_of, seen_entries}
-use Rattle.entry_json.specs.Stages.{last_stage}
+use Rattle.policy_json.proofs.EntryPlain.{entry_plain, map_plain}
+use Rattle.policy_json.specs.Entries.{entry_of, seen_entries}
+use Rattle.policy_json.specs.LastStage.{last_stage}
 use Rattle.policy_json.specs.Nodes.{decide_of, decided_at, decision_entry, node_at, node_of, numbered_in_stage, outcomes_after, outermost_node, seen_after}
 use Rattle.policy_json.proofs.Branches.{branch_after}
 

@@ -8,11 +8,11 @@ use Rattle.sopl_ast.specs.Scenarios.{Scenario, scenarios}
 use Rattle.sopl_ast.specs.Histories.{history, histories}
 use Rattle.sopl_ast.specs.Pieces.{is_word}
 use Rattle.unfold_laws.specs.Bounds.{IsBoundedDecision}
-use Rattle.scenario_laws.specs.Laws.{rows, seen_before}
-use Rattle.scenario_tree.specs.Layout.{IsTreeOf, cell_at, cell_in, cells_for, count_in, decisions_in, histories_in}
-use Rattle.history_blocks.specs.Laws.{AreOrderly, FillsBlocks, block_of, of_stage}
-use Rattle.history_blocks.proofs.Fronts.{seen_next, seen_within}
-use Rattle.history_blocks.proofs.Blocks.{blocks_divide, blocks_fill, branches_are}
+use Rattle.scen_laws.specs.Laws.{rows, seen_before}
+use Rattle.sopl_scen.specs.Layout.{IsTreeOf, cell_at, cell_in, cells_for, count_in, decisions_in, histories_in}
+use Rattle.scen_laws.specs.BlockLaws.{AreOrderly, FillsBlocks, block_of, of_stage}
+use Rattle.scen_laws.proofs.Prefixes.{seen_next, seen_within}
+use Rattle.scen_laws.proofs.Blocks.{blocks_divide, blocks_fill, branches_are}
 use Rattle.policy_json.specs.Stages.{StageParts, stage_in}
 use Rattle.policy_json.specs.Steps.{Parts, IsReady, ready, block_in, branches_in, first_in, no_decision}
 use Rattle.policy_json.proofs.StageSteps.{stage_found, stages_long}

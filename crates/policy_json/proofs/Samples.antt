@@ -5,7 +5,7 @@ use Rattle.std.specs.List.{list_all}
 use Rattle.sopl_ast.specs.Instances.{Decision, Stochastic, names_in}
 use Rattle.sopl_ast.specs.Pieces.{is_word}
 use Rattle.unfold_laws.specs.Bounds.{IsBoundedDecision, IsBoundedStochastic, IsStage}
-use Rattle.scenario_tree.specs.Layout.{AreStated}
+use Rattle.sopl_scen.specs.Layout.{AreStated}
 use Rattle.policy_json.specs.Samples.{decided, drawn, sample_decisions, sample_stochastics}
 
 decided_bounded : (name stage : ℕ) → IsStage stage → IsBoundedDecision (decided name stage)

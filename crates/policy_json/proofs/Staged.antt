@@ -8,8 +8,8 @@ use Rattle.sopl_ast.specs.Whole.{ModelTree}
 use Rattle.unfold_laws.specs.Bounds.{IsBoundedStochastic}
 use Rattle.unfold_laws.proofs.Outcomes.{stochastics_have_outcomes}
 use Rattle.unfold_laws.proofs.Whole.{stochastics_are_bounded}
-use Rattle.scenario_laws.specs.Laws.{HasOutcome, IsByStage}
-use Rattle.scenario_laws.proofs.Stages.{stochastics_ascend}
+use Rattle.scen_laws.specs.Laws.{HasOutcome, IsByStage}
+use Rattle.scen_laws.proofs.Stages.{stochastics_ascend}
 use Rattle.policy_json.specs.Staged.{Ascend, TextsAreStaged}
 
 -- stages of which none is below one that stands before it ascend

@@ -6,8 +6,8 @@ use Rattle.serde_json.specs.Data.{Data}
 use Rattle.sopl_ast.specs.Instances.{Decision, Stochastic, Problem}
 use Rattle.sopl_ast.specs.Policies.{Policy}
 use Rattle.sopl_ast.specs.Numbers.{all_of, both_of}
-use Rattle.entry_json.specs.Entries.{entry_of}
-use Rattle.entry_json.specs.Stages.{last_stage}
+use Rattle.policy_json.specs.Entries.{entry_of}
+use Rattle.policy_json.specs.LastStage.{last_stage}
 use Rattle.policy_json.specs.Nodes.{branch_at, node_of, numbered_in_stage, outcomes_after}
 
 -- the entry of a decision, with its number, at a history, where the policy holds a value for it

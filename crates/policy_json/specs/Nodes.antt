@@ -6,8 +6,8 @@ use Rattle.serde_json.specs.Data.{Data, object, no_members, member}
 use Rattle.sopl_ast.specs.Instances.{Decision, Stochastic, Problem}
 use Rattle.sopl_ast.specs.Scenarios.{Scenario, scenarios}
 use Rattle.sopl_ast.specs.Policies.{Policy}
-use Rattle.entry_json.specs.Entries.{entry_of, list_of, seen_entries}
-use Rattle.entry_json.specs.Stages.{last_stage}
+use Rattle.policy_json.specs.Entries.{entry_of, list_of, seen_entries}
+use Rattle.policy_json.specs.LastStage.{last_stage}
 
 -- what a policy decides for the decision with this number, counted from 0, at a history; 0 where it decides nothing. No node of a policy
 -- of a problem that comes by stage shows that 0: this is the law `held_throughout`

@@ -2,9 +2,9 @@
 use Rattle.std.specs.Prelude.{ℕ, ◌≤◌, List, [], ◌∷◌, All, length}
 use Rattle.sopl_ast.specs.Instances.{Stochastic, Problem}
 use Rattle.sopl_ast.specs.Origin.{IsFromTokens}
-use Rattle.sopl_ast.specs.Unfolding.{problem_of, text_occurrences}
+use Rattle.sopl_ast.specs.Unfolding.{problem_of, text_events}
 use Rattle.sopl_ast.specs.Whole.{ModelTree}
-use Rattle.unfold_laws.specs.Passing.{Passes}
+use Rattle.unfold_laws.specs.Passing.{NothingFails}
 
 -- the stages of stochastic variables ascend, from this stage on
 abbrev pub Ascend : ℕ → List Stochastic → Type 0
@@ -18,4 +18,4 @@ pub record IsStaged (problem : Problem) : Type 0 where
 
 -- so comes the problem of a text that was read and is unfolded whole
 abbrev pub TextsAreStaged : Type 0
-TextsAreStaged = (model : ModelTree) → IsFromTokens model → Passes (text_occurrences model) → IsStaged (problem_of model)
+TextsAreStaged = (model : ModelTree) → IsFromTokens model → NothingFails (text_events model) → IsStaged (problem_of model)

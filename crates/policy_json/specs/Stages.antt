@@ -2,7 +2,7 @@
 use Rattle.std.specs.Prelude.{ℕ, ◌+◌, List, map}
 use Rattle.std.specs.List.{enumerate_from, range_with_len}
 use Rattle.sopl_ast.specs.Instances.{Decision, Stochastic}
-use Rattle.scenario_laws.specs.Laws.{seen_before}
+use Rattle.scen_laws.specs.Laws.{seen_before}
 use Rattle.policy_json.specs.Nodes.{numbered_in_stage}
 
 -- the numbers of a stage's decisions; and its stochastic variables, from the first up to the end

@@ -5,9 +5,9 @@ use Rattle.serde_json.specs.Data.{Data}
 use Rattle.sopl_ast.specs.Instances.{Decision, Stochastic, names_in}
 use Rattle.sopl_ast.specs.Cells.{policy_at}
 use Rattle.sopl_ast.specs.Pieces.{is_word}
-use Rattle.scenario_laws.specs.Laws.{seen_before}
-use Rattle.scenario_tree.specs.Layout.{Layout, AreStated, IsTreeOf, cell_in, cells_for, count_in, histories_in, value_in}
-use Rattle.entry_json.specs.Entries.{entry_of}
+use Rattle.scen_laws.specs.Laws.{seen_before}
+use Rattle.sopl_scen.specs.Layout.{Layout, AreStated, IsTreeOf, cell_in, cells_for, count_in, histories_in, value_in}
+use Rattle.policy_json.specs.Entries.{entry_of}
 use Rattle.policy_json.specs.declared.point.Point as declared
 use Rattle.policy_json.specs.Nodes.{branch_of, node_of, outermost_node}
 use Rattle.policy_json.specs.Stages.{StageParts, all_stages, numbers_of}

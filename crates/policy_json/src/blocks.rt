@@ -1,10 +1,10 @@
 //! The blocks of scenarios that share a history.
 
 ghost use Rattle.std.specs.Prelude.{◌≡◌, ◌+◌, ◌≤◌, ◌<◌, ◌^◌};
-ghost use Rattle.scenario_tree.specs.Layout.{count_in, histories_in};
+ghost use Rattle.sopl_scen.specs.Layout.{count_in, histories_in};
 ghost use Rattle.policy_json.specs.Steps.{block_in, branches_in};
 
-use scenario_tree::Tree;
+use sopl_scen::Tree;
 
 /// The blocks of a stage within each block of the stage before: how many they are, and how many scenarios
 /// each has.
@@ -19,7 +19,7 @@ impl Blocks {
     pub(crate) fn after(tree: &Tree, stage: u32) -> Self
         requires from { 1 ≤ stage }
         requires to { stage < 24 }
-        requires some { 1 ≤ histories_in tree.now stage }
+        requires at_least_one { 1 ≤ histories_in tree.now stage }
         requires next { 1 ≤ histories_in tree.now (stage + 1) }
         ensures many { result.many ≡ branches_in tree.now stage }
         ensures long { result.long ≡ block_in tree.now (stage + 1) }

@@ -2,11 +2,11 @@
 
 ghost use Rattle.std.specs.Prelude.{◌≡◌, ◌≤◌, ◌<◌, pos, length, map, get_or, IfOk};
 ghost use Rattle.serde_json.specs.View.{view};
-ghost use Rattle.scenario_tree.specs.Layout.{cell_in, count_in};
+ghost use Rattle.sopl_scen.specs.Layout.{cell_in, count_in};
 ghost use Rattle.policy_json.specs.Steps.{IsReady, decide_in, decided_in, parts_in};
 
+use crate::entries::entry_value;
 use crate::point::Point;
-use entry_json::entry_value;
 use serde_json::Value;
 use std::alloc::{AllocError, Global};
 

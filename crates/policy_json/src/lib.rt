@@ -1,8 +1,12 @@
-//! A policy as nested JSON.
+//! A policy as nested JSON, an instance with its value as JSON, and the last stage of decisions.
 #![tactic(auto)]
 
 mod blocks;
 mod decided;
+mod entries;
+#[cfg(test)]
+mod entry_tests;
+mod last_stage;
 mod laws;
 mod point;
 mod policy;
@@ -11,5 +15,7 @@ mod stages;
 #[cfg(test)]
 mod tests;
 
+pub use entries::entry_value;
+pub use last_stage::greatest_stage;
 pub use laws::{held_throughout, no_float};
 pub use policy::policy_value;

@@ -1,7 +1,7 @@
 //! A point of the cells, with what its nodes are made from.
 
 use crate::stages::Stage;
-use scenario_tree::Tree;
+use sopl_scen::Tree;
 use unfold_variables::{DecisionItem, StochItem};
 
 /// A point, with what it is a point of, and what each stage has.

@@ -7,19 +7,19 @@ ghost use Rattle.serde_json.specs.Written.{has_float};
 ghost use Rattle.sopl_ast.specs.Cells.{policy_at};
 ghost use Rattle.sopl_ast.specs.Instances.{names_in};
 ghost use Rattle.sopl_ast.specs.Pieces.{is_word};
-ghost use Rattle.scenario_tree.specs.Layout.{AreStated, IsTreeOf, cells_for, count_in};
+ghost use Rattle.sopl_scen.specs.Layout.{AreStated, IsTreeOf, cells_for, count_in};
 ghost use Rattle.policy_json.specs.Held.{held_outermost};
 ghost use Rattle.policy_json.specs.Nodes.{branch_of, node_of, outermost_node};
 ghost use Rattle.policy_json.specs.Steps.{IsReady, block_in, node_in, parts_in, shown_in};
 
 use crate::blocks::Blocks;
 use crate::decided::decide_list;
+use crate::last_stage::greatest_stage;
 use crate::point::Point;
 use crate::seen::seen_list;
 use crate::stages::stages;
-use entry_json::greatest_stage;
-use scenario_tree::Tree;
 use serde_json::{Value, json};
+use sopl_scen::Tree;
 use std::alloc::{AllocError, Global};
 use unfold_variables::{DecisionItem, StochItem};
 

@@ -3,11 +3,11 @@
 ghost use Rattle.std.specs.Prelude.{◌≡◌, ◌-◌, ◌≤◌, ◌<◌, length, map, IfOk};
 ghost use Rattle.std.specs.List.{range_with_len};
 ghost use Rattle.serde_json.specs.View.{view};
-ghost use Rattle.scenario_tree.specs.Layout.{count_in};
+ghost use Rattle.sopl_scen.specs.Layout.{count_in};
 ghost use Rattle.policy_json.specs.Steps.{IsReady, drawn_in, parts_in, seen_in};
 
+use crate::entries::entry_value;
 use crate::point::Point;
-use entry_json::entry_value;
 use serde_json::Value;
 use std::alloc::{AllocError, Global};
 

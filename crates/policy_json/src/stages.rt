@@ -3,8 +3,8 @@
 ghost use Rattle.std.specs.Prelude.{◌≡◌, ◌≤◌, ◌<◌, ◌^◌, length, IfOk};
 ghost use Rattle.policy_json.specs.Stages.{all_stages, numbers_of, stage_in};
 
-use scenario_tree::seen_before;
 use sopl_base::limits;
+use sopl_scen::seen_before;
 use std::alloc::{AllocError, Global};
 use std::marker::Model;
 use unfold_variables::{DecisionItem, StochItem};

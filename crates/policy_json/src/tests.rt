@@ -4,8 +4,8 @@ ghost use Rattle.std.specs.Prelude.{◌≡◌, IfOk};
 ghost use Rattle.policy_json.specs.Samples.{decided, drawn, sample_decisions, sample_stochastics};
 
 use crate::policy_value;
-use scenario_tree::Tree;
 use sopl_ast::Name;
+use sopl_scen::Tree;
 use std::alloc::{AllocError, Global};
 use std::test::Fail;
 use unfold_variables::{DecisionItem, Index, StochItem, Weighted};

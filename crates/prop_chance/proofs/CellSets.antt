@@ -8,8 +8,8 @@ use Rattle.std.specs.FinMap.{nat_cmp-IsAntisymmetric}
 use Rattle.std.specs.Ordering.{nat_cmp, match_ordering}
 use Rattle.std.specs.declared.cmp.Ordering.{Ordering}
 use Rattle.std.specs.declared.cmp.Ordering.TheVariants.{Less, Equal, Greater}
-use Rattle.cell_questions.specs.Questions.{HasAll}
-use Rattle.cell_questions.proofs.Elsewhere.{only_one}
+use Rattle.prop_shave.specs.Probes.{HasAll}
+use Rattle.prop_shave.proofs.Elsewhere.{only_one}
 use Rattle.term_cells.specs.Cells.{with_cells}
 
 -- one of several more, and none left

@@ -5,11 +5,11 @@ use Rattle.std.proofs.lemmas.List.{get_or-map, length-map, map-append, take_all,
 use Rattle.std.specs.Option.{option_and_then, option_map_or}
 use Rattle.sopl_base.specs.declared.reason.Reason.TheVariants.{Chance}
 use Rattle.box_problem.specs.Box.{Box}
-use Rattle.box_rules.specs.Terms.{Cond}
-use Rattle.cell_mentions.specs.Mentions.{cond_mentions}
-use Rattle.cell_questions.specs.Questions.{HasAll}
-use Rattle.program_rules.specs.Problems.{ChanceTerms, IsChance, IsProblem, ProblemTerms}
-use Rattle.reason_mentions.specs.Reasons.{reason_mentions}
+use Rattle.term_language.specs.Terms.{Cond}
+use Rattle.term_language.specs.Mentions.{cond_mentions}
+use Rattle.prop_shave.specs.Probes.{HasAll}
+use Rattle.term_problem.specs.Problems.{ChanceTerms, IsChance, IsProblem, ProblemTerms}
+use Rattle.term_problem.specs.Reasons.{reason_mentions}
 use Rattle.term_program.specs.Mentions.{IsListOf}
 use Rattle.prop_chance.proofs.Reached.{AreIn, at_place, flat_in, more_in, none_mentioned}
 

@@ -8,19 +8,19 @@ use Rattle.box_problem.specs.Box.{Box, InBox, Inside, IsBox, high, low, with_hig
 use Rattle.box_problem.specs.Rightness.{Quiets}
 use Rattle.box_problem.proofs.Boxes.{part_of_itself, points_of_parts}
 use Rattle.box_problem.proofs.Cuts.{high_lowered, low_raised}
-use Rattle.box_rules.specs.declared.answers.Defined.{Defined}
-use Rattle.box_rules.specs.declared.answers.Defined.TheVariants.{Never, Maybe, Always}
-use Rattle.box_rules.specs.Laws.{IsProper, Marks}
-use Rattle.box_rules.specs.Rules.{Near, mark}
-use Rattle.box_rules.specs.Terms.{Term}
-use Rattle.box_rules.specs.Values.{value}
-use Rattle.box_rules.proofs.Soundness.{marks_tell}
-use Rattle.cell_questions.specs.declared.questions.Question.{Question}
-use Rattle.cell_questions.specs.Questions.{IsAsked}
-use Rattle.cell_questions.proofs.Finding.{for_each}
-use Rattle.program_laws.specs.Stated.{box_problem_of}
-use Rattle.program_rules.specs.Problems.{GoalTerms, ProblemTerms}
-use Rattle.program_rules.specs.Refuted.{is_never, refutes}
+use Rattle.term_language.specs.declared.answers.Defined.{Defined}
+use Rattle.term_language.specs.declared.answers.Defined.TheVariants.{Never, Maybe, Always}
+use Rattle.term_language.specs.Laws.{IsProper, Marks}
+use Rattle.term_language.specs.Rules.{Near, mark}
+use Rattle.term_language.specs.Terms.{Term}
+use Rattle.term_language.specs.Values.{value}
+use Rattle.term_language.proofs.Soundness.{marks_tell}
+use Rattle.prop_shave.specs.declared.probes.Probe.{Probe}
+use Rattle.prop_shave.specs.Probes.{IsAsked}
+use Rattle.prop_shave.proofs.Finding.{for_each}
+use Rattle.term_program.specs.Stated.{box_problem_of}
+use Rattle.term_problem.specs.Problems.{GoalTerms, ProblemTerms}
+use Rattle.term_problem.specs.Refuted.{is_never, refutes}
 use Rattle.term_program.specs.Programs.{problem_in, root_in}
 use Rattle.prop_chance.specs.Goals.{term_in}
 use Rattle.prop_chance.proofs.Reached.{at_place}
@@ -65,7 +65,7 @@ closed_where_never root b terms scenario v t at defined =
     ∙ defined
 
 -- so the reason rests
-pub always_rests : (q : Question) (scenario : ℕ) (t : Term) → IsAsked q → q.reason ≡ Undefined scenario → Some t ≡ term_in (problem_in q.program.now) scenario
+pub always_rests : (q : Probe) (scenario : ℕ) (t : Term) → IsAsked q → q.reason ≡ Undefined scenario → Some t ≡ term_in (problem_in q.program.now) scenario
     → mark Near (root_in q.program.now) q.store.now.box t ≡ Always → Quiets (box_problem_of q.program.now) (Undefined scenario ∷ []) q.best q.store.now.box
 unfolding box_problem_of
 always_rests q scenario t asked is at always =

@@ -11,17 +11,17 @@ use Rattle.sopl_base.specs.declared.reason.Step.{Step}
 use Rattle.box_problem.specs.Box.{Box}
 use Rattle.box_problem.specs.BoxProblem.{BoxProblem}
 use Rattle.box_problem.specs.Rightness.{IsRight, Quiets}
-use Rattle.box_rules.specs.Terms.{Term}
-use Rattle.cell_mentions.specs.Mentions.{mentions}
-use Rattle.cell_questions.specs.declared.questions.Question.{Question}
-use Rattle.cell_questions.specs.Opened.{IsOpen, IsWhole}
-use Rattle.cell_questions.specs.Questions.{HasAll}
-use Rattle.cell_questions.proofs.Finding.{found_quiet, itself}
-use Rattle.program_laws.specs.Stated.{box_problem_of}
-use Rattle.program_rules.specs.Problems.{GoalTerms, IsProblem, ProblemTerms}
-use Rattle.program_rules.specs.Refuted.{refutes}
+use Rattle.term_language.specs.Terms.{Term}
+use Rattle.term_language.specs.Mentions.{mentions}
+use Rattle.prop_shave.specs.declared.probes.Probe.{Probe}
+use Rattle.prop_shave.specs.Opened.{IsOpen, IsWhole}
+use Rattle.prop_shave.specs.Probes.{HasAll}
+use Rattle.prop_shave.proofs.Finding.{found_quiet, itself}
+use Rattle.term_program.specs.Stated.{box_problem_of}
+use Rattle.term_problem.specs.Problems.{GoalTerms, IsProblem, ProblemTerms}
+use Rattle.term_problem.specs.Refuted.{refutes}
 use Rattle.prop_core.specs.Findings.{Closes, Narrows}
-use Rattle.reason_mentions.specs.Reasons.{reason_mentions}
+use Rattle.term_problem.specs.Reasons.{reason_mentions}
 use Rattle.term_program.specs.declared.program.Program.{Program}
 use Rattle.term_program.specs.Mentions.{IsListOf}
 use Rattle.term_program.specs.Programs.{problem_in, root_in}
@@ -69,7 +69,7 @@ scenarios_all root terms n set list problem past within each is =
     (all_of root terms.goal (length terms.weights) set problem.goal (subst (λ (k : ℕ). AreIn (scenario_of root terms) k set) same each))
 
 -- a scenario in which there is no term
-pub quiet_without : (q : Question) (scenario : ℕ) → q.reason ≡ Undefined scenario → None ≡ term_in (problem_in q.program.now) scenario → IsWhole q
+pub quiet_without : (q : Probe) (scenario : ℕ) → q.reason ≡ Undefined scenario → None ≡ term_in (problem_in q.program.now) scenario → IsWhole q
     → Quiets (box_problem_of q.program.now) (Undefined scenario ∷ []) q.best q.store.now.box
 quiet_without q scenario is at whole =
     subst (λ (reason : Reason). Quiets (box_problem_of q.program.now) (reason ∷ []) q.best q.store.now.box) is
@@ -111,7 +111,7 @@ pub closed_by : (program : Program) (v : Option ℤ) (b : Box) (reasons : List R
 unfolding box_problem_of
 closed_by program v b reasons reason own is = record { own = own; closed = is }
 
-pub whole_for : (q : Question) (reasons : List Reason) → All (IsOpenTo (box_problem_of q.program.now) q.best q.store.now.box) reasons → Contains reasons q.reason → IsWhole q
+pub whole_for : (q : Probe) (reasons : List Reason) → All (IsOpenTo (box_problem_of q.program.now) q.best q.store.now.box) reasons → Contains reasons q.reason → IsWhole q
 unfolding box_problem_of
 whole_for q reasons all own = All-contains (IsOpenTo (box_problem_of q.program.now) q.best q.store.now.box) reasons q.reason all own
 

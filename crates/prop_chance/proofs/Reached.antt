@@ -4,7 +4,7 @@ use Rattle.std.specs.List.{AllByRecursion, flat_map}
 use Rattle.std.specs.Option.{option_map_or}
 use Rattle.std.proofs.lemmas.Bool.{cases_lt}
 use Rattle.std.proofs.lemmas.List.Elements.{Contains-append_cases}
-use Rattle.cell_questions.specs.Questions.{HasAll}
+use Rattle.prop_shave.specs.Probes.{HasAll}
 
 -- what each of so many things mentions is in a set
 abbrev pub AreIn : (ℕ → List ℕ) → ℕ → List ℕ → Type 0

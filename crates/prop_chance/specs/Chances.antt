@@ -2,10 +2,10 @@
 use Rattle.std.specs.Prelude.{◌≡◌, ℕ, ◌<◌, List, [], ◌∷◌, length, map}
 use Rattle.sopl_base.specs.declared.reason.Reason.{Reason}
 use Rattle.sopl_base.specs.declared.reason.Reason.TheVariants as reason
-use Rattle.cell_questions.specs.Questions.{HasAll}
-use Rattle.chance_sums.specs.Sums.{touched_by}
-use Rattle.chance_sums.specs.declared.listing.Scenarios.{Scenarios}
-use Rattle.reason_mentions.specs.Reasons.{reason_mentions}
+use Rattle.prop_shave.specs.Probes.{HasAll}
+use Rattle.prop_shave.specs.ChanceSums.{touched_by}
+use Rattle.prop_shave.specs.declared.touched_scenarios.TouchedScenarios.{TouchedScenarios}
+use Rattle.term_problem.specs.Reasons.{reason_mentions}
 use Rattle.term_program.specs.declared.program.Program.{Program}
 use Rattle.term_program.specs.Programs.{IsMade, problem_in, root_in}
 use Rattle.prop_chance.specs.declared.chances.Chance.{Chance}
@@ -15,7 +15,7 @@ abbrev pub reasons_of : Chance → List Reason
 reasons_of p = reason.Chance p.instance ∷ []
 
 -- the numbers of several scenarios
-abbrev pub numbers_in : Scenarios → List ℕ
+abbrev pub numbers_in : TouchedScenarios → List ℕ
 numbers_in s = s.numbers.items
 
 -- the program has that constraint; the cells are all that its conditions mention, and maybe others, each with the scenarios in which the condition

@@ -5,13 +5,13 @@ use Rattle.sopl_base.specs.declared.reason.Reason.{Reason}
 use Rattle.sopl_base.specs.declared.reason.Reason.TheVariants.{Bound, Undefined}
 use Rattle.box_problem.specs.Box.{Box}
 use Rattle.box_problem.specs.BoxProblem.{BoxProblem}
-use Rattle.box_rules.specs.Terms.{Term}
-use Rattle.cell_questions.specs.Questions.{HasAll}
-use Rattle.goal_sums.specs.Sums.{AreParts, touched_by}
-use Rattle.goal_sums.specs.declared.listing.Parts.{Parts}
-use Rattle.program_rules.specs.Problems.{GoalTerms, ProblemTerms}
-use Rattle.program_rules.specs.Search.{numbers_to}
-use Rattle.reason_mentions.specs.Reasons.{reason_mentions}
+use Rattle.term_language.specs.Terms.{Term}
+use Rattle.prop_shave.specs.Probes.{HasAll}
+use Rattle.prop_shave.specs.GoalSums.{AreParts, touched_by}
+use Rattle.prop_shave.specs.declared.touched_parts.TouchedParts.{TouchedParts}
+use Rattle.term_problem.specs.Problems.{GoalTerms, ProblemTerms}
+use Rattle.term_problem.specs.Search.{numbers_to}
+use Rattle.term_problem.specs.Reasons.{reason_mentions}
 use Rattle.term_goals.specs.declared.sums.Atom.{Atom}
 use Rattle.term_program.specs.declared.program.Program.{Program}
 use Rattle.term_program.specs.Programs.{IsMade, problem_in, root_in, things_in}
@@ -22,11 +22,11 @@ abbrev pub reasons_of : Goal → List Reason
 reasons_of p = map Undefined (numbers_to p.scenarios) ++ Bound ∷ []
 
 -- several parts of an objective's sum
-abbrev pub atoms_in : Parts → List Atom
+abbrev pub atoms_in : TouchedParts → List Atom
 atoms_in p = p.atoms.items
 
 -- for each cell the parts of an expected objective that mention it
-pub record IsIndexed (program : Program) (cells : List ℕ) (lists : List Parts) : Type 0 where
+pub record IsIndexed (program : Program) (cells : List ℕ) (lists : List TouchedParts) : Type 0 where
   pub atoms : List Atom
   pub are : AreParts program atoms
   pub touched : map atoms_in lists ≡ map (touched_by (root_in program) (things_in program) atoms) cells

@@ -1,7 +1,7 @@
 //! Sets of cells.
 
 ghost use Rattle.std.specs.Prelude.{◌≡◌, IfOk, OnOk};
-ghost use Rattle.cell_questions.specs.Questions.{HasAll};
+ghost use Rattle.prop_shave.specs.Probes.{HasAll};
 ghost use Rattle.term_cells.specs.Cells.{with_cells};
 
 use std::alloc::{AllocError, Global};

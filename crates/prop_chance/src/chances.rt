@@ -4,33 +4,32 @@ ghost use Rattle.std.specs.Prelude.{◌≡◌, ◌<◌, ◌∷◌, [], get_or, l
 ghost use Rattle.sopl_base.specs.declared.reason.Reason.TheVariants as reason;
 ghost use Rattle.box_problem.specs.Box.{Inside};
 ghost use Rattle.box_problem.specs.Rightness.{IsRight, Quiets};
-ghost use Rattle.cell_questions.specs.Opened.{IsOpen, IsWhole};
-ghost use Rattle.cell_questions.specs.Questions.{HasAll, IsAsked};
-ghost use Rattle.chance_sums.specs.Sums.{left_over, touched_by};
-ghost use Rattle.program_laws.specs.Stated.{box_problem_of};
+ghost use Rattle.prop_shave.specs.Opened.{IsOpen, IsWhole};
+ghost use Rattle.prop_shave.specs.Probes.{HasAll, IsAsked};
+ghost use Rattle.prop_shave.specs.ChanceSums.{left_over, touched_by};
+ghost use Rattle.term_program.specs.Stated.{box_problem_of};
 ghost use Rattle.prop_core.specs.Findings.{Finds};
-ghost use Rattle.reason_mentions.specs.Reasons.{reason_mentions};
+ghost use Rattle.term_problem.specs.Reasons.{reason_mentions};
 ghost use Rattle.term_program.specs.Programs.{IsMade, problem_in, root_in};
 ghost use Rattle.prop_chance.specs.Chances.{Fits, numbers_in, reasons_of};
 
 use crate::cell_sets::{listed, put_all};
 use box_store::BoxStore;
-use cell_questions::Question;
-use chance_sums::{Scenarios, Weighed, Weight, touching, weight_left};
 use prop_core::{Finding, Propagator};
+use prop_shave::{ChanceDelta, Probe, TouchedScenarios, Weight, scenarios_touching, weight_left};
 use sopl_base::{Reason, Step};
 use std::alloc::{AllocError, Global};
 use std::collections::BTreeSet;
 use term_program::Program;
 
 /// Narrows a box for one chance constraint: both ends of each cell that one of its conditions mentions are tried, and as many values are removed
-/// there as doubled and then halved steps reach. The weight that is left over the box is reckoned once; for an end of a cell only the scenarios are
+/// there as doubled and then halved steps reach. The weight that is left over the box is computed once; for an end of a cell only the scenarios are
 /// weighed anew in which the condition mentions the cell.
 #[derive(Drop)]
 pub struct Chance {
     instance: u32,
     cells: Vec<u32>,
-    touched: Vec<Scenarios>,
+    touched: Vec<TouchedScenarios>,
 }
 
 /// The cells that the conditions of a chance constraint mention, in ascending order.
@@ -57,14 +56,14 @@ fn touched_scenarios(
     program: &Program,
     instance: u32,
     cells: &[u32],
-) -> Result<Vec<Scenarios>, AllocError>
+) -> Result<Vec<TouchedScenarios>, AllocError>
     requires made { IsMade program.now }
     requires instance { instance < length (problem_in program.now).chances }
     ensures touched { IfOk result (λ lists. map numbers_in lists.items ≡ map (touched_by (root_in program.now) (problem_in program.now) instance) cells.now) }
 {
     let mut lists = Vec::new(alloc);
     'cells: for cell in cells {
-        let list = touching(alloc, program, instance, *cell)?;
+        let list = scenarios_touching(alloc, program, instance, *cell)?;
         lists.push(list)?;
     }
     Ok(lists)
@@ -97,29 +96,29 @@ impl Chance {
     }
 
     /// A right step at one of the ends of a cell of the list, or none where the constraint does not close the box with the cell at either end.
-    fn step_for<'a>(&'a self, question: &'a Question<'a>, left: &Weight, at: usize) -> Option<Step>
-        requires fits { Fits self.now question.now.program.now }
-        requires asked { IsAsked question.now }
-        requires reason { question.now.reason ≡ reason.Chance self.now.instance }
-        requires whole { IsWhole question.now }
-        requires left { left.now.sum ≡ left_over (root_in question.now.program.now) (problem_in question.now.program.now) self.now.instance question.now.store.now.box }
+    fn step_for<'a>(&'a self, probe: &'a Probe<'a>, left: &Weight, at: usize) -> Option<Step>
+        requires fits { Fits self.now probe.now.program.now }
+        requires asked { IsAsked probe.now }
+        requires reason { probe.now.reason ≡ reason.Chance self.now.instance }
+        requires whole { IsWhole probe.now }
+        requires left { left.now.sum ≡ left_over (root_in probe.now.program.now) (problem_in probe.now.program.now) self.now.instance probe.now.store.now.box }
         requires exists { at < length self.now.cells.items }
-        ensures right { IfSome result (IsRight (box_problem_of question.now.program.now) question.now.best question.now.store.now.box) }
-        ensures own { IfSome result (λ step. step.reason ≡ question.now.reason) }
-        ensures none { IfNone result (IsOpen question.now (get_or self.now.cells.items at 0)) }
+        ensures right { IfSome result (IsRight (box_problem_of probe.now.program.now) probe.now.best probe.now.store.now.box) }
+        ensures own_reason { IfSome result (λ step. step.reason ≡ probe.now.reason) }
+        ensures none { IfNone result (IsOpen probe.now (get_or self.now.cells.items at 0)) }
     {
         let cell = self.cells[at];
-        let weighed = Weighed {
+        let weighed = ChanceDelta {
             instance: self.instance,
             cell,
             left: *left,
             scenarios: self.touched[at].numbers.as_slice(),
         };
-        let known = Question {
-            program: question.program,
-            store: question.store,
-            reason: question.reason,
-            best: question.best,
+        let known = Probe {
+            program: probe.program,
+            store: probe.store,
+            reason: probe.reason,
+            best: probe.best,
             weighed: Some(weighed),
             counted: None,
         };
@@ -128,18 +127,18 @@ impl Chance {
 
     /// A right step at one of the ends of the cells, by the weight that is left over the box; none where the constraint does not close the box with any
     /// cell at an end.
-    fn step_by<'a>(&'a self, question: &'a Question<'a>, left: &Weight) -> Option<Step>
-        requires fits { Fits self.now question.now.program.now }
-        requires asked { IsAsked question.now }
-        requires reason { question.now.reason ≡ reason.Chance self.now.instance }
-        requires whole { IsWhole question.now }
-        requires left { left.now.sum ≡ left_over (root_in question.now.program.now) (problem_in question.now.program.now) self.now.instance question.now.store.now.box }
-        ensures right { IfSome result (IsRight (box_problem_of question.now.program.now) question.now.best question.now.store.now.box) }
-        ensures own { IfSome result (λ step. step.reason ≡ question.now.reason) }
-        ensures none { IfNone result (Quiets (box_problem_of question.now.program.now) (question.now.reason ∷ []) question.now.best question.now.store.now.box) }
+    fn step_by<'a>(&'a self, probe: &'a Probe<'a>, left: &Weight) -> Option<Step>
+        requires fits { Fits self.now probe.now.program.now }
+        requires asked { IsAsked probe.now }
+        requires reason { probe.now.reason ≡ reason.Chance self.now.instance }
+        requires whole { IsWhole probe.now }
+        requires left { left.now.sum ≡ left_over (root_in probe.now.program.now) (problem_in probe.now.program.now) self.now.instance probe.now.store.now.box }
+        ensures right { IfSome result (IsRight (box_problem_of probe.now.program.now) probe.now.best probe.now.store.now.box) }
+        ensures own_reason { IfSome result (λ step. step.reason ≡ probe.now.reason) }
+        ensures none { IfNone result (Quiets (box_problem_of probe.now.program.now) (probe.now.reason ∷ []) probe.now.best probe.now.store.now.box) }
     {
         'cells: for at in 0..self.cells.len() {
-            if let Some(step) = self.step_for(question, left, at) {
+            if let Some(step) = self.step_for(probe, left, at) {
                 return Some(step);
             }
         }
@@ -147,33 +146,33 @@ impl Chance {
     }
 
     /// The same; where the weight that is left has no room, each end is tried by all scenarios.
-    fn first_step<'a>(&'a self, question: &'a Question<'a>) -> Option<Step>
-        requires fits { Fits self.now question.now.program.now }
-        requires asked { IsAsked question.now }
-        requires reason { question.now.reason ≡ reason.Chance self.now.instance }
-        requires whole { IsWhole question.now }
-        ensures right { IfSome result (IsRight (box_problem_of question.now.program.now) question.now.best question.now.store.now.box) }
-        ensures own { IfSome result (λ step. step.reason ≡ question.now.reason) }
-        ensures none { IfNone result (Quiets (box_problem_of question.now.program.now) (question.now.reason ∷ []) question.now.best question.now.store.now.box) }
+    fn first_step<'a>(&'a self, probe: &'a Probe<'a>) -> Option<Step>
+        requires fits { Fits self.now probe.now.program.now }
+        requires asked { IsAsked probe.now }
+        requires reason { probe.now.reason ≡ reason.Chance self.now.instance }
+        requires whole { IsWhole probe.now }
+        ensures right { IfSome result (IsRight (box_problem_of probe.now.program.now) probe.now.best probe.now.store.now.box) }
+        ensures own_reason { IfSome result (λ step. step.reason ≡ probe.now.reason) }
+        ensures none { IfNone result (Quiets (box_problem_of probe.now.program.now) (probe.now.reason ∷ []) probe.now.best probe.now.store.now.box) }
     {
-        match weight_left(question.program, self.instance, question.store) {
-            Some(left) => self.step_by(question, &left),
-            None => question.first_step(self.cells.as_slice()),
+        match weight_left(probe.program, self.instance, probe.store) {
+            Some(left) => self.step_by(probe, &left),
+            None => probe.first_step(self.cells.as_slice()),
         }
     }
 
     /// What is found of the box of a question for the constraint.
-    #[tactic(auto, using(cell_questions::proofs::Finding::found_dead, cell_questions::proofs::Finding::found_cut))]
-    fn finding<'a>(&'a self, question: &'a Question<'a>) -> Finding
-        requires fits { Fits self.now question.now.program.now }
-        requires asked { IsAsked question.now }
-        requires reason { question.now.reason ≡ reason.Chance self.now.instance }
-        ensures finds { Finds (box_problem_of question.now.program.now) (question.now.reason ∷ []) question.now.best question.now.store.now.box result }
+    #[tactic(auto, using(prop_shave::proofs::Finding::found_dead, prop_shave::proofs::Finding::found_cut))]
+    fn finding<'a>(&'a self, probe: &'a Probe<'a>) -> Finding
+        requires fits { Fits self.now probe.now.program.now }
+        requires asked { IsAsked probe.now }
+        requires reason { probe.now.reason ≡ reason.Chance self.now.instance }
+        ensures finds { Finds (box_problem_of probe.now.program.now) (probe.now.reason ∷ []) probe.now.best probe.now.store.now.box result }
     {
-        if question.is_closed() {
-            return Finding::Dead(question.reason);
+        if probe.is_closed() {
+            return Finding::Dead(probe.reason);
         }
-        match self.first_step(question) {
+        match self.first_step(probe) {
             Some(step) => Finding::Cut(step),
             None => Finding::Quiet,
         }
@@ -185,7 +184,7 @@ impl Chance {
         requires inside { Inside store.now.box (root_in program.now) }
         ensures finds { Finds (box_problem_of program.now) (reasons_of self.now) best store.now.box result }
     {
-        let question = Question {
+        let probe = Probe {
             program,
             store,
             reason: self.reason(),
@@ -193,7 +192,7 @@ impl Chance {
             weighed: None,
             counted: None,
         };
-        self.finding(&question)
+        self.finding(&probe)
     }
 }
 

@@ -4,31 +4,30 @@ ghost use Rattle.std.specs.Prelude.{◌≡◌, ◌<◌, ◌∷◌, ◌++◌, [],
 ghost use Rattle.sopl_base.specs.declared.reason.Reason.TheVariants.{Bound, Undefined};
 ghost use Rattle.box_problem.specs.Box.{Inside};
 ghost use Rattle.box_problem.specs.Rightness.{IsRight, Quiets};
-ghost use Rattle.cell_questions.specs.Opened.{IsOpen, IsWhole};
-ghost use Rattle.cell_questions.specs.Questions.{HasAll, IsAsked};
-ghost use Rattle.program_laws.specs.Stated.{box_problem_of};
-ghost use Rattle.goal_sums.specs.Sums.{touched_by};
-ghost use Rattle.program_rules.specs.Objective.{better_end, goal_ends};
-ghost use Rattle.program_rules.specs.Problems.{direction_in};
-ghost use Rattle.program_rules.specs.Search.{numbers_to};
+ghost use Rattle.prop_shave.specs.Opened.{IsOpen, IsWhole};
+ghost use Rattle.prop_shave.specs.Probes.{HasAll, IsAsked};
+ghost use Rattle.term_program.specs.Stated.{box_problem_of};
+ghost use Rattle.prop_shave.specs.GoalSums.{touched_by};
+ghost use Rattle.term_problem.specs.Objective.{better_end, goal_ends};
+ghost use Rattle.term_problem.specs.Problems.{direction_in};
+ghost use Rattle.term_problem.specs.Search.{numbers_to};
 ghost use Rattle.std.specs.List.{AllByRecursion};
 ghost use Rattle.term_program.specs.Mentions.{atom_ids};
 ghost use Rattle.prop_core.specs.Findings.{Closes};
-ghost use Rattle.reason_mentions.specs.Reasons.{reason_mentions};
+ghost use Rattle.term_problem.specs.Reasons.{reason_mentions};
 ghost use Rattle.term_nodes.specs.Things.{term_at};
 ghost use Rattle.term_program.specs.Programs.{IsListedTerm, IsMade, problem_in, root_in, things_in};
 ghost use Rattle.prop_chance.specs.Goals.{Fits, IsIndexed, IsOpenTo, atoms_in, reasons_of, term_in};
 
 use crate::cell_sets::{listed, put_all};
-use box_rules::Defined;
 use box_store::BoxStore;
-use cell_questions::Question;
-use goal_sums::{Counted, Parts, Value, end_over, touching};
 use prop_core::{Finding, Propagator};
+use prop_shave::{GoalBound, GoalDelta, Probe, TouchedParts, end_over, parts_touching};
 use sopl_base::{Reason, Step};
 use std::alloc::{AllocError, Global};
 use std::collections::BTreeSet;
 use term_goals::Atom;
+use term_language::Defined;
 use term_program::{Program, TermId, range_of, refuted};
 
 /// Narrows a box for the objective: what it is to be better than, and where it has to be defined. For each scenario both ends of each cell that the
@@ -38,7 +37,7 @@ use term_program::{Program, TermId, range_of, refuted};
 pub struct Goal {
     scenarios: u32,
     cells: Vec<u32>,
-    parts: Option<Vec<Parts>>,
+    parts: Option<Vec<TouchedParts>>,
 }
 
 /// Puts the cells that the objective's term mentions in a scenario into a set.
@@ -79,14 +78,14 @@ fn touched_parts(
     program: &Program,
     atoms: &[Atom],
     cells: &[u32],
-) -> Result<Vec<Parts>, AllocError>
+) -> Result<Vec<TouchedParts>, AllocError>
     requires made { IsMade program.now }
     requires listed { AllByRecursion (IsListedTerm program.now) (atom_ids atoms.now) }
     ensures touched { IfOk result (λ lists. map atoms_in lists.items ≡ map (touched_by (root_in program.now) (things_in program.now) atoms.now) cells.now) }
 {
     let mut lists = Vec::new(alloc);
     'cells: for cell in cells {
-        let list = touching(alloc, program, atoms, *cell)?;
+        let list = parts_touching(alloc, program, atoms, *cell)?;
         lists.push(list)?;
     }
     Ok(lists)
@@ -97,7 +96,7 @@ fn indexed_parts(
     alloc: Global,
     program: &Program,
     cells: &[u32],
-) -> Result<Option<Vec<Parts>>, AllocError>
+) -> Result<Option<Vec<TouchedParts>>, AllocError>
     requires made { IsMade program.now }
     ensures parts { IfOk result (λ parts. IfSome parts (λ lists. IsIndexed program.now cells.now lists.items)) }
 {
@@ -111,36 +110,36 @@ fn indexed_parts(
 /// A right step at one of the ends of the cells that this term of the objective mentions, or none where its lack of a value closes the box with no cell
 /// at an end. A term that has a value all over the box has one all over each part of it, and no end is tried.
 #[tactic(auto, using(crate::proofs::Objectives::undefined_cells))]
-fn term_step(question: &Question<'_>, scenario: u32, term: TermId) -> Option<Step>
-    requires asked { IsAsked question.now }
-    requires reason { question.now.reason ≡ Undefined scenario }
-    requires exists { term.0 < length (things_in question.now.program.now) }
-    requires listed { IsListedTerm question.now.program.now term.0 }
-    requires term { Some (term_at (things_in question.now.program.now) term.0) ≡ term_in (problem_in question.now.program.now) scenario }
-    requires whole { IsWhole question.now }
-    ensures right { IfSome result (IsRight (box_problem_of question.now.program.now) question.now.best question.now.store.now.box) }
-    ensures own { IfSome result (λ step. step.reason ≡ Undefined scenario) }
-    ensures none { IfNone result (Quiets (box_problem_of question.now.program.now) (Undefined scenario ∷ []) question.now.best question.now.store.now.box) }
+fn term_step(probe: &Probe<'_>, scenario: u32, term: TermId) -> Option<Step>
+    requires asked { IsAsked probe.now }
+    requires reason { probe.now.reason ≡ Undefined scenario }
+    requires exists { term.0 < length (things_in probe.now.program.now) }
+    requires listed { IsListedTerm probe.now.program.now term.0 }
+    requires term { Some (term_at (things_in probe.now.program.now) term.0) ≡ term_in (problem_in probe.now.program.now) scenario }
+    requires whole { IsWhole probe.now }
+    ensures right { IfSome result (IsRight (box_problem_of probe.now.program.now) probe.now.best probe.now.store.now.box) }
+    ensures own_reason { IfSome result (λ step. step.reason ≡ Undefined scenario) }
+    ensures none { IfNone result (Quiets (box_problem_of probe.now.program.now) (Undefined scenario ∷ []) probe.now.best probe.now.store.now.box) }
 {
-    match range_of(question.program, term, question.store).defined {
+    match range_of(probe.program, term, probe.store).defined {
         Defined::Always => None,
-        _ => question.first_step(question.program.term_cells(term)),
+        _ => probe.first_step(probe.program.term_cells(term)),
     }
 }
 
 /// The same of the term in that scenario, where there is an objective.
 #[tactic(auto, using(crate::proofs::Objectives::quiet_without))]
-fn undefined_step(question: &Question<'_>, scenario: u32) -> Option<Step>
-    requires asked { IsAsked question.now }
-    requires reason { question.now.reason ≡ Undefined scenario }
-    requires scenario { scenario < length (problem_in question.now.program.now).weights }
-    requires whole { IsWhole question.now }
-    ensures right { IfSome result (IsRight (box_problem_of question.now.program.now) question.now.best question.now.store.now.box) }
-    ensures own { IfSome result (λ step. step.reason ≡ Undefined scenario) }
-    ensures none { IfNone result (Quiets (box_problem_of question.now.program.now) (Undefined scenario ∷ []) question.now.best question.now.store.now.box) }
+fn undefined_step(probe: &Probe<'_>, scenario: u32) -> Option<Step>
+    requires asked { IsAsked probe.now }
+    requires reason { probe.now.reason ≡ Undefined scenario }
+    requires scenario { scenario < length (problem_in probe.now.program.now).weights }
+    requires whole { IsWhole probe.now }
+    ensures right { IfSome result (IsRight (box_problem_of probe.now.program.now) probe.now.best probe.now.store.now.box) }
+    ensures own_reason { IfSome result (λ step. step.reason ≡ Undefined scenario) }
+    ensures none { IfNone result (Quiets (box_problem_of probe.now.program.now) (Undefined scenario ∷ []) probe.now.best probe.now.store.now.box) }
 {
-    match question.program.goal(scenario) {
-        Some(term) => term_step(question, scenario, term),
+    match probe.program.goal(scenario) {
+        Some(term) => term_step(probe, scenario, term),
         None => None,
     }
 }
@@ -191,11 +190,11 @@ impl Goal {
         requires inside { Inside store.now.box (root_in program.now) }
         requires whole { All (IsOpenTo (box_problem_of program.now) best store.now.box) (reasons_of self.now) }
         ensures right { IfSome result (IsRight (box_problem_of program.now) best store.now.box) }
-        ensures own { IfSome result (λ step. Contains (reasons_of self.now) step.reason) }
+        ensures own_reason { IfSome result (λ step. Contains (reasons_of self.now) step.reason) }
         ensures none { IfNone result (Quiets (box_problem_of program.now) (reasons_of self.now) best store.now.box) }
     {
         'scenarios: for scenario in 0..self.scenarios {
-            let question = Question {
+            let probe = Probe {
                 program,
                 store,
                 reason: Reason::Undefined { scenario },
@@ -203,11 +202,11 @@ impl Goal {
                 weighed: None,
                 counted: None,
             };
-            if let Some(step) = undefined_step(&question, scenario) {
+            if let Some(step) = undefined_step(&probe, scenario) {
                 return Some(step);
             }
         }
-        let question = Question {
+        let probe = Probe {
             program,
             store,
             reason: Reason::Bound,
@@ -215,39 +214,39 @@ impl Goal {
             weighed: None,
             counted: None,
         };
-        self.bound_step(&question)
+        self.bound_step(&probe)
     }
 
     /// A right step for the bound, or none where it does not close the box with any cell at an end.
-    fn bound_step<'a>(&'a self, question: &'a Question<'a>) -> Option<Step>
-        requires fits { Fits self.now question.now.program.now }
-        requires asked { IsAsked question.now }
-        requires reason { question.now.reason ≡ Bound }
-        requires whole { IsWhole question.now }
-        ensures right { IfSome result (IsRight (box_problem_of question.now.program.now) question.now.best question.now.store.now.box) }
-        ensures own { IfSome result (λ step. step.reason ≡ question.now.reason) }
-        ensures none { IfNone result (Quiets (box_problem_of question.now.program.now) (question.now.reason ∷ []) question.now.best question.now.store.now.box) }
+    fn bound_step<'a>(&'a self, probe: &'a Probe<'a>) -> Option<Step>
+        requires fits { Fits self.now probe.now.program.now }
+        requires asked { IsAsked probe.now }
+        requires reason { probe.now.reason ≡ Bound }
+        requires whole { IsWhole probe.now }
+        ensures right { IfSome result (IsRight (box_problem_of probe.now.program.now) probe.now.best probe.now.store.now.box) }
+        ensures own_reason { IfSome result (λ step. step.reason ≡ probe.now.reason) }
+        ensures none { IfNone result (Quiets (box_problem_of probe.now.program.now) (probe.now.reason ∷ []) probe.now.best probe.now.store.now.box) }
     {
         match &self.parts {
-            Some(parts) => self.step_by(question, parts.as_slice()),
-            None => question.first_step(self.cells.as_slice()),
+            Some(parts) => self.step_by(probe, parts.as_slice()),
+            None => probe.first_step(self.cells.as_slice()),
         }
     }
 
     /// The same by the better end over the box and the parts that mention each cell.
-    fn step_by<'a>(&'a self, question: &'a Question<'a>, parts: &'a [Parts]) -> Option<Step>
-        requires fits { Fits self.now question.now.program.now }
-        requires indexed { IsIndexed question.now.program.now self.now.cells.items parts.now }
-        requires asked { IsAsked question.now }
-        requires reason { question.now.reason ≡ Bound }
-        requires whole { IsWhole question.now }
-        ensures right { IfSome result (IsRight (box_problem_of question.now.program.now) question.now.best question.now.store.now.box) }
-        ensures own { IfSome result (λ step. step.reason ≡ question.now.reason) }
-        ensures none { IfNone result (Quiets (box_problem_of question.now.program.now) (question.now.reason ∷ []) question.now.best question.now.store.now.box) }
+    fn step_by<'a>(&'a self, probe: &'a Probe<'a>, parts: &'a [TouchedParts]) -> Option<Step>
+        requires fits { Fits self.now probe.now.program.now }
+        requires indexed { IsIndexed probe.now.program.now self.now.cells.items parts.now }
+        requires asked { IsAsked probe.now }
+        requires reason { probe.now.reason ≡ Bound }
+        requires whole { IsWhole probe.now }
+        ensures right { IfSome result (IsRight (box_problem_of probe.now.program.now) probe.now.best probe.now.store.now.box) }
+        ensures own_reason { IfSome result (λ step. step.reason ≡ probe.now.reason) }
+        ensures none { IfNone result (Quiets (box_problem_of probe.now.program.now) (probe.now.reason ∷ []) probe.now.best probe.now.store.now.box) }
     {
-        let end = end_over(question.program, question.store);
+        let end = end_over(probe.program, probe.store);
         'cells: for at in 0..self.cells.len() {
-            if let Some(step) = self.step_for(question, parts, &end, at) {
+            if let Some(step) = self.step_for(probe, parts, &end, at) {
                 return Some(step);
             }
         }
@@ -258,34 +257,34 @@ impl Goal {
     #[tactic(auto, using(crate::proofs::Conditions::as_long))]
     fn step_for<'a>(
         &'a self,
-        question: &'a Question<'a>,
-        parts: &'a [Parts],
-        end: &Value,
+        probe: &'a Probe<'a>,
+        parts: &'a [TouchedParts],
+        end: &GoalBound,
         at: usize,
     ) -> Option<Step>
-        requires fits { Fits self.now question.now.program.now }
-        requires indexed { IsIndexed question.now.program.now self.now.cells.items parts.now }
-        requires asked { IsAsked question.now }
-        requires reason { question.now.reason ≡ Bound }
-        requires whole { IsWhole question.now }
-        requires end { end.now.number ≡ better_end (direction_in (problem_in question.now.program.now))
-            (goal_ends (root_in question.now.program.now) question.now.store.now.box (problem_in question.now.program.now)) }
+        requires fits { Fits self.now probe.now.program.now }
+        requires indexed { IsIndexed probe.now.program.now self.now.cells.items parts.now }
+        requires asked { IsAsked probe.now }
+        requires reason { probe.now.reason ≡ Bound }
+        requires whole { IsWhole probe.now }
+        requires end { end.now.number ≡ better_end (direction_in (problem_in probe.now.program.now))
+            (goal_ends (root_in probe.now.program.now) probe.now.store.now.box (problem_in probe.now.program.now)) }
         requires exists { at < length self.now.cells.items }
-        ensures right { IfSome result (IsRight (box_problem_of question.now.program.now) question.now.best question.now.store.now.box) }
-        ensures own { IfSome result (λ step. step.reason ≡ question.now.reason) }
-        ensures none { IfNone result (IsOpen question.now (get_or self.now.cells.items at 0)) }
+        ensures right { IfSome result (IsRight (box_problem_of probe.now.program.now) probe.now.best probe.now.store.now.box) }
+        ensures own_reason { IfSome result (λ step. step.reason ≡ probe.now.reason) }
+        ensures none { IfNone result (IsOpen probe.now (get_or self.now.cells.items at 0)) }
     {
         let cell = self.cells[at];
-        let counted = Counted {
+        let counted = GoalDelta {
             cell,
             end: *end,
             parts: parts[at].atoms.as_slice(),
         };
-        let known = Question {
-            program: question.program,
-            store: question.store,
-            reason: question.reason,
-            best: question.best,
+        let known = Probe {
+            program: probe.program,
+            store: probe.store,
+            reason: probe.reason,
+            best: probe.best,
             weighed: None,
             counted: Some(counted),
         };

@@ -9,7 +9,7 @@ ghost use Rattle.prop_core.specs.Rests.{Rests};
 
 use crate::finding::{Calm, Finding};
 use crate::propagator::Propagator;
-use crate::sweeping::sweep;
+use crate::sweeping::sweep_from;
 use box_store::BoxStore;
 use sopl_base::{Step, Steps};
 use std::alloc::AllocError;
@@ -47,7 +47,7 @@ pub fn fixpoint<P: Propagator>(
 {
     let mut start = 0;
     'cuts: loop {
-        let found = sweep(list, start, program, store, best);
+        let found = sweep_from(list, start, program, store, best);
         match found.finding {
             Finding::Quiet => return Ok(Calm::Quiet),
             Finding::Dead(reason) => return Ok(Calm::Dead(reason)),

@@ -5,12 +5,12 @@ use Rattle.std.proofs.lemmas.Bool.{cases_eq}
 use Rattle.std.proofs.lemmas.Int.{ints}
 use Rattle.std.proofs.lemmas.List.{get_or-set_other, get_or-set_same}
 use Rattle.box_problem.specs.Box.{Box, IsBox, high, low}
-use Rattle.box_rules.specs.Ends as rule
-use Rattle.box_rules.specs.Forms.{cells_ends}
-use Rattle.box_rules.specs.Sizes.{cells_weight, weight_of}
+use Rattle.term_language.specs.Ends as rule
+use Rattle.term_language.specs.Forms.{cells_ends}
+use Rattle.term_language.specs.Sizes.{cells_weight, weight_of}
 use Rattle.term_program.specs.Programs.{with_interval}
-use Rattle.term_rules.specs.declared.forms.Coefficient.{Coefficient}
-use Rattle.term_rules.specs.Shown.{cells_of}
+use Rattle.term_math.specs.declared.forms.Coefficient.{Coefficient}
+use Rattle.term_math.specs.Shown.{cells_of}
 use Rattle.prop_linear.specs.Balances.{AreAbove, Ascend}
 
 -- an element is the first one or a later one

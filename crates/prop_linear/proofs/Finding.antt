@@ -16,23 +16,23 @@ use Rattle.box_problem.specs.Rightness.{Quiets}
 use Rattle.box_problem.specs.Steps.{removed}
 use Rattle.box_problem.proofs.Boxes.{parts_of_parts}
 use Rattle.box_problem.proofs.Cuts.{cuts_make_parts, high_lowered, low_raised}
-use Rattle.box_rules.specs.Ends as rule
-use Rattle.box_rules.specs.Forms as forms
-use Rattle.box_rules.specs.Marks.{none_compares}
-use Rattle.box_rules.specs.Rules.{Near, truth}
-use Rattle.box_rules.specs.Sizes.{cells_weight, weight_of}
-use Rattle.box_rules.specs.Terms.{Cond}
-use Rattle.box_rules.proofs.Narrowing.{within_cell}
-use Rattle.end_values.specs.Removals.{IsOpenAt, Removes}
-use Rattle.program_laws.specs.Stated.{box_problem_of}
-use Rattle.program_rules.specs.Refuted.{is_false, refutes}
+use Rattle.term_language.specs.Ends as rule
+use Rattle.term_language.specs.Forms as forms
+use Rattle.term_language.specs.Marks.{none_compares}
+use Rattle.term_language.specs.Rules.{Near, truth}
+use Rattle.term_language.specs.Sizes.{cells_weight, weight_of}
+use Rattle.term_language.specs.Terms.{Cond}
+use Rattle.term_language.proofs.Narrowing.{within_cell}
+use Rattle.prop_shave.specs.Removals.{IsOpenAt, Removes}
+use Rattle.term_program.specs.Stated.{box_problem_of}
+use Rattle.term_problem.specs.Refuted.{is_false, refutes}
 use Rattle.prop_core.specs.Findings.{Closes, Narrows}
 use Rattle.term_program.specs.declared.program.Program.{Program}
 use Rattle.term_program.specs.declared.shapes.Form.TheVariants.{Linear}
 use Rattle.term_program.specs.Comparisons as shapes
 use Rattle.term_program.specs.Programs.{problem_in, root_in}
-use Rattle.term_rules.specs.declared.forms.Coefficient.{Coefficient}
-use Rattle.term_rules.specs.Shown.{cells_of}
+use Rattle.term_math.specs.declared.forms.Coefficient.{Coefficient}
+use Rattle.term_math.specs.Shown.{cells_of}
 use Rattle.term_store.proofs.OrderedForms.{Ordered}
 use Rattle.prop_linear.specs.declared.balances.Difference.{Difference}
 use Rattle.prop_linear.specs.declared.comparisons.Linear as own

@@ -1,14 +1,14 @@
--- What is reckoned of one cell of a comparison's sum has room.
+-- What is computed of one cell of a comparison's sum has room.
 use Rattle.std.proofs.Common.{◌≡◌, ◌+◌, ◌^◌, ℤ, pos, ◌-ℤ◌, ◌*ℤ◌, ◌≤ℤ◌, arith, subst, sym}
 use Rattle.std.proofs.lemmas.Int.{ints}
 use Rattle.sopl_base.specs.declared.reason.Side.{Side}
 use Rattle.sopl_base.specs.declared.reason.Side.TheVariants.{Le, Ge}
-use Rattle.box_rules.specs.Ends as rule
-use Rattle.box_rules.proofs.Bounds.{Bounds, small, bounds_between, bounds_plus}
-use Rattle.end_values.specs.Ends.{highest_at, lowest_at, highest, lowest}
-use Rattle.term_rules.specs.declared.ends.Ends.{Ends}
-use Rattle.term_rules.specs.Shown.{IsFit, ends_at, ends_of}
-use Rattle.term_rules.proofs.Fits.{fit}
+use Rattle.term_language.specs.Ends as rule
+use Rattle.term_language.proofs.Bounds.{Bounds, small, bounds_between, bounds_plus}
+use Rattle.prop_shave.specs.Ends.{highest_at, lowest_at, highest, lowest}
+use Rattle.term_math.specs.declared.ends.Ends.{Ends}
+use Rattle.term_math.specs.Shown.{IsFit, ends_at, ends_of}
+use Rattle.term_math.proofs.Fits.{fit}
 use Rattle.prop_linear.specs.declared.turns.Turn.{Turn}
 use Rattle.prop_linear.specs.Turns.{HasRoom, part_of}
 

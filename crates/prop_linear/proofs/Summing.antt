@@ -14,21 +14,21 @@ use Rattle.sopl_base.specs.declared.reason.Side.TheVariants.{Le, Ge}
 use Rattle.sopl_base.specs.declared.reason.Step.{Step}
 use Rattle.box_problem.specs.Box.{Box, IsBox, Inside, high, low}
 use Rattle.box_problem.proofs.Boxes.{part_of_itself}
-use Rattle.box_rules.specs.Ends as rule
-use Rattle.box_rules.specs.Forms.{cells_ends}
-use Rattle.box_rules.specs.Marks.{none_compares}
-use Rattle.box_rules.specs.Sizes.{cells_weight, weight_of}
-use Rattle.box_rules.proofs.Bounds.{Bounds, small, sized, bounds_plus, bounds_scaled, bounds_weight}
-use Rattle.end_values.specs.declared.ends.End.{End}
-use Rattle.end_values.specs.declared.ends.Removal.{Removal}
-use Rattle.end_values.specs.Ends.{highest, highest_at, lowest, lowest_at, step_at, upper_of}
-use Rattle.end_values.specs.Removals.{IsOpenAt, Removes}
-use Rattle.end_values.proofs.Removing as removing
+use Rattle.term_language.specs.Ends as rule
+use Rattle.term_language.specs.Forms.{cells_ends}
+use Rattle.term_language.specs.Marks.{none_compares}
+use Rattle.term_language.specs.Sizes.{cells_weight, weight_of}
+use Rattle.term_language.proofs.Bounds.{Bounds, small, sized, bounds_plus, bounds_scaled, bounds_weight}
+use Rattle.prop_shave.specs.declared.shave_steps.CellEnd.{CellEnd}
+use Rattle.prop_shave.specs.declared.shave_steps.Shave.{Shave}
+use Rattle.prop_shave.specs.Ends.{highest, highest_at, lowest, lowest_at, step_at, upper_of}
+use Rattle.prop_shave.specs.Removals.{IsOpenAt, Removes}
+use Rattle.prop_shave.proofs.Removing as removing
 use Rattle.term_program.specs.Programs.{with_interval}
-use Rattle.term_rules.specs.declared.ends.Ends.{Ends}
-use Rattle.term_rules.specs.declared.forms.Coefficient.{Coefficient}
-use Rattle.term_rules.specs.Shown.{CellsFit, IsFit, cells_of, ends_at, ends_of}
-use Rattle.term_rules.proofs.Fits.{cells_bounds, cells_fit, fit, fit_at}
+use Rattle.term_math.specs.declared.ends.Ends.{Ends}
+use Rattle.term_math.specs.declared.forms.Coefficient.{Coefficient}
+use Rattle.term_math.specs.Shown.{CellsFit, IsFit, cells_of, ends_at, ends_of}
+use Rattle.term_math.proofs.Fits.{cells_bounds, cells_fit, fit, fit_at}
 use Rattle.prop_linear.specs.declared.balances.Balance.{Balance}
 use Rattle.prop_linear.specs.declared.balances.Difference.{Difference}
 use Rattle.prop_linear.specs.declared.turns.Turn.{Turn}
@@ -165,7 +165,8 @@ sum_moves x c others lo hi summed own exists are =
     lead : (rest old new before after all constant : ℤ) → rest +ℤ old ≡ all → all ≡ constant +ℤ before → after +ℤ old ≡ before +ℤ new → rest +ℤ new ≡ constant +ℤ after
     lead rest old new before after all constant first second third = omega (arith, ints, first, second, third)
 
-room_of : (x : Balance) (c : Coefficient) (op : CmpOp) (others : Ends) (end : End) → IsSummed x → Contains x.difference.parts.now c → IsOthers x c others → end.lo ≡ low (box_of x.difference) c.cell
+room_of : (x : Balance) (c : Coefficient) (op : CmpOp) (others : Ends) (end : CellEnd) → IsSummed x → Contains x.difference.parts.now c → IsOthers x c others
+    → end.lo ≡ low (box_of x.difference) c.cell
     → end.hi ≡ high (box_of x.difference) c.cell → end.lo <ℤ end.hi → HasRoom (record { op = op; k = c.k; others = others; end = end })
 room_of x c op others end summed own are is_low is_high wide =
     let d = x.difference in
@@ -183,10 +184,10 @@ room_of x c op others end summed own are is_low is_high wide =
         let same : all -ℤ own ≡ rest = omega (arith, ints, is) in
         subst (λ (z : ℤ). unsigned_abs z ≤ 2 ^ 43) same (gap_size all own first second)
 
-abbrev turn_with : CmpOp → ℤ → Ends → End → Turn
+abbrev turn_with : CmpOp → ℤ → Ends → CellEnd → Turn
 turn_with op k others end = record { op = op; k = k; others = others; end = end }
 
-turn_at : (x : Balance) (c : Coefficient) (op : CmpOp) (k : ℤ) (others : Ends) (end : End) → IsSummed x → Contains x.difference.parts.now c → op ≡ x.difference.op → k ≡ c.k → IsOthers x c others
+turn_at : (x : Balance) (c : Coefficient) (op : CmpOp) (k : ℤ) (others : Ends) (end : CellEnd) → IsSummed x → Contains x.difference.parts.now c → op ≡ x.difference.op → k ≡ c.k → IsOthers x c others
     → end.cell ≡ c.cell → end.lo ≡ low (box_of x.difference) c.cell → end.hi ≡ high (box_of x.difference) c.cell → end.lo <ℤ end.hi → IsTurnIn x.difference (turn_with op k others end)
 turn_at x c op k others end summed own same_op same_k are cell is_low is_high wide =
     let d = x.difference in
@@ -202,20 +203,20 @@ turn_at x c op k others end summed own same_op same_k are cell is_low is_high wi
           sum_moves x c others lo hi summed own exists are ∙ ap (λ (n : ℕ). closes d (with_interval (box_of d) n lo hi)) (sym cell);
     }))
 
-pub turn_in : (x : Balance) (c : Coefficient) (t : Turn) (end : End) → IsSummed x → Contains x.difference.parts.now c → t.op ≡ x.difference.op → t.k ≡ c.k → t.end ≡ end → IsOthers x c t.others
+pub turn_in : (x : Balance) (c : Coefficient) (t : Turn) (end : CellEnd) → IsSummed x → Contains x.difference.parts.now c → t.op ≡ x.difference.op → t.k ≡ c.k → t.end ≡ end → IsOthers x c t.others
     → end.cell ≡ c.cell → end.lo ≡ low (box_of x.difference) c.cell → end.hi ≡ high (box_of x.difference) c.cell → end.lo <ℤ end.hi → IsTurnIn x.difference t
 turn_in x c t end summed own same_op same_k same are cell is_low is_high wide =
-    let at_end = ap (λ (e : End). e.cell) same in
-    let lo = ap (λ (e : End). e.lo) same in
-    let hi = ap (λ (e : End). e.hi) same in
+    let at_end = ap (λ (e : CellEnd). e.cell) same in
+    let lo = ap (λ (e : CellEnd). e.lo) same in
+    let hi = ap (λ (e : CellEnd). e.hi) same in
     let all = turn_at x c t.op t.k t.others t.end summed own same_op same_k are (at_end ∙ cell) (lo ∙ is_low) (hi ∙ is_high) (omega (arith, ints, lo, hi, wide)) in
     record { exists = all.exists; low = all.low; high = all.high; room = record { wide = all.room.wide; each = all.room.each; low = all.room.low; high = all.room.high }; tells = all.tells }
 
-pub turn_cell : (t : Turn) (end : End) (cell : ℕ) → t.end ≡ end → end.cell ≡ cell → t.end.cell ≡ cell
-turn_cell t end cell same is = ap (λ (e : End). e.cell) same ∙ is
+pub turn_cell : (t : Turn) (end : CellEnd) (cell : ℕ) → t.end ≡ end → end.cell ≡ cell → t.end.cell ≡ cell
+turn_cell t end cell same is = ap (λ (e : CellEnd). e.cell) same ∙ is
 
-pub turn_side : (t : Turn) (end : End) (side : Side) → t.end ≡ end → end.side ≡ side → t.end.side ≡ side
-turn_side t end side same is = ap (λ (e : End). e.side) same ∙ is
+pub turn_side : (t : Turn) (end : CellEnd) (side : Side) → t.end ≡ end → end.side ≡ side → t.end.side ≡ side
+turn_side t end side same is = ap (λ (e : CellEnd). e.side) same ∙ is
 
 pub upper_in : (d : Difference) (t upper : Turn) → IsTurnIn d t → upper ≡ with_end t (upper_of t.end) → IsTurnIn d upper
 upper_in d t upper is same =
@@ -246,7 +247,7 @@ both_open d cell lower upper is same side are low_open high_open =
           ∙ sym (is.tells (lowest_at Le e.lo e.hi (pos 1)) (highest_at Le e.lo e.hi (pos 1))) ∙ upper_open;
     })
 
-pub step_removes : (d : Difference) (t : Turn) (removal : Removal) (reason : Reason) (step : Step) → IsTurnIn d t → IsRemoval t removal → step ≡ step_at t.end reason removal.count
+pub step_removes : (d : Difference) (t : Turn) (removal : Shave) (reason : Reason) (step : Step) → IsTurnIn d t → IsRemoval t removal → step ≡ step_at t.end reason removal.count
     → Removes (closes d) (box_of d) step
 step_removes d t removal reason step is known same =
     let e = t.end in

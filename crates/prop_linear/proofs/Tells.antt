@@ -7,20 +7,20 @@ use Rattle.std.proofs.lemmas.List.{get_or_default}
 use Rattle.sopl_base.specs.declared.comparison.CmpOp.{CmpOp}
 use Rattle.box_problem.specs.Box.{Box, IsBox, Inside, InBox}
 use Rattle.box_problem.proofs.Boxes.{points_of_parts}
-use Rattle.box_rules.specs.declared.answers.Defined.{Defined}
-use Rattle.box_rules.specs.declared.answers.Defined.TheVariants.{Never, Maybe, Always}
-use Rattle.box_rules.specs.Ends.{Ends, ends, exactly, plus, scaled, cell_ends}
-use Rattle.box_rules.specs.Forms.{Form, cells_ends, plus_form}
-use Rattle.box_rules.specs.Laws.{Marks}
-use Rattle.box_rules.specs.Marks.{both, is_always, judged, none_compares, all_compare}
-use Rattle.box_rules.specs.Rules.{Near, form, atoms, mark, truth, difference_ends}
-use Rattle.box_rules.specs.Sizes.{cells_weight, weight_of}
-use Rattle.box_rules.specs.Terms.{Term, Constant, Sum, no_part, part, Cond, Compare, Not, All, Any, Implies, AllDifferent, Cumulative}
-use Rattle.box_rules.specs.Values.{value}
-use Rattle.box_rules.proofs.FormValues.{and_first, and_second, by_bool}
-use Rattle.box_rules.proofs.Layers.{IsClear}
-use Rattle.box_rules.proofs.Soundness.{marks_tell, read}
-use Rattle.program_rules.specs.Refuted.{is_false}
+use Rattle.term_language.specs.declared.answers.Defined.{Defined}
+use Rattle.term_language.specs.declared.answers.Defined.TheVariants.{Never, Maybe, Always}
+use Rattle.term_language.specs.Ends.{Ends, ends, exactly, plus, scaled, cell_ends}
+use Rattle.term_language.specs.Forms.{Form, cells_ends, plus_form}
+use Rattle.term_language.specs.Laws.{Marks}
+use Rattle.term_language.specs.Marks.{both, is_always, judged, none_compares, all_compare}
+use Rattle.term_language.specs.Rules.{Near, form, atoms, mark, truth, difference_ends}
+use Rattle.term_language.specs.Sizes.{cells_weight, weight_of}
+use Rattle.term_language.specs.Terms.{Term, Constant, Sum, no_part, part, Cond, Compare, Not, All, Any, Implies, AllDifferent, Cumulative}
+use Rattle.term_language.specs.Values.{value}
+use Rattle.term_language.proofs.FormValues.{and_first, and_second, by_bool}
+use Rattle.term_language.proofs.Layers.{IsClear}
+use Rattle.term_language.proofs.Soundness.{marks_tell, read}
+use Rattle.term_problem.specs.Refuted.{is_false}
 use Rattle.term_nodes.proofs.Ready.{nothing_small, small_term}
 use Rattle.term_nodes.proofs.Reading.{nothing_past}
 use Rattle.term_nodes.specs.Built.{IsAt, IsBuilt, IsSoundTerm}
@@ -29,7 +29,7 @@ use Rattle.term_nodes.specs.declared.nodes.Node.{Node}
 use Rattle.term_nodes.specs.declared.nodes.Node.TheVariants as node
 use Rattle.term_nodes.specs.Things.{Thing, cond_at, cond_in, thing_of, things}
 use Rattle.term_program.specs.Comparisons.{Difference, is_linear_pair, linear_in}
-use Rattle.term_rules.proofs.Weights.{cells_weighted, combined_weighted, plus_size}
+use Rattle.term_math.proofs.Weights.{cells_weighted, combined_weighted, plus_size}
 use Rattle.term_store.proofs.OrderedForms.{Ordered, form_ordered, once}
 
 -- both sides of a comparison are small and proper

@@ -1,14 +1,14 @@
 -- A linear comparison over a box.
 use Rattle.std.specs.Prelude.{◌≡◌, ℕ, ◌+◌, ◌<◌, ◌≤◌, ◌^◌, ℤ, ◌+ℤ◌, unsigned_abs, Bool, List, [], ◌∷◌, length}
 use Rattle.box_problem.specs.Box.{Box, IsBox, high, low}
-use Rattle.box_rules.specs.Ends as rule
-use Rattle.box_rules.specs.Forms.{cells_ends}
-use Rattle.box_rules.specs.Marks.{none_compares}
-use Rattle.box_rules.specs.Sizes.{cells_weight}
+use Rattle.term_language.specs.Ends as rule
+use Rattle.term_language.specs.Forms.{cells_ends}
+use Rattle.term_language.specs.Marks.{none_compares}
+use Rattle.term_language.specs.Sizes.{cells_weight}
 use Rattle.term_program.specs.Programs.{with_interval}
-use Rattle.term_rules.specs.declared.ends.Ends.{Ends}
-use Rattle.term_rules.specs.declared.forms.Coefficient.{Coefficient}
-use Rattle.term_rules.specs.Shown.{box_in, cells_of, ends_of}
+use Rattle.term_math.specs.declared.ends.Ends.{Ends}
+use Rattle.term_math.specs.declared.forms.Coefficient.{Coefficient}
+use Rattle.term_math.specs.Shown.{box_in, cells_of, ends_of}
 use Rattle.prop_linear.specs.declared.balances.Balance.{Balance}
 use Rattle.prop_linear.specs.declared.balances.Difference.{Difference}
 use Rattle.prop_linear.specs.declared.turns.Turn.{Turn}
@@ -35,7 +35,7 @@ abbrev pub Ascend : List Coefficient → Type 0
 Ascend [] = Unit {0}
 Ascend (c ∷ later) = AreAbove c.cell later × Ascend later
 
--- all that is reckoned over the box has room
+-- all that is computed over the box has room
 pub record IsLight (d : Difference) : Type 0 where
   pub is_box : IsBox (box_of d)
   pub light : unsigned_abs d.constant + cells_weight (box_of d) (cells_of d.parts.now) ≤ 2 ^ 42

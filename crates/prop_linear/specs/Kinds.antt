@@ -4,8 +4,8 @@ use Rattle.std.specs.Option.{option_and_then}
 use Rattle.sopl_base.specs.declared.reason.Reason.{Reason}
 use Rattle.sopl_base.specs.declared.reason.Reason.TheVariants.{Hard}
 use Rattle.box_problem.specs.Box.{Box, Inside}
-use Rattle.box_rules.specs.Terms.{Cond}
-use Rattle.program_rules.specs.Refuted.{refutes}
+use Rattle.term_language.specs.Terms.{Cond}
+use Rattle.term_problem.specs.Refuted.{refutes}
 use Rattle.term_nodes.specs.Things.{cond_at}
 use Rattle.term_program.specs.declared.program.Program.{Program}
 use Rattle.term_program.specs.declared.shapes.Form.TheVariants.{Linear}

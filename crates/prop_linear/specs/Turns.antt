@@ -1,18 +1,18 @@
 -- One cell of a comparison's sum.
 use Rattle.std.specs.Prelude.{◌≡◌, ◌≤◌, ◌^◌, ℤ, pos, ◌*ℤ◌, ◌-ℤ◌, ◌≤ℤ◌, unsigned_abs, Bool, true}
-use Rattle.box_rules.specs.Ends as rule
-use Rattle.box_rules.specs.Marks.{none_compares}
-use Rattle.end_values.specs.declared.ends.End.{End}
-use Rattle.end_values.specs.declared.ends.Removal.{Removal}
-use Rattle.end_values.specs.Ends.{IsWide, highest, lowest}
-use Rattle.term_rules.specs.Shown.{ends_of}
+use Rattle.term_language.specs.Ends as rule
+use Rattle.term_language.specs.Marks.{none_compares}
+use Rattle.prop_shave.specs.declared.shave_steps.CellEnd.{CellEnd}
+use Rattle.prop_shave.specs.declared.shave_steps.Shave.{Shave}
+use Rattle.prop_shave.specs.Ends.{IsWide, highest, lowest}
+use Rattle.term_math.specs.Shown.{ends_of}
 use Rattle.prop_linear.specs.declared.turns.Turn.{Turn}
 
 -- the same at another end
-abbrev pub with_end : Turn → End → Turn
+abbrev pub with_end : Turn → CellEnd → Turn
 with_end t end = record { op = t.op; k = t.k; others = t.others; end = end }
 
--- the interval of so many times the cell, where it has one of so many values at the end
+-- the interval of a multiple of the cell, where it has one of so many values at the end
 abbrev pub part_of : Turn → ℤ → rule.Ends
 part_of t count = rule.scaled t.k (rule.ends (lowest t.end count) (highest t.end count))
 
@@ -20,7 +20,7 @@ part_of t count = rule.scaled t.k (rule.ends (lowest t.end count) (highest t.end
 abbrev pub turn_closes : Turn → ℤ → Bool
 turn_closes t count = none_compares t.op (rule.plus (ends_of t.others) (part_of t count))
 
--- there is more than one value, and all that is reckoned has room
+-- there is more than one value, and all that is computed has room
 pub record HasRoom (t : Turn) : Type 0 where
   pub wide : IsWide t.end
   pub each : (x : ℤ) → t.end.lo ≤ℤ x → x ≤ℤ t.end.hi → unsigned_abs (t.k *ℤ x) ≤ 2 ^ 42
@@ -28,7 +28,7 @@ pub record HasRoom (t : Turn) : Type 0 where
   pub high : unsigned_abs t.others.high ≤ 2 ^ 43
 
 -- so many values at the end may go
-pub record IsRemoval (t : Turn) (removal : Removal) : Type 0 where
+pub record IsRemoval (t : Turn) (removal : Shave) : Type 0 where
   pub some : pos 1 ≤ℤ removal.count
   pub fewer : removal.count ≤ℤ (t.end.hi -ℤ t.end.lo)
   pub closed : turn_closes t removal.count ≡ true

@@ -2,19 +2,19 @@
 
 ghost use Rattle.std.specs.Prelude.{◌≡◌, ◌-ℤ◌, pos, false, All, Contains, IfNone, IfSome};
 ghost use Rattle.box_problem.specs.Box.{high, low};
-ghost use Rattle.box_rules.specs.Ends as rule;
-ghost use Rattle.end_values.specs.Removals.{IsOpenAt, Removes};
+ghost use Rattle.term_language.specs.Ends as rule;
+ghost use Rattle.prop_shave.specs.Removals.{IsOpenAt, Removes};
 ghost use Rattle.sopl_base.specs.declared.reason.Side.TheVariants.{Ge};
-ghost use Rattle.term_rules.specs.Shown.{IsFit, ends_of};
+ghost use Rattle.term_math.specs.Shown.{IsFit, ends_of};
 ghost use Rattle.prop_linear.specs.Balances.{IsLight, IsOthers, IsSummed, IsTurnIn, box_of, closes, sum_over};
 ghost use Rattle.prop_linear.specs.Turns.{turn_closes};
 
 use crate::turns::Turn;
-use end_values::End;
+use prop_shave::CellEnd;
 use sopl_base::{CmpOp, Reason, Side, Step};
-use term_rules::{BoxView, Coefficient, Ends, none_compares};
+use term_math::{BoxView, Coefficient, Ends, none_compares};
 
-/// A linear comparison over a box: a constant and so many times each of several cells are compared with 0.
+/// A linear comparison over a box: a constant and multiples of several cells are compared with 0.
 #[derive(Clone, Copy)]
 pub(crate) struct Difference<'a> {
     pub(crate) op: CmpOp,
@@ -76,14 +76,14 @@ impl<'a> Difference<'a> {
     }
 
     /// The lower end of the cell of a part.
-    fn end(&self, part: &Coefficient) -> End
+    fn end(&self, part: &Coefficient) -> CellEnd
         ensures cell { result.cell ≡ part.now.cell }
         ensures side { result.side ≡ Ge }
         ensures low { result.lo ≡ low (box_of self.now) part.now.cell }
         ensures high { result.hi ≡ high (box_of self.now) part.now.cell }
     {
         let interval = self.view.cell(part.cell);
-        End {
+        CellEnd {
             cell: part.cell,
             side: Side::Ge,
             lo: interval.low,
@@ -94,7 +94,7 @@ impl<'a> Difference<'a> {
     /// The interval of a part of the sum.
     fn part(&self, part: &Coefficient) -> Ends
         requires light { IsLight self.now }
-        requires own { Contains self.now.parts.now part.now }
+        requires own_part { Contains self.now.parts.now part.now }
         ensures { ends_of result ≡ rule.scaled part.now.k (rule.cell_ends (box_of self.now) part.now.cell) }
     {
         let interval = self.view.cell(part.cell);
@@ -114,7 +114,7 @@ impl Balance<'_> {
     /// The interval of the whole sum without a part.
     fn others(&self, part: &Coefficient) -> Ends
         requires summed { IsSummed self.now }
-        requires own { Contains self.now.difference.parts.now part.now }
+        requires own_part { Contains self.now.difference.parts.now part.now }
         ensures { IsOthers self.now part.now result }
     {
         let own = self.difference.part(part);
@@ -122,9 +122,9 @@ impl Balance<'_> {
     }
 
     /// The cell of a part at its lower end.
-    fn turn(&self, part: &Coefficient, end: &End) -> Turn
+    fn turn(&self, part: &Coefficient, end: &CellEnd) -> Turn
         requires summed { IsSummed self.now }
-        requires own { Contains self.now.difference.parts.now part.now }
+        requires own_part { Contains self.now.difference.parts.now part.now }
         ensures op { result.op ≡ self.now.difference.op }
         ensures k { result.k ≡ part.now.k }
         ensures end { result.end ≡ end.now }
@@ -142,7 +142,7 @@ impl Balance<'_> {
     #[tactic(auto, using(crate::proofs::Summing::turn_cell, crate::proofs::Summing::turn_side, crate::proofs::Summing::fixed))]
     fn lower(&self, part: &Coefficient) -> Option<Turn>
         requires summed { IsSummed self.now }
-        requires own { Contains self.now.difference.parts.now part.now }
+        requires own_part { Contains self.now.difference.parts.now part.now }
         ensures turn { IfSome result (IsTurnIn self.now.difference) }
         ensures cell { IfSome result (λ turn. turn.end.cell ≡ part.now.cell) }
         ensures side { IfSome result (λ turn. turn.end.side ≡ Ge) }
@@ -161,7 +161,7 @@ impl Balance<'_> {
     fn step_from(&self, reason: Reason, turn: &Turn) -> Option<Step>
         requires turn { IsTurnIn self.now.difference turn.now }
         ensures removes { IfSome result (Removes (closes self.now.difference) (box_of self.now.difference)) }
-        ensures own { IfSome result (λ step. step.reason ≡ reason) }
+        ensures own_reason { IfSome result (λ step. step.reason ≡ reason) }
         ensures none { IfNone result (turn_closes turn.now (pos 1) ≡ false) }
     {
         match turn.removal() {
@@ -175,9 +175,9 @@ impl Balance<'_> {
     fn step_at(&self, reason: Reason, part: &Coefficient) -> Option<Step>
         requires summed { IsSummed self.now }
         requires whole { closes self.now.difference (box_of self.now.difference) ≡ false }
-        requires own { Contains self.now.difference.parts.now part.now }
+        requires own_part { Contains self.now.difference.parts.now part.now }
         ensures removes { IfSome result (Removes (closes self.now.difference) (box_of self.now.difference)) }
-        ensures own { IfSome result (λ step. step.reason ≡ reason) }
+        ensures own_reason { IfSome result (λ step. step.reason ≡ reason) }
         ensures none { IfNone result (IsOpenAt (closes self.now.difference) (box_of self.now.difference) part.now.cell) }
     {
         let Some(lower) = self.lower(part) else {
@@ -194,7 +194,7 @@ impl Balance<'_> {
         requires summed { IsSummed self.now }
         requires whole { closes self.now.difference (box_of self.now.difference) ≡ false }
         ensures removes { IfSome result (Removes (closes self.now.difference) (box_of self.now.difference)) }
-        ensures own { IfSome result (λ step. step.reason ≡ reason) }
+        ensures own_reason { IfSome result (λ step. step.reason ≡ reason) }
         ensures none { IfNone result (All (λ part. IsOpenAt (closes self.now.difference) (box_of self.now.difference) part.cell) self.now.difference.parts.now) }
     {
         'parts: for part in self.difference.parts {

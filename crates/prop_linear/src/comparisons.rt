@@ -4,9 +4,9 @@ ghost use Rattle.std.specs.Prelude.{◌≡◌, ◌<◌, ◌∷◌, [], length, S
 ghost use Rattle.std.specs.Option.{option_and_then, option_map_or};
 ghost use Rattle.sopl_base.specs.declared.reason.Reason.TheVariants.{Hard};
 ghost use Rattle.box_problem.specs.Box.{Inside};
-ghost use Rattle.program_laws.specs.Stated.{box_problem_of};
+ghost use Rattle.term_program.specs.Stated.{box_problem_of};
 ghost use Rattle.term_program.specs.Programs.{IsMade, problem_in, root_in};
-ghost use Rattle.term_rules.specs.Shown.{box_in};
+ghost use Rattle.term_math.specs.Shown.{box_in};
 ghost use Rattle.prop_linear.specs.Balances.{IsLight, IsSummed, box_of};
 ghost use Rattle.prop_linear.specs.Kinds.{Fits, IsLinear, TellsOf, reasons_of};
 
@@ -15,8 +15,8 @@ use box_store::BoxStore;
 use prop_core::{Finding, Propagator};
 use sopl_base::{CmpOp, Reason};
 use std::alloc::AllocError;
+use term_math::BoxView;
 use term_program::{CondId, Program};
-use term_rules::BoxView;
 
 /// Narrows a box for one hard constraint that is a linear comparison in one scenario: the comparison is summed up once, and by this sum both ends of each of
 /// its cells are tried. As many values are removed as a division proposes, where these were tried too.

@@ -1,15 +1,15 @@
 //! One cell of a comparison's sum.
 
 ghost use Rattle.std.specs.Prelude.{◌≡◌, pos, ◌≤ℤ◌, ◌-ℤ◌, true, false, IfNone, IfSome};
-ghost use Rattle.box_rules.specs.Ends as rule;
-ghost use Rattle.box_rules.specs.Marks as marks;
-ghost use Rattle.end_values.specs.Ends.{highest, lowest, upper_of};
-ghost use Rattle.term_rules.specs.Shown.{ends_of};
+ghost use Rattle.term_language.specs.Ends as rule;
+ghost use Rattle.term_language.specs.Marks as marks;
+ghost use Rattle.prop_shave.specs.Ends.{highest, lowest, upper_of};
+ghost use Rattle.term_math.specs.Shown.{ends_of};
 ghost use Rattle.prop_linear.specs.Turns.{HasRoom, IsRemoval, part_of, turn_closes, with_end};
 
-use end_values::{End, Removal};
+use prop_shave::{CellEnd, Shave};
 use sopl_base::CmpOp;
-use term_rules::{Ends, Factor, none_compares};
+use term_math::{Ends, Factor, none_compares};
 
 /// An end of a cell's interval, how often the cell counts in a sum that is compared with 0, and the interval of all else in the sum.
 #[derive(Clone, Copy)]
@@ -17,7 +17,7 @@ pub(crate) struct Turn {
     pub(crate) op: CmpOp,
     pub(crate) k: i64,
     pub(crate) others: Ends,
-    pub(crate) end: End,
+    pub(crate) end: CellEnd,
 }
 
 impl Turn {
@@ -34,9 +34,9 @@ impl Turn {
     }
 
     /// So many values at the end, as an interval.
-    fn values(&self, removal: &Removal) -> Ends
+    fn values(&self, removal: &Shave) -> Ends
         requires room { HasRoom self.now }
-        requires some { pos 1 ≤ℤ removal.now.count }
+        requires at_least_one { pos 1 ≤ℤ removal.now.count }
         requires fewer { removal.now.count ≤ℤ (self.now.end.hi -ℤ self.now.end.lo) }
         ensures { ends_of result ≡ rule.ends (lowest self.now.end removal.now.count) (highest self.now.end removal.now.count) }
     {
@@ -55,9 +55,9 @@ impl Turn {
     }
 
     /// The sum, where the cell has one of so many values at the end.
-    fn sum(&self, removal: &Removal) -> Ends
+    fn sum(&self, removal: &Shave) -> Ends
         requires room { HasRoom self.now }
-        requires some { pos 1 ≤ℤ removal.now.count }
+        requires at_least_one { pos 1 ≤ℤ removal.now.count }
         requires fewer { removal.now.count ≤ℤ (self.now.end.hi -ℤ self.now.end.lo) }
         ensures { ends_of result ≡ rule.plus (ends_of self.now.others) (part_of self.now removal.now.count) }
     {
@@ -66,9 +66,9 @@ impl Turn {
     }
 
     /// Whether the comparison is false wherever the cell has one of so many values at the end.
-    fn closes(&self, removal: &Removal) -> bool
+    fn closes(&self, removal: &Shave) -> bool
         requires room { HasRoom self.now }
-        requires some { pos 1 ≤ℤ removal.now.count }
+        requires at_least_one { pos 1 ≤ℤ removal.now.count }
         requires fewer { removal.now.count ≤ℤ (self.now.end.hi -ℤ self.now.end.lo) }
         ensures { result ≡ turn_closes self.now removal.now.count }
     {
@@ -94,11 +94,11 @@ impl Turn {
     }
 
     /// How many values at the end may go by the slack of the outermost one: each next value takes as much of it as the cell counts.
-    fn proposed(&self, first: &Removal) -> Option<Removal>
+    fn proposed(&self, first: &Shave) -> Option<Shave>
         requires room { HasRoom self.now }
-        requires some { pos 1 ≤ℤ first.now.count }
+        requires at_least_one { pos 1 ≤ℤ first.now.count }
         requires fewer { first.now.count ≤ℤ (self.now.end.hi -ℤ self.now.end.lo) }
-        ensures some { IfSome result (λ more. pos 1 ≤ℤ more.count) }
+        ensures at_least_one { IfSome result (λ more. pos 1 ≤ℤ more.count) }
         ensures fewer { IfSome result (λ more. more.count ≤ℤ (self.now.end.hi -ℤ self.now.end.lo)) }
     {
         let slack = self.slack(&self.sum(first))?;
@@ -107,8 +107,8 @@ impl Turn {
     }
 
     /// So many values and one more, as far as one value stays.
-    fn removal_of(&self, steps: i64) -> Option<Removal>
-        ensures some { IfSome result (λ more. pos 1 ≤ℤ more.count) }
+    fn removal_of(&self, steps: i64) -> Option<Shave>
+        ensures at_least_one { IfSome result (λ more. pos 1 ≤ℤ more.count) }
         ensures fewer { IfSome result (λ more. more.count ≤ℤ (self.now.end.hi -ℤ self.now.end.lo)) }
     {
         let most = self.end.hi.checked_sub(self.end.lo)?;
@@ -116,14 +116,14 @@ impl Turn {
         if count < 1 {
             return None;
         }
-        Some(Removal { count, by: 1 })
+        Some(Shave { count, by: 1 })
     }
 
     /// More values that are proposed, where these may go, else those before.
-    fn better(&self, first: &Removal, more: &Removal) -> Removal
+    fn better(&self, first: &Shave, more: &Shave) -> Shave
         requires room { HasRoom self.now }
         requires first { IsRemoval self.now first.now }
-        requires some { pos 1 ≤ℤ more.now.count }
+        requires at_least_one { pos 1 ≤ℤ more.now.count }
         requires fewer { more.now.count ≤ℤ (self.now.end.hi -ℤ self.now.end.lo) }
         ensures { IsRemoval self.now result }
     {
@@ -131,12 +131,12 @@ impl Turn {
     }
 
     /// How many values at the end may go; none where the outermost one may stay.
-    pub(crate) fn removal(&self) -> Option<Removal>
+    pub(crate) fn removal(&self) -> Option<Shave>
         requires room { HasRoom self.now }
         ensures removal { IfSome result (IsRemoval self.now) }
         ensures none { IfNone result (turn_closes self.now (pos 1) ≡ false) }
     {
-        let first = Removal { count: 1, by: 1 };
+        let first = Shave { count: 1, by: 1 };
         if !self.closes(&first) {
             return None;
         }

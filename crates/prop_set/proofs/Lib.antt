@@ -1,3 +1,4 @@
 pub mod Together
 pub mod Roots
 pub mod Problem
+pub mod Asking

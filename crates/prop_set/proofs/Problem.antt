@@ -2,9 +2,9 @@
 use Rattle.std.proofs.Common.{◌≡◌, ◌∙◌, ℤ}
 use Rattle.sopl_base.specs.declared.direction.Direction.{Direction}
 use Rattle.box_problem.specs.Box.{Box, Inside}
-use Rattle.program_laws.specs.Stated.{box_problem_of}
-use Rattle.program_rules.specs.Objective.{better_end, goal_ends}
-use Rattle.program_rules.specs.Problems.{direction_in}
+use Rattle.term_program.specs.Stated.{box_problem_of}
+use Rattle.term_problem.specs.Objective.{better_end, goal_ends}
+use Rattle.term_problem.specs.Problems.{direction_in}
 use Rattle.term_program.specs.declared.program.Program.{Program}
 use Rattle.term_program.specs.Programs.{problem_in, root_in}
 

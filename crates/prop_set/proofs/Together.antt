@@ -8,9 +8,9 @@ use Rattle.std.proofs.lemmas.List.Elements.{All-append, All-cons, All-nil}
 use Rattle.std.proofs.lemmas.List.FromFn.{map-range_with_len_more}
 use Rattle.std.specs.List.{All}
 use Rattle.sopl_base.specs.declared.reason.Reason.{Reason}
-use Rattle.box_rules.specs.Terms.{Cond}
+use Rattle.term_language.specs.Terms.{Cond}
 use Rattle.prop_core.specs.Members.{together}
-use Rattle.program_laws.specs.Stated.{box_problem_of}
+use Rattle.term_program.specs.Stated.{box_problem_of}
 use Rattle.prop_linear.specs.Kinds.{IsLinear}
 use Rattle.prop_set.specs.Kinds.{chance_reasons, goal_reasons, hard_reasons}
 use Rattle.term_program.specs.declared.program.Program.{Program}

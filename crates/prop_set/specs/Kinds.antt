@@ -3,8 +3,8 @@ use Rattle.std.specs.Prelude.{ℕ, List, [], ◌∷◌, ◌++◌, length, map}
 use Rattle.std.specs.List.{flat_map}
 use Rattle.sopl_base.specs.declared.reason.Reason.{Reason}
 use Rattle.sopl_base.specs.declared.reason.Reason.TheVariants as reason
-use Rattle.program_rules.specs.Problems.{ProblemTerms}
-use Rattle.program_rules.specs.Search.{numbers_to}
+use Rattle.term_problem.specs.Problems.{ProblemTerms}
+use Rattle.term_problem.specs.Search.{numbers_to}
 use Rattle.prop_chance.specs.Chances as chances
 use Rattle.prop_chance.specs.Goals as goals
 use Rattle.prop_linear.specs.Kinds as linear

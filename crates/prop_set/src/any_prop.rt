@@ -1,6 +1,6 @@
 //! A propagator of any kind.
 
-ghost use Rattle.program_laws.specs.Stated.{box_problem_of};
+ghost use Rattle.term_program.specs.Stated.{box_problem_of};
 ghost use Rattle.prop_set.specs.Kinds.{Fits, reasons_of};
 
 use box_store::BoxStore;

@@ -5,10 +5,10 @@ ghost use Rattle.box_problem.specs.Box.{box_of};
 ghost use Rattle.term_program.specs.Programs.{IsMade, root_in};
 
 use crate::any_prop::AnyProp;
-use box_search::Posed;
 use box_store::BoxStore;
-use goal_sums::end_over;
+use prop_shave::end_over;
 use sopl_base::{Direction, Interval};
+use sopl_search::SearchProblem;
 use std::alloc::{AllocError, Global};
 use term_program::Program;
 
@@ -26,7 +26,7 @@ fn roots_of(alloc: Global, program: &Program) -> Result<Vec<Interval>, AllocErro
     Ok(roots)
 }
 
-impl Posed for AnyProp {
+impl SearchProblem for AnyProp {
     ghost valid = { IsMade };
 
     #[tactic(auto, using(crate::proofs::Problem::root_is))]

@@ -2,7 +2,7 @@
 
 ghost use Rattle.std.specs.Prelude.{◌≡◌, ◌<◌, ◌∷◌, ◌++◌, [], length, map, IfOk, OnOk};
 ghost use Rattle.sopl_base.specs.declared.reason.Reason.TheVariants as reason;
-ghost use Rattle.program_laws.specs.Stated.{box_problem_of};
+ghost use Rattle.term_program.specs.Stated.{box_problem_of};
 ghost use Rattle.prop_core.specs.Members.{AllFit, together};
 ghost use Rattle.term_program.specs.Programs.{IsMade, problem_in};
 ghost use Rattle.prop_set.specs.Kinds.{Fits, chance_reasons, goal_reasons, reasons_of};

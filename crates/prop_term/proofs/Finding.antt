@@ -4,16 +4,16 @@ use Rattle.std.specs.Option.{option_and_then, option_map_or}
 use Rattle.sopl_base.specs.declared.reason.Reason.{Reason}
 use Rattle.sopl_base.specs.declared.reason.Reason.TheVariants.{Hard}
 use Rattle.box_problem.specs.Box.{Box}
-use Rattle.box_rules.specs.Terms.{Cond}
-use Rattle.cell_mentions.specs.Mentions.{cond_mentions}
-use Rattle.program_laws.specs.Stated.{box_problem_of}
+use Rattle.term_language.specs.Terms.{Cond}
+use Rattle.term_language.specs.Mentions.{cond_mentions}
+use Rattle.term_program.specs.Stated.{box_problem_of}
 use Rattle.prop_core.specs.Findings.{Finds}
 use Rattle.prop_core.specs.declared.finding.Finding.{Finding}
-use Rattle.program_rules.specs.Problems.{ProblemTerms}
-use Rattle.reason_mentions.specs.Reasons.{reason_mentions}
+use Rattle.term_problem.specs.Problems.{ProblemTerms}
+use Rattle.term_problem.specs.Reasons.{reason_mentions}
 use Rattle.term_program.specs.Mentions.{IsListOf}
 use Rattle.term_program.specs.declared.program.Program.{Program}
-use Rattle.cell_questions.specs.Questions.{HasAll}
+use Rattle.prop_shave.specs.Probes.{HasAll}
 
 -- the cells that the condition mentions are all that the reason mentions
 pub hard_cells : (root : Box) (terms : ProblemTerms) (instance scenario : ℕ) (reason : Reason) (cond : Cond) (cells : List ℕ) → reason ≡ Hard instance scenario

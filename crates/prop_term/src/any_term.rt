@@ -6,11 +6,11 @@ ghost use Rattle.box_problem.specs.Box.{Inside};
 ghost use Rattle.term_program.specs.Programs.{IsMade, problem_in, root_in};
 ghost use Rattle.prop_core.specs.Findings.{Finds};
 ghost use Rattle.prop_term.specs.Kinds.{Fits, reasons_of};
-ghost use Rattle.program_laws.specs.Stated.{box_problem_of};
+ghost use Rattle.term_program.specs.Stated.{box_problem_of};
 
 use box_store::BoxStore;
-use cell_questions::Question;
 use prop_core::{Finding, Propagator};
+use prop_shave::Probe;
 use sopl_base::Reason;
 use std::alloc::AllocError;
 use term_program::Program;
@@ -52,7 +52,7 @@ impl AnyTerm {
         ensures finds { Finds (box_problem_of program.now) (reasons_of self.now) best store.now.box result }
     {
         let cond = program.hard(self.instance, self.scenario);
-        let question = Question {
+        let probe = Probe {
             program,
             store,
             reason: self.reason(),
@@ -60,7 +60,7 @@ impl AnyTerm {
             weighed: None,
             counted: None,
         };
-        question.finding(program.cells_of(cond))
+        probe.finding(program.cells_of(cond))
     }
 }
 

@@ -7,8 +7,8 @@ mod tests;
 ghost use Rattle.std.specs.Prelude.{◌≡◌};
 ghost use Rattle.sopl_io.specs.Files.{standard_output, not_begun};
 
+use answer_run::{Status, Word, Words, run};
 use sopl_io::{FileSink, FileSource};
-use sopl_run::{Status, Word, Words, run};
 use std::alloc::{AllocError, Global};
 use std::env;
 use std::io::ErrorKind;

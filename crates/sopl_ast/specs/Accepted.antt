@@ -10,15 +10,15 @@ use Rattle.sopl_ast.specs.Whole.{ModelTree}
 use Rattle.sopl_ast.specs.Grammar.{SpellsWithin}
 use Rattle.sopl_ast.specs.Misspelled.{IsMisspelled}
 use Rattle.sopl_ast.specs.Mistakes.{IsWellTyped, IsFirstMistake}
-use Rattle.sopl_ast.specs.Occurrences.{met}
+use Rattle.sopl_ast.specs.UnfoldEvents.{first_failure}
 use Rattle.sopl_ast.specs.Instances.{Problem}
-use Rattle.sopl_ast.specs.Unfolding.{problem_of, text_occurrences}
+use Rattle.sopl_ast.specs.Unfolding.{problem_of, text_events}
 use Rattle.sopl_ast.specs.Limits.{Limits, size_excess}
 
 -- the model has no mistake, nothing stops its unfolding, it states this problem, and neither its scenarios nor its decisions pass a limit
 pub record AcceptedModel (limits : Limits) (model : ModelTree) (problem : Problem) : Type 0 where
   pub typed : IsWellTyped model
-  pub unfolded : IsOk (met 0 (text_occurrences model))
+  pub unfolded : IsOk (first_failure 0 (text_events model))
   pub stated : problem_of model ≡ problem
   pub allowed : size_excess limits problem ≡ None
 
@@ -43,13 +43,13 @@ pub data IsRefusedFor (text : List ℕ) (refusal : Refusal) : Type 0 where
   -- its model has a mistake of names or kinds
   mistaken : (model : ModelTree) → IsTextOf text model → IsFirstMistake model refusal → IsRefusedFor text refusal
   -- its model has none, and its unfolding is stopped by a refusal
-  stopped : (model : ModelTree) → IsTextOf text model → IsWellTyped model → met 0 (text_occurrences model) ≡ Err (Text refusal) → IsRefusedFor text refusal
+  stopped : (model : ModelTree) → IsTextOf text model → IsWellTyped model → first_failure 0 (text_events model) ≡ Err (Text refusal) → IsRefusedFor text refusal
 
 -- the text is not taken since it passes this limit
 pub data IsLimitedFor (limits : Limits) (text : List ℕ) (excess : Excess) : Type 0 where
   -- its unfolding passes it
-  unfolding_passes : (model : ModelTree) → IsTextOf text model → IsWellTyped model → met 0 (text_occurrences model) ≡ Err (Limit excess)
+  unfolding_passes : (model : ModelTree) → IsTextOf text model → IsWellTyped model → first_failure 0 (text_events model) ≡ Err (Limit excess)
       → IsLimitedFor limits text excess
   -- nothing stops its unfolding, and its scenarios or its decisions pass it
-  sizes_pass : (model : ModelTree) → IsTextOf text model → IsWellTyped model → IsOk (met 0 (text_occurrences model))
+  sizes_pass : (model : ModelTree) → IsTextOf text model → IsWellTyped model → IsOk (first_failure 0 (text_events model))
       → size_excess limits (problem_of model) ≡ Some excess → IsLimitedFor limits text excess

@@ -4,7 +4,7 @@ use Rattle.std.specs.List.{flat_map}
 use Rattle.sopl_ast.specs.Whole.{DimTree}
 use Rattle.sopl_ast.specs.Known.{Known, with_bound}
 use Rattle.sopl_ast.specs.Constants.{numbers_in}
-use Rattle.sopl_ast.specs.Occurrences.{Occurrence, Counted, range_occurrences}
+use Rattle.sopl_ast.specs.UnfoldEvents.{UnfoldEvent, Counted, range_events}
 
 -- a dimension of an array: the name that stands for its index, if it has one, and the numbers of its index set
 pub record Dimension : Type 0 where
@@ -37,11 +37,11 @@ array_of known dims make =
     map (λ index. make index (with_index (dimensions_of known dims) index known)) (indices (dimensions_of known dims))
 
 -- the dimensions of an array, of which the ranges are constant places
-abbrev pub dimension_occurrences : Known → List DimTree → List Occurrence
-dimension_occurrences known dims = flat_map (λ (d : DimTree). range_occurrences known None d.range) dims
+abbrev pub dimension_events : Known → List DimTree → List UnfoldEvent
+dimension_events known dims = flat_map (λ (d : DimTree). range_events known None d.range) dims
 
 -- the dimensions of an array, and then its elements, of which each is counted before what is met in it
-abbrev pub array_occurrences : Known → List DimTree → (Known → List Occurrence) → List Occurrence
-array_occurrences known dims each =
-    dimension_occurrences known dims
+abbrev pub array_events : Known → List DimTree → (Known → List UnfoldEvent) → List UnfoldEvent
+array_events known dims each =
+    dimension_events known dims
     ++ flat_map (λ index. Counted ∷ each (with_index (dimensions_of known dims) index known)) (indices (dimensions_of known dims))

@@ -11,10 +11,10 @@ use Rattle.sopl_ast.specs.Tree.{Tree, Node, Shape, Lit, Name, Index, Neg, Add, M
 use Rattle.sopl_ast.specs.Tree.{tree, Terms, no_term, term, Factors, no_factor, factor, Binders, no_binder, binder, Range, Named, Ends}
 use Rattle.sopl_ast.specs.Lists.{BinderTree, Product}
 
-abbrev front : Gv → Gv
-front gnil = gnil
-front (gnum n) = gnil
-front (gcons a b) = a
+abbrev prefix : Gv → Gv
+prefix gnil = gnil
+prefix (gnum n) = gnil
+prefix (gcons a b) = a
 
 abbrev back : Gv → Gv
 back gnil = gnil
@@ -23,7 +23,7 @@ back (gcons a b) = b
 
 -- the parts of two equal pairs are equal
 abbrev pub pairs : {a b c d : Gv} → gcons a b ≡ gcons c d → (a ≡ c) × (b ≡ d)
-pairs e = (ap front e, ap back e)
+pairs e = (ap prefix e, ap back e)
 
 -- two equal codes of numbers are of one number
 abbrev pub inj_num : (x y : ℕ) → gnum x ≡ gnum y → x ≡ y

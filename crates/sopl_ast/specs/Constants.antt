@@ -62,7 +62,7 @@ abbrev mutual
   sum_of known no_term = Some (pos 0)
   sum_of known (term minus e more) = both_of (λ x y. (if minus then neg_ℤ x else x) +ℤ y) (value known e) (sum_of known more)
 
-  -- the product of what stands before, and the factors that follow it from left to right; each front of it is of a size that constants have
+  -- the product of what stands before, and the factors that follow it from left to right; each prefix of it is of a size that constants have
   pub product_of : Known → Option ℤ → Factors → Option ℤ
   product_of known before no_factor = before
   product_of known before (factor op e more) = product_of known (applied_within op before (value known e)) more

@@ -9,9 +9,9 @@ use Rattle.sopl_ast.specs.Whole.{DimTree, InitTree, InitTrees, One, Many, no_ini
 use Rattle.sopl_ast.specs.Numbers.{natural, count_between}
 use Rattle.sopl_ast.specs.Known.{Constant, Between, Listed, Known, nothing_known, set_named, ends_of}
 use Rattle.sopl_ast.specs.Constants.{value_or_zero}
-use Rattle.sopl_ast.specs.Occurrences.{Occurrence, Counted, refused_unless, too_many, constant_place, range_occurrences}
+use Rattle.sopl_ast.specs.UnfoldEvents.{UnfoldEvent, Counted, refused_unless, too_many, constant_place, range_events}
 use Rattle.sopl_ast.specs.Instances.{Decision, Outcome, Stochastic}
-use Rattle.sopl_ast.specs.Arrays.{Dimension, dimensions_of, indices, taking, with_index, array_of, dimension_occurrences, array_occurrences}
+use Rattle.sopl_ast.specs.Arrays.{Dimension, dimensions_of, indices, taking, with_index, array_of, dimension_events, array_events}
 
 -- what was found in the declarations so far: what is known, the decisions, and the stochastic variables, each in text order
 pub record Declared : Type 0 where
@@ -46,21 +46,21 @@ constants_of known name dims x =
 
 abbrev mutual
   -- initial values: each element is counted; a bracket is refused by 112 where it has another number of parts than its index set has elements
-  pub init_occurrences : Known → List Dimension → InitTree → List Occurrence
-  init_occurrences known ds (One e) = flat_map (λ index. Counted ∷ constant_place (with_index ds index known) e) (indices ds)
-  init_occurrences known [] (Many at parts) = []
-  init_occurrences known (d ∷ ds) (Many at parts) =
-      refused_unless (nat_eq (length (inits_list parts)) (length d.numbers)) 112 at ++ inits_occurrences known d.name ds d.numbers parts
+  pub init_events : Known → List Dimension → InitTree → List UnfoldEvent
+  init_events known ds (One e) = flat_map (λ index. Counted ∷ constant_place (with_index ds index known) e) (indices ds)
+  init_events known [] (Many at parts) = []
+  init_events known (d ∷ ds) (Many at parts) =
+      refused_unless (nat_eq (length (inits_list parts)) (length d.numbers)) 112 at ++ inits_events known d.name ds d.numbers parts
 
   -- the parts of a bracket
-  pub inits_occurrences : Known → Option (List ℕ) → List Dimension → List ℤ → InitTrees → List Occurrence
-  inits_occurrences known name ds numbers no_init = []
-  inits_occurrences known name ds [] (init x xs) = []
-  inits_occurrences known name ds (number ∷ numbers) (init x xs) = init_occurrences (taking name number known) ds x ++ inits_occurrences known name ds numbers xs
+  pub inits_events : Known → Option (List ℕ) → List Dimension → List ℤ → InitTrees → List UnfoldEvent
+  inits_events known name ds numbers no_init = []
+  inits_events known name ds [] (init x xs) = []
+  inits_events known name ds (number ∷ numbers) (init x xs) = init_events (taking name number known) ds x ++ inits_events known name ds numbers xs
 
 -- the declaration of a constant
-abbrev pub int_occurrences : Known → List DimTree → InitTree → List Occurrence
-int_occurrences known dims x = dimension_occurrences known dims ++ init_occurrences known (dimensions_of known dims) x
+abbrev pub int_events : Known → List DimTree → InitTree → List UnfoldEvent
+int_events known dims x = dimension_events known dims ++ init_events known (dimensions_of known dims) x
 
 -- Ranges and sets.
 
@@ -69,13 +69,13 @@ abbrev pub set_of : Known → Trees → List ℤ
 set_of known elements = fold (insert_key int_cmp) [] (map (value_or_zero known) (trees_list elements))
 
 -- expressions that are constant places of their own
-abbrev pub constant_places : Known → Trees → List Occurrence
+abbrev pub constant_places : Known → Trees → List UnfoldEvent
 constant_places known no_tree = []
 constant_places known (tree e es) = constant_place known e ++ constant_places known es
 
 -- the declaration of a set, which has 65536 elements at most (208)
-abbrev pub set_occurrences : Known → Trees → List Occurrence
-set_occurrences known elements = constant_places known elements ++ too_many 208 (length (set_of known elements))
+abbrev pub set_events : Known → Trees → List UnfoldEvent
+set_events known elements = constant_places known elements ++ too_many 208 (length (set_of known elements))
 
 -- Decisions and stochastic variables.
 
@@ -85,9 +85,9 @@ stage_of known None = 1
 stage_of known (Some e) = natural (value_or_zero known e)
 
 -- 114: a stage is not 1 to 24
-abbrev pub stage_occurrences : Known → Option Tree → List Occurrence
-stage_occurrences known None = []
-stage_occurrences known (Some e) =
+abbrev pub stage_events : Known → Option Tree → List UnfoldEvent
+stage_events known None = []
+stage_events known (Some e) =
     constant_place known e ++ refused_unless (int_le (pos 1) (value_or_zero known e) && int_le (value_or_zero known e) (pos 24)) 114 (place_of e)
 
 -- the ends of a domain
@@ -96,10 +96,10 @@ domain_of known (Named name at) = ends_of (set_named name known.sets)
 domain_of known (Ends lo hi) = (value_or_zero known lo, value_or_zero known hi)
 
 -- 111: a domain is empty; 203: it has too many values; a range that is named was looked at where it was declared
-abbrev pub domain_occurrences : Known → Range → List Occurrence
-domain_occurrences known (Named name at) =
+abbrev pub domain_events : Known → Range → List UnfoldEvent
+domain_events known (Named name at) =
     refused_unless (int_le (domain_of known (Named name at)).0 (domain_of known (Named name at)).1) 111 at
-domain_occurrences known (Ends lo hi) =
+domain_events known (Ends lo hi) =
     constant_place known lo
     ++ (constant_place known hi
     ++ (refused_unless (int_le (value_or_zero known lo) (value_or_zero known hi)) 111 (place_of lo)
@@ -110,14 +110,14 @@ abbrev pub outcome_of : Known → Tree × Tree → Outcome
 outcome_of known pair = record { value = value_or_zero known pair.0; weight = value_or_zero known pair.1 }
 
 -- 113: a value stands earlier in its distribution, or a weight is below 1
-abbrev pub outcome_occurrences : Known → List ℤ → List (Tree × Tree) → List Occurrence
-outcome_occurrences known earlier [] = []
-outcome_occurrences known earlier (pair ∷ later) =
+abbrev pub outcome_events : Known → List ℤ → List (Tree × Tree) → List UnfoldEvent
+outcome_events known earlier [] = []
+outcome_events known earlier (pair ∷ later) =
     constant_place known pair.0
     ++ (refused_unless (not (list_any (int_eq (value_or_zero known pair.0)) earlier)) 113 (place_of pair.0)
     ++ (constant_place known pair.1
     ++ (refused_unless (int_le (pos 1) (value_or_zero known pair.1)) 113 (place_of pair.1)
-    ++ outcome_occurrences known (earlier ++ value_or_zero known pair.0 ∷ []) later)))
+    ++ outcome_events known (earlier ++ value_or_zero known pair.0 ∷ []) later)))
 
 -- the decisions of a declaration, in the order of their indices
 abbrev pub decisions_of : Known → List ℕ → List DimTree → Range → Option Tree → List Decision
@@ -147,14 +147,14 @@ behind (StochDecl name at dims dist stage) found =
     record found { stochastics = found.stochastics ++ stochastics_of found.known name dims dist stage }
 
 -- what is met in a declaration
-abbrev pub declaration_occurrences : Declared → Declaration → List Occurrence
-declaration_occurrences found (IntDecl name at dims x) = int_occurrences found.known dims x
-declaration_occurrences found (RangeDecl name at lo hi) = range_occurrences found.known None (Ends lo hi)
-declaration_occurrences found (SetDecl name at elements) = set_occurrences found.known elements
-declaration_occurrences found (DvarDecl name at dims range stage) =
-    array_occurrences found.known dims (λ here. domain_occurrences here range ++ stage_occurrences here stage)
-declaration_occurrences found (StochDecl name at dims dist stage) =
-    array_occurrences found.known dims (λ here. outcome_occurrences here [] dist ++ stage_occurrences here stage)
+abbrev pub declaration_events : Declared → Declaration → List UnfoldEvent
+declaration_events found (IntDecl name at dims x) = int_events found.known dims x
+declaration_events found (RangeDecl name at lo hi) = range_events found.known None (Ends lo hi)
+declaration_events found (SetDecl name at elements) = set_events found.known elements
+declaration_events found (DvarDecl name at dims range stage) =
+    array_events found.known dims (λ here. domain_events here range ++ stage_events here stage)
+declaration_events found (StochDecl name at dims dist stage) =
+    array_events found.known dims (λ here. outcome_events here [] dist ++ stage_events here stage)
 
 -- what was found behind declarations
 abbrev pub behind_all : List Declaration → Declared → Declared
@@ -162,6 +162,6 @@ behind_all [] found = found
 behind_all (d ∷ ds) found = behind_all ds (behind d found)
 
 -- what is met in declarations, each with what was found before it
-abbrev pub declarations_occurrences : Declared → List Declaration → List Occurrence
-declarations_occurrences found [] = []
-declarations_occurrences found (d ∷ ds) = declaration_occurrences found d ++ declarations_occurrences (behind d found) ds
+abbrev pub declarations_events : Declared → List Declaration → List UnfoldEvent
+declarations_events found [] = []
+declarations_events found (d ∷ ds) = declaration_events found d ++ declarations_events (behind d found) ds

@@ -1,7 +1,7 @@
 -- The grammar: which lists of tokens spell which trees.
 -- Each family says that some tokens begin with the spelling of a tree, and what is left behind it. The number counts how many more brackets and
 -- prefixes may be opened there. `cut` says whether the tokens may end too early: where they do, what is still missing counts as spelled,
--- whatever it is; so a front of a text is what is spelled where `cut` is true. A text itself is spelled where `cut` is false.
+-- whatever it is; so a prefix of a text is what is spelled where `cut` is true. A text itself is spelled where `cut` is false.
 use Rattle.std.specs.Prelude.{◌≡◌, ℕ, suc, ℤ, Bool, true, false, List, [], ◌∷◌, Option, Some, None}
 use Rattle.sopl_base.specs.declared.comparison.CmpOp.{CmpOp}
 use Rattle.sopl_base.specs.declared.comparison.CmpOp.TheVariants.{Eq, Ne, Lt, Le, Gt, Ge}
@@ -414,6 +414,6 @@ abbrev pub SpellsWithin : List Token → ModelTree → Type 0
 SpellsWithin tokens whole = SpellsIn max_nesting tokens whole
 
 -- the tokens go along the productions up to where they end, and never more than this many brackets and prefixes are open
-pub record IsFront (n : ℕ) (tokens : List Token) : Type 0 where
+pub record IsPrefix (n : ℕ) (tokens : List Token) : Type 0 where
   pub whole : ModelTree
   pub spelled : IsModel true n tokens whole []

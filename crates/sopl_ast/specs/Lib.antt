@@ -12,7 +12,7 @@ pub mod Mistakes
 pub mod Numbers
 pub mod Known
 pub mod Constants
-pub mod Occurrences
+pub mod UnfoldEvents
 -- The problem that a text states
 pub mod Instances
 pub mod Arrays

@@ -5,7 +5,7 @@ use Rattle.std.specs.List.{sum_by}
 use Rattle.std.specs.Int.{int_min, int_gap}
 use Rattle.sopl_base.specs.declared.fault.Excess.{Excess}
 use Rattle.sopl_ast.specs.Numbers.{or_else, binary_digits}
-use Rattle.sopl_ast.specs.Occurrences.{excess}
+use Rattle.sopl_ast.specs.UnfoldEvents.{excess}
 use Rattle.sopl_ast.specs.Instances.{Decision, Stochastic, Problem}
 use Rattle.sopl_ast.specs.Scenarios.{scenarios, total_weight}
 use Rattle.sopl_ast.specs.Histories.{histories}
@@ -29,19 +29,19 @@ first_above code limit [] = None
 first_above code limit (n ∷ later) =
     if int_le n (pos limit) then first_above code limit later else Some (excess code (int_min n (pos (2 ^ 127 - 1))) (pos limit))
 
--- the fronts of a list that are not empty, from the shortest to the whole
-abbrev pub fronts : {A : Type 0} → List A → List (List A)
-fronts [] = []
-fronts (x ∷ xs) = (x ∷ []) ∷ map (λ front. x ∷ front) (fronts xs)
+-- the prefixes of a list that are not empty, from the shortest to the whole
+abbrev pub prefixes : {A : Type 0} → List A → List (List A)
+prefixes [] = []
+prefixes (x ∷ xs) = (x ∷ []) ∷ map (λ prefix. x ∷ prefix) (prefixes xs)
 
 -- 201: the weight of all scenarios of the stochastic variables up to one of them
 abbrev pub weight_excess : Limits → Problem → Option Excess
-weight_excess limits problem = first_above 201 limits.weight (map total_weight (fronts problem.stochastics))
+weight_excess limits problem = first_above 201 limits.weight (map total_weight (prefixes problem.stochastics))
 
 -- 202: how many scenarios the stochastic variables up to one of them have
 abbrev pub scenario_excess : Limits → Problem → Option Excess
 scenario_excess limits problem =
-    first_above 202 limits.scenarios (map (λ front. pos (length (scenarios front))) (fronts problem.stochastics))
+    first_above 202 limits.scenarios (map (λ prefix. pos (length (scenarios prefix))) (prefixes problem.stochastics))
 
 -- how many instances there are: decisions, stochastic variables and constraints
 abbrev pub instance_count : Problem → ℕ

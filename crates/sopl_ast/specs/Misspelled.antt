@@ -3,7 +3,7 @@ use Rattle.std.specs.Prelude.{◌≡◌, ℕ, ◌+◌, List, [], ◌∷◌, ◌+
 use Rattle.sopl_base.specs.declared.fault.Refusal.{Refusal}
 use Rattle.sopl_ast.specs.declared.token.Token.{Token}
 use Rattle.sopl_ast.specs.Whole.{ModelTree}
-use Rattle.sopl_ast.specs.Grammar.{Spells, SpellsWithin, IsFront, max_nesting}
+use Rattle.sopl_ast.specs.Grammar.{Spells, SpellsWithin, IsPrefix, max_nesting}
 
 -- where the first of these tokens stands; the end of the text, where there is none
 abbrev pub place_in : ℕ → List Token → ℕ
@@ -21,7 +21,7 @@ pub record IsMisplaced (length : ℕ) (tokens : List Token) (at : ℕ) : Type 0 
   pub behind : List Token
   pub split : tokens ≡ before ++ behind
   pub place : at ≡ place_in length behind
-  pub front : IsFront max_nesting before
+  pub prefix : IsPrefix max_nesting before
   pub stuck : NoneGoesOn before behind
 
 -- the tokens go along the productions within the greatest nesting up to a token; with it they do so within one more, and not within the greatest
@@ -31,9 +31,9 @@ pub record IsTooDeep (tokens : List Token) (at : ℕ) : Type 0 where
   pub behind : List Token
   pub split : tokens ≡ before ++ token ∷ behind
   pub place : at ≡ token.span.start
-  pub front : IsFront max_nesting before
-  pub deeper : IsFront (max_nesting + 1) (before ++ token ∷ [])
-  pub over : IsFront max_nesting (before ++ token ∷ []) → ⊥
+  pub prefix : IsPrefix max_nesting before
+  pub deeper : IsPrefix (max_nesting + 1) (before ++ token ∷ [])
+  pub over : IsPrefix max_nesting (before ++ token ∷ []) → ⊥
   pub none : (others : List Token) (whole : ModelTree) → SpellsWithin (before ++ token ∷ others) whole → ⊥
 
 -- tokens that spell no model within the greatest nesting, refused by 104 where no model goes on, and by 103 where one nests too deep

@@ -5,9 +5,9 @@ use Rattle.sopl_ast.specs.Tree.{Tree, place_of}
 use Rattle.sopl_ast.specs.Whole.{ConsTree, ConsTrees, ForallTree, BlockTree, HardTree, ChanceTree, no_cons, cons, conses, GoalTree, ModelTree}
 use Rattle.sopl_ast.specs.Known.{Known}
 use Rattle.sopl_ast.specs.Constants.{value_or_zero, all_bindings}
-use Rattle.sopl_ast.specs.Occurrences.{Occurrence, Counted, refused_unless, constant_place, binding_occurrences, expression_occurrences}
+use Rattle.sopl_ast.specs.UnfoldEvents.{UnfoldEvent, Counted, refused_unless, constant_place, binding_events, expression_events}
 use Rattle.sopl_ast.specs.Instances.{Stochastic, Hard, Chance, Objective, Problem}
-use Rattle.sopl_ast.specs.Declarations.{Declared, nothing_declared, behind_all, declarations_occurrences}
+use Rattle.sopl_ast.specs.Declarations.{Declared, nothing_declared, behind_all, declarations_events}
 
 -- an instance of a constraint
 pub data ConstraintInstance : Type 0 where
@@ -88,33 +88,33 @@ abbrev pub is_threshold : ℤ → ℤ → Bool
 is_threshold p q = int_le (pos 0) p && (int_le p q && (int_le (pos 1) q && int_le q (pos 1048576)))
 
 -- the parts of a threshold, and then the threshold
-abbrev pub threshold_occurrences : Known → Tree → Tree → List Occurrence
-threshold_occurrences known p q =
+abbrev pub threshold_events : Known → Tree → Tree → List UnfoldEvent
+threshold_events known p q =
     constant_place known p ++ (constant_place known q ++ refused_unless (is_threshold (value_or_zero known p) (value_or_zero known q)) 115 (place_of p))
 
 abbrev mutual
   -- a constraint, of which each instance is counted before what is met in it
-  pub constraint_occurrences : Known → ConsTree → List Occurrence
-  constraint_occurrences known (ForallTree bs c) = binding_occurrences known None bs (λ here. constraint_occurrences here c)
-  constraint_occurrences known (BlockTree cs) = constraints_occurrences known cs
-  constraint_occurrences known (HardTree e) = Counted ∷ expression_occurrences known e
-  constraint_occurrences known (ChanceTree e p q) = Counted ∷ (expression_occurrences known e ++ threshold_occurrences known p q)
+  pub constraint_events : Known → ConsTree → List UnfoldEvent
+  constraint_events known (ForallTree bs c) = binding_events known None bs (λ here. constraint_events here c)
+  constraint_events known (BlockTree cs) = constraints_events known cs
+  constraint_events known (HardTree e) = Counted ∷ expression_events known e
+  constraint_events known (ChanceTree e p q) = Counted ∷ (expression_events known e ++ threshold_events known p q)
 
   -- constraints, one behind the other
-  pub constraints_occurrences : Known → ConsTrees → List Occurrence
-  constraints_occurrences known no_cons = []
-  constraints_occurrences known (cons c cs) = constraint_occurrences known c ++ constraints_occurrences known cs
+  pub constraints_events : Known → ConsTrees → List UnfoldEvent
+  constraints_events known no_cons = []
+  constraints_events known (cons c cs) = constraint_events known c ++ constraints_events known cs
 
 -- an objective
-abbrev pub goal_occurrences : Known → Option GoalTree → List Occurrence
-goal_occurrences known None = []
-goal_occurrences known (Some goal) = expression_occurrences known goal.expr
+abbrev pub goal_events : Known → Option GoalTree → List UnfoldEvent
+goal_events known None = []
+goal_events known (Some goal) = expression_events known goal.expr
 
 -- the objective and the constraints behind declarations that state this
-abbrev pub body_occurrences : Declared → ModelTree → List Occurrence
-body_occurrences found model = goal_occurrences found.known model.goal ++ constraints_occurrences found.known (conses model.body)
+abbrev pub body_events : Declared → ModelTree → List UnfoldEvent
+body_events found model = goal_events found.known model.goal ++ constraints_events found.known (conses model.body)
 
 -- all that is met in a model
-unfoldable pub text_occurrences : ModelTree → List Occurrence
-text_occurrences model =
-    declarations_occurrences nothing_declared model.decls ++ body_occurrences (behind_all model.decls nothing_declared) model
+unfoldable pub text_events : ModelTree → List UnfoldEvent
+text_events model =
+    declarations_events nothing_declared model.decls ++ body_events (behind_all model.decls nothing_declared) model

@@ -1,6 +1,6 @@
 //! The tokens and the syntax tree of a model text, and what the language means: the definitions in
 //! `specs/` that every contract above cites.
-//! Its tests stand in `parser_tests`.
+//! Its tests stand in `compile_tests`.
 #![tactic(auto)]
 
 mod binders;

@@ -6,7 +6,7 @@ pub const TEXT_LENGTH: u16 = 101;
 /// No token, space or comment begins at the place.
 pub const TOKEN: u16 = 102;
 
-/// The token opens one bracket or prefix too many.
+/// The token opens one bracket or prefix operator too many.
 pub const DEPTH: u16 = 103;
 
 /// The tokens spell no model.

@@ -1,4 +1,4 @@
-//! Why a text is not answered: refusals, limits and want of memory.
+//! Why a text is not answered: refusals, limits and out of memory.
 
 ghost use Rattle.std.specs.Prelude.{◌≡◌};
 ghost use Rattle.sopl_base.specs.declared.fault.Fault.TheVariants.{Text};

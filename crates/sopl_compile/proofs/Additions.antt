@@ -2,13 +2,13 @@
 use Rattle.std.proofs.Common.{◌≡◌, ◌∙◌, refl, ap, sym, ℕ, ◌+◌, ◌<◌, List, [], ◌∷◌, map, length, get_or, drop, None, Result, Ok, Err, OnOk}
 use Rattle.std.proofs.lemmas.List.{append_assoc, at_drop_more}
 use Rattle.std.specs.List.{flat_map}
-use Rattle.box_rules.specs.Terms.{Cond, Term}
-use Rattle.place_names.specs.declared.setting.Setting.{Setting}
-use Rattle.program_rules.specs.Problems.{ChanceTerms, ProblemTerms}
-use Rattle.program_sizes.specs.Measured.{first_large}
-use Rattle.scene_terms.specs.Scenes.{root_in}
-use Rattle.scene_terms.specs.Works.{Extends, IsReady}
-use Rattle.scene_terms.specs.declared.work.Work.{Work}
+use Rattle.term_language.specs.Terms.{Cond, Term}
+use Rattle.compile_names.specs.declared.setting.Scenarios.{Scenarios}
+use Rattle.term_problem.specs.Problems.{ChanceTerms, ProblemTerms}
+use Rattle.compile_laws.specs.Measured.{first_large}
+use Rattle.compile_scene.specs.Scenes.{root_in}
+use Rattle.compile_scene.specs.Works.{Extends, IsReady}
+use Rattle.compile_scene.specs.declared.work.Lowering.{Lowering}
 use Rattle.sopl_compile.proofs.Sizes.{sizes_more}
 use Rattle.sopl_compile.specs.Adding.{Adds, HasWeights, with_chances, with_hards}
 use Rattle.sopl_term.specs.Built.{asked_direction, asked_worst, problem_built}
@@ -31,7 +31,7 @@ chances_appended = record {
 }
 
 -- what was added gives with what is left what all give, and so do the sizes
-pub record AreToAdd {X : Type 0} (add : ProblemTerms → List X → ProblemTerms) (sub : X → List Term) (setting : Setting) (before now : Work) (left all : List X) : Type 0 where
+pub record AreToAdd {X : Type 0} (add : ProblemTerms → List X → ProblemTerms) (sub : X → List Term) (setting : Scenarios) (before now : Lowering) (left all : List X) : Type 0 where
   pub ready : IsReady setting now
   pub weights : HasWeights setting now
   pub problem : add (problem_built now.builder) left ≡ add (problem_built before.builder) all
@@ -40,13 +40,13 @@ pub record AreToAdd {X : Type 0} (add : ProblemTerms → List X → ProblemTerms
   pub sizes : first_large (root_in setting) (flat_map sub left) ≡ first_large (root_in setting) (flat_map sub all)
 
 -- the weights stay
-pub weights_stay : {X : Type 0} (add : ProblemTerms → List X → ProblemTerms) (setting : Setting) (before after : Work) (xs : List X) → IsAppended add → HasWeights setting before
+pub weights_stay : {X : Type 0} (add : ProblemTerms → List X → ProblemTerms) (setting : Scenarios) (before after : Lowering) (xs : List X) → IsAppended add → HasWeights setting before
     → Adds setting before after (add (problem_built before.builder) xs) → HasWeights setting after
 weights_stay add setting before after xs appended has adds =
     ap (λ (t : ProblemTerms). length t.weights) adds.problem ∙ (appended.weights (problem_built before.builder) xs ∙ has)
 
-module _ {X : Type 0} (add : ProblemTerms → List X → ProblemTerms) (sub : X → List Term) (setting : Setting) (before : Work) (appended : IsAppended add) where
-  pub to_add_more : (now then : Work) (x : X) (left later all : List X) → left ≡ x ∷ later → AreToAdd add sub setting before now left all
+module _ {X : Type 0} (add : ProblemTerms → List X → ProblemTerms) (sub : X → List Term) (setting : Scenarios) (before : Lowering) (appended : IsAppended add) where
+  pub to_add_more : (now then : Lowering) (x : X) (left later all : List X) → left ≡ x ∷ later → AreToAdd add sub setting before now left all
       → Adds setting now then (add (problem_built now.builder) (x ∷ [])) → first_large (root_in setting) (sub x) ≡ None → AreToAdd add sub setting before then later all
   to_add_more now then x left later all next so_far adds small = record {
     ready = adds.ready;
@@ -65,7 +65,7 @@ next_item g xs i x d below at = at_drop_more (map g) xs i d below ∙ ap (λ y. 
 
 -- Additions in a row.
 
-pub adds_then : (setting : Setting) (before mid after : Work) (terms : ProblemTerms) → Adds setting before mid terms → Extends setting mid after → Adds setting before after terms
+pub adds_then : (setting : Scenarios) (before mid after : Lowering) (terms : ProblemTerms) → Adds setting before mid terms → Extends setting mid after → Adds setting before after terms
 adds_then setting before mid after terms adds extends = record {
   ready = extends.ready;
   problem = extends.problem ∙ adds.problem;
@@ -73,7 +73,7 @@ adds_then setting before mid after terms adds extends = record {
   worst = extends.worst ∙ adds.worst;
 }
 
-pub adds_twice : {X : Type 0} (add : ProblemTerms → List X → ProblemTerms) (setting : Setting) (before mid after : Work) (terms : ProblemTerms) (xs : List X) → Adds setting before mid terms
+pub adds_twice : {X : Type 0} (add : ProblemTerms → List X → ProblemTerms) (setting : Scenarios) (before mid after : Lowering) (terms : ProblemTerms) (xs : List X) → Adds setting before mid terms
     → Adds setting mid after (add (problem_built mid.builder) xs) → Adds setting before after (add terms xs)
 adds_twice add setting before mid after terms xs once twice = record {
   ready = twice.ready;
@@ -82,7 +82,8 @@ adds_twice add setting before mid after terms xs once twice = record {
   worst = twice.worst ∙ once.worst;
 }
 
-pub adds_either : {A E : Type 0} (result : Result A E) (setting : Setting) (before mid after : Work) (terms : ProblemTerms) → Adds setting before mid terms → OnOk result (Extends setting mid after)
+pub adds_either : {A E : Type 0} (result : Result A E) (setting : Scenarios) (before mid after : Lowering) (terms : ProblemTerms) → Adds setting before mid terms
+    → OnOk result (Extends setting mid after)
     → OnOk result (Adds setting before after terms)
 adds_either (Ok x) setting before mid after terms adds extends = adds_then setting before mid after terms adds extends
 adds_either (Err e) setting before mid after terms adds extends = tt

@@ -8,15 +8,15 @@ use Rattle.std.proofs.lemmas.Simd.{map-map}
 use Rattle.std.specs.Int.{int_min}
 use Rattle.std.specs.List.{enumerate_from, flat_map}
 use Rattle.box_problem.specs.Box.{Box, box_of}
-use Rattle.place_names.specs.declared.setting.Setting.{Setting}
-use Rattle.scene_terms.specs.Scenes.{root_in}
-use Rattle.scenario_tree.specs.Layout.{cells_for}
+use Rattle.compile_names.specs.declared.setting.Scenarios.{Scenarios}
+use Rattle.compile_scene.specs.Scenes.{root_in}
+use Rattle.sopl_scen.specs.Layout.{cells_for}
 use Rattle.sopl_ast.specs.Cells.{Cell, cells, cells_of}
 use Rattle.sopl_ast.specs.Histories.{distinct, histories, history, same_values}
 use Rattle.sopl_ast.specs.Instances.{Decision, Problem, Stochastic}
-use Rattle.sopl_ast.specs.Limits.{first_above, fronts, size_excess, usual_limits, weight_excess, scenario_excess, copy_excess, bit_excess, instance_count}
+use Rattle.sopl_ast.specs.Limits.{first_above, prefixes, size_excess, usual_limits, weight_excess, scenario_excess, copy_excess, bit_excess, instance_count}
 use Rattle.sopl_ast.specs.Numbers.{or_else}
-use Rattle.sopl_ast.specs.Occurrences.{excess}
+use Rattle.sopl_ast.specs.UnfoldEvents.{excess}
 use Rattle.sopl_ast.specs.Scenarios.{Scenario, scenarios, total_weight}
 use Rattle.sopl_base.specs.declared.fault.Excess.{Excess}
 use Rattle.sopl_base.specs.declared.interval.Interval.{Interval}
@@ -44,13 +44,13 @@ at_most n limit test = omega (arith, ints, test)
 abbrev told : ℕ → ℕ → ℤ → Excess
 told code limit n = excess code (int_min n (pos (2 ^ 127 - 1))) (pos limit)
 
-whole_within : {A : Type 0} (code limit : ℕ) (f : List A → ℤ) (x : A) (xs : List A) → first_above code limit (map f (fronts (x ∷ xs))) ≡ None → f (x ∷ xs) ≤ℤ pos limit
+whole_within : {A : Type 0} (code limit : ℕ) (f : List A → ℤ) (x : A) (xs : List A) → first_above code limit (map f (prefixes (x ∷ xs))) ≡ None → f (x ∷ xs) ≤ℤ pos limit
 whole_within code limit f x [] none = at_most (f (x ∷ [])) (pos limit) (passed (int_le (f (x ∷ [])) (pos limit)) (told code limit (f (x ∷ []))) None none)
 whole_within {A} code limit f x (y ∷ ys) none =
-    let behind : List A → ℤ = λ (front : List A). f (x ∷ front) in
-    let later : first_above code limit (map f (map (λ (front : List A). x ∷ front) (fronts (y ∷ ys)))) ≡ None =
-    later_none (int_le (f (x ∷ [])) (pos limit)) (told code limit (f (x ∷ []))) (first_above code limit (map f (map (λ (front : List A). x ∷ front) (fronts (y ∷ ys))))) none in
-    whole_within code limit behind y ys (sym (ap (first_above code limit) (map-map f (λ (front : List A). x ∷ front) (fronts (y ∷ ys)))) ∙ later)
+    let behind : List A → ℤ = λ (prefix : List A). f (x ∷ prefix) in
+    let later : first_above code limit (map f (map (λ (prefix : List A). x ∷ prefix) (prefixes (y ∷ ys)))) ≡ None =
+    later_none (int_le (f (x ∷ [])) (pos limit)) (told code limit (f (x ∷ []))) (first_above code limit (map f (map (λ (prefix : List A). x ∷ prefix) (prefixes (y ∷ ys))))) none in
+    whole_within code limit behind y ys (sym (ap (first_above code limit) (map-map f (λ (prefix : List A). x ∷ prefix) (prefixes (y ∷ ys)))) ∙ later)
 
 -- Cells.
 
@@ -91,17 +91,17 @@ module _ (problem : Problem) (within : size_excess usual_limits problem ≡ None
   pub light : total_weight problem.stochastics ≤ℤ pos (2 ^ 100)
   light = by problem.stochastics (first_none (weight_excess usual_limits problem) behind_weight within)
     where
-      by : (ss : List Stochastic) → first_above 201 (2 ^ 100) (map total_weight (fronts ss)) ≡ None → total_weight ss ≤ℤ pos (2 ^ 100)
+      by : (ss : List Stochastic) → first_above 201 (2 ^ 100) (map total_weight (prefixes ss)) ≡ None → total_weight ss ≤ℤ pos (2 ^ 100)
       by [] none = omega (arith, ints)
       by (s ∷ ss) none = whole_within 201 (2 ^ 100) total_weight s ss none
 
   pub few_scenarios : length (scenarios problem.stochastics) ≤ 16384
   few_scenarios = by problem.stochastics (first_none (scenario_excess usual_limits problem) behind_scenarios (then_none (weight_excess usual_limits problem) behind_weight within))
     where
-      by : (ss : List Stochastic) → first_above 202 16384 (map (λ (front : List Stochastic). pos (length (scenarios front))) (fronts ss)) ≡ None → length (scenarios ss) ≤ 16384
+      by : (ss : List Stochastic) → first_above 202 16384 (map (λ (prefix : List Stochastic). pos (length (scenarios prefix))) (prefixes ss)) ≡ None → length (scenarios ss) ≤ 16384
       by [] none = omega arith
       by (s ∷ ss) none =
-          let most : pos (length (scenarios (s ∷ ss))) ≤ℤ pos 16384 = whole_within 202 16384 (λ (front : List Stochastic). pos (length (scenarios front))) s ss none in
+          let most : pos (length (scenarios (s ∷ ss))) ≤ℤ pos 16384 = whole_within 202 16384 (λ (prefix : List Stochastic). pos (length (scenarios prefix))) s ss none in
           omega (arith, ints, most)
 
   few_cells : length (cells problem) ≤ 1048576
@@ -115,7 +115,7 @@ module _ (problem : Problem) (within : size_excess usual_limits problem ≡ None
       let all = cells_few problem.stochastics 0 problem.decisions (length problem.stochastics + (length problem.hards + length problem.chances)) in
       omega (arith, ints, most, all)
 
-  pub few_domains : (setting : Setting) (domains : List Interval) → IsSettingOf problem setting → box_of domains ≡ root_in setting → length domains < 2 ^ 32
+  pub few_domains : (setting : Scenarios) (domains : List Interval) → IsSettingOf problem setting → box_of domains ≡ root_in setting → length domains < 2 ^ 32
   few_domains setting domains of is =
       let low : Interval → ℤ = λ (i : Interval). i.lo in
       let cell_low : Cell → ℤ = λ (c : Cell). c.lo in

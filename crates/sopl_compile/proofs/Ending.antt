@@ -4,21 +4,21 @@ use Rattle.std.proofs.Common.{IfErr, IfOk, option_map, Result, Ok, Err}
 use Rattle.std.proofs.lemmas.List.{length-map}
 use Rattle.std.specs.Option.{option_map_or}
 use Rattle.box_problem.specs.Box.{Box}
-use Rattle.box_rules.specs.Globals.{total}
-use Rattle.box_rules.specs.Terms.{Term}
-use Rattle.instantiation.specs.Whole.{goal_terms, problem_terms}
-use Rattle.program_rules.specs.Objective.{greatest_size}
-use Rattle.program_rules.specs.Problems.{ProblemTerms}
-use Rattle.program_sizes.specs.Measured.{first_large, measured_excess, measured_terms}
-use Rattle.place_names.specs.declared.setting.Setting.{Setting}
-use Rattle.scene_terms.specs.Scenes.{root_in}
-use Rattle.scene_terms.specs.Works.{things_of}
-use Rattle.scene_terms.specs.declared.work.Work.{Work}
+use Rattle.term_language.specs.Globals.{total}
+use Rattle.term_language.specs.Terms.{Term}
+use Rattle.compile_laws.specs.Whole.{goal_terms, problem_terms}
+use Rattle.term_problem.specs.Objective.{greatest_size}
+use Rattle.term_problem.specs.Problems.{ProblemTerms}
+use Rattle.compile_laws.specs.Measured.{first_large, measured_excess, measured_terms}
+use Rattle.compile_names.specs.declared.setting.Scenarios.{Scenarios}
+use Rattle.compile_scene.specs.Scenes.{root_in}
+use Rattle.compile_scene.specs.Works.{things_of}
+use Rattle.compile_scene.specs.declared.work.Lowering.{Lowering}
 use Rattle.sopl_ast.specs.Instances.{Objective}
 use Rattle.sopl_ast.specs.Limits.{size_excess, usual_limits}
 use Rattle.sopl_ast.specs.Origin.{IsFromTokens}
 use Rattle.sopl_ast.specs.Scenarios.{scenarios}
-use Rattle.sopl_ast.specs.Unfolding.{objective_of, problem_of, text_occurrences}
+use Rattle.sopl_ast.specs.Unfolding.{objective_of, problem_of, text_events}
 use Rattle.sopl_ast.specs.Whole.{GoalTree, ModelTree}
 use Rattle.sopl_base.specs.declared.direction.Direction.{Direction}
 use Rattle.sopl_base.specs.declared.direction.Direction.TheVariants.{Minimize, Maximize, Nothing}
@@ -40,7 +40,7 @@ use Rattle.term_nodes.specs.Things.{term_at, term_in}
 use Rattle.term_program.specs.Programs.{problem_in, with_goal}
 use Rattle.term_program.specs.declared.ids.TermId.{TermId}
 use Rattle.term_program.specs.declared.program.Program.{Program}
-use Rattle.unfold_laws.specs.Passing.{Passes}
+use Rattle.unfold_laws.specs.Passing.{NothingFails}
 
 empty : (ids : List TermId) → length ids ≡ 0 → ids ≡ []
 empty [] none = refl
@@ -154,7 +154,7 @@ module _ (model : ModelTree) (root : Box) (b : Builder) (ids : List TermId) (rea
         )
 
 -- What is begun and has all constraints is ready.
-module _ (model : ModelTree) (setting : Setting) (before after : Work) (from : ∥ IsFromTokens model ∥₁) (passes : Passes (text_occurrences model))
+module _ (model : ModelTree) (setting : Scenarios) (before after : Lowering) (from : ∥ IsFromTokens model ∥₁) (passes : NothingFails (text_events model))
     (within : size_excess usual_limits (problem_of model) ≡ None) (of : IsSettingOf (problem_of model) setting) (begun : problem_built before.builder ≡ bare_terms (problem_of model)) where
   pub end_ready : (ids : List TermId) → asked_direction before.builder ≡ direction_of (problem_of model) → asked_worst before.builder ≡ worst_of (problem_of model)
       → Adds setting before after (with_chances (with_hards (problem_built before.builder) (problem_terms (problem_of model)).hards) (problem_terms (problem_of model)).chances)

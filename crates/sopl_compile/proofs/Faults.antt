@@ -7,24 +7,24 @@ use Rattle.std.specs.Int.{int_min, saturate_signed, w128}
 use Rattle.std.specs.List.{flat_map}
 use Rattle.std.specs.Option.{option_map_or}
 use Rattle.box_problem.specs.Box.{Box}
-use Rattle.box_rules.proofs.Products.{one-*ℤ}
-use Rattle.box_rules.specs.Terms.{Term}
-use Rattle.instantiation.specs.Whole.{goal_terms, problem_terms}
-use Rattle.program_rules.specs.Objective.{greatest_size}
-use Rattle.program_rules.specs.Problems.{ChanceTerms, GoalTerms, ProblemTerms}
-use Rattle.program_sizes.proofs.Measuring.{faults_end, faults_in_turn, goal_is_allowed, goal_is_refused, measures_in_turn}
-use Rattle.program_sizes.specs.Laws.{IsLargeGoal}
-use Rattle.program_sizes.specs.Measured.{IsSizeFault, Measures, constraint_subterms, first_large, goal_excess, goal_number, goal_subterms, large_excess, measured_excess, measured_terms}
+use Rattle.term_language.proofs.Products.{one-*ℤ}
+use Rattle.term_language.specs.Terms.{Term}
+use Rattle.compile_laws.specs.Whole.{goal_terms, problem_terms}
+use Rattle.term_problem.specs.Objective.{greatest_size}
+use Rattle.term_problem.specs.Problems.{ChanceTerms, GoalTerms, ProblemTerms}
+use Rattle.compile_laws.proofs.Measuring.{faults_end, faults_in_turn, goal_is_allowed, goal_is_refused, measures_in_turn}
+use Rattle.compile_laws.specs.SizeLaws.{IsLargeGoal}
+use Rattle.compile_laws.specs.Measured.{IsSizeFault, Measures, constraint_subterms, first_large, goal_excess, goal_number, goal_subterms, large_excess, measured_excess, measured_terms}
 use Rattle.sopl_ast.specs.Instances.{Objective, Problem}
 use Rattle.sopl_ast.specs.Numbers.{or_else}
-use Rattle.sopl_ast.specs.Occurrences.{excess}
+use Rattle.sopl_ast.specs.UnfoldEvents.{excess}
 use Rattle.sopl_base.specs.declared.fault.Excess.{Excess}
 use Rattle.sopl_base.specs.declared.fault.Fault.{Fault}
 use Rattle.sopl_base.specs.declared.fault.Fault.TheVariants.{Limit, NoMemory}
 use Rattle.sopl_compile.specs.Begun.{worst_of}
 use Rattle.sopl_compile.specs.Posed.{terms_asked}
 
--- want of memory, or the limit that is passed
+-- out of memory, or the limit that is passed
 abbrev pub IsLimitOf : Option Excess → Fault → Type 0
 IsLimitOf told fault = (fault ≡ NoMemory) ⊎ ((e : Excess) × (fault ≡ Limit e) × (told ≡ Some e))
 

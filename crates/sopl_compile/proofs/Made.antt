@@ -5,16 +5,16 @@ use Rattle.std.proofs.Math.Bool.{Bool-set}
 use Rattle.std.proofs.Math.Logic.{∥∥₁_elim, ∥∥₁_map}
 use Rattle.std.proofs.lemmas.Int.{ints}
 use Rattle.std.specs.List.{AllByRecursion}
-use Rattle.box_rules.specs.Globals.{total}
-use Rattle.instantiation.proofs.WellMade.{problems_are_well_made}
-use Rattle.instantiation.specs.Whole.{goal_terms, problem_terms}
-use Rattle.program_rules.specs.Problems.{GoalTerms}
+use Rattle.term_language.specs.Globals.{total}
+use Rattle.compile_laws.proofs.WellMade.{problems_are_well_made}
+use Rattle.compile_laws.specs.Whole.{goal_terms, problem_terms}
+use Rattle.term_problem.specs.Problems.{GoalTerms}
 use Rattle.sopl_ast.specs.Origin.{IsFromTokens}
-use Rattle.sopl_ast.specs.Unfolding.{objective_of, problem_of, text_occurrences}
+use Rattle.sopl_ast.specs.Unfolding.{objective_of, problem_of, text_events}
 use Rattle.sopl_ast.specs.Whole.{GoalTree, ModelTree}
 use Rattle.sopl_base.specs.declared.direction.Direction.TheVariants.{Nothing}
 use Rattle.sopl_compile.proofs.Objectives.{objective_is}
-use Rattle.unfold_laws.specs.Passing.{Passes}
+use Rattle.unfold_laws.specs.Passing.{NothingFails}
 
 tested : (w : ℤ) → pos 1 ≤ℤ w → int_le (pos 1) w ≡ true
 tested w most = grind (arith, ints)
@@ -26,7 +26,7 @@ weights_there : (ws : List ℤ) → ∥ AllByRecursion (λ weight. pos 1 ≤ℤ 
 weights_there [] held = tt
 weights_there (w ∷ ws) held = (passed w (∥∥₁_elim held (Bool-set _ _) (λ h. tested w h.0)), weights_there ws (∥∥₁_map held (λ h. h.1)))
 
-module _ (model : ModelTree) (from : ∥ IsFromTokens model ∥₁) (passes : Passes (text_occurrences model)) where
+module _ (model : ModelTree) (from : ∥ IsFromTokens model ∥₁) (passes : NothingFails (text_events model)) where
   pub some_weight : 1 ≤ length (problem_terms (problem_of model)).weights
   some_weight = ∥∥₁_elim from (search props) (λ f. (problems_are_well_made model f passes).first)
 

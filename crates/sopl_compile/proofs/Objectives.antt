@@ -2,19 +2,19 @@
 use Rattle.std.proofs.Common.{◌≡◌, ◌∙◌, refl, sym, ap, subst, false, [], Option, Some, None, IfSome, option_map}
 use Rattle.std.specs.List.{flat_map}
 use Rattle.std.specs.Option.{option_map_or}
-use Rattle.instantiation.specs.Whole.{goal_terms}
-use Rattle.place_names.specs.declared.setting.Setting.{Setting}
-use Rattle.program_sizes.specs.Measured.{goal_subterms}
-use Rattle.program_sizes.specs.Subterms.{subterms}
-use Rattle.scene_terms.specs.Scenes.{IsLaid}
+use Rattle.compile_laws.specs.Whole.{goal_terms}
+use Rattle.compile_names.specs.declared.setting.Scenarios.{Scenarios}
+use Rattle.compile_laws.specs.Measured.{goal_subterms}
+use Rattle.compile_laws.specs.Subterms.{subterms}
+use Rattle.compile_scene.specs.Scenes.{IsLaid}
 use Rattle.sopl_ast.specs.Instances.{Objective, Problem}
 use Rattle.sopl_ast.specs.Known.{Known}
-use Rattle.sopl_ast.specs.Occurrences.{expression_occurrences}
-use Rattle.sopl_ast.specs.Unfolding.{objective_of, problem_of, text_occurrences}
+use Rattle.sopl_ast.specs.UnfoldEvents.{expression_events}
+use Rattle.sopl_ast.specs.Unfolding.{objective_of, problem_of, text_events}
 use Rattle.sopl_ast.specs.Whole.{GoalTree, ModelTree}
 use Rattle.sopl_base.specs.declared.direction.Direction.TheVariants.{Nothing}
 use Rattle.unfold_laws.proofs.Conditions.{objective_is_met}
-use Rattle.unfold_laws.specs.Passing.{Passes}
+use Rattle.unfold_laws.specs.Passing.{NothingFails}
 use Rattle.unfold_tables.specs.Tables.{table_known}
 use Rattle.sopl_compile.proofs.Places.{goal_terms_are, terms_are}
 use Rattle.sopl_compile.specs.Begun.{direction_of, worst_of}
@@ -47,13 +47,13 @@ module _ (model : ModelTree) where
   pub no_terms : model.goal ≡ None → [] ≡ terms_asked (problem_of model)
   no_terms none = sym (ap (λ (x : Option Objective). option_map_or (λ (o : Objective). (goal_terms (problem_of model) o).terms) x []) (none_is none))
 
-  pub goal_passes : (known : Known) (goal : GoalTree) → Passes (text_occurrences model) → known ≡ (problem_of model).known → model.goal ≡ Some goal
-      → Passes (expression_occurrences known goal.expr)
+  pub goal_passes : (known : Known) (goal : GoalTree) → NothingFails (text_events model) → known ≡ (problem_of model).known → model.goal ≡ Some goal
+      → NothingFails (expression_events known goal.expr)
   goal_passes known goal passes is some =
-      subst (λ (k : Known). Passes (expression_occurrences k goal.expr)) (sym is)
-      (subst (λ (o : Option GoalTree). IfSome o (λ (g : GoalTree). Passes (expression_occurrences (problem_of model).known g.expr))) some (objective_is_met model passes))
+      subst (λ (k : Known). NothingFails (expression_events k goal.expr)) (sym is)
+      (subst (λ (o : Option GoalTree). IfSome o (λ (g : GoalTree). NothingFails (expression_events (problem_of model).known g.expr))) some (objective_is_met model passes))
 
-  pub goal_listed : (setting : Setting) (goal : GoalTree) → IsLaid setting → IsSettingOf (problem_of model) setting → model.goal ≡ Some goal
+  pub goal_listed : (setting : Scenarios) (goal : GoalTree) → IsLaid setting → IsSettingOf (problem_of model) setting → model.goal ≡ Some goal
       → terms_in setting (table_known setting.table.now) goal.expr ≡ terms_asked (problem_of model)
   goal_listed setting goal laid of some =
       terms_are setting laid (objective_of goal)

@@ -4,14 +4,14 @@ use Rattle.std.specs.List.{AllByRecursion}
 use Rattle.sopl_ast.specs.Instances.{Chance, Hard}
 use Rattle.sopl_ast.specs.Known.{Known}
 use Rattle.sopl_ast.specs.Tree.{Tree}
-use Rattle.sopl_ast.specs.Unfolding.{problem_of, text_occurrences}
+use Rattle.sopl_ast.specs.Unfolding.{problem_of, text_events}
 use Rattle.sopl_ast.specs.Whole.{ModelTree}
 use Rattle.unfold_laws.proofs.Conditions.{chances_are_met, hards_are_met}
 use Rattle.unfold_laws.specs.Conditions.{IsMet, IsThreshold}
-use Rattle.unfold_laws.specs.Passing.{Passes}
+use Rattle.unfold_laws.specs.Passing.{NothingFails}
 
 -- the constraints of a text that passes, over a table and conditions that are its own
-module _ (model : ModelTree) (known : Known) (conditions : List Tree) (passes : Passes (text_occurrences model)) (knows : known ≡ (problem_of model).known)
+module _ (model : ModelTree) (known : Known) (conditions : List Tree) (passes : NothingFails (text_events model)) (knows : known ≡ (problem_of model).known)
     (same : conditions ≡ (problem_of model).conditions) where
   pub hards_met : (hards : List Hard) → hards ≡ (problem_of model).hards → AllByRecursion (λ (h : Hard). IsMet known conditions h.text h.bound) hards
   hards_met hards is =

@@ -2,13 +2,13 @@
 use Rattle.std.proofs.Common.{◌≡◌, ◌∙◌, ap, sym, ℕ, List, [], map, Option, Some, slice_get}
 use Rattle.std.specs.List.{range_with_len}
 use Rattle.std.specs.Option.{option_map_or}
-use Rattle.box_rules.specs.Terms as c
-use Rattle.instantiation.specs.Instances.{Place, instance}
-use Rattle.instantiation.specs.Whole as whole
-use Rattle.instantiation.specs.Whole.{chance_terms, goal_terms, hard_terms}
-use Rattle.place_names.proofs.TreePlaces.{places_of_tree}
-use Rattle.place_names.specs.declared.setting.Setting.{Setting}
-use Rattle.scene_terms.specs.Scenes.{IsLaid}
+use Rattle.term_language.specs.Terms as c
+use Rattle.compile_laws.specs.Instances.{Place, instance}
+use Rattle.compile_laws.specs.Whole as whole
+use Rattle.compile_laws.specs.Whole.{chance_terms, goal_terms, hard_terms}
+use Rattle.compile_names.proofs.TreePlaces.{places_of_tree}
+use Rattle.compile_names.specs.declared.setting.Scenarios.{Scenarios}
+use Rattle.compile_scene.specs.Scenes.{IsLaid}
 use Rattle.sopl_ast.specs.Instances.{Chance, Decision, Hard, Objective, Problem, Stochastic}
 use Rattle.sopl_ast.specs.Known.{Binding, Known}
 use Rattle.sopl_ast.specs.Scenarios.{Scenario, scenarios}
@@ -19,7 +19,7 @@ use Rattle.sopl_compile.proofs.Numbering.{by_numbers}
 use Rattle.sopl_compile.specs.Listed.{condition_at, conditions_in, expression_at, place_at, terms_in}
 use Rattle.sopl_compile.specs.Posed.{IsSettingOf, instances_in, posed}
 
-module _ (setting : Setting) (laid : IsLaid setting) where
+module _ (setting : Scenarios) (laid : IsLaid setting) where
   -- the place of a scenario
   same_place : (conditions : List Tree) (bound : List Binding) (i : ℕ) (s : Scenario) → slice_get (scenarios setting.stochs.now) i ≡ Some s
       → place_at setting (placed (table_known setting.table.now) bound) i ≡ whole.place_at (posed setting conditions) bound s
@@ -52,7 +52,7 @@ module _ (setting : Setting) (laid : IsLaid setting) where
 abbrev with_parts : Problem → Known → List Decision → List Stochastic → List Tree → Problem
 with_parts problem known ds ss conditions = record problem { known = known; decisions = ds; stochastics = ss; conditions = conditions }
 
-module _ (problem : Problem) (setting : Setting) (of : IsSettingOf problem setting) where
+module _ (problem : Problem) (setting : Scenarios) (of : IsSettingOf problem setting) where
   pub goal_terms_are : (o : Objective) → (goal_terms (posed setting []) o).terms ≡ (goal_terms problem o).terms
   goal_terms_are o = λ i. (goal_terms (with_parts problem (of.known i) (of.decisions i) (of.stochastics i) problem.conditions) o).terms
 

@@ -4,9 +4,9 @@ use Rattle.std.specs.List.{flat_map}
 use Rattle.sopl_base.specs.declared.fault.Fault.{Fault}
 use Rattle.sopl_ast.specs.Numbers.{or_else}
 use Rattle.box_problem.specs.Box.{Box}
-use Rattle.box_rules.specs.Terms.{Term}
-use Rattle.program_sizes.specs.Measured.{IsSizeFault, first_large}
-use Rattle.program_sizes.proofs.Measuring.{faults_end, large_in_turn, same_fault}
+use Rattle.term_language.specs.Terms.{Term}
+use Rattle.compile_laws.specs.Measured.{IsSizeFault, first_large}
+use Rattle.compile_laws.proofs.Measuring.{faults_end, large_in_turn, same_fault}
 
 -- behind small ones
 pub behind_small : (root : Box) (xs ys : List Term) → first_large root xs ≡ None → first_large root (xs ++ ys) ≡ first_large root ys

@@ -1,12 +1,12 @@
 -- No form that is not solved yet stands in the conditions and the objective of a text without such a form.
 use Rattle.std.proofs.Common.{◌≡◌, ◌∙◌, refl, subst, List, [], Option, Some, None, IfSome, slice_get}
-use Rattle.expression_terms.specs.Supported as given
+use Rattle.compile_exprs.specs.Supported as given
 use Rattle.sopl_ast.specs.Tree.{Tree}
 use Rattle.sopl_ast.specs.Unfolding.{all_conditions, problem_of}
 use Rattle.sopl_ast.specs.Whole.{GoalTree, ModelTree, conses}
 use Rattle.sopl_compile.specs.Posed.{AreSupported}
-use Rattle.unsupported_forms.proofs.Found.{none_is_found}
-use Rattle.unsupported_forms.specs.Forms.{places, unsupported_place}
+use Rattle.compile_unsupported.proofs.Found.{none_is_found}
+use Rattle.compile_unsupported.specs.Forms.{places, unsupported_place}
 
 conditions_of_text : (model : ModelTree) → (problem_of model).conditions ≡ all_conditions (conses model.body)
 unfolding problem_of

@@ -1,11 +1,11 @@
 -- The weights of scenarios.
 use Rattle.std.proofs.Common.{arith, ◌≡◌, ◌∙◌, refl, sym, ap, subst, ℕ, suc, ◌<◌, ◌≤◌, ◌^◌, ℤ, pos, ◌≤ℤ◌, List, [], ◌∷◌, length, map, get_or, Some, None, slice_get}
 use Rattle.std.proofs.lemmas.List.{length-map}
-use Rattle.box_rules.specs.Globals.{total}
-use Rattle.instantiation.specs.Whole.{problem_terms}
-use Rattle.place_names.specs.declared.setting.Setting.{Setting}
-use Rattle.scenario_tree.specs.Layout.{IsTreeOf, Layout}
-use Rattle.scene_terms.specs.Scenes.{IsLaid}
+use Rattle.term_language.specs.Globals.{total}
+use Rattle.compile_laws.specs.Whole.{problem_terms}
+use Rattle.compile_names.specs.declared.setting.Scenarios.{Scenarios}
+use Rattle.sopl_scen.specs.Layout.{IsTreeOf, Layout}
+use Rattle.compile_scene.specs.Scenes.{IsLaid}
 use Rattle.sopl_ast.specs.Instances.{Decision, Problem, Stochastic}
 use Rattle.sopl_ast.specs.Scenarios.{Scenario, scenarios, total_weight}
 use Rattle.sopl_compile.specs.Begun.{bare_terms}
@@ -26,7 +26,7 @@ pub weights_are : (ds : List Decision) (ss : List Stochastic) (tree : Layout) �
 weights_are ds ss tree laid = by_scenarios tree.weights (scenarios ss) laid.count laid.weighed
 
 -- Those of a setting are the problem's.
-module _ (problem : Problem) (setting : Setting) (laid : IsLaid setting) (of : IsSettingOf problem setting) (ws : List ℤ) (is : ws ≡ setting.tree.now.weights) where
+module _ (problem : Problem) (setting : Scenarios) (laid : IsLaid setting) (of : IsSettingOf problem setting) (ws : List ℤ) (is : ws ≡ setting.tree.now.weights) where
   pub weights_own : ws ≡ (problem_terms problem).weights
   weights_own =
       is ∙ (weights_are setting.decisions.now setting.stochs.now setting.tree.now laid ∙ ap (λ (ss : List Stochastic). map weight_of (scenarios ss)) of.stochastics)

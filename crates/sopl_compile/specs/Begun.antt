@@ -1,8 +1,8 @@
 -- What a program is before it has a constraint.
 use Rattle.std.specs.Prelude.{Bool, false, [], None}
 use Rattle.std.specs.Option.{option_map_or}
-use Rattle.instantiation.specs.Whole.{problem_terms}
-use Rattle.program_rules.specs.Problems.{ProblemTerms}
+use Rattle.compile_laws.specs.Whole.{problem_terms}
+use Rattle.term_problem.specs.Problems.{ProblemTerms}
 use Rattle.sopl_ast.specs.Instances.{Objective, Problem}
 use Rattle.sopl_base.specs.declared.direction.Direction.{Direction}
 use Rattle.sopl_base.specs.declared.direction.Direction.TheVariants.{Nothing}

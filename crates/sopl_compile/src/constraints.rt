@@ -2,11 +2,11 @@
 
 ghost use Rattle.std.specs.Prelude.{◌≡◌, ◌<◌, ◌∷◌, [], length, map, slice_get, IfOk, OnOk, Some};
 ghost use Rattle.std.specs.List.{AllByRecursion, flat_map};
-ghost use Rattle.instantiation.specs.Whole.{chance_terms, hard_terms};
-ghost use Rattle.program_rules.specs.Problems.{ChanceTerms};
-ghost use Rattle.program_sizes.specs.Measured.{Measures, constraint_subterms};
-ghost use Rattle.scene_terms.specs.Scenes.{root_in};
-ghost use Rattle.scene_terms.specs.Works.{Extends, IsReady, things_of};
+ghost use Rattle.compile_laws.specs.Whole.{chance_terms, hard_terms};
+ghost use Rattle.term_problem.specs.Problems.{ChanceTerms};
+ghost use Rattle.compile_laws.specs.Measured.{Measures, constraint_subterms};
+ghost use Rattle.compile_scene.specs.Scenes.{root_in};
+ghost use Rattle.compile_scene.specs.Works.{Extends, IsReady, things_of};
 ghost use Rattle.sopl_ast.specs.Instances.{Chance, Hard};
 ghost use Rattle.sopl_ast.specs.References.{now_of};
 ghost use Rattle.sopl_compile.specs.Adding.{Adds, HasWeights, with_chances, with_hards};
@@ -18,9 +18,9 @@ ghost use Rattle.unfold_laws.specs.Conditions.{IsMet, IsThreshold};
 ghost use Rattle.unfold_tables.specs.Tables.{table_known};
 
 use crate::scenarios::conditions_of;
-use binder_places::{condition_at, known_at};
-use place_names::Setting;
-use scene_terms::Work;
+use compile_counts::{condition_at, known_at};
+use compile_names::Scenarios;
+use compile_scene::Lowering;
 use sopl_ast::Expr;
 use sopl_base::Fault;
 use sopl_term::CondId;
@@ -30,11 +30,11 @@ use std::alloc::Global;
 /// The condition with this number in each scenario, where binders give this.
 fn instances_of<'a>(
     alloc: Global,
-    setting: &Setting<'a>,
+    setting: &Scenarios<'a>,
     conditions: &[&'a Expr],
     text: u32,
     env: &'a Env,
-    work: &mut Work,
+    work: &mut Lowering,
 ) -> Result<Vec<CondId>, Fault>
     requires ready { IsReady setting.now work.old }
     requires supported { AreSupported (map now_of conditions.now) }
@@ -50,10 +50,10 @@ fn instances_of<'a>(
 /// Adds a hard constraint.
 fn add_hard<'a>(
     alloc: Global,
-    setting: &Setting<'a>,
+    setting: &Scenarios<'a>,
     conditions: &[&'a Expr],
     hard: &'a HardItem,
-    work: &mut Work,
+    work: &mut Lowering,
 ) -> Result<(), Fault>
     requires ready { IsReady setting.now work.old }
     requires weights { HasWeights setting.now work.old }
@@ -70,10 +70,10 @@ fn add_hard<'a>(
 /// Adds a chance constraint.
 fn add_chance<'a>(
     alloc: Global,
-    setting: &Setting<'a>,
+    setting: &Scenarios<'a>,
     conditions: &[&'a Expr],
     chance: &'a ChanceItem,
-    work: &mut Work,
+    work: &mut Lowering,
 ) -> Result<(), Fault>
     requires ready { IsReady setting.now work.old }
     requires weights { HasWeights setting.now work.old }
@@ -91,10 +91,10 @@ fn add_chance<'a>(
 /// Adds hard constraints.
 pub(crate) fn add_hards<'a>(
     alloc: Global,
-    setting: &Setting<'a>,
+    setting: &Scenarios<'a>,
     conditions: &[&'a Expr],
     hards: &'a [HardItem],
-    work: &mut Work,
+    work: &mut Lowering,
 ) -> Result<(), Fault>
     requires ready { IsReady setting.now work.old }
     requires weights { HasWeights setting.now work.old }
@@ -112,10 +112,10 @@ pub(crate) fn add_hards<'a>(
 /// Adds chance constraints.
 pub(crate) fn add_chances<'a>(
     alloc: Global,
-    setting: &Setting<'a>,
+    setting: &Scenarios<'a>,
     conditions: &[&'a Expr],
     chances: &'a [ChanceItem],
-    work: &mut Work,
+    work: &mut Lowering,
 ) -> Result<(), Fault>
     requires ready { IsReady setting.now work.old }
     requires weights { HasWeights setting.now work.old }

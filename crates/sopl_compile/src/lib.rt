@@ -1,6 +1,6 @@
 //! The program of an unfolded text: its cells with their domains, its scenarios with their weights, the condition of each constraint and the objective's term in each scenario; or the first limit that
 //! the terms pass, their nodes before anything is made of them.
-//! Its tests stand in `program_tests`.
+//! Its tests stand in `search_tests`.
 #![tactic(auto)]
 
 mod constraints;

@@ -2,59 +2,59 @@
 
 ghost use Rattle.std.specs.Prelude.{◌≡◌, IfOk, OnOk, None};
 ghost use Rattle.std.specs.List.{flat_map};
-ghost use Rattle.expression_terms.specs.Supported.{IsSupported};
-ghost use Rattle.program_sizes.specs.Measured.{Measures};
-ghost use Rattle.program_sizes.specs.Subterms.{subterms};
-ghost use Rattle.scene_terms.specs.Scenes.{root_in};
-ghost use Rattle.scene_terms.specs.Works.{Extends, IsReady, things_of};
-ghost use Rattle.sopl_ast.specs.Occurrences.{expression_occurrences};
-ghost use Rattle.sopl_ast.specs.Unfolding.{problem_of, text_occurrences};
+ghost use Rattle.compile_exprs.specs.Supported.{IsSupported};
+ghost use Rattle.compile_laws.specs.Measured.{Measures};
+ghost use Rattle.compile_laws.specs.Subterms.{subterms};
+ghost use Rattle.compile_scene.specs.Scenes.{root_in};
+ghost use Rattle.compile_scene.specs.Works.{Extends, IsReady, things_of};
+ghost use Rattle.sopl_ast.specs.UnfoldEvents.{expression_events};
+ghost use Rattle.sopl_ast.specs.Unfolding.{problem_of, text_events};
 ghost use Rattle.sopl_ast.specs.WholeModel.{whole};
 ghost use Rattle.sopl_compile.specs.Listed.{AreListed, terms_in};
 ghost use Rattle.sopl_compile.specs.Posed.{IsSettingOf, terms_asked};
 ghost use Rattle.sopl_term.specs.Built.{term_ids};
 ghost use Rattle.term_nodes.specs.Things.{term_in};
-ghost use Rattle.unfold_laws.specs.Passing.{Passes};
+ghost use Rattle.unfold_laws.specs.Passing.{NothingFails};
 ghost use Rattle.unfold_tables.specs.Tables.{table_known};
-ghost use Rattle.unsupported_forms.specs.Forms.{unsupported_place};
+ghost use Rattle.compile_unsupported.specs.Forms.{unsupported_place};
 
 use crate::scenarios::terms_of;
-use place_names::Setting;
-use scene_terms::Work;
+use compile_names::Scenarios;
+use compile_scene::Lowering;
 use sopl_ast::{Goal, Model};
 use sopl_base::Fault;
 use sopl_term::TermId;
 use std::alloc::Global;
-use unfold_constants::Known;
+use unfold_constants::ConstantScope;
 
 /// The terms of an objective, one for each scenario.
 fn goal_terms<'a>(
     alloc: Global,
-    setting: &Setting<'a>,
+    setting: &Scenarios<'a>,
     goal: &'a Goal,
-    work: &mut Work,
+    work: &mut Lowering,
 ) -> Result<Vec<TermId>, Fault>
     requires ready { IsReady setting.now work.old }
-    requires passes { Passes (expression_occurrences (table_known setting.now.table.now) goal.now.expr) }
+    requires passes { NothingFails (expression_events (table_known setting.now.table.now) goal.now.expr) }
     requires supported { IsSupported goal.now.expr }
     ensures extends { OnOk result (Extends setting.now work.old work.new) }
     ensures listed { IfOk result (λ ids. AreListed term_in (things_of work.new) (term_ids ids.items) (terms_in setting.now (table_known setting.now.table.now) goal.now.expr)) }
     ensures measured { Measures (root_in setting.now) (flat_map subterms (terms_in setting.now (table_known setting.now.table.now) goal.now.expr)) result }
 {
-    let known = Known::new(alloc, setting.table);
+    let known = ConstantScope::new(alloc, setting.table);
     terms_of(alloc, setting, &known, work, &goal.expr)
 }
 
 /// The terms of a model's objective, one for each scenario; none where it has no objective.
 pub(crate) fn terms_of_model<'a>(
     alloc: Global,
-    setting: &Setting<'a>,
+    setting: &Scenarios<'a>,
     model: &'a Model,
-    work: &mut Work,
+    work: &mut Lowering,
 ) -> Result<Vec<TermId>, Fault>
     requires ready { IsReady setting.now work.old }
     requires setting { IsSettingOf (problem_of (whole model.now)) setting.now }
-    requires passes { Passes (text_occurrences (whole model.now)) }
+    requires passes { NothingFails (text_events (whole model.now)) }
     requires supported { unsupported_place (whole model.now) ≡ None }
     ensures extends { OnOk result (Extends setting.now work.old work.new) }
     ensures listed { IfOk result (λ ids. AreListed term_in (things_of work.new) (term_ids ids.items) (terms_asked (problem_of (whole model.now)))) }

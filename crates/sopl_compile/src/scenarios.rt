@@ -1,28 +1,28 @@
 //! What an expression is in each scenario.
 
 ghost use Rattle.std.specs.Prelude.{◌≡◌, ◌∷◌, ◌++◌, [], IfOk, OnOk};
-ghost use Rattle.program_sizes.specs.Measured.{Measures, constraint_subterms};
-ghost use Rattle.program_sizes.specs.Subterms.{subterms};
-ghost use Rattle.expression_terms.specs.Over.{IsOver};
-ghost use Rattle.expression_terms.specs.Supported.{IsSupported};
+ghost use Rattle.compile_laws.specs.Measured.{Measures, constraint_subterms};
+ghost use Rattle.compile_laws.specs.Subterms.{subterms};
+ghost use Rattle.compile_exprs.specs.Over.{IsOver};
+ghost use Rattle.compile_exprs.specs.Supported.{IsSupported};
 ghost use Rattle.std.specs.List.{flat_map};
-ghost use Rattle.scene_terms.specs.Scenes.{root_in};
-ghost use Rattle.scene_terms.specs.Works.{Extends, IsReady, things_of};
-ghost use Rattle.sopl_ast.specs.Occurrences.{expression_occurrences};
+ghost use Rattle.compile_scene.specs.Scenes.{root_in};
+ghost use Rattle.compile_scene.specs.Works.{Extends, IsReady, things_of};
+ghost use Rattle.sopl_ast.specs.UnfoldEvents.{expression_events};
 ghost use Rattle.sopl_compile.specs.Listed.{AreListed, conditions_in, terms_in};
 ghost use Rattle.sopl_term.specs.Built.{cond_ids, term_ids};
 ghost use Rattle.term_nodes.specs.Things.{cond_in, term_in};
 ghost use Rattle.unfold_constants.specs.Here.{known_in};
-ghost use Rattle.unfold_laws.specs.Passing.{Passes};
+ghost use Rattle.unfold_laws.specs.Passing.{NothingFails};
 
-use expression_terms::{condition_of, term_of};
-use place_names::Setting;
-use scene_terms::{Scene, Work};
+use compile_exprs::{condition_of, term_of};
+use compile_names::Scenarios;
+use compile_scene::{Lowering, NumberedScenario};
 use sopl_ast::Expr;
 use sopl_base::Fault;
 use sopl_term::{CondId, TermId};
 use std::alloc::{AllocError, Global};
-use unfold_constants::Known;
+use unfold_constants::ConstantScope;
 
 /// Puts one more behind a list.
 fn put<T: Drop>(list: &mut Vec<T>, item: T) -> Result<(), AllocError>
@@ -35,14 +35,14 @@ fn put<T: Drop>(list: &mut Vec<T>, item: T) -> Result<(), AllocError>
 /// A condition in each scenario.
 pub(crate) fn conditions_of<'a>(
     alloc: Global,
-    setting: &Setting<'_>,
-    known: &Known<'a>,
-    work: &mut Work,
+    setting: &Scenarios<'_>,
+    known: &ConstantScope<'a>,
+    work: &mut Lowering,
     e: &'a Expr,
 ) -> Result<Vec<CondId>, Fault>
     requires ready { IsReady setting.now work.old }
     requires table { IsOver setting.now known.now }
-    requires passes { Passes (expression_occurrences (known_in known.now) e.now) }
+    requires passes { NothingFails (expression_events (known_in known.now) e.now) }
     requires supported { IsSupported e.now }
     ensures extends { OnOk result (Extends setting.now work.old work.new) }
     ensures listed { IfOk result (λ ids. AreListed cond_in (things_of work.new) (cond_ids ids.items) (conditions_in setting.now (known_in known.now) e.now)) }
@@ -50,7 +50,7 @@ pub(crate) fn conditions_of<'a>(
 {
     let mut found = Vec::new(alloc);
     'scenarios: for scenario in 0..setting.tree.count() {
-        let id = condition_of(&Scene { setting, scenario }, known, work, e)?;
+        let id = condition_of(&NumberedScenario { setting, scenario }, known, work, e)?;
         put(&mut found, id)?;
     }
     Ok(found)
@@ -59,14 +59,14 @@ pub(crate) fn conditions_of<'a>(
 /// A number expression in each scenario.
 pub(crate) fn terms_of<'a>(
     alloc: Global,
-    setting: &Setting<'_>,
-    known: &Known<'a>,
-    work: &mut Work,
+    setting: &Scenarios<'_>,
+    known: &ConstantScope<'a>,
+    work: &mut Lowering,
     e: &'a Expr,
 ) -> Result<Vec<TermId>, Fault>
     requires ready { IsReady setting.now work.old }
     requires table { IsOver setting.now known.now }
-    requires passes { Passes (expression_occurrences (known_in known.now) e.now) }
+    requires passes { NothingFails (expression_events (known_in known.now) e.now) }
     requires supported { IsSupported e.now }
     ensures extends { OnOk result (Extends setting.now work.old work.new) }
     ensures listed { IfOk result (λ ids. AreListed term_in (things_of work.new) (term_ids ids.items) (terms_in setting.now (known_in known.now) e.now)) }
@@ -74,7 +74,7 @@ pub(crate) fn terms_of<'a>(
 {
     let mut found = Vec::new(alloc);
     'terms: for scenario in 0..setting.tree.count() {
-        let id = term_of(&Scene { setting, scenario }, known, work, e)?;
+        let id = term_of(&NumberedScenario { setting, scenario }, known, work, e)?;
         put(&mut found, id)?;
     }
     Ok(found)

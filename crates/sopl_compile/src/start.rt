@@ -1,8 +1,8 @@
 //! A program is begun: its cells with their domains, its scenarios with their weights, and what the objective is to be.
 
 ghost use Rattle.std.specs.Prelude.{◌≡◌, IfOk, None};
-ghost use Rattle.scene_terms.specs.Scenes.{IsLaid};
-ghost use Rattle.scene_terms.specs.Works.{IsReady};
+ghost use Rattle.compile_scene.specs.Scenes.{IsLaid};
+ghost use Rattle.compile_scene.specs.Works.{IsReady};
 ghost use Rattle.sopl_ast.specs.Limits.{size_excess, usual_limits};
 ghost use Rattle.sopl_ast.specs.Unfolding.{problem_of};
 ghost use Rattle.sopl_ast.specs.WholeModel.{whole};
@@ -10,11 +10,11 @@ ghost use Rattle.sopl_compile.specs.Begun.{bare_terms, direction_of, worst_of};
 ghost use Rattle.sopl_compile.specs.Posed.{IsSettingOf};
 ghost use Rattle.sopl_term.specs.Built.{asked_direction, asked_worst, problem_built};
 
-use place_names::Setting;
-use scenario_tree::Tree;
-use scene_terms::{Work, cell_domains};
+use compile_names::Scenarios;
+use compile_scene::{Lowering, cell_domains};
 use sopl_ast::Model;
 use sopl_base::Direction;
+use sopl_scen::Tree;
 use sopl_term::Builder;
 use sopl_unfold::Ground;
 use std::alloc::{AllocError, Global};
@@ -54,9 +54,9 @@ fn worst_of(model: &Model) -> bool
 pub(crate) fn begun(
     alloc: Global,
     ground: &Ground,
-    setting: &Setting<'_>,
-) -> Result<Work, AllocError>
-    requires laid { IsLaid setting.now }
+    setting: &Scenarios<'_>,
+) -> Result<Lowering, AllocError>
+    requires laid_out { IsLaid setting.now }
     requires setting { IsSettingOf (problem_of (whole ground.now.typed.model)) setting.now }
     requires within { size_excess usual_limits (problem_of (whole ground.now.typed.model)) ≡ None }
     ensures ready { IfOk result (IsReady setting.now) }
@@ -74,5 +74,5 @@ pub(crate) fn begun(
         direction_of(model),
         worst_of(model),
     )?;
-    Ok(Work::new(alloc, builder))
+    Ok(Lowering::new(alloc, builder))
 }

@@ -1,13 +1,13 @@
 //! From an unfolded text to its program.
 
 ghost use Rattle.std.specs.Prelude.{◌≡◌, ◌⊎◌, Some, None, map, IfOk, IfErr, OnOk};
-ghost use Rattle.instantiation.specs.Root.{root_box};
-ghost use Rattle.instantiation.specs.Whole.{problem_terms};
-ghost use Rattle.program_sizes.specs.Measured.{Measures, measured_excess, measured_terms};
-ghost use Rattle.program_sizes.specs.Texts.{program_excess};
-ghost use Rattle.scenario_tree.specs.Layout.{IsTreeOf};
-ghost use Rattle.scene_terms.specs.Scenes.{root_in};
-ghost use Rattle.scene_terms.specs.Works.{IsReady, things_of};
+ghost use Rattle.compile_laws.specs.Root.{root_box};
+ghost use Rattle.compile_laws.specs.Whole.{problem_terms};
+ghost use Rattle.compile_laws.specs.Measured.{Measures, measured_excess, measured_terms};
+ghost use Rattle.compile_laws.specs.Texts.{program_excess};
+ghost use Rattle.sopl_scen.specs.Layout.{IsTreeOf};
+ghost use Rattle.compile_scene.specs.Scenes.{root_in};
+ghost use Rattle.compile_scene.specs.Works.{IsReady, things_of};
 ghost use Rattle.sopl_ast.specs.Cells.{cells};
 ghost use Rattle.sopl_ast.specs.Limits.{size_excess, usual_limits};
 ghost use Rattle.sopl_ast.specs.References.{now_of};
@@ -22,17 +22,17 @@ ghost use Rattle.sopl_term.specs.Built.{asked_direction, asked_worst, problem_bu
 ghost use Rattle.term_nodes.specs.Things.{term_in};
 ghost use Rattle.term_program.specs.Programs.{IsMade, problem_in};
 ghost use Rattle.term_program.specs.Programs as programs;
-ghost use Rattle.unsupported_forms.specs.Forms.{unsupported_place};
+ghost use Rattle.compile_unsupported.specs.Forms.{unsupported_place};
 
 use crate::constraints::{add_chances, add_hards};
 use crate::objective::terms_of_model;
 use crate::start::begun;
-use node_counts::node_excess;
-use place_names::Setting;
-use scenario_tree::Tree;
-use scene_terms::Work;
+use compile_counts::node_excess;
+use compile_names::Scenarios;
+use compile_scene::Lowering;
 use sopl_ast::Expr;
 use sopl_base::Fault;
+use sopl_scen::Tree;
 use sopl_term::{Program, TermId};
 use sopl_unfold::Ground;
 use std::alloc::Global;
@@ -41,9 +41,9 @@ use std::alloc::Global;
 fn add_all<'a>(
     alloc: Global,
     ground: &'a Ground,
-    setting: &Setting<'a>,
+    setting: &Scenarios<'a>,
     conditions: &[&'a Expr],
-    work: &mut Work,
+    work: &mut Lowering,
 ) -> Result<Vec<TermId>, Fault>
     requires ready { IsReady setting.now work.old }
     requires weights { HasWeights setting.now work.old }
@@ -65,9 +65,9 @@ fn add_all<'a>(
 fn completed<'a>(
     alloc: Global,
     ground: &'a Ground,
-    setting: &Setting<'a>,
+    setting: &Scenarios<'a>,
     conditions: &[&'a Expr],
-    work: Work,
+    work: Lowering,
 ) -> Result<Program, Fault>
     requires ready { IsReady setting.now work }
     requires setting { IsSettingOf (problem_of (whole ground.now.typed.model)) setting.now }
@@ -91,7 +91,7 @@ fn completed<'a>(
 
 /// The program of an unfolded text whose term nodes are few.
 fn program_of(alloc: Global, ground: &Ground, tree: &Tree) -> Result<Program, Fault>
-    requires laid { IsTreeOf (problem_of (whole ground.now.typed.model)).decisions (problem_of (whole ground.now.typed.model)).stochastics tree.now }
+    requires laid_out { IsTreeOf (problem_of (whole ground.now.typed.model)).decisions (problem_of (whole ground.now.typed.model)).stochastics tree.now }
     requires within { size_excess usual_limits (problem_of (whole ground.now.typed.model)) ≡ None }
     requires supported { unsupported_place (whole ground.now.typed.model) ≡ None }
     ensures made { IfOk result IsMade }
@@ -102,7 +102,7 @@ fn program_of(alloc: Global, ground: &Ground, tree: &Tree) -> Result<Program, Fa
         ⊎ ((e : Excess) × (fault ≡ Fault.Limit e) × (measured_excess (root_box (cells (problem_of (whole ground.now.typed.model)))) (problem_terms (problem_of (whole ground.now.typed.model)))
         ≡ Some e))) }
 {
-    let setting = Setting::of(
+    let setting = Scenarios::of(
         alloc,
         ground.table(),
         ground.stochs(),
@@ -118,7 +118,7 @@ fn program_of(alloc: Global, ground: &Ground, tree: &Tree) -> Result<Program, Fa
 /// is made of them, then the first size of a
 /// term that is too large (207), in hard constraints, in chance constraints and then in the objective, and at last the size of an expected objective (207).
 pub fn compile(alloc: Global, ground: &Ground, tree: &Tree) -> Result<Program, Fault>
-    requires laid { IsTreeOf (problem_of (whole ground.now.typed.model)).decisions (problem_of (whole ground.now.typed.model)).stochastics tree.now }
+    requires laid_out { IsTreeOf (problem_of (whole ground.now.typed.model)).decisions (problem_of (whole ground.now.typed.model)).stochastics tree.now }
     requires within { size_excess usual_limits (problem_of (whole ground.now.typed.model)) ≡ None }
     requires supported { unsupported_place (whole ground.now.typed.model) ≡ None }
     ensures made { IfOk result IsMade }

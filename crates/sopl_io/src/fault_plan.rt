@@ -42,7 +42,7 @@ impl FaultPlan {
         ensures failing { self.new.failing.items ≡ self.old.failing.items }
         ensures calls { self.new.calls ≡ self.old.calls }
         ensures faults { self.new.faults ≡ one_more self.old.faults }
-        ensures later { self.old.faults ≤ self.new.faults }
+        ensures faults_grow { self.old.faults ≤ self.new.faults }
     {
         fault(&mut self.faults)
     }

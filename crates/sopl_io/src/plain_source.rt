@@ -37,7 +37,7 @@ impl PlainSource {
         ensures stock { ⟦<PlainSource as Source>⟧.stock result ≡ Some (in_order (contents_of texts.items)) }
         ensures left { result.left ≡ [] }
         ensures names { ⟦<PlainSource as Source>⟧.names result ≡ None }
-        ensures later { result.later ≡ contents_of texts.items }
+        ensures faults_grow { result.later ≡ contents_of texts.items }
     {
         PlainSource {
             texts,

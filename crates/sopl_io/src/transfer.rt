@@ -57,7 +57,7 @@ pub fn read_all<S: Source>(
     ensures stock { S.stock source.new ≡ option_map begun_stock (S.stock source.old) }
     ensures names { S.names source.new ≡ with_name (S.names source.old) name.now }
 
-    ensures later { S.faults source.old ≤ S.faults source.new }
+    ensures faults_grow { S.faults source.old ≤ S.faults source.new }
     ensures fault { result ≡ Err ReadStop.Fault → Rose (S.faults source.old) (S.faults source.new) }
 {
     source.begin(name)?;

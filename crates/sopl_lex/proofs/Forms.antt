@@ -93,7 +93,7 @@ symbol_byte c cs kind found = split (is_space c) (is_ascii_digit c) (is_letter c
     split false true l' s g l e = absurd (cc)
     split true g' l' s g l e = absurd (cc)
 
--- a text begins with two bytes where its front does
+-- a text begins with two bytes where its prefix does
 pub begins_append : (a b : ℕ) (xs ys : List ℕ) → begins_with a b xs ≡ true → begins_with a b (xs ++ ys) ≡ true
 begins_append a b [] ys e = absurd (cc)
 begins_append a b (x ∷ []) ys e = absurd (cc)

@@ -45,7 +45,7 @@ abbrev pub Holds : ℕ → List ℕ → Result (Piece × ℕ) Refusal → Type 0
 Holds at text (Ok answer) = Stands text answer.0 answer.1
 Holds at text (Err refusal) = Fails at text refusal
 
--- no piece of a front is longer
+-- no piece of a prefix is longer
 abbrev IsLongest : ℕ → List ℕ → ℕ → Type 0
 IsLongest c cs n = (more others : List ℕ) (other : Piece) → c ∷ cs ≡ more ++ others → Start c more other → length more ≤ n
 
@@ -204,7 +204,7 @@ no_begin b c (d ∷ cs) h = and_left (c == 47) (d == b) h
 no_slash : (c : ℕ) → ((c == 47) ≡ true → ⊥) → (c == 47) ≡ false
 no_slash c h = false_from_ne_true (c == 47) h
 
--- the run of a text whose first byte passes, and the front of that length
+-- the run of a text whose first byte passes, and the prefix of that length
 run_of : (p : ℕ → Bool) (c : ℕ) (cs : List ℕ) → p c ≡ true → prefix_len p (c ∷ cs) ≡ suc (prefix_len p cs)
 run_of p c cs h =
     let one : 1 + prefix_len p cs ≡ suc (prefix_len p cs) = omega arith in
@@ -291,7 +291,7 @@ word_holds at c cs s g l =
       small = word_small (take n (c ∷ cs));
     }
 
--- a longer front begins as the text does
+-- a longer prefix begins as the text does
 begins_take : (a b n : ℕ) (text : List ℕ) → begins_with a b text ≡ true → begins_with a b (take (suc (suc n)) text) ≡ true
 begins_take a b n [] h = h
 begins_take a b n (x ∷ []) h = h

@@ -1,10 +1,10 @@
--- The longest front of a text of each form.
+-- The longest prefix of a text of each form.
 use Rattle.std.proofs.Common.{◌≡◌, ℕ, suc, ◌+◌, ◌≤◌, Bool, true, false, cond, List, [], ◌∷◌, ◌++◌, length, take, refl, ap, ◌∙◌, subst, arith}
 use Rattle.std.proofs.lemmas.Bool.{and_parts}
 use Rattle.std.specs.List.{list_all, prefix_len}
 use Rattle.sopl_ast.specs.Pieces.{before_close, begins_with}
 
--- a front whose bytes all pass is no longer than the run
+-- a prefix whose bytes all pass is no longer than the run
 pub prefix_longest : (p : ℕ → Bool) (xs ys : List ℕ) → list_all p xs ≡ true → length xs ≤ prefix_len p (xs ++ ys)
 prefix_longest p [] ys e = omega arith
 prefix_longest p (x ∷ xs) ys e =
@@ -23,7 +23,7 @@ run_passes p (x ∷ xs) = by_byte (p x) refl (run_passes p xs)
         rw (one, e) ih
     by_byte false e ih = refl
 
--- the first `*/` of a front that ends with it is the first of the text
+-- the first `*/` of a prefix that ends with it is the first of the text
 pub close_append : (xs ys : List ℕ) → before_close xs + 2 ≤ length xs → before_close (xs ++ ys) ≡ before_close xs
 close_append [] ys h = absurd (omega arith)
 close_append (x ∷ []) ys h = absurd (omega arith)
@@ -34,7 +34,7 @@ close_append (x ∷ z ∷ zs) ys h = by_two (begins_with 42 47 (x ∷ z ∷ zs))
     by_two true h ih = refl
     by_two false h ih = ap (λ n. 1 + n) (ih (omega arith))
 
--- the front up to the first `*/` has it at its end
+-- the prefix up to the first `*/` has it at its end
 pub close_take : (xs : List ℕ) → before_close xs + 2 ≤ length xs → before_close (take (before_close xs + 2) xs) ≡ before_close xs
 close_take [] h = absurd (omega arith)
 close_take (x ∷ []) h = absurd (omega arith)

@@ -12,7 +12,7 @@ pub record Reads (text : List ℕ) (at : ℕ) (tokens : List Token) : Type 0 whe
   pub cut : Cuts text at tokens (drop at text)
   pub small : AreSmall tokens
 
--- the fault of a text is its refusal, or want of memory
+-- the fault of a text is its refusal, or out of memory
 abbrev pub RefusesAs : List ℕ → Fault → Type 0
 RefusesAs text (fault.Text refusal) = Refuses text refusal
 RefusesAs text (fault.Limit excess) = ⊥

@@ -96,7 +96,7 @@ pub fn name_len(text: &[u8]) -> usize
     text.len()
 }
 
-/// The length of the front of the text that holds no line feed.
+/// The length of the prefix of the text that holds no line feed.
 #[tactic(auto, using(crate::proofs::RunLemmas::run_more, crate::proofs::RunLemmas::run_stops, crate::proofs::RunLemmas::run_end))]
 pub fn line_len(text: &[u8]) -> usize
     ensures { result ≡ prefix_len is_line_byte text.now }

@@ -1,2 +1,3 @@
+pub mod DeclarationParts
 pub mod Parts
 pub mod Refused

@@ -3,11 +3,11 @@ use Rattle.std.proofs.Common.{◌≡◌, List, Ok, sym, ◌∙◌}
 use Rattle.sopl_ast.specs.declared.token.Token.{Token}
 use Rattle.sopl_ast.specs.Tree.{Tree}
 use Rattle.sopl_ast.specs.Whole.{ConsTree, ChanceTree}
-use Rattle.sopl_grammar.specs.declared.marks.Mark.TheVariants as m
-use Rattle.sopl_grammar.specs.Reading.{Read, Way, ◌>>=◌, past, enter}
-use Rattle.sopl_grammar.specs.Expressions.{no_tree, sum}
-use Rattle.sopl_grammar.specs.Phrases.{chance}
-use Rattle.sopl_expr.proofs.Grouped.{grouped, then_same}
+use Rattle.parse_grammar.specs.declared.marks.Mark.TheVariants as m
+use Rattle.parse_grammar.specs.Reading.{Read, Way, ◌>>=◌, past, enter}
+use Rattle.parse_grammar.specs.Expressions.{no_tree, sum}
+use Rattle.parse_grammar.specs.Phrases.{chance}
+use Rattle.parse_exprs.proofs.Grouped.{grouped, then_same}
 use Rattle.sopl_parse.specs.Parts.{condition, share}
 
 -- a chance constraint from its probability and its end

@@ -5,15 +5,15 @@ use Rattle.sopl_ast.specs.declared.token.Token.{Token}
 use Rattle.sopl_ast.specs.Grammar.{SpellsWithin}
 use Rattle.sopl_ast.specs.Misspelled.{misplaced, too_deep}
 use Rattle.sopl_ast.specs.Whole.{ModelTree}
-use Rattle.sopl_grammar.specs.Phrases as phrase
-use Rattle.sopl_grammar.specs.Reading.{Stop}
-use Rattle.sopl_grammar.proofs.CompleteWhole.{model_read}
-use Rattle.sopl_grammar.proofs.Refused.{misplaced_at, too_deep_at}
-use Rattle.sopl_grammar.proofs.SoundWhole.{model_sound}
-use Rattle.sopl_expr.specs.ReaderAnswers.{Fails}
+use Rattle.parse_grammar.specs.Phrases as phrase
+use Rattle.parse_grammar.specs.Reading.{Stop}
+use Rattle.parse_grammar.proofs.CompleteWhole.{model_read}
+use Rattle.parse_grammar.proofs.Refused.{misplaced_at, too_deep_at}
+use Rattle.parse_grammar.proofs.SoundWhole.{model_sound}
+use Rattle.parse_exprs.specs.ReaderAnswers.{Fails}
 use Rattle.sopl_parse.specs.Faults.{fault_of, IsSpellingFault}
-use Rattle.sopl_expr.specs.declared.reader.Halt.{Halt}
-use Rattle.sopl_expr.specs.declared.reader.Halt.TheVariants as halt
+use Rattle.parse_exprs.specs.declared.reader.ParseStop.{ParseStop}
+use Rattle.parse_exprs.specs.declared.reader.ParseStop.TheVariants as halt
 
 -- a model that is read
 abbrev read : ModelTree → Result ModelTree Stop
@@ -37,15 +37,15 @@ read_spelled tokens tree e = model_sound 64 tokens tree e
 pub read_only : (tokens : List Token) (tree other : ModelTree) → phrase.model 64 tokens ≡ Ok tree → SpellsWithin tokens other → tree ≡ other
 read_only tokens tree other e is = same_model tree other (sym e ∙ model_read 64 tokens other is)
 
--- where a model is spelled, the reader halts for want of memory alone
-pub halts_only : (tokens : List Token) (length : ℕ) (h : Halt) (other : ModelTree) → Fails h (phrase.model 64 tokens) → SpellsWithin tokens other
+-- where a model is spelled, the reader halts only where memory runs out
+pub halts_only : (tokens : List Token) (length : ℕ) (h : ParseStop) (other : ModelTree) → Fails h (phrase.model 64 tokens) → SpellsWithin tokens other
     → fault_of length h ≡ fault.NoMemory
 halts_only tokens length (halt.Syntax left) other e is = absurd (never_both other (Stop.Syntax left.now) (sym (model_read 64 tokens other is) ∙ e))
 halts_only tokens length (halt.Depth left) other e is = absurd (never_both other (Stop.Depth left.now) (sym (model_read 64 tokens other is) ∙ e))
 halts_only tokens length halt.NoMemory other e is = refl
 
 -- the fault says where the tokens go wrong
-pub halts_refused : (tokens : List Token) (length : ℕ) (h : Halt) → Fails h (phrase.model 64 tokens) → IsSpellingFault length tokens (fault_of length h)
+pub halts_refused : (tokens : List Token) (length : ℕ) (h : ParseStop) → Fails h (phrase.model 64 tokens) → IsSpellingFault length tokens (fault_of length h)
 halts_refused tokens length (halt.Syntax left) e = misplaced refl (misplaced_at length tokens left.now e)
 halts_refused tokens length (halt.Depth left) e = too_deep refl (too_deep_at length tokens left.now e)
 halts_refused tokens length halt.NoMemory e = tt

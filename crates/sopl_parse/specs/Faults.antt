@@ -4,11 +4,11 @@ use Rattle.sopl_base.specs.declared.fault.Fault.{Fault}
 use Rattle.sopl_base.specs.declared.fault.Fault.TheVariants as fault
 use Rattle.sopl_ast.specs.declared.token.Token.{Token}
 use Rattle.sopl_ast.specs.Misspelled.{IsMisspelled, place_in}
-use Rattle.sopl_expr.specs.declared.reader.Halt.{Halt}
-use Rattle.sopl_expr.specs.declared.reader.Halt.TheVariants as halt
+use Rattle.parse_exprs.specs.declared.reader.ParseStop.{ParseStop}
+use Rattle.parse_exprs.specs.declared.reader.ParseStop.TheVariants as halt
 
 -- tokens that spell no model are refused with 104, an opening too many with 103
-abbrev pub fault_of : ℕ → Halt → Fault
+abbrev pub fault_of : ℕ → ParseStop → Fault
 fault_of length (halt.Syntax left) = fault.Text (record { code = 104; at = place_in length left.now })
 fault_of length (halt.Depth left) = fault.Text (record { code = 103; at = place_in length left.now })
 fault_of length halt.NoMemory = fault.NoMemory

@@ -1,2 +1,4 @@
+pub mod Endings
+pub mod DeclarationParts
 pub mod Faults
 pub mod Parts

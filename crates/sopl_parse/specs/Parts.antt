@@ -2,9 +2,9 @@
 use Rattle.std.specs.Prelude.{List, Ok}
 use Rattle.sopl_ast.specs.declared.token.Token.{Token}
 use Rattle.sopl_ast.specs.Tree.{Tree}
-use Rattle.sopl_grammar.specs.declared.marks.Mark.TheVariants as m
-use Rattle.sopl_grammar.specs.Reading.{Read, Way, ◌>>=◌, past, enter}
-use Rattle.sopl_grammar.specs.Expressions.{no_tree, sum}
+use Rattle.parse_grammar.specs.declared.marks.Mark.TheVariants as m
+use Rattle.parse_grammar.specs.Reading.{Read, Way, ◌>>=◌, past, enter}
+use Rattle.parse_grammar.specs.Expressions.{no_tree, sum}
 
 -- the condition of a chance constraint, and the mark behind it
 unfoldable pub condition : Way → List Token → Read Tree

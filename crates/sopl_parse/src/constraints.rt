@@ -2,19 +2,19 @@
 
 ghost use Rattle.std.specs.Prelude.{◌≡◌, false, [], ◌∷◌, length, option_map};
 ghost use Rattle.sopl_ast.specs.Constraints.{cons_tree, cons_trees};
-ghost use Rattle.sopl_grammar.specs.Reading.{chain as chain_of};
-ghost use Rattle.sopl_grammar.specs.Phrases as phrase;
-ghost use Rattle.sopl_grammar.specs.Phrases.{way};
-ghost use Rattle.sopl_expr.specs.ReaderAnswers.{Answers};
+ghost use Rattle.parse_grammar.specs.Reading.{chain as chain_of};
+ghost use Rattle.parse_grammar.specs.Phrases as phrase;
+ghost use Rattle.parse_grammar.specs.Phrases.{way};
+ghost use Rattle.parse_exprs.specs.ReaderAnswers.{Answers};
 ghost use Rattle.sopl_parse.specs.Parts as piece;
 
+use crate::ends::{ended, found};
+use parse_exprs::{Next, Read, Reader, chain, is_over, joined};
+use parse_grammar::{Mark, has_mark, rest};
 use sopl_ast::{Binders, Cons, ConsList, Expr, Token};
-use sopl_declarations::{ended, found};
-use sopl_expr::{Next, Read, Reader, chain, is_over, joined};
-use sopl_grammar::{Mark, has_mark, rest};
 
 /// The condition of a chance constraint, and the mark behind it.
-#[tactic(auto, unfolding(crate::specs::Parts::condition, sopl_grammar::specs::Phrases::inner_of))]
+#[tactic(auto, unfolding(crate::specs::Parts::condition, parse_grammar::specs::Phrases::inner_of))]
 fn condition<'a>(reader: &Reader, tokens: &'a [Token]) -> Read<'a, Expr>
     ensures { Answers (λ x. (x.0, x.1.now)) result
         (piece.condition (way false reader.now.depth) tokens.now) }
@@ -47,7 +47,7 @@ fn chance<'a>(reader: &Reader, tokens: &'a [Token]) -> Read<'a, Cons>
 }
 
 /// A hard constraint.
-#[tactic(auto, unfolding(sopl_grammar::specs::Phrases::hard))]
+#[tactic(auto, unfolding(parse_grammar::specs::Phrases::hard))]
 fn hard<'a>(reader: &Reader, tokens: &'a [Token]) -> Read<'a, Cons>
     ensures { Answers (λ x. (cons_tree x.0, x.1.now)) result
         (phrase.hard (way false reader.now.depth) tokens.now) }
@@ -59,7 +59,7 @@ fn hard<'a>(reader: &Reader, tokens: &'a [Token]) -> Read<'a, Cons>
 
 /// A constraint for each value of its binders.
 #[cycle(constraint)]
-#[tactic(auto, unfolding(sopl_grammar::specs::Phrases::forall_values, sopl_grammar::specs::Phrases::inner_of))]
+#[tactic(auto, unfolding(parse_grammar::specs::Phrases::forall_values, parse_grammar::specs::Phrases::inner_of))]
 fn forall_values<'a>(reader: &Reader, tokens: &'a [Token]) -> Read<'a, Cons>
     ensures { Answers (λ x. (cons_tree x.0, x.1.now)) result
         (phrase.forall_values (way false reader.now.depth) tokens.now) }
@@ -71,7 +71,7 @@ fn forall_values<'a>(reader: &Reader, tokens: &'a [Token]) -> Read<'a, Cons>
 
 /// A block of constraints.
 #[cycle(constraint)]
-#[tactic(auto, unfolding(sopl_grammar::specs::Phrases::block, sopl_grammar::specs::Phrases::inner_of))]
+#[tactic(auto, unfolding(parse_grammar::specs::Phrases::block, parse_grammar::specs::Phrases::inner_of))]
 fn block<'a>(reader: &Reader, tokens: &'a [Token]) -> Read<'a, Cons>
     ensures { Answers (λ x. (cons_tree x.0, x.1.now)) result
         (phrase.block (way false reader.now.depth) tokens.now) }
@@ -84,7 +84,7 @@ fn block<'a>(reader: &Reader, tokens: &'a [Token]) -> Read<'a, Cons>
 
 /// A constraint.
 #[cycle(constraint)]
-#[tactic(auto, unfolding(sopl_grammar::specs::Phrases::constraint))]
+#[tactic(auto, unfolding(parse_grammar::specs::Phrases::constraint))]
 fn constraint<'a>(reader: &Reader, tokens: &'a [Token]) -> Read<'a, Cons>
     ensures { Answers (λ x. (cons_tree x.0, x.1.now)) result
         (phrase.constraint (way false reader.now.depth) tokens.now) }
@@ -103,7 +103,7 @@ fn constraint<'a>(reader: &Reader, tokens: &'a [Token]) -> Read<'a, Cons>
 
 /// What stands behind `forall`.
 #[cycle(constraint)]
-#[tactic(auto, unfolding(sopl_grammar::specs::Phrases::quantified))]
+#[tactic(auto, unfolding(parse_grammar::specs::Phrases::quantified))]
 fn quantified<'a>(reader: &Reader, tokens: &'a [Token]) -> Read<'a, (Binders, Cons)>
     ensures { Answers (λ x. ((x.0.0, cons_tree x.0.1), x.1.now)) result
         (phrase.quantified (way false reader.now.depth) tokens.now) }
@@ -114,7 +114,7 @@ fn quantified<'a>(reader: &Reader, tokens: &'a [Token]) -> Read<'a, (Binders, Co
 
 /// A constraint, unless the list is over.
 #[cycle(constraint)]
-#[tactic(auto, unfolding(sopl_grammar::specs::Phrases::next_constraint))]
+#[tactic(auto, unfolding(parse_grammar::specs::Phrases::next_constraint))]
 fn next_constraint<'a>(reader: &Reader, tokens: &'a [Token]) -> Next<'a, Cons>
     ensures { Answers (λ x. (option_map cons_tree x.0, x.1.now)) result
         (phrase.next_constraint (way false reader.now.depth) tokens.now) }
@@ -127,7 +127,7 @@ fn next_constraint<'a>(reader: &Reader, tokens: &'a [Token]) -> Next<'a, Cons>
 
 /// Constraints in order.
 #[cycle(constraint)]
-#[tactic(auto, unfolding(sopl_grammar::specs::Phrases::constraints))]
+#[tactic(auto, unfolding(parse_grammar::specs::Phrases::constraints))]
 fn constraints<'a>(reader: &Reader, tokens: &'a [Token]) -> Read<'a, ConsList>
     ensures { Answers (λ x. (cons_trees x.0, x.1.now)) result
         (phrase.constraints (way false reader.now.depth) tokens.now) }
@@ -144,7 +144,7 @@ fn constraints<'a>(reader: &Reader, tokens: &'a [Token]) -> Read<'a, ConsList>
 }
 
 /// `subject to` and the constraints in braces.
-#[tactic(auto, unfolding(sopl_grammar::specs::Phrases::body, sopl_grammar::specs::Phrases::inner_of))]
+#[tactic(auto, unfolding(parse_grammar::specs::Phrases::body, parse_grammar::specs::Phrases::inner_of))]
 pub fn body<'a>(reader: &Reader, tokens: &'a [Token]) -> Read<'a, ConsList>
     ensures { Answers (λ x. (cons_trees x.0, x.1.now)) result
         (phrase.body (way false reader.now.depth) tokens.now) }

@@ -1,8 +1,13 @@
-//! The model that the tokens of a text spell.
-//! Its tests stand in `parser_tests`.
+//! The model that the tokens of a text spell, and what is read of its declarations: constants, ranges, sets, decisions and stochastic variables.
+//! Its tests stand in `compile_tests`.
 #![tactic(auto)]
 
 mod constraints;
+mod declaring;
+mod dims;
+mod ends;
+mod inits;
+mod lists;
 mod models;
 
 ghost use Rattle.std.specs.Prelude.{◌≡◌, IfErr, IfOk, MatchResult};
@@ -11,14 +16,16 @@ ghost use Rattle.sopl_ast.specs.Grammar.{SpellsWithin};
 ghost use Rattle.sopl_ast.specs.Misspelled.{place_in};
 ghost use Rattle.sopl_ast.specs.Whole.{ModelTree};
 ghost use Rattle.sopl_ast.specs.WholeModel.{whole};
-ghost use Rattle.sopl_grammar.specs.Phrases.{model as model_of};
-ghost use Rattle.sopl_expr.specs.ReaderAnswers.{Answers};
+ghost use Rattle.parse_grammar.specs.Phrases.{model as model_of};
+ghost use Rattle.parse_exprs.specs.ReaderAnswers.{Answers};
 ghost use Rattle.sopl_parse.specs.Faults.{fault_of, IsSpellingFault};
 
+pub use declaring::declarations;
+pub use ends::{ended, finished, found};
 use models::model;
+use parse_exprs::{ParseStop, Reader};
 use sopl_ast::{Model, Token};
 use sopl_base::{Fault, codes, limits};
-use sopl_expr::{Halt, Reader};
 use std::alloc::Global;
 
 /// The model that the tokens of a text spell; `length` is the length of the text. The offset of a
@@ -43,7 +50,7 @@ pub fn parse(alloc: Global, tokens: &[Token], length: usize) -> Result<Model, Fa
 }
 
 /// The model that the tokens spell, or where reading stops.
-fn read<'a>(alloc: Global, tokens: &'a [Token]) -> Result<Model, Halt<'a>>
+fn read<'a>(alloc: Global, tokens: &'a [Token]) -> Result<Model, ParseStop<'a>>
     ensures { Answers whole result (model_of 64 tokens.now) }
 {
     let reader = Reader {
@@ -64,12 +71,12 @@ fn start(tokens: &[Token], length: usize) -> usize
 }
 
 /// The fault of a reader that halts, in a text of this length.
-fn fault(halt: &Halt<'_>, length: usize) -> Fault
+fn fault(halt: &ParseStop<'_>, length: usize) -> Fault
     ensures { result ≡ fault_of length halt.now }
 {
     match halt {
-        Halt::Syntax(left) => Fault::refused(codes::SYNTAX, start(left, length)),
-        Halt::Depth(left) => Fault::refused(codes::DEPTH, start(left, length)),
-        Halt::NoMemory => Fault::NoMemory,
+        ParseStop::Syntax(left) => Fault::refused(codes::SYNTAX, start(left, length)),
+        ParseStop::Depth(left) => Fault::refused(codes::DEPTH, start(left, length)),
+        ParseStop::NoMemory => Fault::NoMemory,
     }
 }

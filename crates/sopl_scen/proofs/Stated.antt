@@ -1,48 +1,30 @@
--- What a ground problem states is what a tree asks for.
-use Rattle.std.proofs.Common.{◌≡◌, ◌≤◌, ℕ, List, [], ◌∷◌, arith, sym, subst}
-use denote.Struct.Props.{props}
-use Rattle.std.proofs.Math.Logic.{∥∥₁_elim, ∥∥₁_map}
-use Rattle.std.specs.List.{AllByRecursion}
-use Rattle.sopl_base.specs.declared.fault.Fault.TheVariants as fault
+-- What a text that passes states is what a tree asks for.
+use Rattle.std.proofs.Common.{ℕ, ◌+◌, length, arith, refl}
 use Rattle.sopl_ast.specs.Whole.{ModelTree}
 use Rattle.sopl_ast.specs.Origin.{IsFromTokens}
-use Rattle.sopl_ast.specs.Instances.{Decision, Stochastic}
-use Rattle.sopl_ast.specs.Unfolding.{problem_of, text_occurrences}
-use Rattle.unfold_laws.specs.Passing.{Passes}
+use Rattle.sopl_ast.specs.Instances.{Problem}
+use Rattle.sopl_ast.specs.Unfolding.{problem_of, text_events}
+use Rattle.unfold_laws.specs.Passing.{NothingFails}
 use Rattle.unfold_laws.proofs.Whole.{decisions_are_bounded, stochastics_are_bounded}
 use Rattle.unfold_laws.proofs.Outcomes.{stochastics_have_outcomes}
 use Rattle.unfold_laws.proofs.Counts.{instances_are_counted}
-use Rattle.scenario_laws.specs.Laws.{HasOutcome}
-use Rattle.scenario_laws.proofs.Stages.{stochastics_ascend}
-use Rattle.scenario_tree.specs.Layout.{AreStated, IsProblemOf}
-use Rattle.scenario_tree.proofs.Stated.{constraints_in}
+use Rattle.scen_laws.proofs.Stages.{stochastics_ascend}
+use Rattle.sopl_scen.specs.Layout.{AreStated, IsProblemOf}
 
--- that each variable has outcomes is a proposition, so it may be known of a model whose tokens are not
-outcomes_there : (ss : List Stochastic) → ∥ AllByRecursion HasOutcome ss ∥₁ → AllByRecursion HasOutcome ss
-outcomes_there [] held = tt
-outcomes_there (s ∷ ss) held = (∥∥₁_elim held (search props) (λ h. h.0), outcomes_there ss (∥∥₁_map held (λ h. h.1)))
+-- how many constraints a problem has
+abbrev pub constraints_in : Problem → ℕ
+constraints_in problem = length problem.hards + length problem.chances
 
--- a model that is typed and passes states what a tree asks for
-pub ground_stated : (model : ModelTree) → ∥ IsFromTokens model ∥₁ → Passes (text_occurrences model) → (ds : List Decision) (ss : List Stochastic) (constraints : ℕ)
-    → ds ≡ (problem_of model).decisions → ss ≡ (problem_of model).stochastics → constraints ≡ constraints_in (problem_of model)
-    → AreStated ds ss constraints
-ground_stated model from passes ds ss constraints decided drawn beside =
-    subst (λ d. AreStated d ss constraints) (sym decided)
-    (subst (λ s. AreStated (problem_of model).decisions s constraints) (sym drawn)
-    (subst (λ n. AreStated (problem_of model).decisions (problem_of model).stochastics n) (sym beside)
-    (record {
+pub text_stated : (model : ModelTree) → IsFromTokens model → NothingFails (text_events model)
+    → AreStated (problem_of model).decisions (problem_of model).stochastics (constraints_in (problem_of model))
+text_stated model from passes =
+    record {
       decisions = decisions_are_bounded model passes;
-      outcomes = outcomes_there (problem_of model).stochastics (∥∥₁_map from (stochastics_have_outcomes model));
+      outcomes = stochastics_have_outcomes model from;
       stochastics = stochastics_are_bounded model passes;
       ordered = stochastics_ascend model;
       few = omega (arith, instances_are_counted model passes);
-    })))
+    }
 
-pub ground_problem : (model : ModelTree) (ds : List Decision) (ss : List Stochastic) (constraints : ℕ)
-    → ds ≡ (problem_of model).decisions → ss ≡ (problem_of model).stochastics → constraints ≡ constraints_in (problem_of model)
-    → IsProblemOf ds ss constraints (problem_of model)
-ground_problem model ds ss constraints decided drawn beside = record { decided = sym decided; drawn = sym drawn; beside = sym beside }
-
--- the constraints of a text that passes are few
-pub few_constraints : (model : ModelTree) → Passes (text_occurrences model) → constraints_in (problem_of model) ≤ 262144
-few_constraints model passes = omega (arith, instances_are_counted model passes)
+pub problem_stated : (problem : Problem) → IsProblemOf problem.decisions problem.stochastics (constraints_in problem) problem
+problem_stated problem = record { decided = refl; drawn = refl; beside = refl }

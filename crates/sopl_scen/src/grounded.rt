@@ -5,9 +5,9 @@ ghost use Rattle.sopl_base.specs.declared.fault.Excess.{Excess};
 ghost use Rattle.sopl_ast.specs.Limits.{size_excess, usual_limits};
 ghost use Rattle.sopl_ast.specs.Unfolding.{problem_of};
 ghost use Rattle.sopl_ast.specs.WholeModel.{whole};
-ghost use Rattle.scenario_tree.specs.Layout.{IsTreeOf};
+ghost use Rattle.sopl_scen.specs.Layout.{IsTreeOf};
 
-use scenario_tree::Tree;
+use crate::tree::Tree;
 use sopl_base::Fault;
 use sopl_unfold::Ground;
 use std::alloc::Global;

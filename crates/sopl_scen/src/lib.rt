@@ -1,8 +1,19 @@
 //! The scenarios of a ground problem, with their histories and the cells of its decisions.
-//! Its tests stand in `text_problem`.
 #![tactic(auto)]
 
+mod cells;
 mod grounded;
+mod levels;
+mod limits;
+mod nodes;
+mod products;
+mod scenes;
+mod stages;
+mod table;
+#[cfg(test)]
+mod tests;
+mod tree;
 
 pub use grounded::scenarios;
-pub use scenario_tree::Tree;
+pub use stages::seen_before;
+pub use tree::Tree;

@@ -1,7 +1,7 @@
 -- The term of a cell of a program that is being built.
 use Rattle.std.proofs.Common.{◌≡◌, ap, sym, subst, ℕ, ◌<◌, ◌≤◌, ◌^◌, pos, List, length, get_or}
-use Rattle.box_rules.specs.Sizes.{size}
-use Rattle.box_rules.specs.Terms.{Cell, Constant, Term}
+use Rattle.term_language.specs.Sizes.{size}
+use Rattle.term_language.specs.Terms.{Cell, Constant, Term}
 use Rattle.term_nodes.specs.Things.{Thing, a_cond, a_table, a_term, term_at, term_in, thing_at}
 use Rattle.term_nodes.proofs.Ready.{small_term}
 use Rattle.sopl_term.specs.declared.builder.Builder.{Builder}

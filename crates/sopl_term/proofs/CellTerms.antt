@@ -3,7 +3,7 @@ use Rattle.std.proofs.Common.{◌≡◌, ◌∙◌, refl, ap, sym, arith, ℕ, �
 use Rattle.std.proofs.lemmas.List.FromFn.{get_or-map-range_with_len, length-map-range_with_len, map-range_with_len_more}
 use Rattle.std.specs.List.{range_with_len}
 use Rattle.box_problem.specs.Box.{Box}
-use Rattle.box_rules.specs.Terms.{Cell}
+use Rattle.term_language.specs.Terms.{Cell}
 use Rattle.term_nodes.specs.Things.{Thing, a_term, nothing, term_at, term_in}
 use Rattle.term_goals.specs.Goals.{AreCells}
 use Rattle.term_store.specs.Stores.{IsAdded, IsSoundStore, all, root_of}

@@ -2,8 +2,8 @@
 use Rattle.std.proofs.Common.{◌≡◌, ◌∙◌, refl, ap, sym, subst, arith, ℕ, ◌<◌, ◌^◌, ℤ, List, [], ◌∷◌, ◌++◌, map, length, length-append, Vec, Global, Result, Ok, Err, OnOk, OnErr}
 use Rattle.std.proofs.lemmas.List.{length-map}
 use Rattle.std.specs.List.{AllByRecursion}
-use Rattle.box_rules.specs.Laws.{IsProperCond}
-use Rattle.program_rules.specs.Problems.{ChanceTerms, ProblemTerms, IsProblem, IsChance}
+use Rattle.term_language.specs.Laws.{IsProperCond}
+use Rattle.term_problem.specs.Problems.{ChanceTerms, ProblemTerms, IsProblem, IsChance}
 use Rattle.term_nodes.specs.Built.{AllBelow}
 use Rattle.term_nodes.specs.Things.{cond_at}
 use Rattle.term_program.specs.declared.ids.CondId.{CondId}

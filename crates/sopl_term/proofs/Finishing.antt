@@ -2,15 +2,15 @@
 use Rattle.std.proofs.Common.{◌≡◌, ◌∙◌, refl, ap, sym, subst, arith, ℕ, ◌^◌, ℤ, pos, ◌*ℤ◌, ◌≤ℤ◌, Bool, List, [], ◌∷◌, map, length, Option, Some, None}
 use Rattle.std.proofs.lemmas.Int.{ints}
 use Rattle.std.proofs.Math.IntN.{*ℤ_comm}
-use Rattle.box_rules.proofs.Products.{one-*ℤ}
+use Rattle.term_language.proofs.Products.{one-*ℤ}
 use Rattle.std.proofs.lemmas.List.{length-map}
 use Rattle.std.specs.List.{AllByRecursion}
 use Rattle.sopl_base.specs.declared.direction.Direction.{Direction}
 use Rattle.sopl_base.specs.declared.direction.Direction.TheVariants.{Minimize, Maximize, Nothing}
-use Rattle.box_rules.specs.Globals.{total}
-use Rattle.box_rules.specs.Laws.{IsProper}
-use Rattle.box_rules.specs.Terms.{Term}
-use Rattle.program_rules.specs.Problems.{GoalTerms, ProblemTerms, IsChance, IsProblem}
+use Rattle.term_language.specs.Globals.{total}
+use Rattle.term_language.specs.Laws.{IsProper}
+use Rattle.term_language.specs.Terms.{Term}
+use Rattle.term_problem.specs.Problems.{GoalTerms, ProblemTerms, IsChance, IsProblem}
 use Rattle.term_nodes.specs.declared.items.Item.{Item}
 use Rattle.term_nodes.specs.Built.{AllBelow}
 use Rattle.term_nodes.specs.Things.{Thing, term_at, things}

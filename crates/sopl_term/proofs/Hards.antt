@@ -2,9 +2,9 @@
 use Rattle.std.proofs.Common.{◌≡◌, ◌∙◌, refl, ap, sym, subst, arith, ℕ, ◌<◌, ◌^◌, List, [], ◌∷◌, ◌++◌, map, length, length-append, Vec, Global, Result, Ok, Err, OnOk, OnErr}
 use Rattle.std.proofs.lemmas.List.{length-map}
 use Rattle.std.specs.List.{AllByRecursion}
-use Rattle.box_rules.specs.Laws.{IsProperCond}
-use Rattle.box_rules.specs.Terms.{Cond}
-use Rattle.program_rules.specs.Problems.{ChanceTerms, ProblemTerms, IsProblem, IsChance}
+use Rattle.term_language.specs.Laws.{IsProperCond}
+use Rattle.term_language.specs.Terms.{Cond}
+use Rattle.term_problem.specs.Problems.{ChanceTerms, ProblemTerms, IsProblem, IsChance}
 use Rattle.term_nodes.specs.Built.{AllBelow}
 use Rattle.term_nodes.specs.Things.{cond_at}
 use Rattle.term_store.proofs.Adding.{proper_at}

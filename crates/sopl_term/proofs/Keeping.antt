@@ -4,10 +4,10 @@ use Rattle.std.proofs.lemmas.Bool.{cases_lt}
 use Rattle.std.proofs.lemmas.List.{get_or_past}
 use Rattle.std.specs.List.{AllByRecursion}
 use Rattle.box_problem.specs.Box.{Box}
-use Rattle.box_rules.specs.Terms.{Cond}
-use Rattle.program_rules.specs.Problems.{ChanceTerms, ProblemTerms, IsProblem}
+use Rattle.term_language.specs.Terms.{Cond}
+use Rattle.term_problem.specs.Problems.{ChanceTerms, ProblemTerms, IsProblem}
 use Rattle.term_nodes.specs.Built.{AllBelow}
-use Rattle.box_rules.specs.Terms.{Cell}
+use Rattle.term_language.specs.Terms.{Cell}
 use Rattle.term_goals.specs.Goals.{AreCells}
 use Rattle.term_nodes.specs.Things.{Thing, nothing, thing_at, cond_at, cond_in, term_at, term_in}
 use Rattle.term_store.specs.Stores.{IsSoundStore, IsAdded, root_of, all}

@@ -1,13 +1,13 @@
 -- What the calls of a builder do.
 use Rattle.std.specs.Prelude.{◌≡◌, ◌<◌, ◌≤◌, ◌-◌, ◌^◌, ◌≤ℤ◌, ℕ, ℤ, pos, negsuc, Bool, List, [], ◌∷◌, ◌++◌, length, map, Option, None, Some}
 use Rattle.std.specs.List.{range_with_len}
-use Rattle.box_rules.specs.Terms as rule
+use Rattle.term_language.specs.Terms as rule
 use Rattle.sopl_base.specs.declared.interval.Interval.{Interval}
 use Rattle.term_store.specs.Stores.{IsSoundStore, all, root_of}
 use Rattle.term_store.specs.declared.store.TermStore.{TermStore}
 use Rattle.sopl_base.specs.declared.direction.Direction.{Direction}
 use Rattle.sopl_base.specs.declared.direction.Direction.TheVariants.{Minimize, Maximize, Nothing}
-use Rattle.program_rules.specs.Problems.{GoalTerms, ProblemTerms}
+use Rattle.term_problem.specs.Problems.{GoalTerms, ProblemTerms}
 use Rattle.term_nodes.specs.Things.{Thing, a_term, cond_at, term_at, terms_at, thing_at}
 use Rattle.term_nodes.specs.declared.nodes.Signed.{Signed}
 use Rattle.term_program.specs.declared.ids.TermId.{TermId}

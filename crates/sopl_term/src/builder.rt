@@ -5,7 +5,7 @@ ghost use Rattle.std.specs.Int.{w128};
 ghost use Rattle.std.specs.Int.RustNames.{FitsSigned};
 ghost use Rattle.std.specs.List.{AllByRecursion};
 ghost use Rattle.box_problem.specs.Box.{box_of};
-ghost use Rattle.box_rules.specs.Globals.{total};
+ghost use Rattle.term_language.specs.Globals.{total};
 ghost use Rattle.sopl_term.specs.Built.{IsBuilding, IsNear, asked_direction, asked_worst, built, cell_terms, problem_built, root_built};
 
 use crate::cells::cell_nodes;

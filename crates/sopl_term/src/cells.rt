@@ -1,7 +1,7 @@
 //! A term for each cell.
 
 ghost use Rattle.std.specs.Prelude.{◌≡◌, ◌<◌, [], length, IfOk, OnOk};
-ghost use Rattle.box_rules.specs.Terms as term;
+ghost use Rattle.term_language.specs.Terms as term;
 ghost use Rattle.term_goals.specs.Goals.{AreCells};
 ghost use Rattle.term_nodes.specs.Things.{a_term};
 ghost use Rattle.term_store.specs.Stores.{IsAdded, IsSoundStore, all, root_of};
@@ -10,7 +10,7 @@ ghost use Rattle.sopl_term.specs.Built.{cell_terms};
 use std::alloc::{AllocError, Global};
 use term_store::TermStore;
 
-/// Adds a cell, whose ends lie within 2^40, so that only want of memory can refuse it.
+/// Adds a cell, whose ends lie within 2^40, so that only out of memory can refuse it.
 fn cell_node(store: &mut TermStore, cell: u32) -> Result<u32, AllocError>
     requires sound { IsSoundStore store.old }
     requires exists { cell < length (root_of store.old).lows }

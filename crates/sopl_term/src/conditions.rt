@@ -1,7 +1,7 @@
 //! Conditions are added.
 
 ghost use Rattle.std.specs.Prelude.{◌≡◌, ◌<◌, ◌≤◌, length, IfOk, OnErr};
-ghost use Rattle.box_rules.specs.Terms as term;
+ghost use Rattle.term_language.specs.Terms as term;
 ghost use Rattle.term_nodes.specs.Built.{AllBelow};
 ghost use Rattle.term_nodes.specs.Things.{a_cond, cond_at, conds_at, term_at};
 ghost use Rattle.term_store.specs.Stores.{IsAdded};

@@ -10,7 +10,7 @@ use crate::conditions::numbers_of;
 use std::alloc::AllocError;
 use term_program::{ChanceConditions, CondId, Conditions};
 
-/// Puts one more behind a list that has fewer than 2^32 - 1; a longer one counts as want of memory.
+/// Puts one more behind a list that has fewer than 2^32 - 1; a longer one counts as out of memory.
 fn put<T: Drop>(list: &mut Vec<T>, item: T) -> Result<(), AllocError>
     ensures ok { OnOk result (list.new.items ≡ list.old.items ++ item ∷ []) }
     ensures few { OnOk result (length list.old.items < 4294967295) }

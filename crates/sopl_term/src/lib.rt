@@ -11,12 +11,12 @@ mod ids;
 mod tables;
 mod terms;
 
-pub use box_rules::{Defined, Truth};
 pub use builder::Builder;
 pub use ids::{Indices, TableId};
 pub use term_goals::Atom;
+pub use term_language::{Defined, Truth};
+pub use term_math::Coefficient;
 pub use term_program::{
     CondId, Form, Program, Range, TermId, goal_ends, goal_ends_in, kleene, kleene_in, range_in,
     range_of, refuted, refuted_in,
 };
-pub use term_rules::Coefficient;

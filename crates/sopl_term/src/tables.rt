@@ -1,10 +1,10 @@
 //! Arrays are added, and their elements.
 
 ghost use Rattle.std.specs.Prelude.{◌≡◌, ◌<◌, length, map, IfOk, OnErr};
-ghost use Rattle.box_rules.specs.Laws.{IsTable};
-ghost use Rattle.box_rules.specs.Sizes as sizes;
-ghost use Rattle.box_rules.specs.Terms as term;
-ghost use Rattle.term_tables.specs.Kept as kept;
+ghost use Rattle.term_language.specs.Laws.{IsTable};
+ghost use Rattle.term_language.specs.Sizes as sizes;
+ghost use Rattle.term_language.specs.Terms as term;
+ghost use Rattle.term_math.specs.Kept as kept;
 ghost use Rattle.term_nodes.specs.Built.{AllBelow};
 ghost use Rattle.term_nodes.specs.Things.{a_table, a_term, table_at, terms_at, thing_at};
 ghost use Rattle.term_store.specs.Stores.{IsAdded, IsMeasured};
@@ -15,9 +15,9 @@ use crate::ids::{Indices, TableId};
 use crate::terms::term_numbers;
 use sopl_base::Fault;
 use std::alloc::{AllocError, Global};
+use term_math::{Element, Table};
 use term_nodes::{Node, item_at};
 use term_program::TermId;
-use term_tables::{Element, Table};
 
 /// The numbers of index sets.
 fn copied(alloc: Global, sets: &[Indices]) -> Result<Vec<Vec<i64>>, AllocError>

@@ -1,9 +1,9 @@
 //! Terms are added.
 
 ghost use Rattle.std.specs.Prelude.{◌≡◌, ◌<◌, ◌≤◌, ◌^◌, length, IfOk, OnErr};
-ghost use Rattle.box_rules.specs.Terms as term;
-ghost use Rattle.box_rules.specs.Sizes as sizes;
-ghost use Rattle.term_operations.specs.Made.{IsDivisor};
+ghost use Rattle.term_language.specs.Terms as term;
+ghost use Rattle.term_language.specs.Sizes as sizes;
+ghost use Rattle.term_math.specs.Made.{IsDivisor};
 ghost use Rattle.term_nodes.specs.Built.{AllBelow, PartsBelow};
 ghost use Rattle.term_nodes.specs.Things.{a_term, cond_at, parts_at, term_at, thing_at};
 ghost use Rattle.term_store.specs.Stores.{IsAdded, IsMeasured};
@@ -12,8 +12,8 @@ ghost use Rattle.sopl_term.specs.Built.{IsBuilding, IsKept, built, greatest_at, 
 use crate::builder::Builder;
 use sopl_base::Fault;
 use std::alloc::{AllocError, Global};
+use term_math::Divisor;
 use term_nodes::Signed;
-use term_operations::Divisor;
 use term_program::{CondId, TermId};
 
 /// The parts of a sum, by their numbers.

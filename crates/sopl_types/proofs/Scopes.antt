@@ -10,7 +10,7 @@ use Rattle.std.specs.declared.vec.Vec.{Vec}
 use Rattle.indexmap.specs.IndexMap.{insert_entry}
 use Rattle.sopl_ast.specs.Mistakes as m
 use Rattle.sopl_ast.specs.Mistakes.{Scope, entity_of}
-use Rattle.sopl_types.specs.declared.names.Entity.{Entity}
+use Rattle.sopl_types.specs.declared.names.NameKind.{NameKind}
 use Rattle.sopl_types.specs.Entered.{seen, entered, bound_over}
 
 choice : {X Y : Type 0} (f : X → Y) (b : Bool) (x : X) (r : Option X) → option_map f (cond b (Some x) r) ≡ cond b (Some (f x)) (option_map f r)
@@ -18,7 +18,7 @@ choice f true x r = refl
 choice f false x r = refl
 
 -- a look-up in a table finds what the name stands for
-pub entered_lookup : (es : List (Vec ℕ Global × Entity)) (name : List ℕ) →
+pub entered_lookup : (es : List (Vec ℕ Global × NameKind)) (name : List ℕ) →
     option_map seen (lookup (λ key. pointwise nat_eq name key.items) es) ≡ entity_of (entered es) name
 entered_lookup [] name = refl
 entered_lookup (e ∷ es) name =
@@ -43,7 +43,7 @@ module _ (name : List ℕ) (v : m.Entity) (r : Option m.Entity) where
           (λ i. cond (q i) (Some w) (cond (p i) (Some v) r)) ∙ (λ i. cond (sym p i) (Some v) (cond (bytes_eq b name) (Some w) r))
 
 -- what is entered is found, and all else as before
-pub entered_insert : (es : List (Vec ℕ Global × Entity)) (key : Vec ℕ Global) (entity : Entity) (name : List ℕ) →
+pub entered_insert : (es : List (Vec ℕ Global × NameKind)) (key : Vec ℕ Global) (entity : NameKind) (name : List ℕ) →
     entity_of (entered (insert_entry (λ a b. pointwise nat_eq a.items b.items) es key entity)) name
     ≡ entity_of ((key.items, seen entity) ∷ entered es) name
 entered_insert [] key entity name = refl
@@ -86,7 +86,7 @@ bound_any f (x ∷ xs) name scope =
     merged false true = refl
     merged false false = refl
 
-seen_some : (r : Option Entity) → is_some (option_map seen r) ≡ is_some r
+seen_some : (r : Option NameKind) → is_some (option_map seen r) ≡ is_some r
 seen_some None = refl
 seen_some (Some entity) = refl
 
@@ -96,7 +96,7 @@ some_where false entity = refl
 
 module _ {X : Type 0} (f : X → List ℕ) (xs : List X) where
   -- a table of bound names has those alone
-  pub tabled_any : (name : List ℕ) (found : Option Entity) → option_map seen found ≡ entity_of (bound_over (map f xs) []) name →
+  pub tabled_any : (name : List ℕ) (found : Option NameKind) → option_map seen found ≡ entity_of (bound_over (map f xs) []) name →
       is_some found ≡ list_any (λ x. bytes_eq (f x) name) xs
   tabled_any name found is = sym (seen_some found) ∙ ap is_some (is ∙ bound_any f xs name []) ∙ some_where (list_any (λ x. bytes_eq (f x) name) xs) (m.Constant 0)
 

@@ -4,19 +4,19 @@ use Rattle.std.specs.declared.alloc.Global.{Global}
 use Rattle.std.specs.declared.vec.Vec.{Vec}
 use Rattle.sopl_ast.specs.Mistakes as m
 use Rattle.sopl_ast.specs.Mistakes.{Scope}
-use Rattle.sopl_types.specs.declared.names.Entity.{Entity}
-use Rattle.sopl_types.specs.declared.names.Entity.TheVariants.{Constant, Variable, RangeName, SetName}
+use Rattle.sopl_types.specs.declared.names.NameKind.{NameKind}
+use Rattle.sopl_types.specs.declared.names.NameKind.TheVariants.{Constant, Variable, RangeName, SetName}
 use Rattle.sopl_types.specs.declared.names.Declared.{Declared}
 
 -- what a name stands for
-abbrev pub seen : Entity → m.Entity
+abbrev pub seen : NameKind → m.Entity
 seen (Constant dims) = m.Constant dims
 seen (Variable dims) = m.Variable dims
 seen RangeName = m.RangeName
 seen SetName = m.SetName
 
 -- the entries of a table, as names
-abbrev pub entered : List (Vec ℕ Global × Entity) → Scope
+abbrev pub entered : List (Vec ℕ Global × NameKind) → Scope
 entered [] = []
 entered (e ∷ es) = (e.0.items, seen e.1) ∷ entered es
 

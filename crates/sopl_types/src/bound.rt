@@ -6,7 +6,7 @@ ghost use Rattle.std.specs.Str.{bytes_eq};
 ghost use Rattle.sopl_ast.specs.Mistakes.{entity_of};
 ghost use Rattle.sopl_types.specs.Entered.{bound_over, declared_in};
 
-use crate::names::{Declared, Entity};
+use crate::names::{Declared, NameKind};
 use sopl_ast::Name;
 use std::alloc::{AllocError, Global};
 
@@ -39,7 +39,7 @@ impl<'a> Bound<'a> {
             mut table,
         } = self;
         names.push(name)?;
-        table.declare(alloc, name, Entity::Constant(0))?;
+        table.declare(alloc, name, NameKind::Constant(0))?;
         Ok(Bound { names, table })
     }
 

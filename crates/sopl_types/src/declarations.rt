@@ -10,10 +10,10 @@ ghost use Rattle.sopl_types.specs.Earliest.{earliest};
 ghost use Rattle.sopl_types.specs.Entered.{declared_in};
 ghost use Rattle.sopl_types.specs.Known.{known_in};
 
-use crate::expressions::Within;
+use crate::expressions::KindChecker;
 use crate::inits::wrong_depth;
 use crate::mistakes::{earlier, known};
-use crate::names::{Declared, Entity, Names};
+use crate::names::{Declared, NameKind, Names};
 use sopl_ast::{Decl, Dim, Dims, Dist, Expr, Init, RangeText};
 use sopl_base::Refusal;
 use std::alloc::{AllocError, Global};
@@ -50,7 +50,7 @@ impl<'a> Names<'a> {
     }
 
     /// The names behind dimensions, and the first mistake of the dimensions.
-    fn dims(&'a self, dims: &'a [Dim]) -> Result<Within<'a>, AllocError>
+    fn dims(&'a self, dims: &'a [Dim]) -> Result<KindChecker<'a>, AllocError>
         ensures names { IfOk result (λ within. known_in within.names ≡ bind_dims dims.now (known_in self.now)) }
         ensures first { IfOk result (λ within. within.first ≡ earliest (of_dims (known_in self.now) (known_in self.now) dims.now)) }
     {
@@ -60,7 +60,7 @@ impl<'a> Names<'a> {
             first = earlier(first, self.dim(&names, dim)?);
             names.add_dim(dim)?;
         }
-        Ok(Within { names, first })
+        Ok(KindChecker { names, first })
     }
 
     fn stage(&self, stage: &'a Option<Expr>) -> Result<Option<Refusal>, AllocError>
@@ -200,15 +200,15 @@ impl Declared {
     {
         match decl {
             Decl::Int { name, dims, .. } => {
-                self.declare(alloc, name, Entity::Constant(dims.as_slice().len()))
+                self.declare(alloc, name, NameKind::Constant(dims.as_slice().len()))
             }
-            Decl::Range { name, .. } => self.declare(alloc, name, Entity::RangeName),
-            Decl::Set { name, .. } => self.declare(alloc, name, Entity::SetName),
+            Decl::Range { name, .. } => self.declare(alloc, name, NameKind::RangeName),
+            Decl::Set { name, .. } => self.declare(alloc, name, NameKind::SetName),
             Decl::Dvar { name, dims, .. } => {
-                self.declare(alloc, name, Entity::Variable(dims.as_slice().len()))
+                self.declare(alloc, name, NameKind::Variable(dims.as_slice().len()))
             }
             Decl::Stoch { name, dims, .. } => {
-                self.declare(alloc, name, Entity::Variable(dims.as_slice().len()))
+                self.declare(alloc, name, NameKind::Variable(dims.as_slice().len()))
             }
         }
     }

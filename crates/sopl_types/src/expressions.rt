@@ -16,7 +16,7 @@ use std::alloc::AllocError;
 
 /// The names that are known behind binders or dimensions, and the first mistake of these.
 #[derive(Drop)]
-pub struct Within<'a> {
+pub struct KindChecker<'a> {
     pub names: Names<'a>,
     pub first: Option<Refusal>,
 }
@@ -186,7 +186,7 @@ impl<'a> Names<'a> {
 
     /// The names behind binders, and the first mistake of the binders.
     #[cycle(walk)]
-    pub fn bind(&'a self, over: &'a [Binder]) -> Result<Within<'a>, AllocError>
+    pub fn bind(&'a self, over: &'a [Binder]) -> Result<KindChecker<'a>, AllocError>
         ensures names { IfOk result (λ within. known_in within.names ≡ spec.bind (binders over.now) (known_in self.now)) }
         ensures first { IfOk result (λ within. within.first ≡ earliest (of_binders (known_in self.now) (binders over.now))) }
     {
@@ -196,7 +196,7 @@ impl<'a> Names<'a> {
             first = earlier(first, names.binder(binder)?);
             names.add(&binder.name)?;
         }
-        Ok(Within { names, first })
+        Ok(KindChecker { names, first })
     }
 
     /// The first mistake of a binder: its name is known already, or one in its range.

@@ -1,5 +1,5 @@
 //! The types of a model: which names are known where, what they stand for, and the first mistake.
-//! Its tests stand in `text_tests`.
+//! Its tests stand in `compile_tests`.
 #![tactic(auto)]
 
 mod bound;

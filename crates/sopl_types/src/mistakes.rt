@@ -8,7 +8,7 @@ ghost use Rattle.sopl_ast.specs.Sight.{shape_of_kind};
 ghost use Rattle.sopl_types.specs.Earliest.{sooner, earlier_of, earliest};
 ghost use Rattle.sopl_types.specs.Entered.{seen};
 
-use crate::names::Entity;
+use crate::names::NameKind;
 use sopl_ast::{Expr, Kind};
 use sopl_base::{Refusal, codes};
 
@@ -47,40 +47,45 @@ pub fn unless(holds: bool, code: u16, at: usize) -> Option<Refusal>
 }
 
 /// A name that is declared or bound, and known already.
-pub fn known(entity: Option<Entity>, at: usize) -> Option<Refusal>
+pub fn known(entity: Option<NameKind>, at: usize) -> Option<Refusal>
     ensures { result ≡ earliest (known_name (option_map seen entity) at) }
 {
     unless(entity.is_none(), codes::TWICE, at)
 }
 
 /// A name with so many indices, used as a number, where `constant` asks for a constant.
-pub fn misused(constant: bool, entity: Option<Entity>, indices: usize, at: usize) -> Option<Refusal>
+pub fn misused(
+    constant: bool,
+    entity: Option<NameKind>,
+    indices: usize,
+    at: usize,
+) -> Option<Refusal>
     ensures { result ≡ earliest (of_use constant (option_map seen entity) indices at) }
 {
     match entity {
         None => unless(false, codes::UNKNOWN, at),
-        Some(Entity::Constant(dims)) => unless(dims == indices, codes::DIMENSIONS, at),
-        Some(Entity::Variable(dims)) => {
+        Some(NameKind::Constant(dims)) => unless(dims == indices, codes::DIMENSIONS, at),
+        Some(NameKind::Variable(dims)) => {
             earlier(
                 unless(dims == indices, codes::DIMENSIONS, at),
                 unless(!constant, codes::NOT_CONSTANT, at),
             )
         }
-        Some(Entity::RangeName) => unless(false, codes::KIND, at),
-        Some(Entity::SetName) => unless(false, codes::KIND, at),
+        Some(NameKind::RangeName) => unless(false, codes::KIND, at),
+        Some(NameKind::SetName) => unless(false, codes::KIND, at),
     }
 }
 
 /// A name that is used as a range; `sets` says whether the name of a set will do.
-pub fn misused_range(sets: bool, entity: Option<Entity>, at: usize) -> Option<Refusal>
+pub fn misused_range(sets: bool, entity: Option<NameKind>, at: usize) -> Option<Refusal>
     ensures { result ≡ earliest (unknown_name (option_map seen entity) at ++ no_range sets (option_map seen entity) at) }
 {
     match entity {
         None => unless(false, codes::UNKNOWN, at),
-        Some(Entity::RangeName) => None,
-        Some(Entity::SetName) => unless(sets, codes::KIND, at),
-        Some(Entity::Constant(_)) => unless(false, codes::KIND, at),
-        Some(Entity::Variable(_)) => unless(false, codes::KIND, at),
+        Some(NameKind::RangeName) => None,
+        Some(NameKind::SetName) => unless(sets, codes::KIND, at),
+        Some(NameKind::Constant(_)) => unless(false, codes::KIND, at),
+        Some(NameKind::Variable(_)) => unless(false, codes::KIND, at),
     }
 }
 

@@ -15,7 +15,7 @@ use std::mem;
 /// What a name stands for: a constant or a variable with so many dimensions, a range, or a set. A
 /// name that goes over a range is a constant.
 #[derive(Clone, Copy, Debug, PartialEq, Eq)]
-pub enum Entity {
+pub enum NameKind {
     Constant(usize),
     Variable(usize),
     RangeName,
@@ -25,7 +25,7 @@ pub enum Entity {
 /// The declared names, with what each stands for.
 #[derive(Drop)]
 pub struct Declared {
-    entries: IndexMap<Vec<u8>, Entity>,
+    entries: IndexMap<Vec<u8>, NameKind>,
 }
 
 impl Declared {
@@ -39,7 +39,12 @@ impl Declared {
     }
 
     /// Enters a name. It stands for this from now on, also where it stood for something else.
-    pub fn declare(&mut self, alloc: Global, name: &Name, entity: Entity) -> Result<(), AllocError>
+    pub fn declare(
+        &mut self,
+        alloc: Global,
+        name: &Name,
+        entity: NameKind,
+    ) -> Result<(), AllocError>
         ensures { OnOk result ((other : List ℕ) → entity_of (declared_in self.new) other
             ≡ entity_of ((name.now, seen entity) ∷ declared_in self.old) other) }
     {
@@ -49,7 +54,7 @@ impl Declared {
     }
 
     /// What a declared name stands for.
-    pub fn entity(&self, name: &Name) -> Option<Entity>
+    pub fn entity(&self, name: &Name) -> Option<NameKind>
         ensures { option_map seen result ≡ entity_of (declared_in self.now) name.now }
     {
         self.entries.get(name.as_slice()).copied()
@@ -66,14 +71,14 @@ pub enum Outer<'a> {
 
 impl<'a> Outer<'a> {
     /// What a name stands for.
-    fn entity(&self, name: &Name) -> Option<Entity>
+    fn entity(&self, name: &Name) -> Option<NameKind>
         ensures { option_map seen result ≡ entity_of (known_outside self.now) name.now }
     {
         match self {
             Outer::Top(declared) => declared.entity(name),
             Outer::Inside(bound, outer) => {
                 if bound.has(name) {
-                    return Some(Entity::Constant(0));
+                    return Some(NameKind::Constant(0));
                 }
                 outer.entity(name)
             }
@@ -124,11 +129,11 @@ impl<'a> Names<'a> {
     }
 
     /// What a name stands for.
-    pub fn entity(&self, name: &Name) -> Option<Entity>
+    pub fn entity(&self, name: &Name) -> Option<NameKind>
         ensures { option_map seen result ≡ entity_of (known_in self.now) name.now }
     {
         if self.bound.has(name) {
-            return Some(Entity::Constant(0));
+            return Some(NameKind::Constant(0));
         }
         self.outer.entity(name)
     }

@@ -97,7 +97,7 @@ taken (suc n) a ss up below = inner (taken n (a + 1)) ss up below
             ∙ ap (λ rest. s ∷ rest) (again (rising_from ss a s.stage (omega (arith, is)) up.1) below.1)
         on false same again =
             let differ : a < s.stage = above s.stage a up.0 same in
-            ap (λ front. front ++ flat_map (at_stage (s ∷ ss)) (range_with_len (a + 1) n)) (none_below ss a s.stage differ up.1)
+            ap (λ prefix. prefix ++ flat_map (at_stage (s ∷ ss)) (range_with_len (a + 1) n)) (none_below ss a s.stage differ up.1)
             ∙ later (s ∷ ss) (omega (arith, differ), up.1) (moved (s ∷ ss) below)
           where
             above : (k m : ℕ) → m ≤ k → nat_eq k m ≡ false → m < k

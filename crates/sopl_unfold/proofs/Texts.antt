@@ -10,25 +10,25 @@ use Rattle.sopl_ast.specs.Constraints.{cons_trees}
 use Rattle.sopl_ast.specs.Tree.{Tree}
 use Rattle.sopl_ast.specs.Whole.{ModelTree, conses}
 use Rattle.sopl_ast.specs.WholeModel.{whole as whole_model}
-use Rattle.sopl_ast.specs.Occurrences.{Occurrence, met}
+use Rattle.sopl_ast.specs.UnfoldEvents.{UnfoldEvent, first_failure}
 use Rattle.sopl_ast.specs.Instances.{Stochastic}
-use Rattle.sopl_ast.specs.Declarations.{Declared, nothing_declared, behind_all, declarations_occurrences}
+use Rattle.sopl_ast.specs.Declarations.{Declared, nothing_declared, behind_all, declarations_events}
 use Rattle.sopl_ast.specs.References.{now_of}
-use Rattle.sopl_ast.specs.Unfolding.{goal_occurrences, constraints_occurrences, body_occurrences, text_occurrences, problem_of, by_stage, all_conditions, hards_among}
+use Rattle.sopl_ast.specs.Unfolding.{goal_events, constraints_events, body_events, text_events, problem_of, by_stage, all_conditions, hards_among}
 use Rattle.sopl_ast.specs.Unfolding.{chances_among, all_constraint_instances}
-use Rattle.unfold_laws.specs.Passing.{Passes}
+use Rattle.unfold_laws.specs.Passing.{NothingFails}
 use Rattle.unfold_laws.specs.Bounds.{IsStage, IsBoundedStochastic}
 use Rattle.unfold_laws.proofs.Declared.{declared_bounded}
 use Rattle.unfold_tables.specs.Tables.{table_known}
-use Rattle.sopl_unfold.specs.declared.ground.Found.{Found}
+use Rattle.sopl_unfold.specs.declared.ground.StatedParts.{StatedParts}
 use Rattle.sopl_unfold.specs.Shown.{Unfolds}
 use Rattle.sopl_unfold.proofs.Ways.{met_first, stopped_first, passes_so}
 
--- a way ends by a fault, or memory was wanting
-abbrev pub Ends : ℕ → List Occurrence → Fault → Type 0
-Ends before occurrences f = (f ≡ NoMemory) ⊎ (met before occurrences ≡ Err f)
+-- a way ends by a fault, or memory ran out
+abbrev pub Ends : ℕ → List UnfoldEvent → Fault → Type 0
+Ends before events f = (f ≡ NoMemory) ⊎ (first_failure before events ≡ Err f)
 
-ends_behind : (before mid : ℕ) (first more : List Occurrence) (f : Fault) → met before first ≡ Ok mid → Ends mid more f → Ends before (first ++ more) f
+ends_behind : (before mid : ℕ) (first more : List UnfoldEvent) (f : Fault) → first_failure before first ≡ Ok mid → Ends mid more f → Ends before (first ++ more) f
 ends_behind before mid first more f is (inl memory) = inl memory
 ends_behind before mid first more f is (inr stopped) = inr (met_first before mid first more is ∙ stopped)
 
@@ -36,48 +36,48 @@ module _ (model : ModelTree) where
   abbrev whole : Declared
   whole = behind_all model.decls nothing_declared
 
-  pub declarations_end : (f : Fault) → Ends 0 (declarations_occurrences nothing_declared model.decls) f → Ends 0 (text_occurrences model) f
-  unfolding text_occurrences
-  declarations_end f ends = stopped_first 0 (declarations_occurrences nothing_declared model.decls) (body_occurrences whole model) f ends
+  pub declarations_end : (f : Fault) → Ends 0 (declarations_events nothing_declared model.decls) f → Ends 0 (text_events model) f
+  unfolding text_events
+  declarations_end f ends = stopped_first 0 (declarations_events nothing_declared model.decls) (body_events whole model) f ends
 
-  module _ (found : Declared) (is : found ≡ behind_all model.decls nothing_declared) (first : ℕ) (declared : met 0 (declarations_occurrences nothing_declared model.decls) ≡ Ok first) where
+  module _ (found : Declared) (is : found ≡ behind_all model.decls nothing_declared) (first : ℕ) (declared : first_failure 0 (declarations_events nothing_declared model.decls) ≡ Ok first) where
     pub stages_there : AllByRecursion (λ (s : Stochastic). IsStage s.stage) found.stochastics
     stages_there =
         subst (λ (d : Declared). AllByRecursion (λ (s : Stochastic). IsStage s.stage) d.stochastics) (sym is)
-        (stages whole.stochastics (declared_bounded model.decls (passes_so (declarations_occurrences nothing_declared model.decls) first declared)).stochastics)
+        (stages whole.stochastics (declared_bounded model.decls (passes_so (declarations_events nothing_declared model.decls) first declared)).stochastics)
       where
         stages : (ss : List Stochastic) → AllByRecursion IsBoundedStochastic ss → AllByRecursion (λ (s : Stochastic). IsStage s.stage) ss
         stages [] all = tt
         stages (s ∷ ss) all = (all.0.stage, stages ss all.1)
 
-    pub objective_ends : (f : Fault) → Ends first (goal_occurrences found.known model.goal) f → Ends 0 (text_occurrences model) f
-    unfolding text_occurrences
+    pub objective_ends : (f : Fault) → Ends first (goal_events found.known model.goal) f → Ends 0 (text_events model) f
+    unfolding text_events
     objective_ends f ends =
-        ends_behind 0 first (declarations_occurrences nothing_declared model.decls) (body_occurrences whole model) f declared
-        (stopped_first first (goal_occurrences whole.known model.goal) (constraints_occurrences whole.known (conses model.body)) f
-        (subst (λ (d : Declared). Ends first (goal_occurrences d.known model.goal) f) is ends))
+        ends_behind 0 first (declarations_events nothing_declared model.decls) (body_events whole model) f declared
+        (stopped_first first (goal_events whole.known model.goal) (constraints_events whole.known (conses model.body)) f
+        (subst (λ (d : Declared). Ends first (goal_events d.known model.goal) f) is ends))
 
-    module _ (second : ℕ) (walked : met first (goal_occurrences found.known model.goal) ≡ Ok second) where
-      goal_walked : met first (goal_occurrences whole.known model.goal) ≡ Ok second
-      goal_walked = subst (λ (d : Declared). met first (goal_occurrences d.known model.goal) ≡ Ok second) is walked
+    module _ (second : ℕ) (walked : first_failure first (goal_events found.known model.goal) ≡ Ok second) where
+      goal_walked : first_failure first (goal_events whole.known model.goal) ≡ Ok second
+      goal_walked = subst (λ (d : Declared). first_failure first (goal_events d.known model.goal) ≡ Ok second) is walked
 
-      pub constraints_end : (f : Fault) → Ends second (constraints_occurrences found.known (conses model.body)) f → Ends 0 (text_occurrences model) f
-      unfolding text_occurrences
+      pub constraints_end : (f : Fault) → Ends second (constraints_events found.known (conses model.body)) f → Ends 0 (text_events model) f
+      unfolding text_events
       constraints_end f ends =
-          ends_behind 0 first (declarations_occurrences nothing_declared model.decls) (body_occurrences whole model) f declared
-          (ends_behind first second (goal_occurrences whole.known model.goal) (constraints_occurrences whole.known (conses model.body)) f goal_walked
-          (subst (λ (d : Declared). Ends second (constraints_occurrences d.known (conses model.body)) f) is ends))
+          ends_behind 0 first (declarations_events nothing_declared model.decls) (body_events whole model) f declared
+          (ends_behind first second (goal_events whole.known model.goal) (constraints_events whole.known (conses model.body)) f goal_walked
+          (subst (λ (d : Declared). Ends second (constraints_events d.known (conses model.body)) f) is ends))
 
-      text_passes : (third : ℕ) → met second (constraints_occurrences found.known (conses model.body)) ≡ Ok third → Passes (text_occurrences model)
-      unfolding text_occurrences
+      text_passes : (third : ℕ) → first_failure second (constraints_events found.known (conses model.body)) ≡ Ok third → NothingFails (text_events model)
+      unfolding text_events
       text_passes third last =
-          passes_so (declarations_occurrences nothing_declared model.decls ++ body_occurrences whole model) third
-          (met_first 0 first (declarations_occurrences nothing_declared model.decls) (body_occurrences whole model) declared
-          ∙ met_first first second (goal_occurrences whole.known model.goal) (constraints_occurrences whole.known (conses model.body)) goal_walked
-          ∙ subst (λ (d : Declared). met second (constraints_occurrences d.known (conses model.body)) ≡ Ok third) is last)
+          passes_so (declarations_events nothing_declared model.decls ++ body_events whole model) third
+          (met_first 0 first (declarations_events nothing_declared model.decls) (body_events whole model) declared
+          ∙ met_first first second (goal_events whole.known model.goal) (constraints_events whole.known (conses model.body)) goal_walked
+          ∙ subst (λ (d : Declared). first_failure second (constraints_events d.known (conses model.body)) ≡ Ok third) is last)
 
       -- what was found is what the model states
-      pub text_unfolds : (kept : Found) (third : ℕ) → met second (constraints_occurrences found.known (conses model.body)) ≡ Ok third
+      pub text_unfolds : (kept : StatedParts) (third : ℕ) → first_failure second (constraints_events found.known (conses model.body)) ≡ Ok third
           → table_known kept.table ≡ found.known → kept.decisions.items ≡ found.decisions → kept.stochs.items ≡ by_stage found.stochastics
           → kept.hards.items ≡ hards_among (all_constraint_instances found.known 0 (conses model.body))
           → kept.chances.items ≡ chances_among (all_constraint_instances found.known 0 (conses model.body)) → Unfolds model kept

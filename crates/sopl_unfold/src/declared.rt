@@ -1,9 +1,9 @@
 //! What the declarations of a text state, one after the other.
 
 ghost use Rattle.std.specs.Prelude.{◌≡◌, ◌++◌, IfOk, OnOk, OnErr, option_map};
-ghost use Rattle.sopl_ast.specs.Arrays.{array_occurrences};
-ghost use Rattle.sopl_ast.specs.Declarations.{nothing_declared, behind, behind_all, declaration_occurrences, declarations_occurrences, domain_occurrences, outcome_occurrences};
-ghost use Rattle.sopl_ast.specs.Declarations.{stage_occurrences, decisions_of, stochastics_of};
+ghost use Rattle.sopl_ast.specs.Arrays.{array_events};
+ghost use Rattle.sopl_ast.specs.Declarations.{nothing_declared, behind, behind_all, declaration_events, declarations_events, domain_events, outcome_events};
+ghost use Rattle.sopl_ast.specs.Declarations.{stage_events, decisions_of, stochastics_of};
 ghost use Rattle.sopl_ast.specs.Decls.{declaration};
 ghost use Rattle.unfold_tables.specs.Walks.{Walks};
 ghost use Rattle.sopl_unfold.specs.Shown.{declared_in};
@@ -37,7 +37,7 @@ impl Declared {
 
     /// Adds what a declaration states.
     fn declare(&mut self, alloc: Global, count: &mut Count, decl: &Decl) -> Result<(), Fault>
-        ensures met { Walks count.old.counted count.new.counted (declaration_occurrences (declared_in self.old) (declaration decl.now)) result }
+        ensures met { Walks count.old.counted count.new.counted (declaration_events (declared_in self.old) (declaration decl.now)) result }
         ensures behind { OnOk result (declared_in self.new ≡ behind (declaration decl.now) (declared_in self.old)) }
     {
         match decl {
@@ -110,7 +110,7 @@ pub(crate) fn declare_all(
     count: &mut Count,
     decls: &Decls,
 ) -> Result<Declared, Fault>
-    ensures met { Walks count.old.counted count.new.counted (declarations_occurrences nothing_declared decls.now) result }
+    ensures met { Walks count.old.counted count.new.counted (declarations_events nothing_declared decls.now) result }
     ensures behind { IfOk result (λ found. declared_in found ≡ behind_all decls.now nothing_declared) }
 {
     let mut found = Declared::new(alloc);

@@ -2,9 +2,9 @@
 
 ghost use Rattle.std.specs.Prelude.{◌≡◌, IfOk, map};
 ghost use Rattle.sopl_ast.specs.References.{now_of};
-ghost use Rattle.sopl_ast.specs.Unfolding.{problem_of, text_occurrences};
+ghost use Rattle.sopl_ast.specs.Unfolding.{problem_of, text_events};
 ghost use Rattle.sopl_ast.specs.WholeModel.{whole};
-ghost use Rattle.unfold_laws.specs.Passing.{Passes};
+ghost use Rattle.unfold_laws.specs.Passing.{NothingFails};
 ghost use Rattle.unfold_tables.specs.Tables.{table_known};
 ghost use Rattle.sopl_unfold.specs.Shown.{Unfolds};
 
@@ -17,7 +17,7 @@ use unfold_variables::{DecisionItem, StochItem};
 
 /// What a model states.
 #[derive(Drop)]
-pub(crate) struct Found {
+pub(crate) struct StatedParts {
     pub(crate) table: Table,
     pub(crate) decisions: Vec<DecisionItem>,
     pub(crate) stochs: Vec<StochItem>,
@@ -29,7 +29,7 @@ pub(crate) struct Found {
 #[derive(Drop)]
 pub struct Ground {
     pub(crate) typed: Typed,
-    pub(crate) found: Found,
+    pub(crate) found: StatedParts,
     ghost unfolded: { Unfolds (whole typed.model) found },
 }
 
@@ -37,7 +37,7 @@ impl Ground {
     /// The typed model.
     pub fn typed(&self) -> &Typed
         ensures same { result.now ≡ self.now.typed }
-        ensures passes { Passes (text_occurrences (whole result.now.model)) }
+        ensures passes { NothingFails (text_events (whole result.now.model)) }
     {
         &self.typed
     }

@@ -1,6 +1,6 @@
 //! From a typed model to the ground problem that it states: its decisions, its stochastic variables and the instances of its
 //! constraints; or to the first refusal or limit that is met on the way.
-//! Its tests stand in `text_tests`.
+//! Its tests stand in `compile_tests`.
 #![tactic(auto)]
 
 mod declared;

@@ -4,19 +4,19 @@ use Rattle.std.proofs.lemmas.List.Sums.{fold-append}
 use Rattle.std.specs.BTreeSet.{insert_key}
 use Rattle.std.specs.Ordering.{nat_cmp}
 use Rattle.box_problem.specs.Box.{Box}
-use Rattle.box_rules.specs.Terms as rule
-use Rattle.term_operations.specs.declared.operations.Operation.{Operation}
-use Rattle.term_operations.specs.declared.operations.Operation.TheVariants.{Quotient, Remainder, Size}
-use Rattle.term_operations.specs.declared.extremes.Extreme.{Extreme}
-use Rattle.term_operations.specs.declared.extremes.Extreme.TheVariants.{Least, Greatest}
-use Rattle.term_operations.specs.Made.{operation_term, extreme_term}
+use Rattle.term_language.specs.Terms as rule
+use Rattle.term_math.specs.declared.operations.Operation.{Operation}
+use Rattle.term_math.specs.declared.operations.Operation.TheVariants.{Quotient, Remainder, Size}
+use Rattle.term_math.specs.declared.extremes.Extreme.{Extreme}
+use Rattle.term_math.specs.declared.extremes.Extreme.TheVariants.{Least, Greatest}
+use Rattle.term_math.specs.Made.{operation_term, extreme_term}
 use Rattle.term_nodes.specs.declared.nodes.Node.{Node}
 use Rattle.term_nodes.specs.declared.nodes.Node.TheVariants as node
 use Rattle.term_nodes.specs.declared.items.Item.{Item}
 use Rattle.term_nodes.specs.Built.{IsAt}
 use Rattle.term_nodes.specs.Operands.{left_in}
 use Rattle.term_nodes.specs.Things.{Thing, nothing, term_in, thing_at, term_at, thing_of}
-use Rattle.cell_mentions.specs.Mentions.{mentions}
+use Rattle.term_language.specs.Mentions.{mentions}
 use Rattle.term_cells.specs.Cells.{left_mentions, other_mentions, with_cells}
 use Rattle.term_cells.proofs.Orders.{either_order}
 

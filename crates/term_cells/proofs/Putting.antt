@@ -6,17 +6,17 @@ use Rattle.std.specs.BTreeSet.{insert_key}
 use Rattle.std.specs.List.{flat_map}
 use Rattle.std.specs.Ordering.{nat_cmp}
 use Rattle.box_problem.specs.Box.{Box}
-use Rattle.box_rules.specs.Forms as forms
-use Rattle.box_rules.specs.Rules.{form, forms as all_forms, item_form}
-use Rattle.box_rules.specs.Terms.{Item, Fixed, Free, Table, Terms, Element as TheElement}
-use Rattle.term_rules.specs.Shown.{cells_of}
-use Rattle.term_rules.specs.declared.forms.Coefficient.{Coefficient}
-use Rattle.term_tables.specs.Kept.{item_of, items_of, table_of}
-use Rattle.term_tables.specs.declared.elements.Element.{Element}
-use Rattle.term_tables.specs.declared.tables.Table as own
+use Rattle.term_language.specs.Forms as forms
+use Rattle.term_language.specs.Rules.{form, forms as all_forms, item_form}
+use Rattle.term_language.specs.Terms.{Item, Fixed, Free, Table, Terms, Element as TheElement}
+use Rattle.term_math.specs.Shown.{cells_of}
+use Rattle.term_math.specs.declared.forms.Coefficient.{Coefficient}
+use Rattle.term_math.specs.Kept.{item_of, items_of, table_of}
+use Rattle.term_math.specs.declared.elements.Element.{Element}
+use Rattle.term_math.specs.declared.tables.Table as own
 use Rattle.term_nodes.specs.Things.{no_table}
-use Rattle.cell_mentions.specs.Mentions.{item_mentions, table_mentions, named_item, element_mentions}
-use Rattle.cell_mentions.proofs.Forms.{element_is_named}
+use Rattle.term_language.specs.Mentions.{item_mentions, table_mentions, named_item, element_mentions}
+use Rattle.term_language.proofs.Forms.{element_is_named}
 use Rattle.term_cells.specs.Cells.{with_cells, form_cells}
 
 -- one of several more

@@ -5,21 +5,21 @@ use Rattle.std.proofs.lemmas.List.Sums.{fold-append}
 use Rattle.std.specs.BTreeSet.{insert_key}
 use Rattle.std.specs.Ordering.{nat_cmp}
 use Rattle.box_problem.specs.Box.{Box}
-use Rattle.box_rules.specs.Rules.{form}
-use Rattle.box_rules.specs.Terms.{Term, Terms}
-use Rattle.term_rules.specs.Shown.{form_of}
-use Rattle.term_operations.specs.declared.operations.Operation.{Operation}
-use Rattle.term_operations.specs.declared.operations.Operation.TheVariants.{Quotient, Remainder, Size}
-use Rattle.term_operations.specs.declared.extremes.Extreme.{Extreme}
-use Rattle.term_operations.specs.declared.extremes.Extreme.TheVariants.{Least, Greatest}
-use Rattle.term_operations.specs.Made.{operation_term, extreme_term}
+use Rattle.term_language.specs.Rules.{form}
+use Rattle.term_language.specs.Terms.{Term, Terms}
+use Rattle.term_math.specs.Shown.{form_of}
+use Rattle.term_math.specs.declared.operations.Operation.{Operation}
+use Rattle.term_math.specs.declared.operations.Operation.TheVariants.{Quotient, Remainder, Size}
+use Rattle.term_math.specs.declared.extremes.Extreme.{Extreme}
+use Rattle.term_math.specs.declared.extremes.Extreme.TheVariants.{Least, Greatest}
+use Rattle.term_math.specs.Made.{operation_term, extreme_term}
 use Rattle.term_nodes.specs.declared.nodes.Node.{Node}
 use Rattle.term_nodes.specs.declared.nodes.Signed.{Signed}
 use Rattle.term_nodes.specs.declared.nodes.Task.{Task}
 use Rattle.term_nodes.specs.declared.items.Item.{Item}
 use Rattle.term_nodes.specs.Things.{Thing, nothing, term_in, cond_in, thing_at, term_at, cond_at, thing_of, parts_at, tasks_at, terms_at, conds_at}
 use Rattle.term_nodes.specs.Built.{Facts, IsAt}
-use Rattle.cell_mentions.specs.Mentions.{mentions, terms_mention, parts_mention, cond_mentions, conds_mention, tasks_mention}
+use Rattle.term_language.specs.Mentions.{mentions, terms_mention, parts_mention, cond_mentions, conds_mention, tasks_mention}
 use Rattle.term_cells.specs.Cells.{other_mentions, task_mentions, with_cells}
 
 -- what a node mentions, where it is known which node stands at a number

@@ -4,9 +4,9 @@ use Rattle.std.specs.BTreeSet.{insert_key}
 use Rattle.std.specs.List.{fold}
 use Rattle.std.specs.Ordering.{nat_cmp}
 use Rattle.box_problem.specs.Box.{Box}
-use Rattle.box_rules.specs.Forms.{Coefficient}
-use Rattle.box_rules.specs.Terms.{Term, Product, Quotient, Remainder, Size}
-use Rattle.cell_mentions.specs.Mentions.{mentions}
+use Rattle.term_language.specs.Forms.{Coefficient}
+use Rattle.term_language.specs.Terms.{Term, Product, Quotient, Remainder, Size}
+use Rattle.term_language.specs.Mentions.{mentions}
 use Rattle.term_nodes.specs.declared.nodes.Task.{Task}
 use Rattle.term_nodes.specs.Things.{Thing, term_at}
 

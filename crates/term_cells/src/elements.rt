@@ -2,16 +2,15 @@
 
 ghost use Rattle.std.specs.Prelude.{◌≡◌, OnOk};
 ghost use Rattle.std.specs.List.{flat_map};
-ghost use Rattle.term_rules.specs.Shown.{form_of};
-ghost use Rattle.term_tables.specs.Kept.{item_of, items_of};
-ghost use Rattle.cell_mentions.specs.Mentions.{item_mentions};
+ghost use Rattle.term_math.specs.Shown.{form_of};
+ghost use Rattle.term_math.specs.Kept.{item_of, items_of};
+ghost use Rattle.term_language.specs.Mentions.{item_mentions};
 ghost use Rattle.term_cells.specs.Cells.{form_cells, with_cells};
 
 use crate::kept::put;
 use std::alloc::AllocError;
 use std::collections::BTreeSet;
-use term_rules::Form;
-use term_tables::Element;
+use term_math::{Element, Form};
 
 /// Puts the cells of a linear form into a set.
 #[tactic(auto, using(crate::proofs::Putting::next_coefficient, crate::proofs::Putting::no_coefficient_left))]

@@ -2,10 +2,10 @@
 
 ghost use Rattle.std.specs.Prelude.{◌↔◌, ℕ, Contains, IfOk};
 ghost use Rattle.std.specs.List.Sorted.{IsStrictlyIncreasing};
-ghost use Rattle.term_rules.specs.Shown.{box_in};
+ghost use Rattle.term_math.specs.Shown.{box_in};
 ghost use Rattle.term_nodes.specs.Built.{IsBuilt};
 ghost use Rattle.term_nodes.specs.Things.{cond_at, term_at, things};
-ghost use Rattle.cell_mentions.specs.Mentions.{cond_mentions, mentions};
+ghost use Rattle.term_language.specs.Mentions.{cond_mentions, mentions};
 
 use crate::kept::listed;
 use crate::walk::Nodes;

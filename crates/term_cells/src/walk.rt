@@ -1,20 +1,20 @@
 //! Each node that a term or a condition is made of is visited, once for each time that it stands there.
 
 ghost use Rattle.std.specs.Prelude.{◌≡◌, ◌<◌, ◌++◌, [], IfNone, IfSome, OnOk, if◌then◌else◌};
-ghost use Rattle.box_rules.specs.Terms as term;
-ghost use Rattle.box_rules.specs.Rules as rule;
-ghost use Rattle.term_rules.specs.Shown.{box_in, form_of};
+ghost use Rattle.term_language.specs.Terms as term;
+ghost use Rattle.term_language.specs.Rules as rule;
+ghost use Rattle.term_math.specs.Shown.{box_in, form_of};
 ghost use Rattle.term_nodes.specs.Built.{AllBelow, IsBuilt, PartsBelow, TasksBelow};
 ghost use Rattle.term_nodes.specs.Things.{cond_at, conds_at, parts_at, table_at, tasks_at, term_at, terms_at, things};
-ghost use Rattle.cell_mentions.specs.Mentions.{cond_mentions, conds_mention, mentions, parts_mention, table_mentions, tasks_mention, terms_mention};
+ghost use Rattle.term_language.specs.Mentions.{cond_mentions, conds_mention, mentions, parts_mention, table_mentions, tasks_mention, terms_mention};
 ghost use Rattle.term_cells.specs.Cells.{form_cells, left_mentions, other_mentions, task_mentions, with_cells};
 
 use crate::elements::{put_elements, put_form};
 use crate::kept::put;
 use std::alloc::AllocError;
 use std::collections::BTreeSet;
+use term_math::{BoxView, Form};
 use term_nodes::{Item, Node, Signed, Task, item_at, table_at};
-use term_rules::{BoxView, Form};
 
 /// Nodes, and the root box that they were built over, which no call here reads.
 #[derive(Clone, Copy)]

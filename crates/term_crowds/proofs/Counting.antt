@@ -5,11 +5,11 @@ use Rattle.std.specs.Int.{int_gap}
 use Rattle.std.proofs.lemmas.Int.{ints}
 use Rattle.std.proofs.lemmas.Bool.Decides.{nat_tests}
 use Rattle.box_problem.proofs.Counts.{gap_leads}
-use Rattle.box_rules.specs.Ends.{Ends}
-use Rattle.box_rules.specs.Globals.{is_inside, are_crowded}
-use Rattle.box_rules.proofs.FormValues.{by_bool, and_first, and_second}
-use Rattle.box_rules.proofs.Elements.{both_true}
-use Rattle.box_rules.proofs.Different.{le_tested, nat_tested}
+use Rattle.term_language.specs.Ends.{Ends}
+use Rattle.term_language.specs.Globals.{is_inside, are_crowded}
+use Rattle.term_language.proofs.FormValues.{by_bool, and_first, and_second}
+use Rattle.term_language.proofs.Elements.{both_true}
+use Rattle.term_language.proofs.Different.{le_tested, nat_tested}
 use Rattle.term_crowds.specs.Crowds.{inside_count, IsTight}
 
 pub le_test : (y z : ℤ) → y ≤ℤ z → int_le y z ≡ true

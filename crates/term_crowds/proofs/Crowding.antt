@@ -5,12 +5,12 @@ use Rattle.std.specs.List.{filter, list_any}
 use Rattle.std.specs.Int.{int_gap}
 use Rattle.std.proofs.lemmas.Int.{ints, by_lt_z}
 use Rattle.box_problem.proofs.Counts.{gap_leads}
-use Rattle.box_rules.specs.Ends.{Ends}
-use Rattle.box_rules.specs.Globals.{is_inside, are_crowded, never_differ, always_differ}
-use Rattle.box_rules.proofs.FormValues.{by_bool, and_first, and_second, or_cases}
-use Rattle.box_rules.proofs.Lists.{AllLie}
-use Rattle.box_rules.proofs.Elements.{both_true}
-use Rattle.box_rules.proofs.Different.{le_tested, nat_tested, never_right, always_right}
+use Rattle.term_language.specs.Ends.{Ends}
+use Rattle.term_language.specs.Globals.{is_inside, are_crowded, never_differ, always_differ}
+use Rattle.term_language.proofs.FormValues.{by_bool, and_first, and_second, or_cases}
+use Rattle.term_language.proofs.Lists.{AllLie}
+use Rattle.term_language.proofs.Elements.{both_true}
+use Rattle.term_language.proofs.Different.{le_tested, nat_tested, never_right, always_right}
 use Rattle.term_crowds.specs.Crowds.{AllOrdered, inside_count, HasCrowd, NoneCrowded, is_found, some_found}
 use Rattle.term_crowds.proofs.Counting.{le_test, le_untest, nat_untested, or_left, or_right, count_in, count_out, count_any, count_most, count_wider, crowded_tested, crowded_test, uncrowded_test}
 

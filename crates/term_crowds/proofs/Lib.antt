@@ -3,3 +3,4 @@ pub mod Crowding
 pub mod Tight
 pub mod Times
 pub mod Truths
+pub mod Shrinking

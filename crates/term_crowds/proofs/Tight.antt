@@ -5,11 +5,11 @@ use Rattle.std.specs.Int.{int_gap}
 use Rattle.std.specs.Ordering.{int_eq}
 use Rattle.std.proofs.lemmas.Int.{ints, by_lt_z}
 use Rattle.box_problem.proofs.Counts.{gap_leads}
-use Rattle.box_rules.specs.Ends.{Ends}
-use Rattle.box_rules.specs.Globals.{is_inside, are_crowded, never_differ}
-use Rattle.box_rules.proofs.FormValues.{by_bool, and_first, and_second, or_cases}
-use Rattle.box_rules.proofs.Elements.{both_true}
-use Rattle.box_rules.proofs.Different.{le_tested}
+use Rattle.term_language.specs.Ends.{Ends}
+use Rattle.term_language.specs.Globals.{is_inside, are_crowded, never_differ}
+use Rattle.term_language.proofs.FormValues.{by_bool, and_first, and_second, or_cases}
+use Rattle.term_language.proofs.Elements.{both_true}
+use Rattle.term_language.proofs.Different.{le_tested}
 use Rattle.term_crowds.specs.Crowds.{AllOrdered, inside_count, among, at_low, at_high, IsTight, IsClear, HoldsWhole, HoldWhole, AreWhole, AreWholeFrom, LowsWhole}
 use Rattle.term_crowds.proofs.Counting.{le_test, nat_untested, count_most, count_wider, crowded_tested, crowded_test, tight_full, is_tight}
 use Rattle.term_crowds.proofs.Crowding.{bottom_or, crowded_ends, gap_at_least, neither}

@@ -3,12 +3,12 @@ use Rattle.std.proofs.Common.{◌≡◌, ◌⊎◌, inl, inr, ◌↔◌, ℤ, po
 use Rattle.std.specs.List.{list_all, list_any}
 use Rattle.std.specs.Int.{int_max}
 use Rattle.std.proofs.lemmas.Int.{ints, clamps}
-use Rattle.box_rules.specs.Ends.{Ends}
-use Rattle.box_rules.specs.Globals.{TaskEnds, total, least_asked, most_asked, is_overfull, never_fit, is_enough, always_fit}
-use Rattle.box_rules.proofs.FormValues.{by_if, by_bool, and_first, and_second, or_cases}
-use Rattle.box_rules.proofs.Elements.{both_true}
-use Rattle.box_rules.proofs.Peaks.{Span, taken_by, NoneNegative, FitAtStarts, fit_always}
-use Rattle.box_rules.proofs.Tasks.{le_tested, le_test, lt_tested, lt_test, widest_of, most_is, enough_fit, sound_ends, SoundEnds}
+use Rattle.term_language.specs.Ends.{Ends}
+use Rattle.term_language.specs.Globals.{TaskEnds, total, least_asked, most_asked, is_overfull, never_fit, is_enough, always_fit}
+use Rattle.term_language.proofs.FormValues.{by_if, by_bool, and_first, and_second, or_cases}
+use Rattle.term_language.proofs.Elements.{both_true}
+use Rattle.term_language.proofs.Peaks.{Span, taken_by, NoneNegative, FitAtStarts, fit_always}
+use Rattle.term_language.proofs.Tasks.{le_tested, le_test, lt_tested, lt_test, widest_of, most_is, enough_fit, sound_ends, SoundEnds}
 use Rattle.term_crowds.specs.Crowds.{DemandsOrdered, some_negative, all_sound, HasPeak, IsEnough}
 
 -- the span in which a task surely runs

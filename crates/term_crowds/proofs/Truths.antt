@@ -3,19 +3,19 @@ use Rattle.std.proofs.Common.{◌≡◌, ◌⊎◌, inl, inr, ◌↔◌, ℤ, po
 use Rattle.std.specs.Int.{int_max}
 use Rattle.std.proofs.lemmas.Int.{ints, clamps}
 use Rattle.box_problem.specs.Box.{Box, IsBox, Inside}
-use Rattle.box_rules.specs.Ends.{Ends}
-use Rattle.box_rules.specs.Globals.{never_differ, always_differ, TaskEnds, total, least_asked, most_asked, never_fit, always_fit}
-use Rattle.box_rules.specs.Laws.{IsProper, AreProper, AreProperTasks}
-use Rattle.box_rules.specs.Marks.{both, all_marks, judged}
-use Rattle.box_rules.specs.Rules.{Reading, interval, intervals, mark, marks, task_ends, task_mark, truth}
-use Rattle.box_rules.specs.Terms.{Term, Terms, no_term, term, Tasks, no_task, task, AllDifferent, Cumulative}
-use Rattle.box_rules.specs.declared.answers.Defined.{Defined}
-use Rattle.box_rules.specs.declared.answers.Defined.TheVariants.{Never, Maybe, Always}
-use Rattle.box_rules.specs.declared.answers.Truth.TheVariants.{False, True}
-use Rattle.box_rules.proofs.FormValues.{by_bool, and_first, and_second, or_cases}
-use Rattle.box_rules.proofs.Elements.{both_true}
-use Rattle.box_rules.proofs.Sharpening.{intervals_narrow}
-use Rattle.box_rules.proofs.Tasks.{SoundEnds, sound_ends, le_tested, le_test, lt_tested, lt_test}
+use Rattle.term_language.specs.Ends.{Ends}
+use Rattle.term_language.specs.Globals.{never_differ, always_differ, TaskEnds, total, least_asked, most_asked, never_fit, always_fit}
+use Rattle.term_language.specs.Laws.{IsProper, AreProper, AreProperTasks}
+use Rattle.term_language.specs.Marks.{both, all_marks, judged}
+use Rattle.term_language.specs.Rules.{Reading, interval, intervals, mark, marks, task_ends, task_mark, truth}
+use Rattle.term_language.specs.Terms.{Term, Terms, no_term, term, Tasks, no_task, task, AllDifferent, Cumulative}
+use Rattle.term_language.specs.declared.answers.Defined.{Defined}
+use Rattle.term_language.specs.declared.answers.Defined.TheVariants.{Never, Maybe, Always}
+use Rattle.term_language.specs.declared.answers.Truth.TheVariants.{False, True}
+use Rattle.term_language.proofs.FormValues.{by_bool, and_first, and_second, or_cases}
+use Rattle.term_language.proofs.Elements.{both_true}
+use Rattle.term_language.proofs.Sharpening.{intervals_narrow}
+use Rattle.term_language.proofs.Tasks.{SoundEnds, sound_ends, le_tested, le_test, lt_tested, lt_test}
 use Rattle.term_crowds.specs.Crowds.{AllOrdered, HasCrowd, TasksOrdered, DemandsOrdered, some_negative, all_sound, HasPeak, IsEnough}
 use Rattle.term_crowds.proofs.Crowding.{any_crowd, apart_uncrowded}
 use Rattle.term_crowds.proofs.Times.{any_time, at_all_times}

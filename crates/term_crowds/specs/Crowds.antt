@@ -1,8 +1,8 @@
 -- Crowds of intervals, windows that have as many intervals as numbers, and the times of tasks.
 use Rattle.std.specs.Prelude.{◌≡◌, ℕ, zero, suc, ◌-◌, nat_lt, ℤ, pos, ◌+ℤ◌, ◌-ℤ◌, ◌≤ℤ◌, ◌<ℤ◌, int_lt, int_le, Bool, true, false, ◌&&◌, ◌||◌, List, [], ◌∷◌, map, length}
 use Rattle.std.specs.List.{filter, list_all, list_any}
-use Rattle.box_rules.specs.Ends.{Ends, exactly}
-use Rattle.box_rules.specs.Globals.{is_inside, are_crowded, TaskEnds, total, least_asked, most_asked}
+use Rattle.term_language.specs.Ends.{Ends, exactly}
+use Rattle.term_language.specs.Globals.{is_inside, are_crowded, TaskEnds, total, least_asked, most_asked}
 
 -- no interval of a list is empty
 abbrev pub AllOrdered : List Ends → Type 0

@@ -3,14 +3,14 @@ use Rattle.std.specs.Prelude.{◌≡◌, ◌↔◌, ◌⊎◌, ℤ, ◌≤ℤ◌
 use Rattle.std.specs.List.{list_any}
 use Rattle.std.specs.Ordering.{int_eq}
 use Rattle.box_problem.specs.Box.{Box, IsBox, Inside}
-use Rattle.box_rules.specs.Ends.{Ends}
-use Rattle.box_rules.specs.Globals.{is_inside, never_differ, always_differ, TaskEnds, never_fit, always_fit}
-use Rattle.box_rules.specs.Laws.{IsProper, AreProper, AreProperTasks}
-use Rattle.box_rules.specs.Marks.{both, all_marks}
-use Rattle.box_rules.specs.Rules.{Reading, interval, intervals, mark, marks, task_ends, task_mark, truth}
-use Rattle.box_rules.specs.Terms.{Term, Terms, Tasks, AllDifferent, Cumulative}
-use Rattle.box_rules.specs.declared.answers.Defined.TheVariants.{Never, Always}
-use Rattle.box_rules.specs.declared.answers.Truth.TheVariants.{False, True}
+use Rattle.term_language.specs.Ends.{Ends}
+use Rattle.term_language.specs.Globals.{is_inside, never_differ, always_differ, TaskEnds, never_fit, always_fit}
+use Rattle.term_language.specs.Laws.{IsProper, AreProper, AreProperTasks}
+use Rattle.term_language.specs.Marks.{both, all_marks}
+use Rattle.term_language.specs.Rules.{Reading, interval, intervals, mark, marks, task_ends, task_mark, truth}
+use Rattle.term_language.specs.Terms.{Term, Terms, Tasks, AllDifferent, Cumulative}
+use Rattle.term_language.specs.declared.answers.Defined.TheVariants.{Never, Always}
+use Rattle.term_language.specs.declared.answers.Truth.TheVariants.{False, True}
 use Rattle.term_crowds.specs.Crowds.{AllOrdered, HasCrowd, some_found, among, at_low, at_high, IsTight, IsClear}
 use Rattle.term_crowds.specs.Crowds.{AreWhole, LowsWhole, TasksOrdered, DemandsOrdered, some_negative, all_sound, HasPeak, IsEnough}
 

@@ -1,3 +1,5 @@
 pub mod Crowds
 pub mod Laws
 pub mod WorkedCrowds
+pub mod ShrinkingLaws
+pub mod Shrinking

@@ -1,9 +1,9 @@
 -- Small lists of intervals and of tasks, and terms over three cells, of which it is known what is told of them.
 use Rattle.std.specs.Prelude.{ℕ, pos, true, false, List, [], ◌∷◌}
-use Rattle.box_rules.specs.Ends.{Ends, ends}
-use Rattle.box_rules.specs.Globals.{TaskEnds}
-use Rattle.box_rules.specs.Terms.{Term, Sum, Product, Quotient, Size, Terms, no_term, term, no_part, part, Tasks, no_task, task}
-use Rattle.box_rules.specs.WorkedIntervals.{x, y, z, number}
+use Rattle.term_language.specs.Ends.{Ends, ends}
+use Rattle.term_language.specs.Globals.{TaskEnds}
+use Rattle.term_language.specs.Terms.{Term, Sum, Product, Quotient, Size, Terms, no_term, term, no_part, part, Tasks, no_task, task}
+use Rattle.term_language.specs.WorkedIntervals.{x, y, z, number}
 
 -- from one number to another
 abbrev pub from_to : ℕ → ℕ → Ends

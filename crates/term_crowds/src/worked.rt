@@ -1,10 +1,10 @@
 ghost use Rattle.std.specs.Prelude.{◌≡◌, pos, true, false, [], ◌∷◌, map};
-ghost use Rattle.box_rules.specs.declared.answers.Truth.TheVariants.{False, Unknown, True};
-ghost use Rattle.box_rules.specs.Ends.{ends};
-ghost use Rattle.box_rules.specs.Globals.{are_crowded, never_differ, always_differ, never_fit, always_fit};
-ghost use Rattle.box_rules.specs.Sizes.{size};
-ghost use Rattle.box_rules.specs.Terms.{Constant, Product, Quotient, Remainder, Least, Greatest, Size, AllDifferent, Cumulative};
-ghost use Rattle.box_rules.specs.WorkedIntervals.{minus, box, x, y, z, number, sum, difference, one, two, three, truth_over};
+ghost use Rattle.term_language.specs.declared.answers.Truth.TheVariants.{False, Unknown, True};
+ghost use Rattle.term_language.specs.Ends.{ends};
+ghost use Rattle.term_language.specs.Globals.{are_crowded, never_differ, always_differ, never_fit, always_fit};
+ghost use Rattle.term_language.specs.Sizes.{size};
+ghost use Rattle.term_language.specs.Terms.{Constant, Product, Quotient, Remainder, Least, Greatest, Size, AllDifferent, Cumulative};
+ghost use Rattle.term_language.specs.WorkedIntervals.{minus, box, x, y, z, number, sum, difference, one, two, three, truth_over};
 ghost use Rattle.term_crowds.specs.Crowds.{some_found};
 ghost use Rattle.term_crowds.specs.WorkedCrowds.{from_to, task_from, two_from, and_later, four, tasks_for_z, several_parts};
 

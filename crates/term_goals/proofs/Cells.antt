@@ -4,14 +4,14 @@ use Rattle.std.proofs.lemmas.Bool.{cases_lt}
 use Rattle.std.proofs.lemmas.Int.{ints, clamps}
 use Rattle.std.proofs.lemmas.List.{at_drop_all, get_or_default, get_or_past}
 use Rattle.box_problem.specs.Box.{Box, IsBox, Inside}
-use Rattle.box_rules.specs.Ends as ends
-use Rattle.box_rules.specs.Forms.{cells_ends}
-use Rattle.box_rules.specs.Rules.{Near, interval}
-use Rattle.box_rules.specs.Terms.{Cell}
-use Rattle.box_rules.proofs.Narrowing.{within_cell}
-use Rattle.box_rules.proofs.Products.{one-*ℤ}
-use Rattle.term_rules.specs.declared.combinations.WideCoefficient.{WideCoefficient}
-use Rattle.term_rules.specs.Sums.{wide_cells}
+use Rattle.term_language.specs.Ends as ends
+use Rattle.term_language.specs.Forms.{cells_ends}
+use Rattle.term_language.specs.Rules.{Near, interval}
+use Rattle.term_language.specs.Terms.{Cell}
+use Rattle.term_language.proofs.Narrowing.{within_cell}
+use Rattle.term_language.proofs.Products.{one-*ℤ}
+use Rattle.term_math.specs.declared.combinations.WideCoefficient.{WideCoefficient}
+use Rattle.term_math.specs.Sums.{wide_cells}
 use Rattle.term_nodes.specs.declared.items.Item.{Item}
 use Rattle.term_nodes.specs.Things.{Thing, nothing, term_at, term_in, things}
 use Rattle.term_nodes.proofs.Reading.{nothing_past}

@@ -1,31 +1,31 @@
--- What a list of so many times each of several terms is, as it grows.
+-- What a list of multiples of several terms is, as it grows.
 use Rattle.std.proofs.Common.{◌≡◌, ℕ, ◌+◌, ◌*◌, ◌<◌, ◌≤◌, ◌^◌, zero, suc, ℤ, pos, ◌*ℤ◌, ◌≤ℤ◌, unsigned_abs, Bool, true, false, if◌then◌else◌, List, [], ◌∷◌, ◌++◌, map, length}
 use Rattle.std.proofs.Common.{get_or, drop, Option, Some, None, arith, refl, ap, subst, sym, ◌∙◌}
 use Rattle.std.proofs.lemmas.Int.{ints, clamps, unsigned_abs-mul}
 use Rattle.std.proofs.lemmas.List.{at_drop_all, get_or_default}
 use Rattle.std.proofs.Math.Nat.{mul-le-mul_left, mul_assoc}
 use Rattle.box_problem.specs.Box.{Box, Inside}
-use Rattle.box_rules.specs.Ends as ends
-use Rattle.box_rules.specs.Forms.{Form, is_constant, atom_form, times_form, product_form, sign}
+use Rattle.term_language.specs.Ends as ends
+use Rattle.term_language.specs.Forms.{Form, is_constant, atom_form, times_form, product_form, sign}
 use Rattle.std.specs.List.{list_all}
-use Rattle.box_rules.specs.Arrays.{item_at}
-use Rattle.box_rules.proofs.FormValues.{by_bool}
-use Rattle.box_rules.specs.Rules.{Near, Wide, form, forms, element_form, item_form, atoms, sum_atoms, interval, folded, product_atoms}
-use Rattle.box_rules.specs.Sizes.{product_weight, atoms_weight, sum_weight}
-use Rattle.box_rules.specs.Laws.{AreProperParts}
-use Rattle.box_rules.specs.Terms as term
-use Rattle.box_rules.proofs.Bounds.{sign_size}
-use Rattle.box_rules.proofs.Layers.{IsClear}
-use Rattle.box_rules.proofs.Sharpening.{narrow_parts}
-use Rattle.box_rules.proofs.Soundness.{read}
-use Rattle.term_operations.proofs.Constants.{lows_in}
-use Rattle.term_operations.proofs.Rules.{operation_form, extreme_form}
-use Rattle.term_rules.specs.Shown.{box_in}
+use Rattle.term_language.specs.Arrays.{item_at}
+use Rattle.term_language.proofs.FormValues.{by_bool}
+use Rattle.term_language.specs.Rules.{Near, Wide, form, forms, element_form, item_form, atoms, sum_atoms, interval, folded, product_atoms}
+use Rattle.term_language.specs.Sizes.{product_weight, atoms_weight, sum_weight}
+use Rattle.term_language.specs.Laws.{AreProperParts}
+use Rattle.term_language.specs.Terms as term
+use Rattle.term_language.proofs.Bounds.{sign_size}
+use Rattle.term_language.proofs.Layers.{IsClear}
+use Rattle.term_language.proofs.Sharpening.{narrow_parts}
+use Rattle.term_language.proofs.Soundness.{read}
+use Rattle.term_math.proofs.Constants.{lows_in}
+use Rattle.term_math.proofs.Rules.{operation_form, extreme_form}
+use Rattle.term_math.specs.Shown.{box_in}
 use Rattle.term_nodes.specs.declared.nodes.Node.{Node}
 use Rattle.term_nodes.specs.declared.nodes.Node.TheVariants as node
 use Rattle.term_nodes.specs.declared.nodes.Signed.{Signed}
 use Rattle.term_nodes.specs.declared.items.Item.{Item}
-use Rattle.term_nodes.specs.declared.evaluation.Here.{Here}
+use Rattle.term_nodes.specs.declared.evaluation.Evaluator.{Evaluator}
 use Rattle.term_nodes.specs.Built.{IsAt, IsBuilt}
 use Rattle.term_nodes.specs.Built as built
 use Rattle.term_nodes.specs.Seen.{IsReady, Sight}
@@ -69,7 +69,7 @@ pub plain_form : (root : Box) (all : List Thing) (id : ℕ) (item : Item) → Is
 plain_form root all id item at =
     ap (λ (f : built.Facts). f.form.plain) at.kept ∙ ap (λ (t : Thing). (form root (term_in t)).plain) (sym at.thing)
 
-pub plain_added : (here : Here) (b : Box) (xs : List Atom) (k : ℤ) (id : ℕ) (item : Item) → IsReady here → IsAt (box_in here.root) (things here.items.now) id item → item.facts.form.plain
+pub plain_added : (here : Evaluator) (b : Box) (xs : List Atom) (k : ℤ) (id : ℕ) (item : Item) → IsReady here → IsAt (box_in here.root) (things here.items.now) id item → item.facts.form.plain
     ≡ true → Inside b (box_in here.root) → listed_ends (box_in here.root) b (things here.items.now) xs
     ≡ ends.plus (listed_ends (box_in here.root) b (things here.items.now) xs) (ends.scaled k (atoms Near (box_in here.root) b (term_at (things here.items.now) id)))
 plain_added here b xs k id item ready at plain inside =
@@ -165,7 +165,7 @@ signed_small k m subtracted is small =
     ∙ omega arith in
     omega (arith, size, small)
 
-pub part_step : (here : Here) (b : Box) (xs : List Signed) (i : ℕ) (d : Signed) (k m : ℤ) (list next result : ends.Ends) → IsReady here → Inside b (box_in here.root) → i < length xs
+pub part_step : (here : Evaluator) (b : Box) (xs : List Signed) (i : ℕ) (d : Signed) (k m : ℤ) (list next result : ends.Ends) → IsReady here → Inside b (box_in here.root) → i < length xs
     → m ≡ k *ℤ sign (get_or xs i d).subtracted → next ≡ ends.plus list (ends.scaled m (atoms Near (box_in here.root) b (term_at (things here.items.now) (get_or xs i d).term)))
     → ends.plus list (ends.scaled k (sum_atoms Near (box_in here.root) b (parts_at (things here.items.now) (drop i xs)))) ≡ result
     → ends.plus next (ends.scaled k (sum_atoms Near (box_in here.root) b (parts_at (things here.items.now) (drop (i + 1) xs)))) ≡ result

@@ -1,4 +1,4 @@
--- What is no cell in a term is that of the terms that it is made of.
+-- The non-linear part of a term is that of the terms that it is made of.
 use Rattle.std.proofs.Common.{◌≡◌, ◌⊎◌, inl, inr, ℕ, ◌*◌, ◌≤◌, ℤ, pos, negsuc, ◌-ℤ◌, ◌*ℤ◌, ◌≤ℤ◌, unsigned_abs, Bool, true, false, ◌&&◌, ◌||◌, if◌then◌else◌, arith, refl, ap, subst, sym, ◌∙◌}
 use Rattle.std.specs.Int.{int_min, int_max}
 use Rattle.std.specs.Ordering.{int_eq}
@@ -6,16 +6,16 @@ use Rattle.std.proofs.lemmas.Int.{ints, clamps}
 use Rattle.std.proofs.Math.Nat.{mul-le-mul_left}
 use Rattle.std.proofs.Math.IntN.{*ℤ-zero}
 use Rattle.box_problem.specs.Box.{Box}
-use Rattle.box_rules.specs.Ends as ends
-use Rattle.box_rules.specs.Forms.{Form, is_constant, atom_form, times_form, product_form, sign, whole}
-use Rattle.box_rules.specs.Rules.{Near, Wide, form, sum_form, atoms, interval}
-use Rattle.box_rules.specs.Sizes.{weight_of, alone_weight, product_weight, atoms_weight, sum_weight}
-use Rattle.box_rules.specs.Terms as term
-use Rattle.box_rules.proofs.FormValues.{by_bool}
-use Rattle.box_rules.proofs.Products.{*ℤ-+ℤ, *ℤ_assoc, up, down}
+use Rattle.term_language.specs.Ends as ends
+use Rattle.term_language.specs.Forms.{Form, is_constant, atom_form, times_form, product_form, sign, whole}
+use Rattle.term_language.specs.Rules.{Near, Wide, form, sum_form, atoms, interval}
+use Rattle.term_language.specs.Sizes.{weight_of, alone_weight, product_weight, atoms_weight, sum_weight}
+use Rattle.term_language.specs.Terms as term
+use Rattle.term_language.proofs.FormValues.{by_bool}
+use Rattle.term_language.proofs.Products.{*ℤ-+ℤ, *ℤ_assoc, up, down}
 use Rattle.term_goals.proofs.Summing.{zero_plus}
 
--- so many times a sum of intervals, and so many times that many times an interval
+-- a multiple of a sum of intervals, and a multiple of a multiple of an interval
 cases_sign : (k : ℤ) → (pos 0 ≤ℤ k) ⊎ (k ≤ℤ pos 0)
 cases_sign (pos n) = inl (omega (arith, ints))
 cases_sign (negsuc n) = inr (omega (arith, ints))
@@ -78,7 +78,7 @@ plus_zero a = same_ends (ends.plus a (ends.exactly (pos 0))) a (omega (arith, in
 pub plus_assoc : (a b c : ends.Ends) → ends.plus (ends.plus a b) c ≡ ends.plus a (ends.plus b c)
 plus_assoc a b c = same_ends (ends.plus (ends.plus a b) c) (ends.plus a (ends.plus b c)) (omega (arith, ints)) (omega (arith, ints))
 
--- a term with no constant and no cell of its own is what is no cell in it
+-- a term with no constant and no cell of its own is the non-linear part of it
 pub leaf_interval : (root b : Box) (t : term.Term) → form root t ≡ atom_form → interval Near root b t ≡ atoms Near root b t
 leaf_interval root b t is =
     ap (λ (f : Form). whole b f (atoms Near root b t)) is

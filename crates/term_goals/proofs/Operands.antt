@@ -1,15 +1,15 @@
 -- Operands of products with numbers, and terms that are no such product.
 use Rattle.std.proofs.Common.{◌≡◌, ℕ, ◌*◌, ◌<◌, ◌^◌, ℤ, ◌*ℤ◌, unsigned_abs, Bool, true, false, List, Option, Some, None, IfNone, ap, subst, sym, ◌∙◌}
 use Rattle.box_problem.specs.Box.{Box}
-use Rattle.box_rules.specs.Forms.{is_constant, atom_form}
-use Rattle.box_rules.specs.Rules.{form}
-use Rattle.box_rules.specs.Sizes.{atoms_weight}
-use Rattle.box_rules.specs.Terms as term
-use Rattle.term_operations.specs.declared.operations.Operation.{Operation}
-use Rattle.term_operations.specs.declared.operations.Operation.TheVariants.{Quotient, Remainder, Size}
-use Rattle.term_operations.specs.declared.extremes.Extreme.{Extreme}
-use Rattle.term_operations.specs.declared.extremes.Extreme.TheVariants.{Least, Greatest}
-use Rattle.term_operations.specs.Made.{operation_term, extreme_term}
+use Rattle.term_language.specs.Forms.{is_constant, atom_form}
+use Rattle.term_language.specs.Rules.{form}
+use Rattle.term_language.specs.Sizes.{atoms_weight}
+use Rattle.term_language.specs.Terms as term
+use Rattle.term_math.specs.declared.operations.Operation.{Operation}
+use Rattle.term_math.specs.declared.operations.Operation.TheVariants.{Quotient, Remainder, Size}
+use Rattle.term_math.specs.declared.extremes.Extreme.{Extreme}
+use Rattle.term_math.specs.declared.extremes.Extreme.TheVariants.{Least, Greatest}
+use Rattle.term_math.specs.Made.{operation_term, extreme_term}
 use Rattle.term_nodes.specs.declared.nodes.Node.{Node}
 use Rattle.term_nodes.specs.declared.nodes.Node.TheVariants as node
 use Rattle.term_nodes.specs.declared.items.Item.{Item}

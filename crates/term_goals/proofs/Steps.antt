@@ -5,18 +5,18 @@ use Rattle.std.proofs.lemmas.Int.{unsigned_abs-mul, fits_signed_from_abs}
 use Rattle.std.proofs.lemmas.List.{at_drop_more, at_drop_all, get_or_default}
 use Rattle.std.proofs.Math.Nat.{mul-le-mul_left}
 use Rattle.box_problem.specs.Box.{Box, IsBox, Inside}
-use Rattle.box_rules.specs.Ends as ends
-use Rattle.box_rules.specs.Forms.{Coefficient, cells_ends}
-use Rattle.box_rules.specs.Rules.{Near, atoms}
-use Rattle.box_rules.specs.Sizes.{weight_of, cells_weight, atoms_weight}
-use Rattle.box_rules.proofs.Bounds.{Bounds, bounds_zero, bounds_plus, bounds_scaled, bounds_weight, bounded_cells}
-use Rattle.box_rules.proofs.Narrowing.{within_cell, within_cells}
-use Rattle.term_rules.specs.declared.combinations.WideCoefficient.{WideCoefficient}
-use Rattle.term_rules.specs.Shown.{box_in, ends_at}
-use Rattle.term_rules.specs.Sums.{wide_cells}
-use Rattle.term_rules.proofs.Fits.{bounds_within}
-use Rattle.term_rules.proofs.Weighing.{times_back}
-use Rattle.term_nodes.specs.declared.evaluation.Here.{Here}
+use Rattle.term_language.specs.Ends as ends
+use Rattle.term_language.specs.Forms.{Coefficient, cells_ends}
+use Rattle.term_language.specs.Rules.{Near, atoms}
+use Rattle.term_language.specs.Sizes.{weight_of, cells_weight, atoms_weight}
+use Rattle.term_language.proofs.Bounds.{Bounds, bounds_zero, bounds_plus, bounds_scaled, bounds_weight, bounded_cells}
+use Rattle.term_language.proofs.Narrowing.{within_cell, within_cells}
+use Rattle.term_math.specs.declared.combinations.WideCoefficient.{WideCoefficient}
+use Rattle.term_math.specs.Shown.{box_in, ends_at}
+use Rattle.term_math.specs.Sums.{wide_cells}
+use Rattle.term_math.proofs.Fits.{bounds_within}
+use Rattle.term_math.proofs.Weighing.{times_back}
+use Rattle.term_nodes.specs.declared.evaluation.Evaluator.{Evaluator}
 use Rattle.term_nodes.specs.Seen.{IsReady}
 use Rattle.term_nodes.specs.Things.{Thing, term_at, things}
 use Rattle.term_nodes.proofs.Ready.{near_bounds, small_term}
@@ -56,7 +56,7 @@ cells_lighter root zero xs = omega arith
 cells_lighter root (suc i) [] = omega arith
 cells_lighter root (suc i) (x ∷ xs) = omega (arith, cells_lighter root i xs)
 
-pub times_cell_fit : (here : Here) (xs : List WideCoefficient) (i : ℕ) (d : WideCoefficient) → IsReady here → cells_weight (box_in here.root) (wide_cells xs) < 2 ^ 127 → 0 < i → i ≤ length xs
+pub times_cell_fit : (here : Evaluator) (xs : List WideCoefficient) (i : ℕ) (d : WideCoefficient) → IsReady here → cells_weight (box_in here.root) (wide_cells xs) < 2 ^ 127 → 0 < i → i ≤ length xs
     → IsWideFit (ends_at (get_or xs (i - 1) d).k (ends.cell_ends (box_in here.view) (get_or xs (i - 1) d).cell))
 times_cell_fit here xs i d ready room positive most =
     let root = box_in here.root in
@@ -66,7 +66,7 @@ times_cell_fit here xs i d ready room positive most =
     (within_cell (box_in here.view) root x.cell ready.root_is_box ready.inside) (bounds_weight (ends.cell_ends root x.cell)))
     (times_back root xs i d room positive most)
 
-pub cells_fit : (here : Here) (xs : List WideCoefficient) (i : ℕ) (d : WideCoefficient) (times sum : ends.Ends) → IsReady here → cells_weight (box_in here.root) (wide_cells xs) < 2 ^ 127
+pub cells_fit : (here : Evaluator) (xs : List WideCoefficient) (i : ℕ) (d : WideCoefficient) (times sum : ends.Ends) → IsReady here → cells_weight (box_in here.root) (wide_cells xs) < 2 ^ 127
     → 0 < i → i ≤ length xs → times ≡ ends.scaled (get_or xs (i - 1) d).k (ends.cell_ends (box_in here.view) (get_or xs (i - 1) d).cell) → sum ≡ cells_ends (box_in here.view) (wide_cells (drop i xs))
     → IsWideFit (ends.plus times sum)
 cells_fit here xs i d times sum ready room positive most times_is sum_is =
@@ -89,7 +89,7 @@ all_cells b xs i r none is =
     let at_zero : i ≡ 0 = omega (arith, none) in
     is ∙ ap (λ (j : ℕ). cells_ends b (wide_cells (drop j xs))) at_zero
 
--- what is no cell
+-- the non-linear part
 pub next_atoms : (root b : Box) (all : List Thing) (xs : List Atom) (i : ℕ) (x : Atom) → i < length xs → x ≡ get_or xs i x → atoms_ends root b all (drop i xs)
     ≡ ends.plus (ends.scaled x.k (atoms Near root b (term_at all x.term))) (atoms_ends root b all (drop (i + 1) xs))
 next_atoms root b all xs i x below at =
@@ -110,12 +110,12 @@ atoms_lighter root all zero xs = omega arith
 atoms_lighter root all (suc i) [] = omega arith
 atoms_lighter root all (suc i) (x ∷ xs) = omega (arith, atoms_lighter root all i xs)
 
-atom_bounds : (here : Here) (id : ℕ) → IsReady here → Bounds (atoms Near (box_in here.root) (box_in here.view) (term_at (things here.items.now) id))
+atom_bounds : (here : Evaluator) (id : ℕ) → IsReady here → Bounds (atoms Near (box_in here.root) (box_in here.view) (term_at (things here.items.now) id))
     (atoms_weight (box_in here.root) (term_at (things here.items.now) id))
 atom_bounds here id ready =
     near_bounds (box_in here.root) (box_in here.view) (term_at (things here.items.now) id) ready.root_is_box ready.inside (small_term (box_in here.root) here.items.now id ready.built).proper
 
-atoms_bounds : (here : Here) (xs : List Atom) → IsReady here
+atoms_bounds : (here : Evaluator) (xs : List Atom) → IsReady here
     → Bounds (atoms_ends (box_in here.root) (box_in here.view) (things here.items.now) xs) (all_weight (box_in here.root) (things here.items.now) xs)
 atoms_bounds here [] ready = bounds_zero 0
 atoms_bounds here (x ∷ xs) ready =
@@ -124,7 +124,7 @@ atoms_bounds here (x ∷ xs) ready =
     bounds_plus (ends.scaled x.k a) (atoms_ends (box_in here.root) (box_in here.view) (things here.items.now) xs) (unsigned_abs x.k * n) (all_weight (box_in here.root) (things here.items.now) xs)
     (bounds_scaled x.k a n (atom_bounds here x.term ready)) (atoms_bounds here xs ready)
 
-pub times_atom_fit : (here : Here) (xs : List Atom) (i : ℕ) (d : Atom) → IsReady here → all_weight (box_in here.root) (things here.items.now) xs < 2 ^ 127 → 0 < i → i ≤ length xs
+pub times_atom_fit : (here : Evaluator) (xs : List Atom) (i : ℕ) (d : Atom) → IsReady here → all_weight (box_in here.root) (things here.items.now) xs < 2 ^ 127 → 0 < i → i ≤ length xs
     → IsWideFit (ends_at (get_or xs (i - 1) d).k (atoms Near (box_in here.root) (box_in here.view) (term_at (things here.items.now) (get_or xs (i - 1) d).term)))
 times_atom_fit here xs i d ready room positive most =
     let root = box_in here.root in
@@ -134,7 +134,7 @@ times_atom_fit here xs i d ready room positive most =
     wide_fit_at x.k (atoms Near root (box_in here.view) (term_at all x.term)) (atoms_weight root (term_at all x.term)) (atom_bounds here x.term ready)
     (omega (arith, room, next_all_weight root all xs (i - 1) x there (get_or_default xs (i - 1) d x there), atoms_lighter root all (i - 1) xs))
 
-pub atoms_fit : (here : Here) (xs : List Atom) (i : ℕ) (d : Atom) (times sum : ends.Ends) → IsReady here → all_weight (box_in here.root) (things here.items.now) xs < 2 ^ 127 → 0 < i
+pub atoms_fit : (here : Evaluator) (xs : List Atom) (i : ℕ) (d : Atom) (times sum : ends.Ends) → IsReady here → all_weight (box_in here.root) (things here.items.now) xs < 2 ^ 127 → 0 < i
     → i ≤ length xs → times ≡ ends.scaled (get_or xs (i - 1) d).k (atoms Near (box_in here.root) (box_in here.view) (term_at (things here.items.now) (get_or xs (i - 1) d).term)) → sum
     ≡ atoms_ends (box_in here.root) (box_in here.view) (things here.items.now) (drop i xs) → IsWideFit (ends.plus times sum)
 atoms_fit here xs i d times sum ready room positive most times_is sum_is =
@@ -159,7 +159,7 @@ all_atoms root b all xs i r none is =
     is ∙ ap (λ (j : ℕ). atoms_ends root b all (drop j xs)) at_zero
 
 -- the whole sum
-others_bounds : (here : Here) (s : Summed) → IsReady here → Bounds
+others_bounds : (here : Evaluator) (s : Summed) → IsReady here → Bounds
     (ends.plus (cells_ends (box_in here.view) (wide_cells s.form.cells.items)) (atoms_ends (box_in here.root) (box_in here.view) (things here.items.now) s.atoms.items))
     (cells_weight (box_in here.root) (wide_cells s.form.cells.items) + all_weight (box_in here.root) (things here.items.now) s.atoms.items)
 others_bounds here s ready =
@@ -167,7 +167,7 @@ others_bounds here s ready =
     (cells_weight (box_in here.root) (wide_cells s.form.cells.items)) (all_weight (box_in here.root) (things here.items.now) s.atoms.items)
     (cells_bounds (box_in here.root) (box_in here.view) (wide_cells s.form.cells.items) ready.root_is_box ready.inside) (atoms_bounds here s.atoms.items ready)
 
-pub others_fit : (here : Here) (s : Summed) (cells others : ends.Ends) → IsReady here → HasRoom (box_in here.root) (things here.items.now) s → cells
+pub others_fit : (here : Evaluator) (s : Summed) (cells others : ends.Ends) → IsReady here → HasRoom (box_in here.root) (things here.items.now) s → cells
     ≡ cells_ends (box_in here.view) (wide_cells s.form.cells.items) → others ≡ atoms_ends (box_in here.root) (box_in here.view) (things here.items.now) s.atoms.items
     → IsWideFit (ends.plus cells others)
 others_fit here s cells others ready room cells_is others_is =
@@ -175,7 +175,7 @@ others_fit here s cells others ready room cells_is others_is =
     (wide_fit (ends.plus (cells_ends (box_in here.view) (wide_cells s.form.cells.items)) (atoms_ends (box_in here.root) (box_in here.view) (things here.items.now) s.atoms.items))
     (cells_weight (box_in here.root) (wide_cells s.form.cells.items) + all_weight (box_in here.root) (things here.items.now) s.atoms.items) (others_bounds here s ready) (omega (arith, room)))
 
-pub whole_fit : (here : Here) (s : Summed) (constant others : ends.Ends) → IsReady here → HasRoom (box_in here.root) (things here.items.now) s → constant ≡ ends.exactly s.form.constant
+pub whole_fit : (here : Evaluator) (s : Summed) (constant others : ends.Ends) → IsReady here → HasRoom (box_in here.root) (things here.items.now) s → constant ≡ ends.exactly s.form.constant
     → others ≡ ends.plus (cells_ends (box_in here.view) (wide_cells s.form.cells.items)) (atoms_ends (box_in here.root) (box_in here.view) (things here.items.now) s.atoms.items)
     → IsWideFit (ends.plus constant others)
 whole_fit here s constant others ready room constant_is others_is =

@@ -8,21 +8,21 @@ use Rattle.std.proofs.Math.Nat.{mul-le-mul_left}
 use Rattle.std.proofs.Math.IntN.{*ℤ-zero}
 use Rattle.sopl_base.specs.declared.direction.Direction.{Direction}
 use Rattle.box_problem.specs.Box.{Box, IsBox, Inside}
-use Rattle.box_rules.specs.Ends as ends
-use Rattle.box_rules.specs.Forms.{Form, plus_form, cells_ends, whole}
-use Rattle.box_rules.specs.Rules.{Near, form, atoms, interval}
-use Rattle.box_rules.specs.Sizes.{weight_of, atoms_weight, size}
-use Rattle.box_rules.specs.Terms.{Term}
-use Rattle.box_rules.proofs.FormValues.{by_if}
-use Rattle.box_rules.proofs.Layers.{IsClear}
-use Rattle.box_rules.proofs.Soundness.{read}
-use Rattle.program_rules.specs.Objective.{expected_form, expected_atoms, expected_ends, worse_ends, worst_ends, greatest_size}
-use Rattle.term_operations.proofs.Constants.{lows_in}
-use Rattle.term_rules.specs.Shown.{box_in}
-use Rattle.term_rules.specs.Sums.{mass_of, weight_in, wide_cells, wide_form}
-use Rattle.term_rules.proofs.Weights.{spread, spread_left}
+use Rattle.term_language.specs.Ends as ends
+use Rattle.term_language.specs.Forms.{Form, plus_form, cells_ends, whole}
+use Rattle.term_language.specs.Rules.{Near, form, atoms, interval}
+use Rattle.term_language.specs.Sizes.{weight_of, atoms_weight, size}
+use Rattle.term_language.specs.Terms.{Term}
+use Rattle.term_language.proofs.FormValues.{by_if}
+use Rattle.term_language.proofs.Layers.{IsClear}
+use Rattle.term_language.proofs.Soundness.{read}
+use Rattle.term_problem.specs.Objective.{expected_form, expected_atoms, expected_ends, worse_ends, worst_ends, greatest_size}
+use Rattle.term_math.proofs.Constants.{lows_in}
+use Rattle.term_math.specs.Shown.{box_in}
+use Rattle.term_math.specs.Sums.{mass_of, weight_in, wide_cells, wide_form}
+use Rattle.term_math.proofs.Weights.{spread, spread_left}
 use Rattle.term_nodes.specs.declared.items.Item.{Item}
-use Rattle.term_nodes.specs.declared.evaluation.Here.{Here}
+use Rattle.term_nodes.specs.declared.evaluation.Evaluator.{Evaluator}
 use Rattle.term_nodes.specs.Built.{AllBelow, IsBuilt}
 use Rattle.term_nodes.specs.Seen.{IsReady}
 use Rattle.term_nodes.specs.Things.{Thing, term_at, things}
@@ -55,7 +55,7 @@ pub no_form : (root : Box) (all : List Thing) (ws : List ℤ) (ids : List ℕ) (
 no_form root all ws ids i same past =
     at_drop_all (λ ys. expected_form root ys (terms_of all (drop i ids))) ws i (omega (arith, same, past))
 
--- what is no cell
+-- the non-linear part
 pub next_others : (root : Box) (all : List Thing) (ws : List ℤ) (ids : List ℕ) (i : ℕ) (w : ℤ) (id : ℕ) → length ids ≡ length ws → i < length ids → w ≡ get_or ws i w → id ≡ get_or ids i id
     → others root all (drop i ws) (drop i ids) ≡ others root all (w ∷ drop (i + 1) ws) (id ∷ drop (i + 1) ids)
 next_others root all ws ids i w id same below at id_at =
@@ -103,14 +103,14 @@ summed_at root b items weights ids s built is_box inside is =
     ∙ ap (λ (xs : List Atom). whole b (expected_form root weights (terms_of all ids)) (atoms_ends root b all xs)) is.others
     ∙ ap (whole b (expected_form root weights (terms_of all ids))) (atoms_are root b items weights ids built is_box inside)
 
-pub summed_ends : (here : Here) (weights : List ℤ) (ids : List ℕ) (s : Summed) (a : ends.Ends) → IsReady here → IsSummed (box_in here.root) (things here.items.now) weights ids s → a
+pub summed_ends : (here : Evaluator) (weights : List ℤ) (ids : List ℕ) (s : Summed) (a : ends.Ends) → IsReady here → IsSummed (box_in here.root) (things here.items.now) weights ids s → a
     ≡ whole (box_in here.view) (wide_form s.form) (atoms_ends (box_in here.root) (box_in here.view) (things here.items.now) s.atoms.items) → a
     ≡ expected_ends (box_in here.root) (box_in here.view) weights (terms_of (things here.items.now) ids)
 summed_ends here weights ids s a ready is seen =
     seen ∙ summed_at (box_in here.root) (box_in here.view) here.items.now weights ids s ready.built ready.root_is_box ready.inside is
 
 -- a list of all that is summed, and the constant
-pub listed_sum : {E : Type 0} (here : Here) (weights : List ℤ) (ids : List ℕ) (g : Goal) (s : Summed) (b : Box) (result : Result (Vec Atom Global) E) → IsReady here → Inside b (box_in here.root)
+pub listed_sum : {E : Type 0} (here : Evaluator) (weights : List ℤ) (ids : List ℕ) (g : Goal) (s : Summed) (b : Box) (result : Result (Vec Atom Global) E) → IsReady here → Inside b (box_in here.root)
     → g.summed ≡ Some s → IsSummed (box_in here.root) (things here.items.now) weights ids s
     → IfOk result (λ list. listed_ends (box_in here.root) b (things here.items.now) list.items
     ≡ ends.plus (cells_ends b (wide_cells s.form.cells.items)) (atoms_ends (box_in here.root) b (things here.items.now) s.atoms.items))

@@ -6,10 +6,10 @@ use Rattle.std.specs.List.{AllByRecursion}
 use Rattle.std.proofs.lemmas.Int.{ints}
 use Rattle.std.proofs.lemmas.List.{at_drop_more, at_drop_all, get_or_default}
 use Rattle.box_problem.specs.Box.{Box}
-use Rattle.box_rules.specs.Globals.{total}
-use Rattle.box_rules.specs.Sizes.{size}
-use Rattle.box_rules.specs.Terms.{Term}
-use Rattle.program_rules.specs.Objective.{greatest_size}
+use Rattle.term_language.specs.Globals.{total}
+use Rattle.term_language.specs.Sizes.{size}
+use Rattle.term_language.specs.Terms.{Term}
+use Rattle.term_problem.specs.Objective.{greatest_size}
 use Rattle.term_nodes.specs.declared.items.Item.{Item}
 use Rattle.term_nodes.specs.Built.{IsBuilt}
 use Rattle.term_nodes.specs.Things.{Thing, term_at, things}

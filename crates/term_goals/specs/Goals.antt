@@ -7,15 +7,15 @@ use Rattle.std.specs.Option.{option_map_or}
 use Rattle.sopl_base.specs.declared.fault.Fault.{Fault}
 use Rattle.sopl_base.specs.declared.fault.Fault.TheVariants.{Limit, NoMemory}
 use Rattle.box_problem.specs.Box.{Box, Inside}
-use Rattle.box_rules.specs.Ends.{Ends, exactly, plus, scaled}
-use Rattle.box_rules.specs.Globals.{total}
-use Rattle.box_rules.specs.Rules.{Near, form, atoms, interval}
-use Rattle.box_rules.specs.Sizes.{atoms_weight}
-use Rattle.box_rules.specs.Forms.{atom_form}
-use Rattle.box_rules.specs.Terms.{Term, Cell, Product}
-use Rattle.program_rules.specs.Objective.{expected_form, greatest_size}
-use Rattle.program_rules.specs.Problems.{GoalTerms}
-use Rattle.term_rules.specs.Sums.{wide_form, weight_in}
+use Rattle.term_language.specs.Ends.{Ends, exactly, plus, scaled}
+use Rattle.term_language.specs.Globals.{total}
+use Rattle.term_language.specs.Rules.{Near, form, atoms, interval}
+use Rattle.term_language.specs.Sizes.{atoms_weight}
+use Rattle.term_language.specs.Forms.{atom_form}
+use Rattle.term_language.specs.Terms.{Term, Cell, Product}
+use Rattle.term_problem.specs.Objective.{expected_form, greatest_size}
+use Rattle.term_problem.specs.Problems.{GoalTerms}
+use Rattle.term_math.specs.Sums.{wide_form, weight_in}
 use Rattle.term_nodes.specs.Things.{Thing, term_at}
 use Rattle.term_nodes.specs.Built.{AllBelow}
 use Rattle.term_goals.specs.declared.goal.Goal.{Goal}
@@ -39,12 +39,12 @@ goal_of all g = record { direction = g.direction; worst = is_none g.summed; term
 abbrev pub asked_of : List Thing → Objective → GoalTerms
 asked_of all o = record { direction = o.direction; worst = o.worst; terms = terms_of all o.terms.now }
 
--- the interval of what is no cell in so many times each of several terms
+-- the interval of the non-linear part of multiples of several terms
 abbrev pub atoms_ends : Box → Box → List Thing → List Atom → Ends
 atoms_ends root b all [] = exactly (pos 0)
 atoms_ends root b all (a ∷ later) = plus (scaled a.k (atoms Near root b (term_at all a.term))) (atoms_ends root b all later)
 
--- the interval of so many times each of several terms
+-- the interval of multiples of several terms
 abbrev pub listed_ends : Box → Box → List Thing → List Atom → Ends
 listed_ends root b all [] = exactly (pos 0)
 listed_ends root b all (a ∷ later) = plus (scaled a.k (interval Near root b (term_at all a.term))) (listed_ends root b all later)
@@ -63,7 +63,7 @@ abbrev pub IsBare : Box → Term → Type 0
 IsBare root (Product s t) = (form root (Product s t)).plain ≡ false → form root (Product s t) ≡ atom_form
 IsBare root t = Unit {0}
 
--- so many times an operand of a term is so many times the term, but for cells; it has room as well
+-- a multiple of an operand of a term is a multiple of the term, but for cells; it has room as well
 pub record IsOperand (root : Box) (all : List Thing) (before next : Atom) : Type 0 where
   pub below : next.term < before.term
   pub room : unsigned_abs next.k * atoms_weight root (term_at all next.term) < 2 ^ 127
@@ -74,12 +74,12 @@ pub record AreCells (root : Box) (all : List Thing) (nodes : List ℕ) : Type 0 
   pub each_cell : length nodes ≡ length root.lows
   pub is_cell : (cell : ℕ) → cell < length nodes → term_at all (slice_index_or nodes cell 0) ≡ Cell cell
 
--- the weights of what is no cell in them, over the root
+-- the weights of the non-linear part of them, over the root
 abbrev pub all_weight : Box → List Thing → List Atom → ℕ
 all_weight root all [] = 0
 all_weight root all (a ∷ later) = unsigned_abs a.k * atoms_weight root (term_at all a.term) + all_weight root all later
 
--- so many times each term, but for the terms of cells alone
+-- a multiple of each term, but for the terms of cells alone
 abbrev pub others : Box → List Thing → List ℤ → List ℕ → List Atom
 others root all [] ids = []
 others root all (weight ∷ weights) [] = []
@@ -100,7 +100,7 @@ constant_of g = option_map_or (λ (s : Summed). s.form.constant) g.summed (pos 0
 abbrev pub HasRoom : Box → List Thing → Summed → Type 0
 HasRoom root all s = weight_in root (wide_form s.form) + all_weight root all s.atoms.items < 2 ^ 127
 
--- an objective that can be reckoned with: its terms exist, and what is summed has room
+-- an objective that can be computed with: its terms exist, and what is summed has room
 pub record IsSoundGoal (root : Box) (all : List Thing) (g : Goal) : Type 0 where
   pub exist : AllBelow (length all) g.terms.items
   pub room : IfSome g.summed (HasRoom root all)
@@ -122,7 +122,7 @@ goal_size root weights terms = total weights *ℤ pos (greatest_size root terms 
 abbrev pub too_large : ℤ → Fault
 too_large size = Limit (record { code = 207; counted = saturate_signed w128 size; limit = pos (2 ^ 126) })
 
--- an expected objective is there only with a size of at most 2^126; it is refused for a greater one, or memory is wanting
+-- an expected objective is there only with a size of at most 2^126; it is refused for a greater one, or memory runs out
 abbrev pub IsMeasured : {A : Type 0} → Bool → ℤ → Result A Fault → Type 0
 IsMeasured worst size (Ok x) = worst ≡ false → size ≤ℤ pos (2 ^ 126)
 IsMeasured worst size (Err fault) =

@@ -1,7 +1,7 @@
 -- What intervals with ends of 128 bits stand for, and which of them have room.
 use Rattle.std.specs.Int.{w128}
 use Rattle.std.specs.Int.RustNames.{FitsSigned}
-use Rattle.box_rules.specs.Ends as rule
+use Rattle.term_language.specs.Ends as rule
 use Rattle.term_goals.specs.declared.wide.WideEnds.{WideEnds}
 
 abbrev pub wide_ends : WideEnds → rule.Ends

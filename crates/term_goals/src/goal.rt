@@ -1,11 +1,11 @@
 //! Objectives as they are kept.
 
 ghost use Rattle.std.specs.Prelude.{◌≡◌, ◌≤◌, ◌^◌, ◌≤ℤ◌, false, pos, length, List, ℤ, IfOk, IfSome};
-ghost use Rattle.box_rules.specs.Ends as ends;
+ghost use Rattle.term_language.specs.Ends as ends;
 ghost use Rattle.box_problem.specs.Box.{Box, Inside};
-ghost use Rattle.program_rules.specs.Objective.{expected_ends, expected_form, goal_ends_of, worse_ends, worst_ends};
-ghost use Rattle.term_rules.specs.Shown.{box_in, ends_of};
-ghost use Rattle.term_rules.specs.Sums.{combination_of};
+ghost use Rattle.term_problem.specs.Objective.{expected_ends, expected_form, goal_ends_of, worse_ends, worst_ends};
+ghost use Rattle.term_math.specs.Shown.{box_in, ends_of};
+ghost use Rattle.term_math.specs.Sums.{combination_of};
 ghost use Rattle.term_nodes.specs.Built.{AllBelow};
 ghost use Rattle.term_nodes.specs.Seen.{IsReady};
 ghost use Rattle.term_nodes.specs.Things.{Thing, things};
@@ -19,9 +19,8 @@ use crate::sums::{Atom, Summed};
 use crate::wide::WideEnds;
 use sopl_base::{Direction, Fault};
 use std::alloc::{AllocError, Global};
-use term_nodes::{Here, form_at};
-use term_operations::Extreme;
-use term_rules::{Combination, Ends};
+use term_math::{Combination, Ends, Extreme};
+use term_nodes::{Evaluator, form_at};
 
 /// What an objective is made of: the weight of each scenario, and the number of its term in each.
 #[derive(Clone, Copy)]
@@ -43,7 +42,7 @@ pub struct Goal {
 impl<'a> Objective<'a> {
     /// The linear form of the sum of weight times term.
     #[tactic(auto, using(crate::proofs::Summing::next_form))]
-    fn form(&self, alloc: Global, here: &Here) -> Result<Combination, AllocError>
+    fn form(&self, alloc: Global, here: &Evaluator) -> Result<Combination, AllocError>
         requires ready { IsReady here.now }
         requires exist { AllBelow (length here.now.items.now) self.now.terms.now }
         requires each { length self.now.terms.now ≡ length self.now.weights.now }
@@ -59,9 +58,9 @@ impl<'a> Objective<'a> {
         Ok(sum)
     }
 
-    /// So many times each term that has more in it than cells.
+    /// A multiple of each term that has more in it than cells.
     #[tactic(auto, using(crate::proofs::Summing::no_others))]
-    fn others(&self, alloc: Global, here: &Here) -> Result<Vec<Atom>, AllocError>
+    fn others(&self, alloc: Global, here: &Evaluator) -> Result<Vec<Atom>, AllocError>
         requires ready { IsReady here.now }
         requires exist { AllBelow (length here.now.items.now) self.now.terms.now }
         requires each { length self.now.terms.now ≡ length self.now.weights.now }
@@ -80,7 +79,7 @@ impl<'a> Objective<'a> {
     }
 
     /// The sum of weight times term.
-    fn summed(&self, alloc: Global, here: &Here) -> Result<Summed, AllocError>
+    fn summed(&self, alloc: Global, here: &Evaluator) -> Result<Summed, AllocError>
         requires ready { IsReady here.now }
         requires exist { AllBelow (length here.now.items.now) self.now.terms.now }
         requires each { length self.now.terms.now ≡ length self.now.weights.now }
@@ -121,7 +120,7 @@ fn worse(direction: Direction, a: &Ends, b: &Ends) -> Ends
 }
 
 /// The worst of the intervals of several terms.
-fn worst(here: &Here, direction: Direction, terms: &[u32]) -> Ends
+fn worst(here: &Evaluator, direction: Direction, terms: &[u32]) -> Ends
     requires ready { IsReady here.now }
     requires exist { AllBelow (length here.now.items.now) terms.now }
     ensures { ends_of result ≡ worst_ends direction (box_in here.now.root) (box_in here.now.view) (terms_of (things here.now.items.now) terms.now) }
@@ -140,7 +139,7 @@ fn worst(here: &Here, direction: Direction, terms: &[u32]) -> Ends
 
 impl Goal {
     /// Keeps an objective over the nodes and the root that `here` gives.
-    pub fn new(alloc: Global, here: &Here, objective: &Objective) -> Result<Goal, Fault>
+    pub fn new(alloc: Global, here: &Evaluator, objective: &Objective) -> Result<Goal, Fault>
         requires ready { IsReady here.now }
         requires exist { AllBelow (length (things here.now.items.now)) objective.now.terms.now }
         requires each { length objective.now.terms.now ≡ length objective.now.weights.now }
@@ -191,9 +190,14 @@ impl Goal {
         }
     }
 
-    /// What stands in an expected objective besides its constant: so many times each of several terms, which exist. The intervals of these and the
+    /// What stands in an expected objective besides its constant: multiples of several terms, which exist. The intervals of these and the
     /// constant sum up to that of the objective. Which terms they are, and in which order, is not promised.
-    pub fn atoms(&self, alloc: Global, here: &Here, nodes: &[u32]) -> Result<Vec<Atom>, AllocError>
+    pub fn atoms(
+        &self,
+        alloc: Global,
+        here: &Evaluator,
+        nodes: &[u32],
+    ) -> Result<Vec<Atom>, AllocError>
         requires ready { IsReady here.now }
         requires sound { IsSoundGoal (box_in here.now.root) (things here.now.items.now) self.now }
         requires nodes { AreCells (box_in here.now.root) (things here.now.items.now) nodes.now }
@@ -211,7 +215,7 @@ impl Goal {
 
     /// The interval of the objective over the box.
     #[tactic(auto, using(crate::proofs::Summing::summed_ends))]
-    pub fn ends(&self, here: &Here) -> WideEnds
+    pub fn ends(&self, here: &Evaluator) -> WideEnds
         requires ready { IsReady here.now }
         requires sound { IsSoundGoal (box_in here.now.root) (things here.now.items.now) self.now }
         ensures { (weights : List ℤ) → IsWeighted (box_in here.now.root) (things here.now.items.now) weights self.now → wide_ends result

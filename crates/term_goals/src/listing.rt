@@ -1,14 +1,14 @@
-//! What is no cell in terms, as so many times each of the terms that they are made of.
+//! The non-linear part of terms, as multiples of the terms that they are made of.
 
 ghost use Rattle.std.specs.Prelude.{◌≡◌, ◌+◌, ◌*◌, ◌<◌, ◌^◌, ◌*ℤ◌, false, length, slice_index_or, unsigned_abs, List, OnOk, IfOk, IfSome, IfNone, IsSome, ◌≤◌};
 ghost use Rattle.box_problem.specs.Box.{Box, Inside};
-ghost use Rattle.box_rules.specs.Ends as ends;
-ghost use Rattle.box_rules.specs.Forms as forms;
-ghost use Rattle.box_rules.specs.Rules as rule;
-ghost use Rattle.box_rules.specs.Sizes.{atoms_weight, sum_weight};
-ghost use Rattle.box_rules.specs.Terms as term;
-ghost use Rattle.term_rules.specs.Shown.{box_in};
-ghost use Rattle.term_rules.specs.Sums.{wide_cells};
+ghost use Rattle.term_language.specs.Ends as ends;
+ghost use Rattle.term_language.specs.Forms as forms;
+ghost use Rattle.term_language.specs.Rules as rule;
+ghost use Rattle.term_language.specs.Sizes.{atoms_weight, sum_weight};
+ghost use Rattle.term_language.specs.Terms as term;
+ghost use Rattle.term_math.specs.Shown.{box_in};
+ghost use Rattle.term_math.specs.Sums.{wide_cells};
 ghost use Rattle.term_nodes.specs.Built.{PartsBelow};
 ghost use Rattle.term_nodes.specs.Seen.{IsReady};
 ghost use Rattle.term_nodes.specs.Things.{parts_at, term_at, things};
@@ -16,8 +16,8 @@ ghost use Rattle.term_goals.specs.Goals.{AreCells, AtomsExist, HasRoom, IsBare, 
 
 use crate::sums::{Atom, Summed};
 use std::alloc::{AllocError, Global};
-use term_nodes::{Here, Node, Signed, factor, form_at, item_at};
-use term_rules::{Factor, WideCoefficient, WideFactor};
+use term_math::{Factor, WideCoefficient, WideFactor};
+use term_nodes::{Evaluator, Node, Signed, factor, form_at, item_at};
 
 /// The product of two numbers.
 fn product(a: &WideFactor, b: &Factor) -> WideFactor
@@ -29,8 +29,8 @@ fn product(a: &WideFactor, b: &Factor) -> WideFactor
     }
 }
 
-/// Adds so many times a term that has no constant and no cell of its own.
-fn add_leaf(list: &mut Vec<Atom>, here: &Here, atom: &Atom) -> Result<(), AllocError>
+/// Adds a multiple of a term that has no constant and no cell of its own.
+fn add_leaf(list: &mut Vec<Atom>, here: &Evaluator, atom: &Atom) -> Result<(), AllocError>
     requires exists { atom.now.term < length here.now.items.now }
     requires leaf { rule.form (box_in here.now.root) (term_at (things here.now.items.now) atom.now.term) ≡ forms.atom_form }
     ensures sum { (b : Box) → OnOk result (listed_ends (box_in here.now.root) b (things here.now.items.now) list.new.items
@@ -44,7 +44,7 @@ fn add_leaf(list: &mut Vec<Atom>, here: &Here, atom: &Atom) -> Result<(), AllocE
 
 /// The other operand of a product with a number, as often as it stands in the product; none, where neither operand is a number.
 #[tactic(auto, using(crate::proofs::Growing::product_leaf))]
-fn multiplied(here: &Here, atom: &Atom, a: u32, b: u32) -> Option<Atom>
+fn multiplied(here: &Evaluator, atom: &Atom, a: u32, b: u32) -> Option<Atom>
     requires ready { IsReady here.now }
     requires exists { atom.now.term < length here.now.items.now }
     requires left { a < atom.now.term }
@@ -69,7 +69,7 @@ fn multiplied(here: &Here, atom: &Atom, a: u32, b: u32) -> Option<Atom>
 
 /// The other operand, where a term is a product with a number and has more in it than cells.
 #[tactic(auto, using(crate::proofs::Operands::bare_at, crate::proofs::Operands::bare_product, crate::proofs::Operands::bare_plain, crate::proofs::Operands::bare_nothing, crate::proofs::Growing::term_is, crate::proofs::Growing::other_at, term_nodes::proofs::Steps::below_at))]
-fn operand(here: &Here, atom: &Atom) -> Option<Atom>
+fn operand(here: &Evaluator, atom: &Atom) -> Option<Atom>
     requires ready { IsReady here.now }
     requires room { unsigned_abs atom.now.k * atoms_weight (box_in here.now.root) (term_at (things here.now.items.now) atom.now.term) < 2 ^ 127 }
     ensures same { IfSome result (IsOperand (box_in here.now.root) (things here.now.items.now) atom.now) }
@@ -99,10 +99,15 @@ fn operand(here: &Here, atom: &Atom) -> Option<Atom>
     }
 }
 
-/// Adds so many times each of the terms that a term is made of, but for its constant and its cells. Products with numbers are left
+/// Adds multiples of the terms that a term is made of, but for its constant and its cells. Products with numbers are left
 /// behind by a loop, since a chain of them is as deep as its text is long.
 #[cycle(list)]
-fn add(list: &mut Vec<Atom>, here: &Here, times: &WideFactor, id: u32) -> Result<(), AllocError>
+fn add(
+    list: &mut Vec<Atom>,
+    here: &Evaluator,
+    times: &WideFactor,
+    id: u32,
+) -> Result<(), AllocError>
     requires ready { IsReady here.now }
     requires room { unsigned_abs times.now.k * atoms_weight (box_in here.now.root) (term_at (things here.now.items.now) id) < 2 ^ 127 }
     ensures sum { (b : Box) → Inside b (box_in here.now.root)
@@ -121,7 +126,7 @@ fn add(list: &mut Vec<Atom>, here: &Here, times: &WideFactor, id: u32) -> Result
 /// The same, of a term that is no product with a number.
 #[cycle(list)]
 #[tactic(auto, using(crate::proofs::Growing::leaf_form, crate::proofs::Operands::bare_leaf, term_nodes::proofs::Steps::below_at))]
-fn add_bare(list: &mut Vec<Atom>, here: &Here, atom: &Atom) -> Result<(), AllocError>
+fn add_bare(list: &mut Vec<Atom>, here: &Evaluator, atom: &Atom) -> Result<(), AllocError>
     requires ready { IsReady here.now }
     requires room { unsigned_abs atom.now.k * atoms_weight (box_in here.now.root) (term_at (things here.now.items.now) atom.now.term) < 2 ^ 127 }
     requires bare { IsBare (box_in here.now.root) (term_at (things here.now.items.now) atom.now.term) }
@@ -157,11 +162,11 @@ fn add_bare(list: &mut Vec<Atom>, here: &Here, atom: &Atom) -> Result<(), AllocE
     }
 }
 
-/// Adds so many times each part of a sum.
+/// Adds a multiple of each part of a sum.
 #[cycle(list)]
 fn add_parts(
     list: &mut Vec<Atom>,
-    here: &Here,
+    here: &Evaluator,
     times: &WideFactor,
     limit: u32,
     parts: &[Signed],
@@ -183,8 +188,8 @@ fn add_parts(
     Ok(())
 }
 
-/// Adds so many times each of the terms that several terms are made of, but for their constants and their cells.
-fn add_atoms(list: &mut Vec<Atom>, here: &Here, atoms: &[Atom]) -> Result<(), AllocError>
+/// Adds multiples of the terms that several terms are made of, but for their constants and their cells.
+fn add_atoms(list: &mut Vec<Atom>, here: &Evaluator, atoms: &[Atom]) -> Result<(), AllocError>
     requires ready { IsReady here.now }
     requires room { all_weight (box_in here.now.root) (things here.now.items.now) atoms.now < 2 ^ 127 }
     ensures sum { (b : Box) → Inside b (box_in here.now.root)
@@ -218,10 +223,10 @@ fn node_of(nodes: &[u32], cell: u32) -> Option<u32>
     Some(*node)
 }
 
-/// Adds so many times each cell, by the number of the term that is the cell. A cell that is not in the root is 0, and left out.
+/// Adds a multiple of each cell, by the number of the term that is the cell. A cell that is not in the root is 0, and left out.
 fn add_cells(
     list: &mut Vec<Atom>,
-    here: &Here,
+    here: &Evaluator,
     nodes: &[u32],
     cells: &[WideCoefficient],
 ) -> Result<(), AllocError>
@@ -241,10 +246,10 @@ fn add_cells(
     Ok(())
 }
 
-/// A sum as a list: so many times each cell, and behind them so many times each of the terms that the rest is made of.
+/// A sum as a list: a multiple of each cell, and behind them multiples of the terms that the rest is made of.
 pub(crate) fn listed(
     alloc: Global,
-    here: &Here,
+    here: &Evaluator,
     nodes: &[u32],
     summed: &Summed,
 ) -> Result<Vec<Atom>, AllocError>

@@ -1,10 +1,10 @@
 //! How large an objective is.
 
 ghost use Rattle.std.specs.Prelude.{◌≡◌, ◌+◌, ◌<◌, ◌^◌, ◌+ℤ◌, ◌*ℤ◌, pos, length, slice_index_or, unsigned_abs, IfOk, false};
-ghost use Rattle.box_rules.specs.Globals.{total};
-ghost use Rattle.box_rules.specs.Sizes.{atoms_weight, size};
-ghost use Rattle.program_rules.specs.Objective.{greatest_size};
-ghost use Rattle.term_rules.specs.Shown.{box_in};
+ghost use Rattle.term_language.specs.Globals.{total};
+ghost use Rattle.term_language.specs.Sizes.{atoms_weight, size};
+ghost use Rattle.term_problem.specs.Objective.{greatest_size};
+ghost use Rattle.term_math.specs.Shown.{box_in};
 ghost use Rattle.term_nodes.specs.Built.{AllBelow};
 ghost use Rattle.term_nodes.specs.Seen.{IsReady};
 ghost use Rattle.term_nodes.specs.Things.{term_at, things};
@@ -12,8 +12,8 @@ ghost use Rattle.term_goals.specs.Goals.{AreWeights, IsMeasured, goal_size, term
 
 use sopl_base::{Excess, Fault, codes, limits};
 use std::alloc::{AllocError, Global};
-use term_nodes::{Here, form_at};
-use term_rules::WideFactor;
+use term_math::WideFactor;
+use term_nodes::{Evaluator, form_at};
 
 /// The weight of a scenario.
 pub(crate) fn scenario_weight(weights: &[i128], scenario: usize) -> WideFactor
@@ -47,9 +47,9 @@ fn total(weights: &[i128]) -> WideFactor
     sum
 }
 
-/// The weight of what is no cell in a term.
+/// The weight of the non-linear part of a term.
 #[tactic(auto, using(term_nodes::proofs::Reading::weight_is))]
-fn weight_at(here: &Here, id: u32) -> u64
+fn weight_at(here: &Evaluator, id: u32) -> u64
     requires ready { IsReady here.now }
     requires exists { id < length here.now.items.now }
     ensures { result ≡ atoms_weight (box_in here.now.root) (term_at (things here.now.items.now) id) }
@@ -58,7 +58,7 @@ fn weight_at(here: &Here, id: u32) -> u64
 }
 
 /// The size of a term.
-fn size_at(alloc: Global, here: &Here, id: u32) -> Result<u128, AllocError>
+fn size_at(alloc: Global, here: &Evaluator, id: u32) -> Result<u128, AllocError>
     requires ready { IsReady here.now }
     requires exists { id < length here.now.items.now }
     ensures { IfOk result (λ found. found ≡ size (box_in here.now.root) (term_at (things here.now.items.now) id)) }
@@ -69,7 +69,7 @@ fn size_at(alloc: Global, here: &Here, id: u32) -> Result<u128, AllocError>
 
 /// The greatest size of several terms.
 #[tactic(auto, using(crate::proofs::Weights::next_greatest, crate::proofs::Weights::no_greatest))]
-fn greatest_size(alloc: Global, here: &Here, terms: &[u32]) -> Result<u128, AllocError>
+fn greatest_size(alloc: Global, here: &Evaluator, terms: &[u32]) -> Result<u128, AllocError>
     requires ready { IsReady here.now }
     requires exist { AllBelow (length here.now.items.now) terms.now }
     ensures { IfOk result (λ most. most ≡ greatest_size (box_in here.now.root) (terms_of (things here.now.items.now) terms.now)) }
@@ -111,7 +111,7 @@ fn measured_product(a: &WideFactor, b: &WideFactor) -> Result<(), Fault>
 /// Refuses an expected objective whose size passes 2^126.
 pub(crate) fn measured(
     alloc: Global,
-    here: &Here,
+    here: &Evaluator,
     weights: &[i128],
     terms: &[u32],
 ) -> Result<(), Fault>

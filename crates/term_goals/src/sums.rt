@@ -1,20 +1,20 @@
-//! Sums of so many times each of several terms: a linear form, and what is no cell in them.
+//! Sums of multiples of several terms: a linear form, and the non-linear part of them.
 
 ghost use Rattle.std.specs.Prelude.{◌≡◌, ◌<◌, ◌^◌};
-ghost use Rattle.box_rules.specs.Ends as ends;
-ghost use Rattle.box_rules.specs.Forms as forms;
-ghost use Rattle.box_rules.specs.Sizes.{cells_weight};
-ghost use Rattle.term_rules.specs.Shown.{box_in, ends_at};
-ghost use Rattle.term_rules.specs.Sums.{wide_cells, wide_form};
+ghost use Rattle.term_language.specs.Ends as ends;
+ghost use Rattle.term_language.specs.Forms as forms;
+ghost use Rattle.term_language.specs.Sizes.{cells_weight};
+ghost use Rattle.term_math.specs.Shown.{box_in, ends_at};
+ghost use Rattle.term_math.specs.Sums.{wide_cells, wide_form};
 ghost use Rattle.term_nodes.specs.Seen.{IsReady};
 ghost use Rattle.term_nodes.specs.Things.{term_at, things};
-ghost use Rattle.box_rules.specs.Rules as rule;
+ghost use Rattle.term_language.specs.Rules as rule;
 ghost use Rattle.term_goals.specs.Wide.{IsWideFit, wide_ends};
 ghost use Rattle.term_goals.specs.Goals.{HasRoom, all_weight, atoms_ends};
 
 use crate::wide::WideEnds;
-use term_nodes::Here;
-use term_rules::{BoxView, WideCoefficient, WideFactor, WideForm};
+use term_math::{BoxView, WideCoefficient, WideFactor, WideForm};
+use term_nodes::Evaluator;
 
 /// So many times a term.
 #[derive(Clone, Copy, Debug, PartialEq, Eq)]
@@ -39,14 +39,14 @@ impl Atom {
     }
 }
 
-/// A sum: its linear form, and so many times each term that has more in it than cells.
+/// A sum: its linear form, and a multiple of each term that has more in it than cells.
 #[derive(Drop)]
 pub struct Summed {
     pub form: WideForm,
     pub atoms: Vec<Atom>,
 }
 
-/// The interval of so many times a cell.
+/// The interval of a multiple of a cell.
 fn times_cell(view: &BoxView, coefficient: &WideCoefficient) -> WideEnds
     requires fits { IsWideFit (ends_at coefficient.now.k (ends.cell_ends (box_in view.now) coefficient.now.cell)) }
     ensures { wide_ends result ≡ ends.scaled coefficient.now.k (ends.cell_ends (box_in view.now) coefficient.now.cell) }
@@ -57,7 +57,7 @@ fn times_cell(view: &BoxView, coefficient: &WideCoefficient) -> WideEnds
 
 /// The interval of the cells of a form.
 #[tactic(auto, using(crate::proofs::Steps::next_cells, crate::proofs::Steps::no_cells))]
-fn cells_ends(here: &Here, cells: &[WideCoefficient]) -> WideEnds
+fn cells_ends(here: &Evaluator, cells: &[WideCoefficient]) -> WideEnds
     requires ready { IsReady here.now }
     requires room { cells_weight (box_in here.now.root) (wide_cells cells.now) < 2 ^ 127 }
     ensures { wide_ends result ≡ forms.cells_ends (box_in here.now.view) (wide_cells cells.now) }
@@ -70,8 +70,8 @@ fn cells_ends(here: &Here, cells: &[WideCoefficient]) -> WideEnds
     sum
 }
 
-/// The interval of so many times what is no cell in a term.
-fn times_atom(here: &Here, atom: &Atom) -> WideEnds
+/// The interval of a multiple of the non-linear part of a term.
+fn times_atom(here: &Evaluator, atom: &Atom) -> WideEnds
     requires ready { IsReady here.now }
     requires fits { IsWideFit (ends_at atom.now.k (rule.atoms rule.Near (box_in here.now.root) (box_in here.now.view) (term_at (things here.now.items.now) atom.now.term))) }
     ensures { wide_ends result ≡ ends.scaled atom.now.k (rule.atoms rule.Near (box_in here.now.root) (box_in here.now.view) (term_at (things here.now.items.now) atom.now.term)) }
@@ -80,9 +80,9 @@ fn times_atom(here: &Here, atom: &Atom) -> WideEnds
     WideEnds::scaled(&WideFactor { k: atom.k }, &seen.ends)
 }
 
-/// The interval of so many times what is no cell in each term.
+/// The interval of a multiple of the non-linear part of each term.
 #[tactic(auto, using(crate::proofs::Steps::next_atoms, crate::proofs::Steps::no_atoms))]
-fn atoms_ends(here: &Here, atoms: &[Atom]) -> WideEnds
+fn atoms_ends(here: &Evaluator, atoms: &[Atom]) -> WideEnds
     requires ready { IsReady here.now }
     requires room { all_weight (box_in here.now.root) (things here.now.items.now) atoms.now < 2 ^ 127 }
     ensures { wide_ends result ≡ atoms_ends (box_in here.now.root) (box_in here.now.view) (things here.now.items.now) atoms.now }
@@ -107,7 +107,7 @@ fn constant_ends(form: &WideForm) -> WideEnds
 
 impl Summed {
     /// The interval of the sum.
-    pub(crate) fn ends(&self, here: &Here) -> WideEnds
+    pub(crate) fn ends(&self, here: &Evaluator) -> WideEnds
         requires ready { IsReady here.now }
         requires room { HasRoom (box_in here.now.root) (things here.now.items.now) self.now }
         ensures { wide_ends result ≡ forms.whole (box_in here.now.view) (wide_form self.now.form)

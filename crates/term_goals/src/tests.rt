@@ -114,7 +114,7 @@ fn listed(store: &TermStore, alloc: Global, a: u32, b: u32) -> Result<i128, Faul
     Ok(sum)
 }
 
-/// A product in a sum, and so many times a product.
+/// A product in a sum, and a multiple of a product.
 fn products(store: &mut TermStore, alloc: Global) -> Result<i128, Fault>
     requires sound { IsSoundStore store.old }
     requires empty { root_of store.old ≡ box_of [] }

@@ -1,11 +1,11 @@
 //! Intervals whose ends have 128 bits.
 
 ghost use Rattle.std.specs.Prelude.{◌≡◌, pos};
-ghost use Rattle.box_rules.specs.Ends as rule;
-ghost use Rattle.term_rules.specs.Shown.{ends_at, ends_of};
+ghost use Rattle.term_language.specs.Ends as rule;
+ghost use Rattle.term_math.specs.Shown.{ends_at, ends_of};
 ghost use Rattle.term_goals.specs.Wide.{IsWideFit, wide_ends};
 
-use term_rules::{Ends, WideFactor};
+use term_math::{Ends, WideFactor};
 
 /// All whole numbers from `low` to `high`.
 #[derive(Clone, Copy, Debug, PartialEq, Eq)]

@@ -3,16 +3,16 @@ use Rattle.std.proofs.Common.{◌≡◌, ℕ, ◌+◌, ◌<◌, ◌≤◌, suc, 
 use Rattle.std.specs.List.{list_all, list_any}
 use Rattle.std.proofs.lemmas.List.{at_drop_more, at_drop_all}
 use Rattle.box_problem.specs.Box.{Box}
-use Rattle.box_rules.specs.Ends.{Ends}
-use Rattle.box_rules.specs.Globals.{is_inside, are_crowded, never_differ, are_apart, always_differ}
-use Rattle.box_rules.specs.Marks.{judged}
-use Rattle.box_rules.specs.Rules.{Near, interval, intervals}
-use Rattle.box_rules.specs.declared.answers.Defined.{Defined}
-use Rattle.box_rules.specs.declared.answers.Defined.TheVariants.{Never, Maybe, Always}
-use Rattle.box_rules.specs.declared.answers.Truth.{Truth}
-use Rattle.box_rules.specs.declared.answers.Truth.TheVariants.{False, Unknown, True}
-use Rattle.box_rules.proofs.Sharpening.{intervals_narrow}
-use Rattle.term_rules.specs.Shown.{box_in}
+use Rattle.term_language.specs.Ends.{Ends}
+use Rattle.term_language.specs.Globals.{is_inside, are_crowded, never_differ, are_apart, always_differ}
+use Rattle.term_language.specs.Marks.{judged}
+use Rattle.term_language.specs.Rules.{Near, interval, intervals}
+use Rattle.term_language.specs.declared.answers.Defined.{Defined}
+use Rattle.term_language.specs.declared.answers.Defined.TheVariants.{Never, Maybe, Always}
+use Rattle.term_language.specs.declared.answers.Truth.{Truth}
+use Rattle.term_language.specs.declared.answers.Truth.TheVariants.{False, Unknown, True}
+use Rattle.term_language.proofs.Sharpening.{intervals_narrow}
+use Rattle.term_math.specs.Shown.{box_in}
 use Rattle.term_crowds.specs.Crowds.{AllOrdered}
 use Rattle.term_crowds.proofs.Crowding.{apart_uncrowded}
 use Rattle.term_windows.specs.declared.windows.Window.{Window}
@@ -20,7 +20,7 @@ use Rattle.term_windows.specs.Windows.{last_in, inside_in}
 use Rattle.term_windows.proofs.Crowding as windows
 use Rattle.term_windows.proofs.Crowding.{IsSearched, crowd_of}
 use Rattle.term_windows.proofs.Steps.{and_false, and_true, next_any, next_each, no_more, one_more, this_any, this_fails}
-use Rattle.term_nodes.specs.declared.evaluation.Here.{Here}
+use Rattle.term_nodes.specs.declared.evaluation.Evaluator.{Evaluator}
 use Rattle.term_nodes.specs.Built.{AllBelow}
 use Rattle.term_nodes.specs.Seen.{IsReady}
 use Rattle.term_nodes.specs.Things.{Thing, term_at, terms_at, things}
@@ -31,7 +31,7 @@ abbrev pub spans : Box → Box → List Thing → List ℕ → List Ends
 spans root b all xs = intervals Near root b (terms_at all xs)
 
 -- none of them is empty
-pub all_ordered : (here : Here) (xs : List ℕ) → IsReady here → AllOrdered (intervals Near (box_in here.root) (box_in here.view) (terms_at (things here.items.now) xs))
+pub all_ordered : (here : Evaluator) (xs : List ℕ) → IsReady here → AllOrdered (intervals Near (box_in here.root) (box_in here.view) (terms_at (things here.items.now) xs))
 all_ordered here [] ready = tt
 all_ordered here (x ∷ xs) ready =
     let root = box_in here.root in
@@ -43,7 +43,8 @@ count_spans root b all [] = refl
 count_spans root b all (x ∷ xs) = ap suc (count_spans root b all xs)
 
 -- how many lie in a window
-dropped : (root b : Box) (all : List Thing) (xs : List ℕ) (i x : ℕ) → i < length xs → x ≡ get_or xs i x → spans root b all (drop i xs) ≡ interval Near root b (term_at all x) ∷ spans root b all (drop (i + 1) xs)
+dropped : (root b : Box) (all : List Thing) (xs : List ℕ) (i x : ℕ) → i < length xs → x ≡ get_or xs i x
+    → spans root b all (drop i xs) ≡ interval Near root b (term_at all x) ∷ spans root b all (drop (i + 1) xs)
 dropped root b all xs i x below at =
     at_drop_more (λ ys. spans root b all ys) xs i x below
     ∙ ap (λ (y : ℕ). interval Near root b (term_at all y) ∷ spans root b all (drop (i + 1) xs)) (sym at)
@@ -65,9 +66,10 @@ none_inside root b all w xs i past = at_drop_all (λ ys. inside_in w (spans root
 pub first_window : (root b : Box) (all : List Thing) (xs : List ℕ) (a : ℤ) (w : Window) → w.low ≡ a → w.width ≡ length xs → IsSearched (spans root b all xs) a w
 first_window root b all xs a w low width = windows.first_window (spans root b all xs) a w low (omega (arith, width, count_spans root b all xs))
 
-pub full_window : (here : Here) (xs : List ℕ) (a : ℤ) (w : Window) (count : ℕ) → IsReady here → IsSearched (spans (box_in here.root) (box_in here.view) (things here.items.now) xs) a w
+pub full_window : (here : Evaluator) (xs : List ℕ) (a : ℤ) (w : Window) (count : ℕ) → IsReady here → IsSearched (spans (box_in here.root) (box_in here.view) (things here.items.now) xs) a w
     → count ≡ inside_in w (spans (box_in here.root) (box_in here.view) (things here.items.now) xs) → 0 < w.width → w.width < count
-    → list_any (λ (y : Ends). are_crowded (spans (box_in here.root) (box_in here.view) (things here.items.now) xs) a y.high) (spans (box_in here.root) (box_in here.view) (things here.items.now) xs) ≡ true
+    → list_any (λ (y : Ends). are_crowded (spans (box_in here.root) (box_in here.view) (things here.items.now) xs) a y.high)
+    (spans (box_in here.root) (box_in here.view) (things here.items.now) xs) ≡ true
 full_window here xs a w count ready searched counted some more =
     windows.full_window (spans (box_in here.root) (box_in here.view) (things here.items.now) xs) a w count (all_ordered here xs ready) searched counted some more
 
@@ -138,8 +140,9 @@ maybe_never never always t told met = ap (λ (p : Bool). judged Maybe p always) 
 pub maybe_open : (never always : Bool) (t : Bool) → t ≡ never → t ≡ false → judged Maybe never always ≡ Unknown
 maybe_open never always t told unmet = ap (λ (p : Bool). judged Maybe p always) (sym told ∙ unmet)
 
-pub surely_apart : (here : Here) (xs : List ℕ) (t : Bool) → IsReady here → t ≡ always_differ (spans (box_in here.root) (box_in here.view) (things here.items.now) xs) → t ≡ true
-    → judged Always (never_differ (spans (box_in here.root) (box_in here.view) (things here.items.now) xs)) (always_differ (spans (box_in here.root) (box_in here.view) (things here.items.now) xs)) ≡ True
+pub surely_apart : (here : Evaluator) (xs : List ℕ) (t : Bool) → IsReady here → t ≡ always_differ (spans (box_in here.root) (box_in here.view) (things here.items.now) xs) → t ≡ true
+    → judged Always (never_differ (spans (box_in here.root) (box_in here.view) (things here.items.now) xs))
+    (always_differ (spans (box_in here.root) (box_in here.view) (things here.items.now) xs)) ≡ True
 surely_apart here xs t ready told met =
     let es = spans (box_in here.root) (box_in here.view) (things here.items.now) xs in
     let is : always_differ es ≡ true = sym told ∙ met in

@@ -1,15 +1,15 @@
 -- Elements of arrays over a box.
 use Rattle.std.proofs.Common.{◌≡◌, ℕ, ◌<◌, pos, Bool, true, false, List, [], ◌∷◌, ◌++◌, length, ap, subst, sym, ◌∙◌}
 use Rattle.box_problem.specs.Box.{Box}
-use Rattle.box_rules.specs.Arrays.{indices}
-use Rattle.box_rules.specs.Ends as ends
-use Rattle.box_rules.specs.Marks.{all_marks}
-use Rattle.box_rules.specs.Rules.{Near, form, marks, intervals, unless_folded, element_ends, element_mark}
-use Rattle.box_rules.specs.Terms.{Table, Terms, Element}
-use Rattle.term_tables.specs.Kept.{table_of}
-use Rattle.term_tables.specs.declared.tables.Table as own
-use Rattle.term_rules.specs.Shown.{box_in}
-use Rattle.term_nodes.specs.declared.evaluation.Here.{Here}
+use Rattle.term_language.specs.Arrays.{indices}
+use Rattle.term_language.specs.Ends as ends
+use Rattle.term_language.specs.Marks.{all_marks}
+use Rattle.term_language.specs.Rules.{Near, form, marks, intervals, unless_folded, element_ends, element_mark}
+use Rattle.term_language.specs.Terms.{Table, Terms, Element}
+use Rattle.term_math.specs.Kept.{table_of}
+use Rattle.term_math.specs.declared.tables.Table as own
+use Rattle.term_math.specs.Shown.{box_in}
+use Rattle.term_nodes.specs.declared.evaluation.Evaluator.{Evaluator}
 use Rattle.term_nodes.specs.Built.{AllBelow, IsBuilt}
 use Rattle.term_nodes.specs.Seen.{IsReady, Sight, sight, element_sight}
 use Rattle.term_nodes.specs.Things.{Thing, table_at, terms_at, things}
@@ -29,7 +29,8 @@ element_seen root b table ts plain is =
     }) (sym is)
 
 pub element_plain : (root b : Box) (all : List Thing) (at : List ℕ) (table : Table) (plain : Bool) (a : ends.Ends) (r : Sight) → plain ≡ (form root (Element table (terms_at all at))).plain
-    → plain ≡ true → a ≡ ends.exactly (pos 0) → r ≡ element_sight b table (all_marks (marks Near root b (terms_at all at))) (intervals Near root b (terms_at all at)) → (◌≡◌ {A = Sight}) (record { ends = a; mark = r.mark }) (sight root b (Element table (terms_at all at)))
+    → plain ≡ true → a ≡ ends.exactly (pos 0) → r ≡ element_sight b table (all_marks (marks Near root b (terms_at all at))) (intervals Near root b (terms_at all at))
+    → (◌≡◌ {A = Sight}) (record { ends = a; mark = r.mark }) (sight root b (Element table (terms_at all at)))
 element_plain root b all at table plain a r plain_is met zero is =
     ap (λ (e : ends.Ends). record { ends = e; mark = r.mark }) zero
     ∙ ap (λ (s : Sight). record { ends = ends.exactly (pos 0); mark = s.mark }) is
@@ -41,7 +42,7 @@ element_alone root b all at table plain r plain_is unmet is =
     is ∙ sym (element_seen root b table (terms_at all at) false (sym unmet ∙ plain_is))
 
 -- an array that is kept has an element for each of its indices
-pub complete_table : (here : Here) (table : ℕ) (t : own.Table) → IsReady here → ((root : Box) → IsBuilt root here.items.now → table_of t ≡ table_at (things here.items.now) table)
+pub complete_table : (here : Evaluator) (table : ℕ) (t : own.Table) → IsReady here → ((root : Box) → IsBuilt root here.items.now → table_of t ≡ table_at (things here.items.now) table)
     → length (table_of t).items ≡ length (indices (table_of t).sets)
 complete_table here table t ready found =
     let root = box_in here.root in

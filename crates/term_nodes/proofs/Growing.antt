@@ -7,10 +7,10 @@ use Rattle.term_nodes.specs.declared.nodes.Node.TheVariants as node
 use Rattle.term_nodes.specs.declared.nodes.Signed.{Signed}
 use Rattle.term_nodes.specs.declared.nodes.Task.{Task}
 use Rattle.term_nodes.specs.declared.items.Item.{Item}
-use Rattle.box_rules.specs.Terms as rule
-use Rattle.box_rules.specs.Forms as forms
-use Rattle.box_rules.specs.Rules.{form}
-use Rattle.term_operations.specs.Made.{operation_term, extreme_term}
+use Rattle.term_language.specs.Terms as rule
+use Rattle.term_language.specs.Forms as forms
+use Rattle.term_language.specs.Rules.{form}
+use Rattle.term_math.specs.Made.{operation_term, extreme_term}
 use Rattle.term_nodes.specs.Things.{Thing, a_term, a_cond, term_in, cond_in, table_in, term_at, cond_at, table_at, thing_at, thing_of, parts_at, terms_at, conds_at, tasks_at, things, things_from}
 use Rattle.term_nodes.specs.Built.{IsAt, IsBuilt, IsNew, IsBelow, IsSound, IsRight, PartsBelow, AllBelow, TasksBelow, facts_of}
 use Rattle.term_nodes.proofs.Reading.{length_things}

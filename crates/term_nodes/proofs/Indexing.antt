@@ -2,20 +2,20 @@
 use Rattle.std.proofs.Common.{◌≡◌, ℕ, suc, ◌<◌, ℤ, pos, Bool, ◌&&◌, List, [], ◌∷◌, ◌++◌, map, length, Some, None, Vec, Global, if◌then◌else◌, arith, refl, ap, sym, ◌∙◌}
 use Rattle.std.specs.List.{filter}
 use Rattle.box_problem.specs.Box.{Box}
-use Rattle.box_rules.specs.declared.answers.Defined.{Defined}
-use Rattle.box_rules.specs.declared.answers.Defined.TheVariants.{Never, Maybe, Always}
-use Rattle.box_rules.specs.Arrays.{Entry, indices, paired, is_covered, are_covered, lies_in}
-use Rattle.box_rules.specs.Ends as ends
-use Rattle.box_rules.specs.Marks.{both, all_marks}
-use Rattle.box_rules.specs.Rules.{Reading, interval, mark, marks, intervals, item_ends, if_any, reached_mark}
-use Rattle.box_rules.specs.Terms.{Item, Table}
-use Rattle.term_tables.specs.Kept.{items_of, sets_of, table_of}
-use Rattle.term_tables.specs.declared.elements.Element.{Element}
-use Rattle.term_tables.specs.Within.{Known, is_one, has_one, none_known, known_of, with_dimension, with_dimensions}
-use Rattle.term_tables.specs.declared.ranges.Indices.{Indices}
-use Rattle.term_tables.specs.declared.tables.Table as own
-use Rattle.term_tables.proofs.Indexed.{indexed_ends, indexed_mark, last_known, sets_missing}
-use Rattle.term_tables.proofs.Reaching.{one_test}
+use Rattle.term_language.specs.declared.answers.Defined.{Defined}
+use Rattle.term_language.specs.declared.answers.Defined.TheVariants.{Never, Maybe, Always}
+use Rattle.term_language.specs.Arrays.{Entry, indices, paired, is_covered, are_covered, lies_in}
+use Rattle.term_language.specs.Ends as ends
+use Rattle.term_language.specs.Marks.{both, all_marks}
+use Rattle.term_language.specs.Rules.{Reading, interval, mark, marks, intervals, item_ends, if_any, reached_mark}
+use Rattle.term_language.specs.Terms.{Item, Table}
+use Rattle.term_math.specs.Kept.{items_of, sets_of, table_of}
+use Rattle.term_math.specs.declared.elements.Element.{Element}
+use Rattle.term_math.specs.Within.{Known, is_one, has_one, none_known, known_of, with_dimension, with_dimensions}
+use Rattle.term_math.specs.declared.ranges.Indices.{Indices}
+use Rattle.term_math.specs.declared.tables.Table as own
+use Rattle.term_math.proofs.Indexed.{indexed_ends, indexed_mark, last_known, sets_missing}
+use Rattle.term_math.proofs.Reaching.{one_test}
 use Rattle.term_nodes.specs.Seen.{Sight, element_sight, indexed_sight, known_sight}
 use Rattle.term_nodes.specs.Things.{Thing, no_table, term_at, terms_at}
 use Rattle.term_nodes.proofs.Ranges.{same_sight, both_always, both_grouped}
@@ -70,7 +70,8 @@ marks_behind reading root b all (y ∷ xs) x m =
     ∙ ap (both (mark reading root b (term_at all y))) (marks_behind reading root b all xs x m)
     ∙ sym (both_grouped (mark reading root b (term_at all y)) (all_marks (marks reading root b (terms_at all xs))) (both (mark reading root b (term_at all x)) m))
 
-same_known : (a b c d : Bool) (rs qs : List ends.Ends) → a ≡ b → c ≡ d → rs ≡ qs → (◌≡◌ {A = Known}) (record { covered = a; allowed = c; ranges = rs }) (record { covered = b; allowed = d; ranges = qs })
+same_known : (a b c d : Bool) (rs qs : List ends.Ends) → a ≡ b → c ≡ d → rs ≡ qs
+    → (◌≡◌ {A = Known}) (record { covered = a; allowed = c; ranges = rs }) (record { covered = b; allowed = d; ranges = qs })
 same_known a b c d rs qs p q r = cc
 
 module _ (reading : Reading) (root b : Box) (all : List Thing) (table : Table) (at xs : List ℕ) (x : ℕ) (sets ss : List (Vec ℤ Global)) (set : Vec ℤ Global) (known more : Indices)

@@ -1,12 +1,12 @@
 -- Which term a node's left operand is, and what is reached by several steps to the left operand.
 use Rattle.std.proofs.Common.{◌≡◌, ℕ, ◌+◌, ◌-◌, ◌<◌, ◌≤◌, zero, suc, List, Option, Some, None, IfSome, arith, refl, ap, subst, sym, ◌∙◌}
 use Rattle.box_problem.specs.Box.{Box}
-use Rattle.box_rules.specs.Terms as rule
-use Rattle.term_operations.specs.declared.operations.Operation.{Operation}
-use Rattle.term_operations.specs.declared.operations.Operation.TheVariants.{Quotient, Remainder, Size}
-use Rattle.term_operations.specs.declared.extremes.Extreme.{Extreme}
-use Rattle.term_operations.specs.declared.extremes.Extreme.TheVariants.{Least, Greatest}
-use Rattle.term_operations.specs.Made.{operation_term, extreme_term}
+use Rattle.term_language.specs.Terms as rule
+use Rattle.term_math.specs.declared.operations.Operation.{Operation}
+use Rattle.term_math.specs.declared.operations.Operation.TheVariants.{Quotient, Remainder, Size}
+use Rattle.term_math.specs.declared.extremes.Extreme.{Extreme}
+use Rattle.term_math.specs.declared.extremes.Extreme.TheVariants.{Least, Greatest}
+use Rattle.term_math.specs.Made.{operation_term, extreme_term}
 use Rattle.term_nodes.specs.declared.nodes.Node.{Node}
 use Rattle.term_nodes.specs.declared.nodes.Node.TheVariants as node
 use Rattle.term_nodes.specs.declared.items.Item.{Item}

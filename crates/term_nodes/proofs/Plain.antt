@@ -1,21 +1,21 @@
 -- A term of cells alone that is Always defined over the root has nothing but cells over each box inside it.
 use Rattle.std.proofs.Common.{◌≡◌, ℤ, pos, true, ◌&&◌, refl, ap, subst, sym, ◌∙◌}
 use Rattle.box_problem.specs.Box.{Box, IsBox, Inside}
-use Rattle.box_rules.specs.declared.answers.Defined.{Defined}
-use Rattle.box_rules.specs.declared.answers.Defined.TheVariants.{Never, Maybe, Always}
-use Rattle.box_rules.specs.Ends as ends
-use Rattle.box_rules.specs.Marks.{is_always}
-use Rattle.box_rules.specs.Terms.{Term}
-use Rattle.box_rules.specs.Rules.{Near, Wide, form, atoms, mark}
-use Rattle.box_rules.specs.Laws.{IsProper, Sharper}
-use Rattle.box_rules.proofs.FormValues.{and_first, and_second}
-use Rattle.box_rules.proofs.Layers.{IsClear}
-use Rattle.box_rules.proofs.Soundness.{read}
-use Rattle.box_rules.proofs.Sharpening.{narrow}
-use Rattle.term_operations.proofs.Constants.{lows_in}
-use Rattle.term_rules.specs.Shown.{box_in}
+use Rattle.term_language.specs.declared.answers.Defined.{Defined}
+use Rattle.term_language.specs.declared.answers.Defined.TheVariants.{Never, Maybe, Always}
+use Rattle.term_language.specs.Ends as ends
+use Rattle.term_language.specs.Marks.{is_always}
+use Rattle.term_language.specs.Terms.{Term}
+use Rattle.term_language.specs.Rules.{Near, Wide, form, atoms, mark}
+use Rattle.term_language.specs.Laws.{IsProper, Sharper}
+use Rattle.term_language.proofs.FormValues.{and_first, and_second}
+use Rattle.term_language.proofs.Layers.{IsClear}
+use Rattle.term_language.proofs.Soundness.{read}
+use Rattle.term_language.proofs.Sharpening.{narrow}
+use Rattle.term_math.proofs.Constants.{lows_in}
+use Rattle.term_math.specs.Shown.{box_in}
 use Rattle.term_nodes.specs.declared.items.Item.{Item}
-use Rattle.term_nodes.specs.declared.evaluation.Here.{Here}
+use Rattle.term_nodes.specs.declared.evaluation.Evaluator.{Evaluator}
 use Rattle.term_nodes.specs.Things.{Thing, term_in, term_at, thing_of, things}
 use Rattle.term_nodes.specs.Built as built
 use Rattle.term_nodes.specs.Built.{IsAt}
@@ -44,7 +44,7 @@ plain_sight root b t is_box inside proper plain always =
     clear_sight (atoms Near root b t) (mark Near root b t) ((read Near root b b.lows t inside.is_box (lows_in b inside.is_box) proper).clear plain)
     (always_of (mark Near root b t) (subst (Sharper (mark Near root b t)) always sharper))
 
-pub plain_seen : (here : Here) (id : _) (item : Item) → IsReady here → IsAt (box_in here.root) (things here.items.now) id item → (item.facts.form.plain && is_always item.facts.wide_mark)
+pub plain_seen : (here : Evaluator) (id : _) (item : Item) → IsReady here → IsAt (box_in here.root) (things here.items.now) id item → (item.facts.form.plain && is_always item.facts.wide_mark)
     ≡ true → sight (box_in here.root) (box_in here.view) (term_at (things here.items.now) id) ≡ record { ends = ends.exactly (pos 0); mark = Always }
 plain_seen here id item ready at plain =
     let root = box_in here.root in

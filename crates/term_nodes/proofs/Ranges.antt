@@ -3,28 +3,28 @@ use Rattle.std.proofs.Common.{◌≡◌, ℕ, ◌+◌, ◌<◌, ◌≤◌, pos, 
 use Rattle.std.specs.List.{fold}
 use Rattle.std.proofs.lemmas.List.{at_drop_more, at_drop_all}
 use Rattle.box_problem.specs.Box.{Box}
-use Rattle.box_rules.specs.Ends as ends
-use Rattle.box_rules.specs.Marks.{both, all_marks}
-use Rattle.box_rules.specs.Rules.{Reading, Near, Wide, form, forms, atoms, mark, marks, interval, intervals, folds, folded, unless_folded, chosen}
-use Rattle.box_rules.specs.Sizes.{size}
-use Rattle.box_rules.specs.Terms as rule
-use Rattle.box_rules.specs.declared.answers.Defined.{Defined}
-use Rattle.box_rules.specs.declared.answers.Defined.TheVariants.{Never, Maybe, Always}
-use Rattle.box_rules.proofs.Bounds.{bounded_whole}
-use Rattle.box_rules.proofs.Sharpening.{intervals_narrow}
-use Rattle.term_rules.specs.Shown.{box_in}
-use Rattle.term_rules.proofs.Fits.{bounds_within}
-use Rattle.term_operations.specs.declared.extremes.Extreme.{Extreme}
-use Rattle.term_operations.specs.declared.operations.Operation.{Operation}
-use Rattle.term_operations.specs.Made.{IsSmall, operation_term, extreme_term, made, made_of, chosen_by, picked}
-use Rattle.term_operations.proofs.Rules.{operation_form, operation_atoms, operation_mark, extreme_form, extreme_atoms, extreme_mark}
-use Rattle.term_nodes.specs.declared.evaluation.Here.{Here}
+use Rattle.term_language.specs.Ends as ends
+use Rattle.term_language.specs.Marks.{both, all_marks}
+use Rattle.term_language.specs.Rules.{Reading, Near, Wide, form, forms, atoms, mark, marks, interval, intervals, folds, folded, unless_folded, chosen}
+use Rattle.term_language.specs.Sizes.{size}
+use Rattle.term_language.specs.Terms as rule
+use Rattle.term_language.specs.declared.answers.Defined.{Defined}
+use Rattle.term_language.specs.declared.answers.Defined.TheVariants.{Never, Maybe, Always}
+use Rattle.term_language.proofs.Bounds.{bounded_whole}
+use Rattle.term_language.proofs.Sharpening.{intervals_narrow}
+use Rattle.term_math.specs.Shown.{box_in}
+use Rattle.term_math.proofs.Fits.{bounds_within}
+use Rattle.term_math.specs.declared.extremes.Extreme.{Extreme}
+use Rattle.term_math.specs.declared.operations.Operation.{Operation}
+use Rattle.term_math.specs.Made.{IsSmall, operation_term, extreme_term, made, made_of, chosen_by, picked}
+use Rattle.term_math.proofs.Rules.{operation_form, operation_atoms, operation_mark, extreme_form, extreme_atoms, extreme_mark}
+use Rattle.term_nodes.specs.declared.evaluation.Evaluator.{Evaluator}
 use Rattle.term_nodes.specs.Seen.{IsReady, Sight, sight, extreme_range}
 use Rattle.term_nodes.specs.Things.{Thing, term_at, terms_at, things}
 use Rattle.term_nodes.proofs.Ready.{small_term}
 
 -- whole intervals of small terms are small
-range_small : (here : Here) (id : ℕ) → IsReady here → IsSmall (interval Near (box_in here.root) (box_in here.view) (term_at (things here.items.now) id))
+range_small : (here : Evaluator) (id : ℕ) → IsReady here → IsSmall (interval Near (box_in here.root) (box_in here.view) (term_at (things here.items.now) id))
 range_small here id ready =
     let root = box_in here.root in
     let b = box_in here.view in
@@ -34,7 +34,7 @@ range_small here id ready =
     (bounded_whole root t sound.proper) in
     record { low = omega (arith, bounds.low, sound.small); high = omega (arith, bounds.high, sound.small) }
 
-pub operation_small : (here : Here) (id : ℕ) (a : ends.Ends) → IsReady here → a ≡ interval Near (box_in here.root) (box_in here.view) (term_at (things here.items.now) id) → IsSmall a
+pub operation_small : (here : Evaluator) (id : ℕ) (a : ends.Ends) → IsReady here → a ≡ interval Near (box_in here.root) (box_in here.view) (term_at (things here.items.now) id) → IsSmall a
 operation_small here id a ready is = subst IsSmall (sym is) (range_small here id ready)
 
 -- whether something folds is seen by its form

@@ -2,9 +2,9 @@
 use Rattle.std.proofs.Common.{◌≡◌, ℕ, ◌+◌, ◌<◌, ◌≤◌, List, [], ◌∷◌, ◌++◌, length, get_or, arith, ap, sym, ◌∙◌, length-append}
 use Rattle.std.proofs.lemmas.List.{get_or_past}
 use Rattle.box_problem.specs.Box.{Box}
-use Rattle.box_rules.specs.Rules.{Near, Wide, form, mark, truth}
-use Rattle.box_rules.specs.Sizes.{atoms_weight}
-use Rattle.term_rules.specs.Shown.{ends_of, form_of}
+use Rattle.term_language.specs.Rules.{Near, Wide, form, mark, truth}
+use Rattle.term_language.specs.Sizes.{atoms_weight}
+use Rattle.term_math.specs.Shown.{ends_of, form_of}
 use Rattle.term_nodes.specs.declared.items.Item.{Item}
 use Rattle.term_nodes.specs.Seen.{Sight, wide_sight}
 use Rattle.term_nodes.specs.Things.{Thing, nothing, cond_in, term_in, cond_at, term_at, thing_at, thing_of, things, things_from}

@@ -1,27 +1,27 @@
--- Where all terms are small over the root, what is reckoned over a box inside it has room.
+-- Where all terms are small over the root, what is computed over a box inside it has room.
 use Rattle.std.proofs.Common.{◌≡◌, inl, inr, ℕ, ◌+◌, ◌-◌, ◌*◌, ◌<◌, ◌≤◌, ◌^◌, zero, suc, pos, negsuc, ◌*ℤ◌, unsigned_abs, List, [], ◌∷◌, length, get_or, drop, arith, refl, ap, subst, sym}
 use Rattle.std.proofs.lemmas.Bool.{cases_lt}
 use Rattle.std.proofs.lemmas.Int.{unsigned_abs-mul}
 use Rattle.std.proofs.lemmas.List.{get_or_default}
 use Rattle.box_problem.specs.Box.{Box, IsBox, Inside}
-use Rattle.box_rules.specs.Ends as ends
-use Rattle.box_rules.specs.Forms as forms
-use Rattle.box_rules.specs.Terms.{Term, Constant, Product, Sum, Parts}
-use Rattle.box_rules.specs.Rules.{Near, Wide, form, atoms, sum_atoms, product_atoms}
-use Rattle.box_rules.specs.Sizes.{weight_of, cells_weight, atoms_weight, sum_weight, size}
-use Rattle.box_rules.specs.Laws.{IsProper, AreProper, AreProperParts, IsTable}
-use Rattle.box_rules.proofs.Bounds.{Bounds, bounded, bounded_parts, sign_size}
-use Rattle.box_rules.proofs.Sharpening.{narrow, narrow_parts}
-use Rattle.term_rules.specs.declared.forms.Form.{Form}
-use Rattle.term_rules.specs.Shown.{IsFit, WholeFits, ProductFits, DifferenceFits, cells_of, ends_at, ends_of, form_of, box_in}
-use Rattle.term_rules.proofs.Fits.{fit, fit_at, bounds_within, product_fits, difference_fits, whole_fits}
-use Rattle.term_rules.proofs.Weights.{combined_weighted, cells_weighted, plus_size}
+use Rattle.term_language.specs.Ends as ends
+use Rattle.term_language.specs.Forms as forms
+use Rattle.term_language.specs.Terms.{Term, Constant, Product, Sum, Parts}
+use Rattle.term_language.specs.Rules.{Near, Wide, form, atoms, sum_atoms, product_atoms}
+use Rattle.term_language.specs.Sizes.{weight_of, cells_weight, atoms_weight, sum_weight, size}
+use Rattle.term_language.specs.Laws.{IsProper, AreProper, AreProperParts, IsTable}
+use Rattle.term_language.proofs.Bounds.{Bounds, bounded, bounded_parts, sign_size}
+use Rattle.term_language.proofs.Sharpening.{narrow, narrow_parts}
+use Rattle.term_math.specs.declared.forms.Form.{Form}
+use Rattle.term_math.specs.Shown.{IsFit, WholeFits, ProductFits, DifferenceFits, cells_of, ends_at, ends_of, form_of, box_in}
+use Rattle.term_math.proofs.Fits.{fit, fit_at, bounds_within, product_fits, difference_fits, whole_fits}
+use Rattle.term_math.proofs.Weights.{combined_weighted, cells_weighted, plus_size}
 use Rattle.term_nodes.specs.declared.nodes.Signed.{Signed}
 use Rattle.term_nodes.specs.declared.items.Item.{Item}
-use Rattle.term_nodes.specs.declared.evaluation.Here.{Here}
+use Rattle.term_nodes.specs.declared.evaluation.Evaluator.{Evaluator}
 use Rattle.term_nodes.specs.Things.{Thing, no_table, term_in, table_in, term_at, terms_at, table_at, parts_at, things}
 use Rattle.term_nodes.specs.Built.{IsAt, IsBuilt, IsSoundTerm}
-use Rattle.term_nodes.specs.declared.evaluation.Sight as own
+use Rattle.term_nodes.specs.declared.evaluation.AbstractValue as own
 use Rattle.term_nodes.specs.Seen.{IsReady, Sight, sight, sight_of, sum_sight}
 use Rattle.term_nodes.proofs.Reading.{nothing_past}
 use Rattle.term_nodes.proofs.Steps.{next_part}
@@ -81,7 +81,8 @@ drop_lighter root all (suc i) [] = omega arith
 drop_lighter root all (suc i) (p ∷ parts) = omega (arith, drop_lighter root all i parts)
 
 -- the steps of a sum
-pub times_fit : (here : Here) (subtracted : _) (id : ℕ) → IsReady here → IsFit (ends_at (forms.sign subtracted) (atoms Near (box_in here.root) (box_in here.view) (term_at (things here.items.now) id)))
+pub times_fit : (here : Evaluator) (subtracted : _) (id : ℕ) → IsReady here
+    → IsFit (ends_at (forms.sign subtracted) (atoms Near (box_in here.root) (box_in here.view) (term_at (things here.items.now) id)))
 times_fit here subtracted id ready =
     let t = term_at (things here.items.now) id in
     let sound = small_term (box_in here.root) here.items.now id ready.built in
@@ -91,7 +92,7 @@ times_fit here subtracted id ready =
     ≡ 1 * atoms_weight (box_in here.root) t = ap (λ (n : ℕ). n * atoms_weight (box_in here.root) t) (sign_size subtracted) in
     omega (arith, once, sound.small))
 
-pub sum_fit : (here : Here) (xs : List Signed) (i : ℕ) (x : Signed) → IsReady here → IsSoundTerm (box_in here.root) (Sum (parts_at (things here.items.now) xs)) → i < length xs → x
+pub sum_fit : (here : Evaluator) (xs : List Signed) (i : ℕ) (x : Signed) → IsReady here → IsSoundTerm (box_in here.root) (Sum (parts_at (things here.items.now) xs)) → i < length xs → x
     ≡ get_or xs i x → IsFit (ends.plus (ends.scaled (forms.sign x.subtracted) (atoms Near (box_in here.root) (box_in here.view) (term_at (things here.items.now) x.term)))
     (sum_atoms Near (box_in here.root) (box_in here.view) (parts_at (things here.items.now) (drop (i + 1) xs))))
 sum_fit here xs i x ready sound below at =
@@ -118,7 +119,7 @@ product_same root b s t f g n left right bounds =
     subst (λ (h : forms.Form). Bounds (product_atoms b h (form_of g) (atoms Near root b s) (atoms Near root b t)) n) (sym left)
     (subst (λ (h : forms.Form). Bounds (product_atoms b (form root s) h (atoms Near root b s) (atoms Near root b t)) n) (sym right) bounds)
 
-pub product_fit : (here : Here) (x y : ℕ) (f g : Form) → IsReady here → form_of f ≡ form (box_in here.root) (term_at (things here.items.now) x) → form_of g
+pub product_fit : (here : Evaluator) (x y : ℕ) (f g : Form) → IsReady here → form_of f ≡ form (box_in here.root) (term_at (things here.items.now) x) → form_of g
     ≡ form (box_in here.root) (term_at (things here.items.now) y) → IsSoundTerm (box_in here.root) (Product (term_at (things here.items.now) x) (term_at (things here.items.now) y))
     → ProductFits (box_in here.view) f g (atoms Near (box_in here.root) (box_in here.view) (term_at (things here.items.now) x))
     (atoms Near (box_in here.root) (box_in here.view) (term_at (things here.items.now) y))
@@ -158,7 +159,7 @@ difference_light root s t f is s_small t_small =
       t_small,
     )
 
-pub difference_fit : (here : Here) (x y : ℕ) (f : Form) → IsReady here → form_of f
+pub difference_fit : (here : Evaluator) (x y : ℕ) (f : Form) → IsReady here → form_of f
     ≡ forms.plus_form (negsuc 0) (form (box_in here.root) (term_at (things here.items.now) x)) (form (box_in here.root) (term_at (things here.items.now) y))
     → DifferenceFits (box_in here.view) f (atoms Near (box_in here.root) (box_in here.view) (term_at (things here.items.now) x))
     (atoms Near (box_in here.root) (box_in here.view) (term_at (things here.items.now) y))
@@ -173,7 +174,7 @@ difference_fit here x y f ready is =
     (near_bounds root b s ready.root_is_box ready.inside s_sound.proper) (near_bounds root b t ready.root_is_box ready.inside t_sound.proper)
     (difference_light root s t f is s_sound.small t_sound.small)
 
-pub difference_seen : (here : Here) (x y : ℕ) (f : Form) (l r : own.Sight) → IsReady here → form_of f
+pub difference_seen : (here : Evaluator) (x y : ℕ) (f : Form) (l r : own.AbstractValue) → IsReady here → form_of f
     ≡ forms.plus_form (negsuc 0) (form (box_in here.root) (term_at (things here.items.now) x)) (form (box_in here.root) (term_at (things here.items.now) y)) → sight_of l
     ≡ sight (box_in here.root) (box_in here.view) (term_at (things here.items.now) x) → sight_of r ≡ sight (box_in here.root) (box_in here.view) (term_at (things here.items.now) y)
     → DifferenceFits (box_in here.view) f (ends_of l.ends) (ends_of r.ends)
@@ -182,12 +183,12 @@ difference_seen here x y f l r ready is left right =
     (subst (λ (a : ends.Ends). DifferenceFits (box_in here.view) f (atoms Near (box_in here.root) (box_in here.view) (term_at (things here.items.now) x)) a) (sym (ap (λ (s : Sight). s.ends) right))
     (difference_fit here x y f ready is))
 
-pub times_seen : (here : Here) (subtracted : _) (id : ℕ) (s : own.Sight) → IsReady here → sight_of s ≡ sight (box_in here.root) (box_in here.view) (term_at (things here.items.now) id)
+pub times_seen : (here : Evaluator) (subtracted : _) (id : ℕ) (s : own.AbstractValue) → IsReady here → sight_of s ≡ sight (box_in here.root) (box_in here.view) (term_at (things here.items.now) id)
     → IsFit (ends_at (forms.sign subtracted) (ends_of s.ends))
 times_seen here subtracted id s ready is =
     subst (λ (a : ends.Ends). IsFit (ends_at (forms.sign subtracted) a)) (sym (ap (λ (s : Sight). s.ends) is)) (times_fit here subtracted id ready)
 
-pub sum_seen : (here : Here) (xs : List Signed) (i : ℕ) (d : Signed) (part sum : own.Sight) → IsReady here → IsSoundTerm (box_in here.root) (Sum (parts_at (things here.items.now) xs))
+pub sum_seen : (here : Evaluator) (xs : List Signed) (i : ℕ) (d : Signed) (part sum : own.AbstractValue) → IsReady here → IsSoundTerm (box_in here.root) (Sum (parts_at (things here.items.now) xs))
     → 0 < i → i ≤ length xs → sight_of part ≡ sight (box_in here.root) (box_in here.view) (term_at (things here.items.now) (get_or xs (i - 1) d).term) → sight_of sum
     ≡ sum_sight (box_in here.root) (box_in here.view) (parts_at (things here.items.now) (drop i xs))
     → IsFit (ends.plus (ends.scaled (forms.sign (get_or xs (i - 1) d).subtracted) (ends_of part.ends)) (ends_of sum.ends))
@@ -203,7 +204,7 @@ sum_seen here xs i d part sum ready sound positive most first later =
     (sym (ap (λ (s : Sight). s.ends) later)) here_fits)
 
 -- the whole interval of a term
-pub range_fit : (here : Here) (id : ℕ) (f : Form) (s : own.Sight) → IsReady here → form_of f ≡ form (box_in here.root) (term_at (things here.items.now) id) → sight_of s
+pub range_fit : (here : Evaluator) (id : ℕ) (f : Form) (s : own.AbstractValue) → IsReady here → form_of f ≡ form (box_in here.root) (term_at (things here.items.now) id) → sight_of s
     ≡ sight (box_in here.root) (box_in here.view) (term_at (things here.items.now) id) → WholeFits (box_in here.view) f (ends_of s.ends)
 range_fit here id f s ready is seen =
     let root = box_in here.root in

@@ -2,13 +2,13 @@
 use Rattle.std.proofs.Common.{◌≡◌, ℕ, ◌+◌, ◌-◌, ◌<◌, ◌≤◌, List, [], ◌∷◌, length, get_or, drop, zero, suc, arith, ap, subst, sym, ◌∙◌}
 use Rattle.std.proofs.lemmas.List.{at_drop_more, at_drop_all, get_or_default}
 use Rattle.box_problem.specs.Box.{Box}
-use Rattle.box_rules.specs.Ends as ends
-use Rattle.box_rules.specs.Forms.{sign}
-use Rattle.box_rules.specs.Marks.{both, all_marks, and_truth, or_truth}
-use Rattle.box_rules.specs.Terms as rule
-use Rattle.box_rules.specs.declared.answers.Defined.TheVariants.{Always}
-use Rattle.box_rules.specs.Rules.{Reading, Near, form, atoms, mark, marks, sum_atoms, truth, all_truth, any_truth}
-use Rattle.box_rules.specs.declared.answers.Truth.{Truth}
+use Rattle.term_language.specs.Ends as ends
+use Rattle.term_language.specs.Forms.{sign}
+use Rattle.term_language.specs.Marks.{both, all_marks, and_truth, or_truth}
+use Rattle.term_language.specs.Terms as rule
+use Rattle.term_language.specs.declared.answers.Defined.TheVariants.{Always}
+use Rattle.term_language.specs.Rules.{Reading, Near, form, atoms, mark, marks, sum_atoms, truth, all_truth, any_truth}
+use Rattle.term_language.specs.declared.answers.Truth.{Truth}
 use Rattle.term_nodes.specs.declared.nodes.Node.{Node}
 use Rattle.term_nodes.specs.declared.nodes.Signed.{Signed}
 use Rattle.term_nodes.specs.declared.items.Item.{Item}

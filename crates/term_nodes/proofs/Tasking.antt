@@ -1,27 +1,28 @@
 -- Steps of the loops over tasks.
-use Rattle.std.proofs.Common.{◌≡◌, ℕ, ◌+◌, ◌-◌, ◌<◌, ◌≤◌, zero, suc, ℤ, pos, ◌-ℤ◌, ◌≤ℤ◌, ◌<ℤ◌, int_lt, int_le, Bool, true, false, ◌&&◌, ◌||◌, if◌then◌else◌, List, [], ◌∷◌, length, get_or, drop, arith, ap, sym, subst, ◌∙◌}
+use Rattle.std.proofs.Common.{◌≡◌, ℕ, ◌+◌, ◌-◌, ◌<◌, ◌≤◌, zero, suc, ℤ, pos, ◌-ℤ◌, ◌≤ℤ◌, ◌<ℤ◌, int_lt, int_le, Bool}
+use Rattle.std.proofs.Common.{true, false, ◌&&◌, ◌||◌, if◌then◌else◌, List, [], ◌∷◌, length, get_or, drop, arith, ap, sym, subst, ◌∙◌}
 use Rattle.std.specs.List.{list_all, list_any}
 use Rattle.std.proofs.lemmas.List.{at_drop_more, at_drop_all, get_or_default}
 use Rattle.box_problem.specs.Box.{Box}
-use Rattle.box_rules.specs.Ends.{Ends}
-use Rattle.box_rules.specs.Globals.{TaskEnds, least_asked, most_asked, is_overfull, is_enough}
-use Rattle.box_rules.specs.Marks.{both, judged}
-use Rattle.box_rules.specs.Rules.{Near, interval, mark, task_ends, task_mark}
-use Rattle.box_rules.specs.declared.answers.Defined.{Defined}
-use Rattle.box_rules.specs.declared.answers.Defined.TheVariants.{Always}
-use Rattle.box_rules.specs.declared.answers.Truth.{Truth}
-use Rattle.box_rules.specs.declared.answers.Truth.TheVariants.{False, Unknown, True}
-use Rattle.box_rules.proofs.Sharpening.{intervals_narrow}
-use Rattle.box_rules.proofs.Tasks.{SoundEnds, sound_ends}
-use Rattle.term_rules.specs.Shown.{box_in, ends_of}
-use Rattle.term_rules.specs.declared.ends.Ends as own
+use Rattle.term_language.specs.Ends.{Ends}
+use Rattle.term_language.specs.Globals.{TaskEnds, least_asked, most_asked, is_overfull, is_enough}
+use Rattle.term_language.specs.Marks.{both, judged}
+use Rattle.term_language.specs.Rules.{Near, interval, mark, task_ends, task_mark}
+use Rattle.term_language.specs.declared.answers.Defined.{Defined}
+use Rattle.term_language.specs.declared.answers.Defined.TheVariants.{Always}
+use Rattle.term_language.specs.declared.answers.Truth.{Truth}
+use Rattle.term_language.specs.declared.answers.Truth.TheVariants.{False, Unknown, True}
+use Rattle.term_language.proofs.Sharpening.{intervals_narrow}
+use Rattle.term_language.proofs.Tasks.{SoundEnds, sound_ends}
+use Rattle.term_math.specs.Shown.{box_in, ends_of}
+use Rattle.term_math.specs.declared.ends.Ends as own
 use Rattle.term_crowds.specs.Crowds.{DemandsOrdered, all_sound, some_negative}
 use Rattle.term_crowds.proofs.Times.{most_nonneg}
 use Rattle.term_windows.specs.Tasks.{all_enough, some_overfull, task_ends_of}
 use Rattle.term_windows.proofs.Fitting as rooms
 use Rattle.term_windows.proofs.Fitting.{HasRoom}
 use Rattle.term_windows.proofs.Steps as steps
-use Rattle.term_nodes.specs.declared.evaluation.Here.{Here}
+use Rattle.term_nodes.specs.declared.evaluation.Evaluator.{Evaluator}
 use Rattle.term_nodes.specs.declared.nodes.Task.{Task}
 use Rattle.term_nodes.specs.Built.{TasksBelow}
 use Rattle.term_nodes.specs.Seen.{IsReady}
@@ -34,7 +35,8 @@ use Rattle.term_nodes.proofs.Ready.{small_term}
 abbrev pub rows : Box → Box → List Thing → List Task → List TaskEnds
 rows root b all xs = task_ends Near root b (tasks_at all xs)
 
-pub rows_drop : (root b : Box) (all : List Thing) (xs : List Task) (i : ℕ) (x : Task) → i < length xs → x ≡ get_or xs i x → rows root b all (drop i xs) ≡ task_seen root b all x ∷ rows root b all (drop (i + 1) xs)
+pub rows_drop : (root b : Box) (all : List Thing) (xs : List Task) (i : ℕ) (x : Task) → i < length xs → x ≡ get_or xs i x
+    → rows root b all (drop i xs) ≡ task_seen root b all x ∷ rows root b all (drop (i + 1) xs)
 rows_drop root b all xs i x below at =
     at_drop_more (λ ys. rows root b all ys) xs i x below
     ∙ ap (λ (y : Task). task_seen root b all y ∷ rows root b all (drop (i + 1) xs)) (sym at)
@@ -60,7 +62,8 @@ pub next_task_mark : (root b : Box) (all : List Thing) (xs : List Task) (i : ℕ
     → task_mark Near root b (tasks_at all (drop i xs)) ≡ both (mark_seen root b all x) (task_mark Near root b (tasks_at all (drop (i + 1) xs)))
 next_task_mark root b all xs i x below at =
     at_drop_more (λ ys. task_mark Near root b (tasks_at all ys)) xs i x below
-    ∙ ap (λ (y : Task). both (mark Near root b (term_at all y.start)) (both (mark Near root b (term_at all y.duration)) (both (mark Near root b (term_at all y.demand)) (task_mark Near root b (tasks_at all (drop (i + 1) xs)))))) (sym at)
+    ∙ ap (λ (y : Task). both (mark Near root b (term_at all y.start))
+    (both (mark Near root b (term_at all y.duration)) (both (mark Near root b (term_at all y.demand)) (task_mark Near root b (tasks_at all (drop (i + 1) xs)))))) (sym at)
     ∙ grouped (mark Near root b (term_at all x.start)) (mark Near root b (term_at all x.duration)) (mark Near root b (term_at all x.demand)) (task_mark Near root b (tasks_at all (drop (i + 1) xs)))
   where
     grouped : (s d m k : Defined) → both s (both d (both m k)) ≡ both (both s (both d m)) k
@@ -105,22 +108,26 @@ this_fails f root b all xs i x below at unmet = steps.this_fails f _ _ (task_see
 pub next_negative : (root b : Box) (all : List Thing) (xs : List Task) (i : ℕ) (x : Task) (e : TaskEnds) (t : Bool) → i < length xs → x ≡ get_or xs i x → e ≡ task_seen root b all x
     → t ≡ (int_lt e.duration.high (pos 0) || int_lt e.demand.high (pos 0)) → t ≡ false → some_negative (rows root b all (drop i xs)) ≡ some_negative (rows root b all (drop (i + 1) xs))
 next_negative root b all xs i x e t below at is told met =
-    next_any (λ (e : TaskEnds). (int_lt e.duration.high (pos 0) || int_lt e.demand.high (pos 0))) root b all xs i x below at (ap (λ (e : TaskEnds). (int_lt e.duration.high (pos 0) || int_lt e.demand.high (pos 0))) (sym is) ∙ sym told ∙ met)
+    next_any (λ (e : TaskEnds). (int_lt e.duration.high (pos 0) || int_lt e.demand.high (pos 0))) root b all xs i x below at
+    (ap (λ (e : TaskEnds). (int_lt e.duration.high (pos 0) || int_lt e.demand.high (pos 0))) (sym is) ∙ sym told ∙ met)
 
 pub this_negative : (root b : Box) (all : List Thing) (xs : List Task) (i : ℕ) (x : Task) (e : TaskEnds) (t : Bool) → i < length xs → x ≡ get_or xs i x → e ≡ task_seen root b all x
     → t ≡ (int_lt e.duration.high (pos 0) || int_lt e.demand.high (pos 0)) → t ≡ true → some_negative (rows root b all (drop i xs)) ≡ true
 this_negative root b all xs i x e t below at is told met =
-    this_any (λ (e : TaskEnds). (int_lt e.duration.high (pos 0) || int_lt e.demand.high (pos 0))) root b all xs i x below at (ap (λ (e : TaskEnds). (int_lt e.duration.high (pos 0) || int_lt e.demand.high (pos 0))) (sym is) ∙ sym told ∙ met)
+    this_any (λ (e : TaskEnds). (int_lt e.duration.high (pos 0) || int_lt e.demand.high (pos 0))) root b all xs i x below at
+    (ap (λ (e : TaskEnds). (int_lt e.duration.high (pos 0) || int_lt e.demand.high (pos 0))) (sym is) ∙ sym told ∙ met)
 
 pub none_negative : (root b : Box) (all : List Thing) (xs : List Task) (i : ℕ) → length xs ≤ i → some_negative (rows root b all (drop i xs)) ≡ false
 none_negative root b all xs i past = at_drop_all (λ ys. some_negative (rows root b all ys)) xs i past
 
-pub next_peak : (es : List TaskEnds) (capacity : Ends) (root b : Box) (all : List Thing) (xs : List Task) (i : ℕ) (x : Task) (e : TaskEnds) (t : Bool) → i < length xs → x ≡ get_or xs i x → e ≡ task_seen root b all x
+pub next_peak : (es : List TaskEnds) (capacity : Ends) (root b : Box) (all : List Thing) (xs : List Task) (i : ℕ) (x : Task) (e : TaskEnds) (t : Bool) → i < length xs
+    → x ≡ get_or xs i x → e ≡ task_seen root b all x
     → t ≡ is_overfull es capacity e.start.high → t ≡ false → some_overfull es capacity (rows root b all (drop i xs)) ≡ some_overfull es capacity (rows root b all (drop (i + 1) xs))
 next_peak es capacity root b all xs i x e t below at is told met =
     next_any (λ (e : TaskEnds). is_overfull es capacity e.start.high) root b all xs i x below at (ap (λ (e : TaskEnds). is_overfull es capacity e.start.high) (sym is) ∙ sym told ∙ met)
 
-pub some_peak : (es : List TaskEnds) (capacity : Ends) (root b : Box) (all : List Thing) (xs : List Task) (i : ℕ) (x : Task) (e : TaskEnds) (t : Bool) → i < length xs → x ≡ get_or xs i x → e ≡ task_seen root b all x
+pub some_peak : (es : List TaskEnds) (capacity : Ends) (root b : Box) (all : List Thing) (xs : List Task) (i : ℕ) (x : Task) (e : TaskEnds) (t : Bool) → i < length xs
+    → x ≡ get_or xs i x → e ≡ task_seen root b all x
     → t ≡ is_overfull es capacity e.start.high → t ≡ true → some_overfull es capacity (rows root b all (drop i xs)) ≡ true
 some_peak es capacity root b all xs i x e t below at is told met =
     this_any (λ (e : TaskEnds). is_overfull es capacity e.start.high) root b all xs i x below at (ap (λ (e : TaskEnds). is_overfull es capacity e.start.high) (sym is) ∙ sym told ∙ met)
@@ -131,22 +138,26 @@ none_peak es capacity root b all xs i past = at_drop_all (λ ys. some_overfull e
 pub next_sound : (root b : Box) (all : List Thing) (xs : List Task) (i : ℕ) (x : Task) (e : TaskEnds) (t : Bool) → i < length xs → x ≡ get_or xs i x → e ≡ task_seen root b all x
     → t ≡ (int_le (pos 0) e.duration.low && int_le (pos 0) e.demand.low) → t ≡ true → all_sound (rows root b all (drop i xs)) ≡ all_sound (rows root b all (drop (i + 1) xs))
 next_sound root b all xs i x e t below at is told met =
-    next_each (λ (e : TaskEnds). (int_le (pos 0) e.duration.low && int_le (pos 0) e.demand.low)) root b all xs i x below at (ap (λ (e : TaskEnds). (int_le (pos 0) e.duration.low && int_le (pos 0) e.demand.low)) (sym is) ∙ sym told ∙ met)
+    next_each (λ (e : TaskEnds). (int_le (pos 0) e.duration.low && int_le (pos 0) e.demand.low)) root b all xs i x below at
+    (ap (λ (e : TaskEnds). (int_le (pos 0) e.duration.low && int_le (pos 0) e.demand.low)) (sym is) ∙ sym told ∙ met)
 
 pub not_sound : (root b : Box) (all : List Thing) (xs : List Task) (i : ℕ) (x : Task) (e : TaskEnds) (t : Bool) → i < length xs → x ≡ get_or xs i x → e ≡ task_seen root b all x
     → t ≡ (int_le (pos 0) e.duration.low && int_le (pos 0) e.demand.low) → t ≡ false → all_sound (rows root b all (drop i xs)) ≡ false
 not_sound root b all xs i x e t below at is told met =
-    this_fails (λ (e : TaskEnds). (int_le (pos 0) e.duration.low && int_le (pos 0) e.demand.low)) root b all xs i x below at (ap (λ (e : TaskEnds). (int_le (pos 0) e.duration.low && int_le (pos 0) e.demand.low)) (sym is) ∙ sym told ∙ met)
+    this_fails (λ (e : TaskEnds). (int_le (pos 0) e.duration.low && int_le (pos 0) e.demand.low)) root b all xs i x below at
+    (ap (λ (e : TaskEnds). (int_le (pos 0) e.duration.low && int_le (pos 0) e.demand.low)) (sym is) ∙ sym told ∙ met)
 
 pub all_are_sound : (root b : Box) (all : List Thing) (xs : List Task) (i : ℕ) → length xs ≤ i → all_sound (rows root b all (drop i xs)) ≡ true
 all_are_sound root b all xs i past = at_drop_all (λ ys. all_sound (rows root b all ys)) xs i past
 
-pub next_enough : (es : List TaskEnds) (capacity : Ends) (root b : Box) (all : List Thing) (xs : List Task) (i : ℕ) (x : Task) (e : TaskEnds) (t : Bool) → i < length xs → x ≡ get_or xs i x → e ≡ task_seen root b all x
+pub next_enough : (es : List TaskEnds) (capacity : Ends) (root b : Box) (all : List Thing) (xs : List Task) (i : ℕ) (x : Task) (e : TaskEnds) (t : Bool) → i < length xs
+    → x ≡ get_or xs i x → e ≡ task_seen root b all x
     → t ≡ is_enough es capacity e.start.low → t ≡ true → all_enough es capacity (rows root b all (drop i xs)) ≡ all_enough es capacity (rows root b all (drop (i + 1) xs))
 next_enough es capacity root b all xs i x e t below at is told met =
     next_each (λ (e : TaskEnds). is_enough es capacity e.start.low) root b all xs i x below at (ap (λ (e : TaskEnds). is_enough es capacity e.start.low) (sym is) ∙ sym told ∙ met)
 
-pub not_enough : (es : List TaskEnds) (capacity : Ends) (root b : Box) (all : List Thing) (xs : List Task) (i : ℕ) (x : Task) (e : TaskEnds) (t : Bool) → i < length xs → x ≡ get_or xs i x → e ≡ task_seen root b all x
+pub not_enough : (es : List TaskEnds) (capacity : Ends) (root b : Box) (all : List Thing) (xs : List Task) (i : ℕ) (x : Task) (e : TaskEnds) (t : Bool) → i < length xs
+    → x ≡ get_or xs i x → e ≡ task_seen root b all x
     → t ≡ is_enough es capacity e.start.low → t ≡ false → all_enough es capacity (rows root b all (drop i xs)) ≡ false
 not_enough es capacity root b all xs i x e t below at is told met =
     this_fails (λ (e : TaskEnds). is_enough es capacity e.start.low) root b all xs i x below at (ap (λ (e : TaskEnds). is_enough es capacity e.start.low) (sym is) ∙ sym told ∙ met)
@@ -173,11 +184,12 @@ room_left root b all capacity time room xs i past has =
     rooms.room_left capacity time room _ (rows root b all xs) (at_drop_all (λ ys. rows root b all ys) xs i past) has
 
 -- what tasks may ask for is not negative where none is unsound
-demands_ordered : (here : Here) (xs : List Task) → IsReady here → DemandsOrdered (rows (box_in here.root) (box_in here.view) (things here.items.now) xs)
+demands_ordered : (here : Evaluator) (xs : List Task) → IsReady here → DemandsOrdered (rows (box_in here.root) (box_in here.view) (things here.items.now) xs)
 demands_ordered here [] ready = tt
 demands_ordered here (x ∷ xs) ready =
     let root = box_in here.root in (
-      (intervals_narrow Near root (box_in here.view) root (term_at (things here.items.now) x.demand) ready.root_is_box ready.inside (small_term root here.items.now x.demand ready.built).proper).ordered,
+      (intervals_narrow Near root (box_in here.view) root (term_at (things here.items.now) x.demand) ready.root_is_box ready.inside
+          (small_term root here.items.now x.demand ready.built).proper).ordered,
       demands_ordered here xs ready,
     )
 
@@ -187,7 +199,8 @@ sound_dropped root b all [] (suc i) sound = sound
 sound_dropped root b all (x ∷ xs) (suc i) sound = sound_dropped root b all xs i sound.2
 
 -- one task's demand is not negative
-pub asks_some : (here : Here) (xs : List Task) (i : ℕ) (x : Task) (e : TaskEnds) (time asked : ℤ) → IsReady here → all_sound (rows (box_in here.root) (box_in here.view) (things here.items.now) xs) ≡ true
+pub asks_some : (here : Evaluator) (xs : List Task) (i : ℕ) (x : Task) (e : TaskEnds) (time asked : ℤ) → IsReady here
+    → all_sound (rows (box_in here.root) (box_in here.view) (things here.items.now) xs) ≡ true
     → i < length xs → x ≡ get_or xs i x → e ≡ task_seen (box_in here.root) (box_in here.view) (things here.items.now) x → asked ≡ most_asked time e → pos 0 ≤ℤ asked
 asks_some here xs i x e time asked ready sound below at is told =
     let root = box_in here.root in
@@ -199,10 +212,11 @@ asks_some here xs i x e time asked ready sound below at is told =
     let order = (intervals_narrow Near root b root (term_at all x.demand) ready.root_is_box ready.inside (small_term root here.items.now x.demand ready.built).proper).ordered in
     subst (λ z. pos 0 ≤ℤ z) (sym (told ∙ ap (most_asked time) is)) (most_nonneg time f order here_sound.1)
 
-pub no_most : (here : Here) (capacity : Ends) (time room asked : ℤ) (xs : List Task) (i : ℕ) (x : Task) (e : TaskEnds) → IsReady here
+pub no_most : (here : Evaluator) (capacity : Ends) (time room asked : ℤ) (xs : List Task) (i : ℕ) (x : Task) (e : TaskEnds) → IsReady here
     → all_sound (rows (box_in here.root) (box_in here.view) (things here.items.now) xs) ≡ true → i < length xs → x ≡ get_or xs i x
     → e ≡ task_seen (box_in here.root) (box_in here.view) (things here.items.now) x → asked ≡ most_asked time e → room <ℤ asked
-    → HasRoom (most_asked time) capacity.low room (rows (box_in here.root) (box_in here.view) (things here.items.now) (drop i xs)) (rows (box_in here.root) (box_in here.view) (things here.items.now) xs)
+    → HasRoom (most_asked time) capacity.low room (rows (box_in here.root) (box_in here.view) (things here.items.now) (drop i xs))
+    (rows (box_in here.root) (box_in here.view) (things here.items.now) xs)
     → is_enough (rows (box_in here.root) (box_in here.view) (things here.items.now) xs) capacity time ≡ false
 no_most here capacity time room asked xs i x e ready sound below at is told more has =
     let root = box_in here.root in

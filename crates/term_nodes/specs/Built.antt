@@ -1,19 +1,19 @@
 -- What is known of each node, and that it is right.
 use Rattle.std.specs.Prelude.{◌≡◌, ℕ, ◌<◌, ◌≤◌, ◌^◌, pos, negsuc, List, [], ◌∷◌, length, get_or}
 use Rattle.box_problem.specs.Box.{Box}
-use Rattle.box_rules.specs.Ends as ends
-use Rattle.box_rules.specs.Forms as forms
-use Rattle.box_rules.specs.Terms.{Term}
-use Rattle.box_rules.specs.Rules.{Near, Wide, form, mark, atoms, truth}
-use Rattle.box_rules.specs.Sizes.{atoms_weight, size}
-use Rattle.box_rules.specs.Laws.{IsProper, IsProperCond, IsTable}
-use Rattle.box_rules.specs.declared.answers.Defined.{Defined}
-use Rattle.box_rules.specs.declared.answers.Defined.TheVariants.{Always}
-use Rattle.box_rules.specs.declared.answers.Truth.{Truth}
-use Rattle.box_rules.specs.declared.answers.Truth.TheVariants.{True}
-use Rattle.box_rules.specs.Marks.{truth_ends}
-use Rattle.term_rules.specs.Shown.{ends_of, form_of}
-use Rattle.term_operations.specs.Made.{IsPossible}
+use Rattle.term_language.specs.Ends as ends
+use Rattle.term_language.specs.Forms as forms
+use Rattle.term_language.specs.Terms.{Term}
+use Rattle.term_language.specs.Rules.{Near, Wide, form, mark, atoms, truth}
+use Rattle.term_language.specs.Sizes.{atoms_weight, size}
+use Rattle.term_language.specs.Laws.{IsProper, IsProperCond, IsTable}
+use Rattle.term_language.specs.declared.answers.Defined.{Defined}
+use Rattle.term_language.specs.declared.answers.Defined.TheVariants.{Always}
+use Rattle.term_language.specs.declared.answers.Truth.{Truth}
+use Rattle.term_language.specs.declared.answers.Truth.TheVariants.{True}
+use Rattle.term_language.specs.Marks.{truth_ends}
+use Rattle.term_math.specs.Shown.{ends_of, form_of}
+use Rattle.term_math.specs.Made.{IsPossible}
 use Rattle.term_nodes.specs.declared.nodes.Node.{Node}
 use Rattle.term_nodes.specs.declared.nodes.Node.TheVariants as node
 use Rattle.term_nodes.specs.declared.nodes.Signed.{Signed}
@@ -124,7 +124,7 @@ IsBelow id (node.AllDifferent terms) = AllBelow id terms.items
 IsBelow id (node.Cumulative tasks capacity) = TasksBelow id tasks.items × (capacity < id)
 IsBelow id (node.Table t) = Unit {0}
 
--- a divisor can be reckoned with, and the form of a comparison is that of the difference
+-- a divisor can be computed with, and the form of a comparison is that of the difference
 abbrev pub IsRight : Box → List Thing → Node → Type 0
 IsRight root all (node.Constant z) = Unit {0}
 IsRight root all (node.Cell cell) = Unit {0}

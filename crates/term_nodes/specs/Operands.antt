@@ -1,6 +1,6 @@
 -- Left operands: the first factor of a product, and what a quotient, a remainder or a size is made of. A chain of these is as long as its text.
 use Rattle.std.specs.Prelude.{ℕ, zero, suc, Option, Some, None}
-use Rattle.box_rules.specs.Terms.{Term, Product, Quotient, Remainder, Size}
+use Rattle.term_language.specs.Terms.{Term, Product, Quotient, Remainder, Size}
 use Rattle.term_nodes.specs.declared.nodes.Node.{Node}
 use Rattle.term_nodes.specs.declared.nodes.Node.TheVariants as node
 

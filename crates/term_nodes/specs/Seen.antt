@@ -1,29 +1,29 @@
 -- What terms are over a box.
 use Rattle.std.specs.Prelude.{ℕ, ℤ, List, Option}
 use Rattle.box_problem.specs.Box.{Box, IsBox, Inside}
-use Rattle.box_rules.specs.Ends as ends
+use Rattle.term_language.specs.Ends as ends
 use Rattle.std.specs.List.{fold}
-use Rattle.box_rules.specs.Marks.{both, all_marks}
-use Rattle.box_rules.specs.Terms.{Table, Term, Terms, Parts}
-use Rattle.box_rules.specs.Rules as rule
-use Rattle.box_rules.specs.declared.answers.Defined.{Defined}
-use Rattle.term_operations.specs.declared.extremes.Extreme.{Extreme}
-use Rattle.term_operations.specs.Made.{picked}
-use Rattle.term_rules.specs.Shown.{box_in, ends_of}
-use Rattle.term_tables.specs.Within.{Known, all_covered, allowed_ends, seen_ends, seen_mark, with_dimensions}
-use Rattle.box_rules.specs.Globals.{TaskEnds}
-use Rattle.term_nodes.specs.declared.evaluation.Here.{Here}
+use Rattle.term_language.specs.Marks.{both, all_marks}
+use Rattle.term_language.specs.Terms.{Table, Term, Terms, Parts}
+use Rattle.term_language.specs.Rules as rule
+use Rattle.term_language.specs.declared.answers.Defined.{Defined}
+use Rattle.term_math.specs.declared.extremes.Extreme.{Extreme}
+use Rattle.term_math.specs.Made.{picked}
+use Rattle.term_math.specs.Shown.{box_in, ends_of}
+use Rattle.term_math.specs.Within.{Known, all_covered, allowed_ends, seen_ends, seen_mark, with_dimensions}
+use Rattle.term_language.specs.Globals.{TaskEnds}
+use Rattle.term_nodes.specs.declared.evaluation.Evaluator.{Evaluator}
 use Rattle.term_nodes.specs.declared.nodes.Task.{Task}
 use Rattle.term_nodes.specs.Things.{tasks_at, terms_at, things}
-use Rattle.term_nodes.specs.declared.evaluation.Sight as own
+use Rattle.term_nodes.specs.declared.evaluation.AbstractValue as own
 use Rattle.term_nodes.specs.Built.{IsBuilt}
 
--- the interval of what is no cell, and the mark
+-- the interval of the non-linear part, and the mark
 pub record Sight : Type 0 where
   pub ends : ends.Ends
   pub mark : Defined
 
-abbrev pub sight_of : own.Sight → Sight
+abbrev pub sight_of : own.AbstractValue → Sight
 sight_of s = record { ends = ends_of s.ends; mark = s.mark }
 
 abbrev pub sight : Box → Box → Term → Sight
@@ -63,10 +63,10 @@ indexed_sight reading root b table at sets mark known =
     known_sight b table (both (all_marks (rule.marks reading root b at)) mark) (with_dimensions (rule.intervals reading root b at) sets known)
 
 -- the intervals of several terms over the box, and those of several tasks
-abbrev pub intervals_seen : Here → List ℕ → List ends.Ends
+abbrev pub intervals_seen : Evaluator → List ℕ → List ends.Ends
 intervals_seen here ids = rule.intervals rule.Near (box_in here.root) (box_in here.view) (terms_at (things here.items.now) ids)
 
-abbrev pub tasks_seen : Here → List Task → List TaskEnds
+abbrev pub tasks_seen : Evaluator → List Task → List TaskEnds
 tasks_seen here tasks = rule.task_ends rule.Near (box_in here.root) (box_in here.view) (tasks_at (things here.items.now) tasks)
 
 -- what a term is over the root, by the wide reading
@@ -77,7 +77,7 @@ abbrev pub wide_sum : Box → Parts → Sight
 wide_sum root parts = record { ends = rule.sum_atoms rule.Wide root root parts; mark = rule.sum_mark rule.Wide root root parts }
 
 -- the nodes are right, and the box lies inside the root
-pub record IsReady (here : Here) : Type 0 where
+pub record IsReady (here : Evaluator) : Type 0 where
   pub built : IsBuilt (box_in here.root) here.items.now
   pub root_is_box : IsBox (box_in here.root)
   pub inside : Inside (box_in here.view) (box_in here.root)

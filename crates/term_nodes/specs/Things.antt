@@ -1,8 +1,8 @@
 -- Which term, condition or array a node is.
 use Rattle.std.specs.Prelude.{ℕ, pos, List, [], ◌∷◌, ◌++◌, slice_index_or}
-use Rattle.box_rules.specs.Terms as rule
-use Rattle.term_operations.specs.Made.{operation_term, extreme_term}
-use Rattle.term_tables.specs.Kept.{table_of}
+use Rattle.term_language.specs.Terms as rule
+use Rattle.term_math.specs.Made.{operation_term, extreme_term}
+use Rattle.term_math.specs.Kept.{table_of}
 use Rattle.term_nodes.specs.declared.nodes.Node.{Node}
 use Rattle.term_nodes.specs.declared.nodes.Node.TheVariants as node
 use Rattle.term_nodes.specs.declared.nodes.Signed.{Signed}

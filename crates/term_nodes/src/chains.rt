@@ -6,7 +6,7 @@ ghost use Rattle.term_nodes.specs.Things.{term_at, things};
 ghost use Rattle.term_nodes.specs.Operands.{left_operand, steps_down};
 ghost use Rattle.term_nodes.specs.Seen.{IsReady};
 
-use crate::evaluation::Here;
+use crate::evaluation::Evaluator;
 use crate::items::item_at;
 
 /// Where a chain ends, and how many steps it is down to there.
@@ -16,7 +16,7 @@ pub(crate) struct Bottom {
     pub steps: u32,
 }
 
-impl<'a> Here<'a> {
+impl<'a> Evaluator<'a> {
     /// The left operand of the node of this number; of one that has none, the node itself.
     #[tactic(auto, using(crate::proofs::Links::left_below, crate::proofs::Links::left_is, crate::proofs::Links::left_none, crate::proofs::Links::left_nothing))]
     fn left(&self, id: u32) -> u32

@@ -2,23 +2,23 @@
 
 ghost use Rattle.std.specs.Prelude.{◌≡◌, ◌≤◌, length};
 ghost use Rattle.std.specs.List.{list_all, list_any};
-ghost use Rattle.box_rules.specs.Globals as globals;
-ghost use Rattle.box_rules.specs.Marks as marks;
-ghost use Rattle.box_rules.specs.Rules as rule;
-ghost use Rattle.box_rules.specs.Terms as term;
-ghost use Rattle.box_rules.specs.declared.answers.Defined.TheVariants.{Always, Maybe};
-ghost use Rattle.term_rules.specs.Shown.{box_in, ends_of};
+ghost use Rattle.term_language.specs.Globals as globals;
+ghost use Rattle.term_language.specs.Marks as marks;
+ghost use Rattle.term_language.specs.Rules as rule;
+ghost use Rattle.term_language.specs.Terms as term;
+ghost use Rattle.term_language.specs.declared.answers.Defined.TheVariants.{Always, Maybe};
+ghost use Rattle.term_math.specs.Shown.{box_in, ends_of};
 ghost use Rattle.term_windows.specs.Windows.{inside_in};
 ghost use Rattle.term_nodes.specs.Built.{AllBelow};
 ghost use Rattle.term_nodes.specs.Seen.{IsReady, intervals_seen};
 ghost use Rattle.term_nodes.specs.Things.{terms_at, things};
 
-use crate::evaluation::Here;
-use box_rules::{Defined, Truth};
-use term_rules::{Ends, both};
+use crate::evaluation::Evaluator;
+use term_language::{Defined, Truth};
+use term_math::{Ends, both};
 use term_windows::{Window, are_apart};
 
-impl<'a> Here<'a> {
+impl<'a> Evaluator<'a> {
     /// The mark of several terms over the box, all together.
     #[cycle(seen)]
     #[tactic(auto, using(crate::proofs::Steps::next_seen_marks, crate::proofs::Steps::no_seen_marks, crate::proofs::Steps::cond_below))]

@@ -1,18 +1,18 @@
 //! What terms and conditions are over a box.
 
 ghost use Rattle.std.specs.Prelude.{◌≡◌, ◌<◌, ◌≤◌, [], length, negsuc, pos};
-ghost use Rattle.box_rules.specs.Arrays as arrays;
-ghost use Rattle.box_rules.specs.Ends as ends;
-ghost use Rattle.box_rules.specs.Forms as forms;
-ghost use Rattle.box_rules.specs.Forms.{sign};
-ghost use Rattle.box_rules.specs.Marks as marks;
-ghost use Rattle.box_rules.specs.Rules as rule;
-ghost use Rattle.box_rules.specs.Terms as term;
-ghost use Rattle.box_rules.specs.declared.answers.Defined.TheVariants.{Always, Never};
-ghost use Rattle.term_rules.specs.Shown.{IsFit, box_in, ends_at, ends_of, form_of};
-ghost use Rattle.term_tables.specs.Kept.{sets_of, table_of};
-ghost use Rattle.term_tables.specs.Within.{known_of, ranges_of, with_dimensions};
-ghost use Rattle.term_operations.specs.Made.{IsPossible, extreme_term, operation_term, picked};
+ghost use Rattle.term_language.specs.Arrays as arrays;
+ghost use Rattle.term_language.specs.Ends as ends;
+ghost use Rattle.term_language.specs.Forms as forms;
+ghost use Rattle.term_language.specs.Forms.{sign};
+ghost use Rattle.term_language.specs.Marks as marks;
+ghost use Rattle.term_language.specs.Rules as rule;
+ghost use Rattle.term_language.specs.Terms as term;
+ghost use Rattle.term_language.specs.declared.answers.Defined.TheVariants.{Always, Never};
+ghost use Rattle.term_math.specs.Shown.{IsFit, box_in, ends_at, ends_of, form_of};
+ghost use Rattle.term_math.specs.Kept.{sets_of, table_of};
+ghost use Rattle.term_math.specs.Within.{known_of, ranges_of, with_dimensions};
+ghost use Rattle.term_math.specs.Made.{IsPossible, extreme_term, operation_term, picked};
 ghost use Rattle.term_nodes.specs.Things.{cond_at, conds_at, parts_at, table_at, term_at, terms_at, things};
 ghost use Rattle.term_nodes.specs.Built.{AllBelow, IsSoundTerm, PartsBelow};
 ghost use Rattle.term_nodes.specs.Operands.{left_operand, steps_down};
@@ -20,43 +20,42 @@ ghost use Rattle.term_nodes.specs.Seen.{IsReady, element_sight, extreme_range, i
 
 use crate::items::{Item, form_at, item_at, table_at};
 use crate::nodes::{Comparison, Node, Signed};
-use box_rules::{Defined, Truth};
-use term_operations::{Extreme, Operation};
-use term_rules::{
-    BoxView, Ends, Factor, and_truth, both, compared, opposite, or_truth, truth_ends,
+use term_language::{Defined, Truth};
+use term_math::{
+    BoxView, Ends, Extreme, Factor, Indices, Operation, Ranges, Table, and_truth, both, compared,
+    opposite, or_truth, truth_ends,
 };
-use term_tables::{Indices, Ranges, Table};
 
-/// The interval of what is no cell in a term, and its mark.
+/// The interval of the non-linear part of a term, and its mark.
 #[derive(Clone, Copy, Debug)]
-pub struct Sight {
+pub struct AbstractValue {
     pub ends: Ends,
     pub mark: Defined,
 }
 
-impl Sight {
+impl AbstractValue {
     /// Nothing but cells, and Always defined.
-    pub fn clear() -> Sight
+    pub fn clear() -> AbstractValue
         ensures { sight_of result ≡ record { ends = ends.exactly (pos 0); mark = Always } }
     {
-        Sight {
+        AbstractValue {
             ends: Ends::zero(),
             mark: Defined::Always,
         }
     }
 
     /// What is Never defined.
-    pub fn never(ends: Ends) -> Sight
+    pub fn never(ends: Ends) -> AbstractValue
         ensures { sight_of result ≡ record { ends = ends_of ends; mark = Never } }
     {
-        Sight {
+        AbstractValue {
             ends,
             mark: Defined::Never,
         }
     }
 
     /// A sum with a part more.
-    pub fn with_part(&self, subtracted: bool, part: &Sight) -> Sight
+    pub fn with_part(&self, subtracted: bool, part: &AbstractValue) -> AbstractValue
         requires times { IsFit (ends_at (sign subtracted) (ends_of part.now.ends)) }
         requires plus { IsFit (ends.plus (ends.scaled (sign subtracted) (ends_of part.now.ends)) (ends_of self.now.ends)) }
         ensures { sight_of result ≡ record {
@@ -65,20 +64,20 @@ impl Sight {
         } }
     {
         let times = part.ends.scaled(&factor(subtracted));
-        Sight {
+        AbstractValue {
             ends: times.plus(&self.ends),
             mark: both(part.mark, self.mark),
         }
     }
 
     /// The one that is taken of this number and another, where the whole intervals of both are given.
-    pub fn or_other(&self, extreme: Extreme, other: &Sight) -> Sight
+    pub fn or_other(&self, extreme: Extreme, other: &AbstractValue) -> AbstractValue
         ensures { sight_of result ≡ record {
           ends = picked extreme (ends_of self.now.ends) (ends_of other.now.ends);
           mark = marks.both self.now.mark other.now.mark;
         } }
     {
-        Sight {
+        AbstractValue {
             ends: extreme.taken(&self.ends, &other.ends),
             mark: both(self.mark, other.mark),
         }
@@ -98,16 +97,16 @@ pub fn factor(subtracted: bool) -> Factor
 
 /// Nodes, the root box, and a box inside it.
 #[derive(Clone, Copy)]
-pub struct Here<'a> {
+pub struct Evaluator<'a> {
     pub items: &'a [Item],
     pub root: BoxView<'a>,
     pub view: BoxView<'a>,
 }
 
-impl<'a> Here<'a> {
+impl<'a> Evaluator<'a> {
     /// The whole interval of a term over the box, and its mark.
     #[cycle(seen)]
-    pub fn range(&self, id: u32) -> Sight
+    pub fn range(&self, id: u32) -> AbstractValue
         requires ready { IsReady self.now }
         requires exists { id < length self.now.items.now }
         ensures interval { ends_of result.ends ≡ rule.interval rule.Near (box_in self.now.root) (box_in self.now.view) (term_at (things self.now.items.now) id) }
@@ -118,7 +117,7 @@ impl<'a> Here<'a> {
     }
 
     /// The whole interval of a term over the box, and its mark, where it is given what the term is there.
-    fn whole(&self, id: u32, seen: &Sight) -> Sight
+    fn whole(&self, id: u32, seen: &AbstractValue) -> AbstractValue
         requires ready { IsReady self.now }
         requires exists { id < length self.now.items.now }
         requires seen { sight_of seen.now ≡ sight (box_in self.now.root) (box_in self.now.view) (term_at (things self.now.items.now) id) }
@@ -126,7 +125,7 @@ impl<'a> Here<'a> {
         ensures mark { result.mark ≡ rule.mark rule.Near (box_in self.now.root) (box_in self.now.view) (term_at (things self.now.items.now) id) }
     {
         let form = form_at(self.items, id);
-        Sight {
+        AbstractValue {
             ends: self.view.whole(form, &seen.ends),
             mark: seen.mark,
         }
@@ -135,19 +134,19 @@ impl<'a> Here<'a> {
     /// What a term is over the box.
     #[cycle(seen)]
     #[tactic(auto, using(crate::proofs::Plain::plain_seen, crate::proofs::Links::product_operand, crate::proofs::Links::operation_operand, crate::proofs::Steps::seen_at, crate::proofs::Steps::below_at, crate::proofs::Steps::sound_at, crate::proofs::Steps::right_at, crate::proofs::Steps::plain_at))]
-    pub fn seen(&self, id: u32) -> Sight
+    pub fn seen(&self, id: u32) -> AbstractValue
         requires ready { IsReady self.now }
         ensures { sight_of result ≡ sight (box_in self.now.root) (box_in self.now.view) (term_at (things self.now.items.now) id) }
     {
         let Some(item) = item_at(self.items, id) else {
-            return Sight::clear();
+            return AbstractValue::clear();
         };
         if item.facts.is_plain() {
-            return Sight::clear();
+            return AbstractValue::clear();
         }
         match &item.node {
-            Node::Constant(_) => Sight::clear(),
-            Node::Cell(_) => Sight::clear(),
+            Node::Constant(_) => AbstractValue::clear(),
+            Node::Cell(_) => AbstractValue::clear(),
             Node::Sum(parts) => self.sum(id, parts.as_slice()),
             Node::Product(a, _) => self.chain(id, *a),
             Node::Operation(_, a) => self.chain(id, *a),
@@ -164,21 +163,21 @@ impl<'a> Here<'a> {
                 self.element(item.facts.form.plain, id, *table, at.as_slice())
             }
             Node::Number(c) => self.number(id, *c),
-            Node::Compare(_) => Sight::clear(),
-            Node::Not(_) => Sight::clear(),
-            Node::All(_) => Sight::clear(),
-            Node::Any(_) => Sight::clear(),
-            Node::Implies(_, _) => Sight::clear(),
-            Node::AllDifferent(_) => Sight::clear(),
-            Node::Cumulative(_, _) => Sight::clear(),
-            Node::Table(_) => Sight::clear(),
+            Node::Compare(_) => AbstractValue::clear(),
+            Node::Not(_) => AbstractValue::clear(),
+            Node::All(_) => AbstractValue::clear(),
+            Node::Any(_) => AbstractValue::clear(),
+            Node::Implies(_, _) => AbstractValue::clear(),
+            Node::AllDifferent(_) => AbstractValue::clear(),
+            Node::Cumulative(_, _) => AbstractValue::clear(),
+            Node::Table(_) => AbstractValue::clear(),
         }
     }
 
     /// What a node with a left operand is over the box: from the end of the chain of left operands up to it.
     #[cycle(seen)]
     #[tactic(auto, using(crate::proofs::Links::from_left, crate::proofs::Links::reached_sight))]
-    fn chain(&self, id: u32, left: u32) -> Sight
+    fn chain(&self, id: u32, left: u32) -> AbstractValue
         requires ready { IsReady self.now }
         requires below { left < id }
         requires left { term_at (things self.now.items.now) left ≡ left_operand (term_at (things self.now.items.now) id) }
@@ -193,7 +192,7 @@ impl<'a> Here<'a> {
     /// upper one, so calls nest as deep as the steps can be halved, and no number of each node has to be kept.
     #[cycle(seen)]
     #[tactic(auto, using(crate::proofs::Links::no_steps, crate::proofs::Links::last_step, crate::proofs::Links::further_sight, crate::proofs::Links::reached_sight))]
-    fn segment(&self, top: u32, steps: u32, below: &Sight) -> Sight
+    fn segment(&self, top: u32, steps: u32, below: &AbstractValue) -> AbstractValue
         requires ready { IsReady self.now }
         requires below { sight_of below.now ≡ sight (box_in self.now.root) (box_in self.now.view) (steps_down steps (term_at (things self.now.items.now) top)) }
         ensures { sight_of result ≡ sight (box_in self.now.root) (box_in self.now.view) (term_at (things self.now.items.now) top) }
@@ -213,7 +212,7 @@ impl<'a> Here<'a> {
     /// What a node is over the box, where it is given what its left operand is; one that has none is what it is given.
     #[cycle(seen)]
     #[tactic(auto, using(crate::proofs::Links::product_below, crate::proofs::Links::operation_below, crate::proofs::Links::no_operand, crate::proofs::Links::nothing_there, crate::proofs::Steps::seen_at, crate::proofs::Steps::below_at, crate::proofs::Steps::sound_at, crate::proofs::Steps::right_at, crate::proofs::Steps::plain_at))]
-    fn raised(&self, id: u32, below: &Sight) -> Sight
+    fn raised(&self, id: u32, below: &AbstractValue) -> AbstractValue
         requires ready { IsReady self.now }
         requires below { sight_of below.now ≡ sight (box_in self.now.root) (box_in self.now.view) (left_operand (term_at (things self.now.items.now) id)) }
         ensures { sight_of result ≡ sight (box_in self.now.root) (box_in self.now.view) (term_at (things self.now.items.now) id) }
@@ -246,13 +245,13 @@ impl<'a> Here<'a> {
     /// What a sum is over the box.
     #[cycle(seen)]
     #[tactic(auto, using(crate::proofs::Steps::next_part, crate::proofs::Steps::no_parts, crate::proofs::Steps::part_below, crate::proofs::Ready::times_fit, crate::proofs::Ready::sum_fit))]
-    fn sum(&self, limit: u32, parts: &[Signed]) -> Sight
+    fn sum(&self, limit: u32, parts: &[Signed]) -> AbstractValue
         requires ready { IsReady self.now }
         requires below { PartsBelow limit parts.now }
         requires sound { IsSoundTerm (box_in self.now.root) (term.Sum (parts_at (things self.now.items.now) parts.now)) }
         ensures { sight_of result ≡ sum_sight (box_in self.now.root) (box_in self.now.view) (parts_at (things self.now.items.now) parts.now) }
     {
-        let mut sum = Sight::clear();
+        let mut sum = AbstractValue::clear();
         for i in (0..parts.len()).rev() {
             let part = &parts[i];
             let seen = self.seen(part.term);
@@ -264,7 +263,7 @@ impl<'a> Here<'a> {
     /// What a product is over the box, where it is given what its first factor is.
     #[cycle(seen)]
     #[tactic(auto, using(crate::proofs::Ready::product_fit))]
-    fn product(&self, limit: u32, a: u32, b: u32, left: &Sight) -> Sight
+    fn product(&self, limit: u32, a: u32, b: u32, left: &AbstractValue) -> AbstractValue
         requires ready { IsReady self.now }
         requires exists { limit < length self.now.items.now }
         requires left { a < limit }
@@ -276,7 +275,7 @@ impl<'a> Here<'a> {
         let right = self.seen(b);
         let f = form_at(self.items, a);
         let g = form_at(self.items, b);
-        Sight {
+        AbstractValue {
             ends: self.view.product(f, g, &left.ends, &right.ends),
             mark: both(left.mark, right.mark),
         }
@@ -284,7 +283,13 @@ impl<'a> Here<'a> {
 
     /// What is made of one number over the box, where it is given what that is; where it folds to a number, it is plain.
     #[tactic(auto, using(crate::proofs::Ranges::operation_small, crate::proofs::Ranges::operation_folded, crate::proofs::Ranges::operation_alone))]
-    fn operation(&self, plain: bool, operation: &Operation, a: u32, below: &Sight) -> Sight
+    fn operation(
+        &self,
+        plain: bool,
+        operation: &Operation,
+        a: u32,
+        below: &AbstractValue,
+    ) -> AbstractValue
         requires ready { IsReady self.now }
         requires exists { a < length self.now.items.now }
         requires possible { IsPossible operation.now }
@@ -294,12 +299,12 @@ impl<'a> Here<'a> {
     {
         let range = self.whole(a, below);
         if plain {
-            return Sight {
+            return AbstractValue {
                 ends: Ends::zero(),
                 mark: range.mark,
             };
         }
-        Sight {
+        AbstractValue {
             ends: operation.made(&range.ends),
             mark: range.mark,
         }
@@ -308,7 +313,14 @@ impl<'a> Here<'a> {
     /// What the least or the greatest of several is over the box; where it folds to a number, it is plain.
     #[cycle(seen)]
     #[tactic(auto, using(crate::proofs::Ranges::extreme_folded, crate::proofs::Ranges::extreme_alone))]
-    fn extreme(&self, plain: bool, limit: u32, extreme: Extreme, first: u32, later: &[u32]) -> Sight
+    fn extreme(
+        &self,
+        plain: bool,
+        limit: u32,
+        extreme: Extreme,
+        first: u32,
+        later: &[u32],
+    ) -> AbstractValue
         requires ready { IsReady self.now }
         requires exists { limit < length self.now.items.now }
         requires first { first < limit }
@@ -319,7 +331,7 @@ impl<'a> Here<'a> {
     {
         let range = self.extreme_range(limit, extreme, first, later);
         if plain {
-            return Sight {
+            return AbstractValue {
                 ends: Ends::zero(),
                 mark: range.mark,
             };
@@ -330,7 +342,13 @@ impl<'a> Here<'a> {
     /// The least or the greatest of the whole intervals of several, and the mark of all.
     #[cycle(seen)]
     #[tactic(auto, using(crate::proofs::Ranges::next_taken, crate::proofs::Ranges::none_taken, crate::proofs::Ranges::taken_is, crate::proofs::Steps::cond_below))]
-    fn extreme_range(&self, limit: u32, extreme: Extreme, first: u32, later: &[u32]) -> Sight
+    fn extreme_range(
+        &self,
+        limit: u32,
+        extreme: Extreme,
+        first: u32,
+        later: &[u32],
+    ) -> AbstractValue
         requires ready { IsReady self.now }
         requires exists { limit < length self.now.items.now }
         requires first { first < limit }
@@ -349,7 +367,7 @@ impl<'a> Here<'a> {
     /// What an element is over the box; where it is one item whatever the box, it is plain.
     #[cycle(seen)]
     #[tactic(auto, using(crate::proofs::Elements::element_plain, crate::proofs::Elements::element_alone))]
-    fn element(&self, plain: bool, limit: u32, table: u32, at: &[u32]) -> Sight
+    fn element(&self, plain: bool, limit: u32, table: u32, at: &[u32]) -> AbstractValue
         requires ready { IsReady self.now }
         requires exists { limit < length self.now.items.now }
         requires below { AllBelow limit at.now }
@@ -358,7 +376,7 @@ impl<'a> Here<'a> {
     {
         let range = self.element_range(limit, table, at);
         if plain {
-            return Sight {
+            return AbstractValue {
                 ends: Ends::zero(),
                 mark: range.mark,
             };
@@ -369,7 +387,7 @@ impl<'a> Here<'a> {
     /// The whole interval of an element over the box, and its mark.
     #[cycle(seen)]
     #[tactic(auto, using(crate::proofs::Indexing::no_table_there))]
-    pub fn element_range(&self, limit: u32, table: u32, at: &[u32]) -> Sight
+    pub fn element_range(&self, limit: u32, table: u32, at: &[u32]) -> AbstractValue
         requires ready { IsReady self.now }
         requires exists { limit ≤ length self.now.items.now }
         requires below { AllBelow limit at.now }
@@ -378,10 +396,10 @@ impl<'a> Here<'a> {
             (rule.intervals rule.Near (box_in self.now.root) (box_in self.now.view) (terms_at (things self.now.items.now) at.now)) }
     {
         let Some(found) = table_at(self.items, table) else {
-            return Sight::never(Ends::zero());
+            return AbstractValue::never(Ends::zero());
         };
         if found.elements.is_empty() {
-            return Sight::never(Ends::zero());
+            return AbstractValue::never(Ends::zero());
         }
         self.indexed(
             limit,
@@ -405,7 +423,7 @@ impl<'a> Here<'a> {
         sets: &[Vec<i64>],
         indices: &Indices,
         behind: &Ranges,
-    ) -> Sight
+    ) -> AbstractValue
         requires ready { IsReady self.now }
         requires exists { limit ≤ length self.now.items.now }
         requires below { AllBelow limit at.now }
@@ -418,7 +436,7 @@ impl<'a> Here<'a> {
         let mut known = *indices;
         while let Some((last, before)) = left.split_last() {
             let Some((set, others)) = dimensions.split_last() else {
-                return Sight::never(found.hull(&self.view));
+                return AbstractValue::never(found.hull(&self.view));
             };
             let range = self.range(*last);
             let more = known.with(&range.ends, range.mark, set.as_slice());
@@ -441,16 +459,16 @@ impl<'a> Here<'a> {
         sets: &[Vec<i64>],
         indices: &Indices,
         ranges: &Ranges,
-    ) -> Sight
+    ) -> AbstractValue
         requires complete { length (table_of found.now).items ≡ length (arrays.indices (table_of found.now).sets) }
         ensures { sight_of result ≡ known_sight (box_in self.now.view) (table_of found.now) indices.now.mark
             (with_dimensions [] (sets_of sets.now) (known_of indices.now (ranges_of ranges.now))) }
     {
         if !sets.is_empty() {
-            return Sight::never(found.hull(&self.view));
+            return AbstractValue::never(found.hull(&self.view));
         }
         let within = found.within(ranges, indices, &self.view);
-        Sight {
+        AbstractValue {
             ends: within.ends,
             mark: within.mark,
         }
@@ -458,13 +476,13 @@ impl<'a> Here<'a> {
 
     /// What a condition as a number is over the box.
     #[cycle(seen)]
-    fn number(&self, limit: u32, c: u32) -> Sight
+    fn number(&self, limit: u32, c: u32) -> AbstractValue
         requires ready { IsReady self.now }
         requires below { c < limit }
         ensures { sight_of result ≡ sight (box_in self.now.root) (box_in self.now.view) (term.Number (cond_at (things self.now.items.now) c)) }
     {
         let truth = self.truth(c);
-        Sight {
+        AbstractValue {
             ends: truth_ends(truth),
             mark: Defined::Always,
         }

@@ -1,12 +1,12 @@
 //! Whether tasks fit over a box, evaluated anew wherever they are looked at, so that it takes no memory.
 
 ghost use Rattle.std.specs.Prelude.{◌≡◌, ◌<◌, ◌≤◌, ◌≤ℤ◌, length, pos, true};
-ghost use Rattle.box_rules.specs.Globals as globals;
-ghost use Rattle.box_rules.specs.Marks as marks;
-ghost use Rattle.box_rules.specs.Rules as rule;
-ghost use Rattle.box_rules.specs.Terms as term;
-ghost use Rattle.box_rules.specs.declared.answers.Defined.TheVariants.{Always, Maybe};
-ghost use Rattle.term_rules.specs.Shown.{box_in, ends_of};
+ghost use Rattle.term_language.specs.Globals as globals;
+ghost use Rattle.term_language.specs.Marks as marks;
+ghost use Rattle.term_language.specs.Rules as rule;
+ghost use Rattle.term_language.specs.Terms as term;
+ghost use Rattle.term_language.specs.declared.answers.Defined.TheVariants.{Always, Maybe};
+ghost use Rattle.term_math.specs.Shown.{box_in, ends_of};
 ghost use Rattle.term_crowds.specs.Crowds as crowds;
 ghost use Rattle.term_windows.specs.Tasks as windows;
 ghost use Rattle.term_windows.specs.Tasks.{task_ends_of};
@@ -15,13 +15,13 @@ ghost use Rattle.term_nodes.specs.Seen.{IsReady, tasks_seen};
 ghost use Rattle.term_nodes.specs.Tasks.{mark_seen, task_seen};
 ghost use Rattle.term_nodes.specs.Things.{tasks_at, term_at, things};
 
-use crate::evaluation::Here;
+use crate::evaluation::Evaluator;
 use crate::nodes::Task;
-use box_rules::{Defined, Truth};
-use term_rules::{Ends, both};
+use term_language::{Defined, Truth};
+use term_math::{Ends, both};
 use term_windows::{Amount, TaskRange};
 
-impl<'a> Here<'a> {
+impl<'a> Evaluator<'a> {
     /// The intervals of a task's numbers over the box, and the mark of all three.
     #[cycle(seen)]
     #[tactic(auto, using(crate::proofs::Tasking::task_made))]

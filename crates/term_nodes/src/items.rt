@@ -2,20 +2,19 @@
 
 ghost use Rattle.std.specs.Prelude.{◌≡◌, ◌<◌, ◌&&◌, length, IsSome, IfSome, IfNone};
 ghost use Rattle.box_problem.specs.Box.{Box};
-ghost use Rattle.box_rules.specs.Marks.{is_always};
-ghost use Rattle.box_rules.specs.Rules.{form};
-ghost use Rattle.term_rules.specs.Shown.{form_of};
-ghost use Rattle.term_tables.specs.Kept.{table_of};
+ghost use Rattle.term_language.specs.Marks.{is_always};
+ghost use Rattle.term_language.specs.Rules.{form};
+ghost use Rattle.term_math.specs.Shown.{form_of};
+ghost use Rattle.term_math.specs.Kept.{table_of};
 ghost use Rattle.term_nodes.specs.Things.{no_table, nothing, table_at, term_at, thing_at, things};
 ghost use Rattle.term_nodes.specs.Built.{IsAt, IsBuilt};
 
 use crate::nodes::Node;
-use box_rules::{Defined, Truth};
-use term_rules::{Ends, Form};
-use term_tables::Table;
+use term_language::{Defined, Truth};
+use term_math::{Ends, Form, Table};
 
 /// What is known of a node over the root box: the linear form and the mark of a term; by the wide reading the mark of a term, the interval
-/// and the weight of what is no cell in it, and the truth of a condition.
+/// and the weight of the non-linear part of it, and the truth of a condition.
 #[derive(Drop)]
 pub struct Facts {
     pub form: Form,

@@ -4,9 +4,7 @@ ghost use Rattle.std.specs.Prelude.{◌≡◌};
 ghost use Rattle.term_nodes.specs.Operands.{left_in};
 
 use sopl_base::CmpOp;
-use term_operations::{Extreme, Operation};
-use term_rules::Form;
-use term_tables::Table;
+use term_math::{Extreme, Form, Operation, Table};
 
 /// A part of a sum, and whether it is subtracted.
 #[derive(Clone, Copy, Debug, PartialEq, Eq)]

@@ -8,7 +8,7 @@ ghost use Rattle.term_nodes.specs.Built.{IsBuilt, IsNew};
 use crate::items::Item;
 use std::alloc::AllocError;
 
-/// Adds a node, and gives its number; there is none left behind 2^32 - 1 nodes, which counts as want of memory.
+/// Adds a node, and gives its number; there is none left behind 2^32 - 1 nodes, which counts as out of memory.
 #[tactic(auto, using(crate::proofs::Growing::built_more, crate::proofs::Growing::things_more))]
 pub fn push(items: &mut Vec<Item>, item: Item) -> Result<u32, AllocError>
     ensures id { IfOk result (λ id. id ≡ length items.old.items) }

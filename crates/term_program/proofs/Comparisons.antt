@@ -1,16 +1,16 @@
 -- Comparisons and their linear forms.
 use Rattle.std.proofs.Common.{◌≡◌, ◌∙◌, refl, ap, sym, arith, ℕ, ◌<◌, negsuc, Bool, true, false, ◌&&◌, List, length, [], ◌∷◌, Option, Some, None, option_map, if◌then◌else◌, Vec, Global}
 use Rattle.sopl_base.specs.declared.comparison.CmpOp.{CmpOp}
-use Rattle.box_rules.proofs.FormValues.{by_bool}
+use Rattle.term_language.proofs.FormValues.{by_bool}
 use Rattle.term_program.specs.declared.program.Program.{Program}
 use Rattle.term_program.specs.declared.shapes.Form.{Form}
 use Rattle.term_program.specs.declared.shapes.Form.TheVariants as shape
 use Rattle.term_program.specs.Programs.{IsMade, root_in, things_in}
 use Rattle.box_problem.specs.Box.{Box}
-use Rattle.box_rules.specs.Forms as forms
-use Rattle.box_rules.specs.Marks.{both, is_always}
-use Rattle.box_rules.specs.Rules.{Near, form, mark}
-use Rattle.box_rules.specs.Terms.{Term, Cond, Compare, Not, All, Any, Implies, AllDifferent, Cumulative}
+use Rattle.term_language.specs.Forms as forms
+use Rattle.term_language.specs.Marks.{both, is_always}
+use Rattle.term_language.specs.Rules.{Near, form, mark}
+use Rattle.term_language.specs.Terms.{Term, Cond, Compare, Not, All, Any, Implies, AllDifferent, Cumulative}
 use Rattle.term_nodes.specs.declared.items.Item.{Item}
 use Rattle.term_nodes.specs.declared.nodes.Node.{Node}
 use Rattle.term_nodes.specs.declared.nodes.Node.TheVariants as node

@@ -6,22 +6,22 @@ use Rattle.std.specs.Option.{option_map_or}
 use Rattle.sopl_base.specs.declared.direction.Direction.{Direction}
 use Rattle.sopl_base.specs.declared.direction.Direction.TheVariants.{Nothing}
 use Rattle.box_problem.specs.Box.{Box, Inside}
-use Rattle.box_rules.specs.Rules.{Near, mark}
-use Rattle.box_rules.specs.Terms.{Term}
-use Rattle.program_rules.specs.Problems.{GoalTerms, direction_in, denominator_in}
-use Rattle.program_rules.specs.Refuted.{is_never}
+use Rattle.term_language.specs.Rules.{Near, mark}
+use Rattle.term_language.specs.Terms.{Term}
+use Rattle.term_problem.specs.Problems.{GoalTerms, direction_in, denominator_in}
+use Rattle.term_problem.specs.Refuted.{is_never}
 use Rattle.term_program.specs.declared.draft.Draft.{Draft}
 use Rattle.term_program.specs.declared.program.Program.{Program}
 use Rattle.term_program.specs.Drafts.{AreAtomsOf, IsDraft, IsGoalOf, draft_problem, draft_root, draft_things}
 use Rattle.term_program.specs.Programs.{IsMade, problem_in, root_in, summed_form, things_in, with_goal}
-use Rattle.box_rules.specs.Ends.{Ends, exactly, plus}
-use Rattle.program_rules.specs.Objective.{expected_ends, expected_form, goal_ends, goal_ends_of, worst_ends}
+use Rattle.term_language.specs.Ends.{Ends, exactly, plus}
+use Rattle.term_problem.specs.Objective.{expected_ends, expected_form, goal_ends, goal_ends_of, worst_ends}
 use Rattle.term_nodes.specs.Built.{AllBelow}
 use Rattle.term_nodes.specs.Things.{Thing, term_at}
 use Rattle.term_goals.specs.Goals.{AtomsExist, IsSummed, IsWeighted, constant_of, goal_of, is_none, listed_ends, terms_of}
 use Rattle.term_goals.specs.declared.sums.Atom.{Atom}
 use Rattle.term_goals.specs.declared.sums.Summed.{Summed}
-use Rattle.box_rules.specs.Forms.{Form, number_form}
+use Rattle.term_language.specs.Forms.{Form, number_form}
 use Rattle.term_goals.specs.declared.goal.Goal.{Goal}
 
 -- each term exists

@@ -4,3 +4,4 @@ pub mod Reasons
 pub mod Goals
 pub mod Ranges
 pub mod Comparisons
+pub mod Lawful

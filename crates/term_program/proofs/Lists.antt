@@ -7,14 +7,14 @@ use Rattle.std.specs.FinMap.{nat_cmp-IsAntisymmetric}
 use Rattle.std.specs.Ordering.{is_eq, nat_cmp}
 use Rattle.std.specs.declared.cmp.Ordering.{Ordering}
 use Rattle.std.specs.declared.cmp.Ordering.TheVariants.{Less, Equal, Greater}
-use Rattle.box_rules.proofs.FormValues.{by_bool}
+use Rattle.term_language.proofs.FormValues.{by_bool}
 use Rattle.term_goals.specs.declared.sums.Atom.{Atom}
 use Rattle.term_program.specs.declared.draft.ChanceConditions.{ChanceConditions}
 use Rattle.term_program.specs.declared.draft.Conditions.{Conditions}
 use Rattle.term_program.specs.declared.mentions.Mentions.{Mentions}
 use Rattle.std.specs.List.Sorted.{IsStrictlyIncreasing}
 use Rattle.box_problem.specs.Box.{Box}
-use Rattle.cell_mentions.specs.Mentions.{cond_mentions, mentions}
+use Rattle.term_language.specs.Mentions.{cond_mentions, mentions}
 use Rattle.term_nodes.specs.Things.{Thing, cond_at, term_at}
 use Rattle.term_program.specs.Mentions.{AreLists, Gained, HasList, IsListOf, atom_ids, chance_ids, cond_lists, hard_ids, term_lists}
 
@@ -188,9 +188,9 @@ module _ (P : ℕ → Type 0) where
       same y x e = cc
   all_found (y ∷ ys) (suc i) x all is = all_found ys i x all.1 is
 
-  front : (xs ys : List ℕ) → AllByRecursion P (xs ++ ys) → AllByRecursion P xs
-  front [] ys all = tt
-  front (x ∷ xs) ys all = (all.0, front xs ys all.1)
+  prefix : (xs ys : List ℕ) → AllByRecursion P (xs ++ ys) → AllByRecursion P xs
+  prefix [] ys all = tt
+  prefix (x ∷ xs) ys all = (all.0, prefix xs ys all.1)
 
   back : (xs ys : List ℕ) → AllByRecursion P (xs ++ ys) → AllByRecursion P ys
   back [] ys all = all
@@ -198,7 +198,7 @@ module _ (P : ℕ → Type 0) where
 
   all_of : {A : Type 0} (g : A → List ℕ) (xs : List A) (i : ℕ) (x : A) → AllByRecursion P (flat_map g xs) → slice_get xs i ≡ Some x → AllByRecursion P (g x)
   all_of g [] i x all is = cc
-  all_of g (y ∷ ys) zero x all is = subst (λ z. AllByRecursion P (g z)) (same y x is) (front (g y) (flat_map g ys) all)
+  all_of g (y ∷ ys) zero x all is = subst (λ z. AllByRecursion P (g z)) (same y x is) (prefix (g y) (flat_map g ys) all)
     where
       same : {A : Type 0} (y x : A) → Some y ≡ Some x → y ≡ x
       same y x e = cc

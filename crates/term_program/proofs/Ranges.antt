@@ -1,15 +1,15 @@
 -- The interval of a term is not empty.
 use Rattle.std.proofs.Common.{◌≡◌, sym, subst, ℕ, ◌≤ℤ◌, [], ◌∷◌, Some}
 use Rattle.box_problem.specs.Box.{Box, Inside}
-use Rattle.box_rules.specs.Ends.{Ends}
-use Rattle.box_rules.specs.Rules.{Near, interval}
-use Rattle.box_rules.proofs.Sharpening.{intervals_narrow}
+use Rattle.term_language.specs.Ends.{Ends}
+use Rattle.term_language.specs.Rules.{Near, interval}
+use Rattle.term_language.proofs.Sharpening.{intervals_narrow}
 use Rattle.term_nodes.specs.Things.{term_at}
 use Rattle.term_nodes.proofs.Ready.{terms_proper}
-use Rattle.term_rules.specs.Shown.{IsPart, ends_of, with_part}
-use Rattle.term_rules.specs.declared.ends.Ends as own
-use Rattle.term_rules.specs.declared.views.Part.{Part}
-use Rattle.term_rules.proofs.Inner.{part_inside}
+use Rattle.term_math.specs.Shown.{IsPart, ends_of, with_part}
+use Rattle.term_math.specs.declared.ends.Ends as own
+use Rattle.term_math.specs.declared.views.Part.{Part}
+use Rattle.term_math.proofs.Inner.{part_inside}
 use Rattle.term_program.specs.declared.program.Program.{Program}
 use Rattle.term_program.specs.Programs.{IsMade, root_in, things_in}
 

@@ -7,11 +7,11 @@ use Rattle.std.proofs.lemmas.Option.{slice_get-map}
 use Rattle.std.specs.Option.{option_map_or, option_and_then}
 use Rattle.std.specs.List.{AllByRecursion}
 use Rattle.box_problem.specs.Box.{Box}
-use Rattle.box_rules.specs.Rules.{Near, truth}
-use Rattle.box_rules.specs.Terms.{Cond}
-use Rattle.box_rules.proofs.FormValues.{by_bool}
-use Rattle.program_rules.specs.Problems.{ChanceTerms, ProblemTerms, IsChance}
-use Rattle.program_rules.specs.Refuted.{is_false, weight_left}
+use Rattle.term_language.specs.Rules.{Near, truth}
+use Rattle.term_language.specs.Terms.{Cond}
+use Rattle.term_language.proofs.FormValues.{by_bool}
+use Rattle.term_problem.specs.Problems.{ChanceTerms, ProblemTerms, IsChance}
+use Rattle.term_problem.specs.Refuted.{is_false, weight_left}
 use Rattle.term_nodes.specs.Built.{AllBelow}
 use Rattle.term_nodes.specs.Things.{Thing, cond_at}
 use Rattle.term_program.specs.declared.draft.Conditions.{Conditions}

@@ -5,11 +5,11 @@ use Rattle.std.proofs.lemmas.Int.{ints, fits_signed_from_abs}
 use Rattle.std.proofs.lemmas.List.{at_drop_more, at_drop_all}
 use Rattle.std.specs.List.{AllByRecursion}
 use Rattle.box_problem.specs.Box.{Box}
-use Rattle.box_rules.specs.Globals.{total}
-use Rattle.box_rules.specs.Rules.{Near, truth}
-use Rattle.box_rules.specs.Terms.{Cond}
-use Rattle.box_rules.proofs.FormValues.{by_bool}
-use Rattle.program_rules.specs.Refuted.{is_false, weight_left}
+use Rattle.term_language.specs.Globals.{total}
+use Rattle.term_language.specs.Rules.{Near, truth}
+use Rattle.term_language.specs.Terms.{Cond}
+use Rattle.term_language.proofs.FormValues.{by_bool}
+use Rattle.term_problem.specs.Refuted.{is_false, weight_left}
 use Rattle.term_nodes.specs.Things.{Thing, cond_at}
 use Rattle.std.specs.Int.{w128}
 use Rattle.std.specs.Int.RustNames.{FitsSigned}

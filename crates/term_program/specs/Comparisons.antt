@@ -2,14 +2,14 @@
 use Rattle.std.specs.Prelude.{◌≡◌, ℕ, ◌<◌, negsuc, Bool, true, false, ◌&&◌, List, length, Option, Some, None, if◌then◌else◌}
 use Rattle.sopl_base.specs.declared.comparison.CmpOp.{CmpOp}
 use Rattle.box_problem.specs.Box.{Box}
-use Rattle.box_rules.specs.Forms as forms
-use Rattle.box_rules.specs.Marks.{both, is_always}
-use Rattle.box_rules.specs.Rules.{Near, form, mark}
-use Rattle.term_rules.specs.Shown.{form_of}
+use Rattle.term_language.specs.Forms as forms
+use Rattle.term_language.specs.Marks.{both, is_always}
+use Rattle.term_language.specs.Rules.{Near, form, mark}
+use Rattle.term_math.specs.Shown.{form_of}
 use Rattle.term_nodes.specs.declared.nodes.Comparison.{Comparison}
 use Rattle.term_program.specs.declared.shapes.Form.{Form}
 use Rattle.term_nodes.specs.Things.{Thing, cond_at, term_at}
-use Rattle.box_rules.specs.Terms.{Term, Cond, Compare, Not, All, Any, Implies, AllDifferent, Cumulative}
+use Rattle.term_language.specs.Terms.{Term, Cond, Compare, Not, All, Any, Implies, AllDifferent, Cumulative}
 
 -- a comparison, with the form of its left side minus its right one
 pub record Difference : Type 0 where

@@ -2,10 +2,10 @@
 use Rattle.std.specs.Prelude.{◌≡◌, ◌<◌, ◌^◌, ℕ, pos, ◌≤ℤ◌, List, length, map, None, false}
 use Rattle.std.specs.List.{AllByRecursion}
 use Rattle.box_problem.specs.Box.{Box, Inside}
-use Rattle.box_rules.specs.Ends.{exactly, plus}
-use Rattle.box_rules.specs.Terms.{Cond}
-use Rattle.program_rules.specs.Objective.{goal_ends_of}
-use Rattle.program_rules.specs.Problems.{ChanceTerms, ProblemTerms, IsProblem}
+use Rattle.term_language.specs.Ends.{exactly, plus}
+use Rattle.term_language.specs.Terms.{Cond}
+use Rattle.term_problem.specs.Objective.{goal_ends_of}
+use Rattle.term_problem.specs.Problems.{ChanceTerms, ProblemTerms, IsProblem}
 use Rattle.term_nodes.specs.Things.{Thing, cond_at}
 use Rattle.term_nodes.specs.Built.{AllBelow}
 use Rattle.term_goals.specs.Goals.{AreCells, AtomsExist, IsSoundGoal, IsWeighted, constant_of, goal_of, listed_ends}
@@ -71,7 +71,7 @@ pub record IsGoalOf (d : Draft) (g : Goal) : Type 0 where
   pub sound : IsSoundGoal (draft_root d) (draft_things d) g
   pub weighted : IsWeighted (draft_root d) (draft_things d) d.weights.items g
 
--- what an objective's sum has besides its constant, as so many times each of several terms, which exist: the interval of the objective is theirs and the
+-- what an objective's sum has besides its constant, as multiples of several terms, which exist: the interval of the objective is theirs and the
 -- constant's over each box inside the root
 pub record AreAtomsOf (d : Draft) (g : Goal) (atoms : List Atom) : Type 0 where
   pub sum :

@@ -2,3 +2,5 @@ pub mod Drafts
 pub mod Mentions
 pub mod Programs
 pub mod Comparisons
+pub mod Stated
+pub mod Laws

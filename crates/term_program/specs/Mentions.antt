@@ -7,7 +7,7 @@ use Rattle.std.specs.List.{AllByRecursion, flat_map}
 use Rattle.std.specs.List.Sorted.{IsStrictlyIncreasing}
 use Rattle.std.specs.Ordering.{nat_cmp}
 use Rattle.box_problem.specs.Box.{Box}
-use Rattle.cell_mentions.specs.Mentions.{cond_mentions, mentions}
+use Rattle.term_language.specs.Mentions.{cond_mentions, mentions}
 use Rattle.term_nodes.specs.Things.{Thing, cond_at, term_at}
 use Rattle.term_program.specs.declared.draft.ChanceConditions.{ChanceConditions}
 use Rattle.term_program.specs.declared.draft.Conditions.{Conditions}

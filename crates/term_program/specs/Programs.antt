@@ -2,11 +2,11 @@
 use Rattle.std.specs.Prelude.{◌≡◌, ℕ, pos, ℤ, Bool, if◌then◌else◌, List, [], IfSome, IfNone, IsTrue, Option, option_map}
 use Rattle.sopl_base.specs.declared.interval.Interval.{Interval}
 use Rattle.box_problem.specs.Box.{Box, with_low, with_high}
-use Rattle.box_rules.specs.Ends.{Ends, ends}
+use Rattle.term_language.specs.Ends.{Ends, ends}
 use Rattle.std.specs.Option.{option_map_or}
-use Rattle.box_rules.specs.Forms.{Form, number_form}
-use Rattle.program_rules.specs.Objective.{expected_form}
-use Rattle.program_rules.specs.Problems.{GoalTerms, ProblemTerms, IsProblem}
+use Rattle.term_language.specs.Forms.{Form, number_form}
+use Rattle.term_problem.specs.Objective.{expected_form}
+use Rattle.term_problem.specs.Problems.{GoalTerms, ProblemTerms, IsProblem}
 use Rattle.term_nodes.specs.Things.{Thing}
 use Rattle.term_goals.specs.Goals.{goal_of}
 use Rattle.term_goals.specs.declared.goal.Goal.{Goal}

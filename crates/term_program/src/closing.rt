@@ -6,11 +6,11 @@ ghost use Rattle.std.specs.Int.RustNames.{FitsSigned};
 ghost use Rattle.std.specs.Option.{option_map_or};
 ghost use Rattle.sopl_base.specs.declared.reason.Reason.TheVariants.{Bound, Chance, Hard, Undefined};
 ghost use Rattle.box_problem.specs.Box.{Inside, high, low};
-ghost use Rattle.box_rules.specs.Globals.{total};
-ghost use Rattle.box_rules.specs.Rules as rule;
-ghost use Rattle.program_rules.specs.Refuted.{is_false, is_never, refutes, weight_left};
-ghost use Rattle.program_rules.specs.Objective.{goal_ends};
-ghost use Rattle.term_rules.specs.Shown.{box_in};
+ghost use Rattle.term_language.specs.Globals.{total};
+ghost use Rattle.term_language.specs.Rules as rule;
+ghost use Rattle.term_problem.specs.Refuted.{is_false, is_never, refutes, weight_left};
+ghost use Rattle.term_problem.specs.Objective.{goal_ends};
+ghost use Rattle.term_math.specs.Shown.{box_in};
 ghost use Rattle.term_goals.specs.Goals.{goal_of};
 ghost use Rattle.term_goals.specs.Wide.{wide_ends};
 ghost use Rattle.term_nodes.specs.Things.{cond_at, term_at};
@@ -20,11 +20,11 @@ ghost use Rattle.term_program.specs.Programs.{IsMade, kept, problem_in, root_in,
 use crate::draft::{ChanceConditions, Conditions};
 use crate::over::{part_of, view_of};
 use crate::program::Program;
-use box_rules::{Defined, Truth};
 use box_store::BoxStore;
 use sopl_base::{Direction, Interval, Reason, reaches};
 use term_goals::{Goal, WideEnds};
-use term_rules::BoxView;
+use term_language::{Defined, Truth};
+use term_math::BoxView;
 
 /// A weight of scenarios.
 #[derive(Clone, Copy)]

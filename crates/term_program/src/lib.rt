@@ -1,10 +1,12 @@
-//! A compiled problem: terms and conditions over cells, with no syntax, and what they are over the box of a store.
+//! A compiled problem: terms and conditions over cells, with no syntax, what they are over the box of a store, and that a search may go by
+//! the problem over the points of a box that it states.
 //! Its tests stand in `term_tests`.
 #![tactic(auto)]
 
 mod closing;
 mod draft;
 mod ids;
+mod laws;
 mod mentions;
 mod over;
 mod program;
@@ -13,6 +15,7 @@ mod shapes;
 pub use closing::{refuted, refuted_in};
 pub use draft::{ChanceConditions, Conditions, Draft};
 pub use ids::{CondId, TermId};
+pub use laws::lawful_of;
 pub use mentions::{Mentioned, Mentions};
 pub use over::{Range, goal_ends, goal_ends_in, kleene, kleene_in, range_in, range_of};
 pub use program::Program;

@@ -1,7 +1,7 @@
 //! The cells that terms and conditions mention, as they are kept.
 
 ghost use Rattle.std.specs.Prelude.{◌≡◌, ◌∷◌, [], ℕ, List, OnOk, IfOk, IsTrue};
-ghost use Rattle.term_rules.specs.Shown.{box_in};
+ghost use Rattle.term_math.specs.Shown.{box_in};
 ghost use Rattle.term_nodes.specs.Built.{IsBuilt};
 ghost use Rattle.term_nodes.specs.Things.{things};
 ghost use Rattle.term_program.specs.Drafts.{IsDraft, draft_root, draft_things};
@@ -34,7 +34,7 @@ impl Mentions {
     fn put(&mut self, id: u32, cells: Vec<u32>) -> Result<(), AllocError>
         ensures lists { (f : ℕ → List ℕ) → AreLists f self.old → IsListOf (f id) cells.items → OnOk result (AreLists f self.new) }
         ensures stays { (other : ℕ) → IsTrue (HasList self.old other) → OnOk result (IsTrue (HasList self.new other)) }
-        ensures there { OnOk result (IsTrue (HasList self.new id)) }
+        ensures has_list { OnOk result (IsTrue (HasList self.new id)) }
     {
         self.lists.insert(id, cells)?;
         Ok(())
@@ -49,7 +49,7 @@ impl Mentions {
 
     /// The cells of a number; none where they are not kept.
     pub(crate) fn of(&self, id: u32) -> &[u32]
-        requires there { IsTrue (HasList self.now id) }
+        requires has_list { IsTrue (HasList self.now id) }
         ensures { (f : ℕ → List ℕ) → AreLists f self.now → IsListOf (f id) result.now }
     {
         match self.lists.get(&id) {

@@ -2,20 +2,20 @@
 
 ghost use Rattle.std.specs.Prelude.{◌≡◌, ◌<◌, ◌≤ℤ◌, length};
 ghost use Rattle.box_problem.specs.Box.{Inside, high, low};
-ghost use Rattle.box_rules.specs.Ends as ends;
-ghost use Rattle.box_rules.specs.Rules as rule;
-ghost use Rattle.program_rules.specs.Objective as objective;
-ghost use Rattle.term_rules.specs.Shown.{box_in, box_under};
+ghost use Rattle.term_language.specs.Ends as ends;
+ghost use Rattle.term_language.specs.Rules as rule;
+ghost use Rattle.term_problem.specs.Objective as objective;
+ghost use Rattle.term_math.specs.Shown.{box_in, box_under};
 ghost use Rattle.term_nodes.specs.Things.{cond_at, term_at};
 ghost use Rattle.term_program.specs.Programs.{IsMade, ends_in, problem_in, root_in, things_in, with_interval};
 
 use crate::ids::{CondId, TermId};
 use crate::program::Program;
-use box_rules::{Defined, Truth};
 use box_store::BoxStore;
 use sopl_base::Interval;
-use term_nodes::Sight;
-use term_rules::{BoxView, Ends, Part};
+use term_language::{Defined, Truth};
+use term_math::{BoxView, Ends, Part};
+use term_nodes::AbstractValue;
 
 /// The box of a store.
 pub(crate) fn view_of(store: &BoxStore) -> BoxView<'_>
@@ -52,7 +52,7 @@ pub struct Range {
 }
 
 /// What is seen of a term, as a range.
-fn as_range(sight: &Sight) -> Range
+fn as_range(sight: &AbstractValue) -> Range
     requires ordered { sight.now.ends.low ≤ℤ sight.now.ends.high }
     ensures low { result.interval.lo ≡ sight.now.ends.low }
     ensures high { result.interval.hi ≡ sight.now.ends.high }

@@ -4,13 +4,13 @@ ghost use Rattle.std.specs.Prelude.{◌≡◌, ◌<◌, false, length, pos, if�
 ghost use Rattle.std.specs.Option.{option_and_then, option_map_or};
 ghost use Rattle.std.specs.List.{AllByRecursion};
 ghost use Rattle.box_problem.specs.Box.{Box, Inside, high, low};
-ghost use Rattle.box_rules.specs.Ends.{exactly, plus};
-ghost use Rattle.program_rules.specs.Objective.{goal_ends};
+ghost use Rattle.term_language.specs.Ends.{exactly, plus};
+ghost use Rattle.term_problem.specs.Objective.{goal_ends};
 ghost use Rattle.term_nodes.specs.Things.{cond_at, term_at};
-ghost use Rattle.program_rules.specs.Problems.{IsProblem, denominator_in, direction_in};
+ghost use Rattle.term_problem.specs.Problems.{IsProblem, denominator_in, direction_in};
 ghost use Rattle.term_goals.specs.Goals.{AtomsExist, goal_of, listed_ends};
 ghost use Rattle.term_program.specs.Drafts.{AreAtomsOf, IsDraft, IsGoalOf, draft_problem, draft_root, draft_things};
-ghost use Rattle.cell_mentions.specs.Mentions.{cond_mentions, mentions};
+ghost use Rattle.term_language.specs.Mentions.{cond_mentions, mentions};
 ghost use Rattle.term_program.specs.Mentions.{IsListOf, atom_ids};
 ghost use Rattle.term_program.specs.Programs.{IsListed, IsListedTerm, IsMade, problem_in, root_in, summed_form, things_in, with_goal};
 
@@ -244,7 +244,7 @@ impl Program {
         }
     }
 
-    /// What the sum of an expected objective has besides its constant: so many times each of several terms, which exist and whose cells `term_cells` gives. The
+    /// What the sum of an expected objective has besides its constant: multiples of several terms, which exist and whose cells `term_cells` gives. The
     /// intervals of these and the constant sum up to that of the objective. Which terms they are, and in which order, is not promised.
     #[tactic(auto, using(crate::proofs::Goals::atoms_kept, crate::proofs::Goals::atoms_exist))]
     pub fn goal_atoms(&self) -> &[Atom]

@@ -1,21 +1,21 @@
 //! What form conditions have.
 
 ghost use Rattle.std.specs.Prelude.{◌≡◌, ◌<◌, false, length, option_map, IfSome, IfNone, Some, None};
-ghost use Rattle.box_rules.specs.Marks as marks;
-ghost use Rattle.box_rules.specs.Marks.{is_always};
-ghost use Rattle.box_rules.specs.Rules as rule;
+ghost use Rattle.term_language.specs.Marks as marks;
+ghost use Rattle.term_language.specs.Marks.{is_always};
+ghost use Rattle.term_language.specs.Rules as rule;
 ghost use Rattle.term_nodes.specs.Things.{cond_at, term_at};
-ghost use Rattle.term_rules.specs.Shown.{cells_of};
+ghost use Rattle.term_math.specs.Shown.{cells_of};
 ghost use Rattle.term_program.specs.declared.shapes.Form.TheVariants.{Linear};
 ghost use Rattle.term_program.specs.Programs.{IsMade, root_in, things_in};
 ghost use Rattle.term_program.specs.Comparisons.{IsComparison, difference_of, global_shape, is_comparison, linear_in, shape_in};
 
 use crate::ids::CondId;
 use crate::program::Program;
-use box_rules::Defined;
 use sopl_base::CmpOp;
+use term_language::Defined;
+use term_math::{Coefficient, both};
 use term_nodes::{Comparison, Node, item_at};
-use term_rules::{Coefficient, both};
 
 /// What form a condition has: a comparison that is Always defined and has cells alone in it, `allDifferent`, `cumulative`, or another one.
 #[derive(Clone, Copy, Debug, PartialEq, Eq)]

@@ -5,16 +5,16 @@ use Rattle.std.proofs.lemmas.List.{get_or_default}
 use Rattle.box_problem.specs.Box.{Box, IsBox, box_of}
 use Rattle.box_problem.proofs.Boxes.{intervals_make_a_box}
 use Rattle.sopl_base.specs.declared.interval.Interval.{Interval}
-use Rattle.box_rules.specs.Terms as rule
-use Rattle.box_rules.specs.Marks.{opposite, or_truth, truth_ends}
-use Rattle.box_rules.specs.Rules.{Wide, truth, all_truth, any_truth}
-use Rattle.box_rules.specs.Ends.{cell_ends}
-use Rattle.box_rules.specs.Forms.{atom_form, cell_form, number_form}
-use Rattle.box_rules.specs.Sizes.{size, weight_of}
-use Rattle.box_rules.specs.declared.answers.Defined.TheVariants.{Always}
-use Rattle.box_rules.specs.declared.answers.Truth.{Truth}
-use Rattle.box_rules.specs.declared.answers.Truth.TheVariants.{False, Unknown, True}
-use Rattle.box_rules.specs.Laws.{IsProper, IsProperCond, AreProperConds}
+use Rattle.term_language.specs.Terms as rule
+use Rattle.term_language.specs.Marks.{opposite, or_truth, truth_ends}
+use Rattle.term_language.specs.Rules.{Wide, truth, all_truth, any_truth}
+use Rattle.term_language.specs.Ends.{cell_ends}
+use Rattle.term_language.specs.Forms.{atom_form, cell_form, number_form}
+use Rattle.term_language.specs.Sizes.{size, weight_of}
+use Rattle.term_language.specs.declared.answers.Defined.TheVariants.{Always}
+use Rattle.term_language.specs.declared.answers.Truth.{Truth}
+use Rattle.term_language.specs.declared.answers.Truth.TheVariants.{False, Unknown, True}
+use Rattle.term_language.specs.Laws.{IsProper, IsProperCond, AreProperConds}
 use Rattle.term_nodes.specs.declared.nodes.Node.{Node}
 use Rattle.term_nodes.specs.declared.nodes.Task.{Task}
 use Rattle.term_nodes.specs.declared.nodes.Node.TheVariants as node

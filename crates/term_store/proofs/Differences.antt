@@ -3,22 +3,22 @@ use Rattle.std.proofs.Common.{◌≡◌, ℕ, ◌+◌, ◌*◌, ◌<◌, ◌≤�
 use Rattle.std.proofs.lemmas.Int.{unsigned_abs-mul}
 use Rattle.box_problem.specs.Box.{Box, IsBox}
 use Rattle.box_problem.proofs.Boxes.{part_of_itself}
-use Rattle.box_rules.specs.Ends as ends
-use Rattle.box_rules.specs.Forms.{Form, number_form, plus_form}
-use Rattle.box_rules.specs.Terms as rule
-use Rattle.box_rules.specs.Rules.{Wide, form, atoms, truth}
-use Rattle.box_rules.specs.Sizes.{atoms_weight}
-use Rattle.box_rules.proofs.Bounds.{bounded}
-use Rattle.term_rules.specs.declared.forms.Form as own
-use Rattle.term_rules.specs.Shown.{DifferenceFits, ends_of, form_of}
-use Rattle.term_rules.specs.Sums.{mass, mass_of}
-use Rattle.term_rules.proofs.Fits.{difference_fits}
-use Rattle.term_rules.proofs.Weights.{combined_weighted, mass_weight, plus_size, spread_left}
+use Rattle.term_language.specs.Ends as ends
+use Rattle.term_language.specs.Forms.{Form, number_form, plus_form}
+use Rattle.term_language.specs.Terms as rule
+use Rattle.term_language.specs.Rules.{Wide, form, atoms, truth}
+use Rattle.term_language.specs.Sizes.{atoms_weight}
+use Rattle.term_language.proofs.Bounds.{bounded}
+use Rattle.term_math.specs.declared.forms.Form as own
+use Rattle.term_math.specs.Shown.{DifferenceFits, ends_of, form_of}
+use Rattle.term_math.specs.Sums.{mass, mass_of}
+use Rattle.term_math.proofs.Fits.{difference_fits}
+use Rattle.term_math.proofs.Weights.{combined_weighted, mass_weight, plus_size, spread_left}
 use Rattle.term_nodes.specs.declared.nodes.Comparison.{Comparison}
 use Rattle.term_nodes.specs.declared.nodes.Node.TheVariants as node
 use Rattle.term_nodes.specs.declared.items.Item.{Item}
 use Rattle.term_nodes.specs.declared.items.Facts as facts
-use Rattle.term_nodes.specs.declared.evaluation.Sight as seen
+use Rattle.term_nodes.specs.declared.evaluation.AbstractValue as seen
 use Rattle.term_nodes.specs.Things.{term_at, things}
 use Rattle.term_nodes.specs.Built.{IsBuilt, IsNew, IsSoundTerm, kept, of_truth}
 use Rattle.term_nodes.specs.Seen.{Sight, sight_of, wide_sight}
@@ -71,7 +71,7 @@ difference_small root items x y f all is =
     omega (arith, light, other, ap mass_of is, plus_mass (negsuc 0) (form root (term_at (things items) x)) (form root (term_at (things items) y)))
 
 -- the interval of a difference over the root
-pub known_fits : (root : Box) (items : List Item) (x y : ℕ) (f : own.Form) (l r : seen.Sight) → IsBox root → IsBuilt root items → form_of f
+pub known_fits : (root : Box) (items : List Item) (x y : ℕ) (f : own.Form) (l r : seen.AbstractValue) → IsBox root → IsBuilt root items → form_of f
     ≡ plus_form (negsuc 0) (form root (term_at (things items) x)) (form root (term_at (things items) y)) → sight_of l ≡ wide_sight root (term_at (things items) x) → sight_of r
     ≡ wide_sight root (term_at (things items) y) → DifferenceFits root f (ends_of l.ends) (ends_of r.ends)
 known_fits root items x y f l r is_box all is left right =

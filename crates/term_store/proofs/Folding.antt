@@ -3,23 +3,23 @@ use Rattle.std.proofs.Common.{◌≡◌, ℕ, ◌+◌, ◌<◌, ◌≤◌, ◌^�
 use Rattle.std.specs.List.{fold, list_all}
 use Rattle.std.proofs.lemmas.List.{at_drop_more, at_drop_all}
 use Rattle.box_problem.specs.Box.{Box, IsBox}
-use Rattle.box_rules.specs.Ends as ends
-use Rattle.box_rules.specs.Forms.{Form, number_form, is_constant}
-use Rattle.box_rules.specs.Marks.{both, all_marks, is_always}
-use Rattle.box_rules.specs.Rules.{Near, Wide, form, forms, atoms, mark, marks, interval, intervals, folds, folded, unless_folded, chosen}
-use Rattle.box_rules.specs.Sizes.{cells_weight, alone_weight, atoms_weight, size}
-use Rattle.box_rules.specs.Laws.{IsProper, AreProper}
-use Rattle.box_rules.specs.Terms as rule
-use Rattle.box_rules.specs.declared.answers.Defined.{Defined}
-use Rattle.box_rules.specs.declared.answers.Truth.TheVariants.{True}
-use Rattle.box_rules.proofs.Bounds.{bounded_whole}
-use Rattle.box_rules.proofs.FormValues.{and_first, and_second}
-use Rattle.term_operations.specs.declared.extremes.Extreme.{Extreme}
-use Rattle.term_operations.specs.declared.operations.Operation.{Operation}
-use Rattle.term_operations.specs.Made.{IsPossible, IsSmall, operation_term, extreme_term, made, made_of, chosen_by, picked}
-use Rattle.term_operations.proofs.Constants.{constant_interval, constant_intervals}
-use Rattle.term_operations.proofs.Rules.{operation_form, operation_atoms, operation_mark, operation_weight, operation_proper, extreme_form, extreme_atoms, extreme_mark}
-use Rattle.term_operations.proofs.Rules.{extreme_weight, extreme_proper, made_exactly, fold_exactly, folded_size}
+use Rattle.term_language.specs.Ends as ends
+use Rattle.term_language.specs.Forms.{Form, number_form, is_constant}
+use Rattle.term_language.specs.Marks.{both, all_marks, is_always}
+use Rattle.term_language.specs.Rules.{Near, Wide, form, forms, atoms, mark, marks, interval, intervals, folds, folded, unless_folded, chosen}
+use Rattle.term_language.specs.Sizes.{cells_weight, alone_weight, atoms_weight, size}
+use Rattle.term_language.specs.Laws.{IsProper, AreProper}
+use Rattle.term_language.specs.Terms as rule
+use Rattle.term_language.specs.declared.answers.Defined.{Defined}
+use Rattle.term_language.specs.declared.answers.Truth.TheVariants.{True}
+use Rattle.term_language.proofs.Bounds.{bounded_whole}
+use Rattle.term_language.proofs.FormValues.{and_first, and_second}
+use Rattle.term_math.specs.declared.extremes.Extreme.{Extreme}
+use Rattle.term_math.specs.declared.operations.Operation.{Operation}
+use Rattle.term_math.specs.Made.{IsPossible, IsSmall, operation_term, extreme_term, made, made_of, chosen_by, picked}
+use Rattle.term_math.proofs.Constants.{constant_interval, constant_intervals}
+use Rattle.term_math.proofs.Rules.{operation_form, operation_atoms, operation_mark, operation_weight, operation_proper, extreme_form, extreme_atoms, extreme_mark}
+use Rattle.term_math.proofs.Rules.{extreme_weight, extreme_proper, made_exactly, fold_exactly, folded_size}
 use Rattle.term_nodes.specs.declared.nodes.Node.TheVariants as node
 use Rattle.term_nodes.specs.declared.items.Item.{Item}
 use Rattle.term_nodes.specs.declared.items.Facts as facts

@@ -4,21 +4,21 @@ use Rattle.std.proofs.Common.{append_assoc, append-nil, refl, ap, subst, sym, â—
 use Rattle.std.specs.List.{list_all}
 use Rattle.std.proofs.lemmas.List.{at_drop_more, at_drop_all}
 use Rattle.box_problem.specs.Box.{Box}
-use Rattle.box_rules.specs.Arrays.{indices, item_at}
-use Rattle.box_rules.specs.Ends as ends
-use Rattle.box_rules.specs.Forms.{Form, atom_form, is_constant}
-use Rattle.box_rules.specs.Marks.{all_marks}
-use Rattle.box_rules.specs.Rules.{Near, Wide, form, forms, atoms, mark, marks, intervals, unless_folded, item_form, item_ends, element_form, element_ends}
-use Rattle.box_rules.specs.Sizes.{size}
-use Rattle.box_rules.specs.Laws.{IsTable}
-use Rattle.box_rules.specs.Terms as rule
-use Rattle.box_rules.specs.declared.answers.Defined.{Defined}
-use Rattle.box_rules.specs.declared.answers.Defined.TheVariants.{Never, Always}
-use Rattle.box_rules.specs.declared.answers.Truth.TheVariants.{True}
-use Rattle.term_tables.specs.Kept.{items_of, sets_of, table_of}
-use Rattle.term_tables.specs.Within.{known_of, none_known}
-use Rattle.term_tables.specs.declared.ranges.Indices.{Indices}
-use Rattle.term_tables.specs.declared.tables.Table as own
+use Rattle.term_language.specs.Arrays.{indices, item_at}
+use Rattle.term_language.specs.Ends as ends
+use Rattle.term_language.specs.Forms.{Form, atom_form, is_constant}
+use Rattle.term_language.specs.Marks.{all_marks}
+use Rattle.term_language.specs.Rules.{Near, Wide, form, forms, atoms, mark, marks, intervals, unless_folded, item_form, item_ends, element_form, element_ends}
+use Rattle.term_language.specs.Sizes.{size}
+use Rattle.term_language.specs.Laws.{IsTable}
+use Rattle.term_language.specs.Terms as rule
+use Rattle.term_language.specs.declared.answers.Defined.{Defined}
+use Rattle.term_language.specs.declared.answers.Defined.TheVariants.{Never, Always}
+use Rattle.term_language.specs.declared.answers.Truth.TheVariants.{True}
+use Rattle.term_math.specs.Kept.{items_of, sets_of, table_of}
+use Rattle.term_math.specs.Within.{known_of, none_known}
+use Rattle.term_math.specs.declared.ranges.Indices.{Indices}
+use Rattle.term_math.specs.declared.tables.Table as own
 use Rattle.term_nodes.specs.declared.nodes.Node.TheVariants as node
 use Rattle.term_nodes.specs.declared.items.Item.{Item}
 use Rattle.term_nodes.specs.declared.items.Facts as facts
@@ -27,7 +27,7 @@ use Rattle.term_nodes.specs.Built.{AllBelow, IsBuilt, IsNew, facts_of, kept, of_
 use Rattle.term_nodes.specs.Seen.{Sight, indexed_sight}
 use Rattle.term_nodes.proofs.Indexing.{indexed_whole, no_items_there, none_seen}
 use Rattle.term_nodes.proofs.Ready.{nothing_small, table_proper, terms_proper}
-use Rattle.term_tables.proofs.Reaching.{all_read}
+use Rattle.term_math.proofs.Reaching.{all_read}
 use Rattle.term_store.specs.Atoms.{any_element, of_folded, size_of_folded}
 use Rattle.term_store.proofs.Adding.{new_term}
 use Rattle.term_store.proofs.Folding.{facts_are, size_is}

@@ -8,24 +8,24 @@ use Rattle.std.proofs.lemmas.Int.{ints}
 use Rattle.std.proofs.lemmas.List.{at_drop_more, at_drop_all}
 use Rattle.box_problem.specs.Box.{Box, IsBox}
 use Rattle.box_problem.proofs.Counts.{gap_leads}
-use Rattle.box_rules.specs.Arrays.{Entry, indices, paired, item_at, lies_in, reached, is_covered, are_covered}
-use Rattle.box_rules.specs.Ends as ends
-use Rattle.box_rules.specs.Forms.{Form, atom_form, is_constant}
-use Rattle.box_rules.specs.Marks.{both, all_marks}
-use Rattle.box_rules.specs.Rules.{Reading, Near, Wide, forms, mark, marks, intervals, unless_folded, item_form, element_form, element_ends, reached_mark, element_mark}
-use Rattle.box_rules.specs.Sizes.{alone_weight}
-use Rattle.box_rules.specs.Laws.{AreProper}
-use Rattle.box_rules.specs.Terms as rule
-use Rattle.box_rules.specs.declared.answers.Defined.{Defined}
-use Rattle.box_rules.specs.declared.answers.Defined.TheVariants.{Always}
-use Rattle.box_rules.specs.declared.answers.Truth.TheVariants.{True}
-use Rattle.box_rules.proofs.FormValues.{by_if, by_bool}
-use Rattle.box_rules.proofs.Products.{in_exactly}
-use Rattle.box_rules.proofs.Lists.{AllLie, constants}
-use Rattle.box_rules.proofs.Elements.{Has, Mem, by_option, both_true, reached_has}
-use Rattle.box_rules.proofs.ElementParts.{all_counted}
-use Rattle.box_rules.proofs.Operations.{equal_tests}
-use Rattle.term_operations.proofs.Constants.{constant_intervals}
+use Rattle.term_language.specs.Arrays.{Entry, indices, paired, item_at, lies_in, reached, is_covered, are_covered}
+use Rattle.term_language.specs.Ends as ends
+use Rattle.term_language.specs.Forms.{Form, atom_form, is_constant}
+use Rattle.term_language.specs.Marks.{both, all_marks}
+use Rattle.term_language.specs.Rules.{Reading, Near, Wide, forms, mark, marks, intervals, unless_folded, item_form, element_form, element_ends, reached_mark, element_mark}
+use Rattle.term_language.specs.Sizes.{alone_weight}
+use Rattle.term_language.specs.Laws.{AreProper}
+use Rattle.term_language.specs.Terms as rule
+use Rattle.term_language.specs.declared.answers.Defined.{Defined}
+use Rattle.term_language.specs.declared.answers.Defined.TheVariants.{Always}
+use Rattle.term_language.specs.declared.answers.Truth.TheVariants.{True}
+use Rattle.term_language.proofs.FormValues.{by_if, by_bool}
+use Rattle.term_language.proofs.Products.{in_exactly}
+use Rattle.term_language.proofs.Lists.{AllLie, constants}
+use Rattle.term_language.proofs.Elements.{Has, Mem, by_option, both_true, reached_has}
+use Rattle.term_language.proofs.ElementParts.{all_counted}
+use Rattle.term_language.proofs.Operations.{equal_tests}
+use Rattle.term_math.proofs.Constants.{constant_intervals}
 use Rattle.term_nodes.proofs.Ranges.{both_always, both_grouped}
 use Rattle.term_nodes.specs.Things.{Thing, a_term, term_at, terms_at}
 use Rattle.term_nodes.specs.Built.{Facts, facts_of}

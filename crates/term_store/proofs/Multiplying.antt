@@ -3,22 +3,22 @@ use Rattle.std.proofs.Common.{◌≡◌, ℕ, ◌+◌, ◌*◌, ◌<◌, ◌≤�
 use Rattle.std.proofs.Math.Nat.{mul-le-mul_left, mul-le-mul_right}
 use Rattle.box_problem.specs.Box.{Box, IsBox}
 use Rattle.box_problem.proofs.Boxes.{part_of_itself}
-use Rattle.box_rules.specs.Ends as ends
-use Rattle.box_rules.specs.Forms.{Form, number_form, atom_form, is_constant, times_form, product_form, whole}
-use Rattle.box_rules.specs.Terms as rule
-use Rattle.box_rules.specs.Rules.{Wide, form, atoms, interval, product_atoms}
-use Rattle.box_rules.specs.Sizes.{weight_of, atoms_weight, product_weight, size}
-use Rattle.box_rules.proofs.Bounds.{Bounds, bounded, bounded_whole}
-use Rattle.box_rules.proofs.FormValues.{by_bool, by_if}
-use Rattle.term_rules.specs.declared.forms.Form as own
-use Rattle.term_rules.specs.Shown.{WholeFits, ProductFits, ends_of, form_of}
-use Rattle.term_rules.specs.Sums.{mass_of, weight_in}
-use Rattle.term_rules.proofs.Fits.{product_fits, whole_fits}
-use Rattle.term_rules.proofs.Products.{weight_times}
+use Rattle.term_language.specs.Ends as ends
+use Rattle.term_language.specs.Forms.{Form, number_form, atom_form, is_constant, times_form, product_form, whole}
+use Rattle.term_language.specs.Terms as rule
+use Rattle.term_language.specs.Rules.{Wide, form, atoms, interval, product_atoms}
+use Rattle.term_language.specs.Sizes.{weight_of, atoms_weight, product_weight, size}
+use Rattle.term_language.proofs.Bounds.{Bounds, bounded, bounded_whole}
+use Rattle.term_language.proofs.FormValues.{by_bool, by_if}
+use Rattle.term_math.specs.declared.forms.Form as own
+use Rattle.term_math.specs.Shown.{WholeFits, ProductFits, ends_of, form_of}
+use Rattle.term_math.specs.Sums.{mass_of, weight_in}
+use Rattle.term_math.proofs.Fits.{product_fits, whole_fits}
+use Rattle.term_math.proofs.Products.{weight_times}
 use Rattle.term_nodes.specs.declared.nodes.Node.TheVariants as node
 use Rattle.term_nodes.specs.declared.items.Item.{Item}
 use Rattle.term_nodes.specs.declared.items.Facts as facts
-use Rattle.term_nodes.specs.declared.evaluation.Sight as seen
+use Rattle.term_nodes.specs.declared.evaluation.AbstractValue as seen
 use Rattle.term_nodes.specs.Things.{a_term, term_at, things}
 use Rattle.term_nodes.specs.Built.{IsBuilt, IsNew, facts_of, kept}
 use Rattle.term_nodes.specs.Seen.{Sight, sight_of, wide_sight}
@@ -107,7 +107,7 @@ weight_room root items x y h weight all is weight_is =
     omega (arith, ap (weight_in root) is, weight_is, light, heavy)
 
 -- intervals over the root
-pub interval_fits : (root : Box) (items : List Item) (id : ℕ) (f : own.Form) (s : seen.Sight) → IsBox root → IsBuilt root items → form_of f ≡ form root (term_at (things items) id)
+pub interval_fits : (root : Box) (items : List Item) (id : ℕ) (f : own.Form) (s : seen.AbstractValue) → IsBox root → IsBuilt root items → form_of f ≡ form root (term_at (things items) id)
     → sight_of s ≡ wide_sight root (term_at (things items) id) → WholeFits root f (ends_of s.ends)
 interval_fits root items id f s is_box all is seen =
     let t = term_at (things items) id in
@@ -115,7 +115,7 @@ interval_fits root items id f s is_box all is seen =
     subst (λ (a : ends.Ends). WholeFits root f a) (sym (ap (λ (s : Sight). s.ends) seen))
     (whole_fits root root f (atoms Wide root root t) (atoms_weight root t) is_box (part_of_itself root is_box) (bounded root t sound.proper) (sized_form root t f is sound.small))
 
-pub product_known_fits : (root : Box) (items : List Item) (x y : ℕ) (f g : own.Form) (l r : seen.Sight) → IsBox root → IsBuilt root items → form_of f ≡ form root (term_at (things items) x)
+pub product_known_fits : (root : Box) (items : List Item) (x y : ℕ) (f g : own.Form) (l r : seen.AbstractValue) → IsBox root → IsBuilt root items → form_of f ≡ form root (term_at (things items) x)
     → form_of g ≡ form root (term_at (things items) y) → sight_of l ≡ wide_sight root (term_at (things items) x) → sight_of r ≡ wide_sight root (term_at (things items) y)
     → size root (rule.Product (term_at (things items) x) (term_at (things items) y)) ≤ 2 ^ 40 → ProductFits root f g (ends_of l.ends) (ends_of r.ends)
 product_known_fits root items x y f g l r is_box all left right l_is r_is small =

@@ -4,13 +4,13 @@ use Rattle.std.proofs.lemmas.Int.{ints}
 use Rattle.std.proofs.lemmas.Bool.Decides.{nat_tests}
 use Rattle.std.specs.Ordering.{int_eq}
 use Rattle.std.specs.List.{list_all}
-use Rattle.box_rules.specs.Arrays.{item_at}
+use Rattle.term_language.specs.Arrays.{item_at}
 use Rattle.box_problem.specs.Box.{Box}
-use Rattle.box_rules.specs.Forms.{Coefficient, Form, number_form, atom_form, is_constant, unless_zero, put, combined, plus_form, times_form, product_form, sign}
-use Rattle.box_rules.specs.Terms.{Item, Fixed, Free, Term, Constant, Cell, Sum, Product, Quotient, Remainder, Least, Greatest, Size, Element, Number, Parts, no_part, part, Table}
-use Rattle.box_rules.specs.Rules.{form, forms, sum_form, folded, item_form, element_form}
-use Rattle.box_rules.proofs.FormValues.{by_if, same_cell}
-use Rattle.box_rules.proofs.Products.{one-*ℤ}
+use Rattle.term_language.specs.Forms.{Coefficient, Form, number_form, atom_form, is_constant, unless_zero, put, combined, plus_form, times_form, product_form, sign}
+use Rattle.term_language.specs.Terms.{Item, Fixed, Free, Term, Constant, Cell, Sum, Product, Quotient, Remainder, Least, Greatest, Size, Element, Number, Parts, no_part, part, Table}
+use Rattle.term_language.specs.Rules.{form, forms, sum_form, folded, item_form, element_form}
+use Rattle.term_language.proofs.FormValues.{by_if, same_cell}
+use Rattle.term_language.proofs.Products.{one-*ℤ}
 
 abbrev Above : ℕ → List Coefficient → Type 0
 Above cell [] = Unit {0}

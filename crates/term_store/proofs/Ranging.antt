@@ -3,17 +3,17 @@ use Rattle.std.proofs.Common.{◌≡◌, ℕ, ◌+◌, ◌<◌, ◌≤◌, List,
 use Rattle.std.proofs.lemmas.List.{at_drop_more, at_drop_all, get_or_default, map-append}
 use Rattle.box_problem.specs.Box.{Box, IsBox}
 use Rattle.box_problem.proofs.Boxes.{part_of_itself}
-use Rattle.box_rules.specs.Ends.{Ends}
-use Rattle.box_rules.specs.Globals.{TaskEnds, never_differ, always_differ, never_fit, always_fit}
-use Rattle.box_rules.specs.Laws.{AreProperTasks}
-use Rattle.box_rules.specs.Marks.{both, judged}
-use Rattle.box_rules.specs.Rules.{Wide, interval, intervals, mark, task_ends, task_mark}
-use Rattle.box_rules.specs.declared.answers.Defined.{Defined}
-use Rattle.box_rules.specs.declared.answers.Truth.{Truth}
+use Rattle.term_language.specs.Ends.{Ends}
+use Rattle.term_language.specs.Globals.{TaskEnds, never_differ, always_differ, never_fit, always_fit}
+use Rattle.term_language.specs.Laws.{AreProperTasks}
+use Rattle.term_language.specs.Marks.{both, judged}
+use Rattle.term_language.specs.Rules.{Wide, interval, intervals, mark, task_ends, task_mark}
+use Rattle.term_language.specs.declared.answers.Defined.{Defined}
+use Rattle.term_language.specs.declared.answers.Truth.{Truth}
 use Rattle.term_crowds.specs.Crowds.{AllOrdered, DemandsOrdered, TasksOrdered}
 use Rattle.term_crowds.proofs.Truths.{ordered_intervals, ordered_tasks}
-use Rattle.term_rules.specs.declared.ends.Ends as own
-use Rattle.term_rules.specs.Shown.{ends_of}
+use Rattle.term_math.specs.declared.ends.Ends as own
+use Rattle.term_math.specs.Shown.{ends_of}
 use Rattle.term_windows.specs.declared.tasks.TaskRange.{TaskRange}
 use Rattle.term_windows.specs.Tasks.{task_ends_of, task_spans}
 use Rattle.term_windows.specs.Windows.{spans}

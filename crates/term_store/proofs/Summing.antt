@@ -3,23 +3,23 @@ use Rattle.std.proofs.Common.{◌≡◌, ℕ, ◌+◌, ◌-◌, ◌*◌, ◌<◌
 use Rattle.std.proofs.lemmas.Int.{unsigned_abs-mul}
 use Rattle.std.proofs.lemmas.List.{at_drop_more, at_drop_all, get_or_default}
 use Rattle.box_problem.specs.Box.{Box}
-use Rattle.box_rules.specs.Ends as ends
-use Rattle.box_rules.specs.Forms as forms
-use Rattle.box_rules.specs.Terms as rule
-use Rattle.box_rules.specs.Marks.{both}
-use Rattle.box_rules.specs.Rules.{Near, Wide, form, sum_form, mark, sum_mark, atoms, sum_atoms}
-use Rattle.box_rules.specs.Sizes.{weight_of, atoms_weight, sum_weight, size}
-use Rattle.box_rules.specs.Laws.{AreProperParts}
-use Rattle.box_rules.proofs.Bounds.{bounded, bounded_parts, sign_size}
-use Rattle.term_rules.specs.Shown.{IsFit, ends_at, ends_of}
-use Rattle.term_rules.specs.Sums.{mass_of, weight_in, weighted}
-use Rattle.term_rules.proofs.Fits.{fit, fit_at}
-use Rattle.term_rules.proofs.Weights.{combined_weighted, cells_weighted, mass_weight, plus_size, spread_left}
+use Rattle.term_language.specs.Ends as ends
+use Rattle.term_language.specs.Forms as forms
+use Rattle.term_language.specs.Terms as rule
+use Rattle.term_language.specs.Marks.{both}
+use Rattle.term_language.specs.Rules.{Near, Wide, form, sum_form, mark, sum_mark, atoms, sum_atoms}
+use Rattle.term_language.specs.Sizes.{weight_of, atoms_weight, sum_weight, size}
+use Rattle.term_language.specs.Laws.{AreProperParts}
+use Rattle.term_language.proofs.Bounds.{bounded, bounded_parts, sign_size}
+use Rattle.term_math.specs.Shown.{IsFit, ends_at, ends_of}
+use Rattle.term_math.specs.Sums.{mass_of, weight_in, weighted}
+use Rattle.term_math.proofs.Fits.{fit, fit_at}
+use Rattle.term_math.proofs.Weights.{combined_weighted, cells_weighted, mass_weight, plus_size, spread_left}
 use Rattle.term_nodes.specs.declared.nodes.Node.TheVariants as node
 use Rattle.term_nodes.specs.declared.nodes.Signed.{Signed}
 use Rattle.term_nodes.specs.declared.items.Item.{Item}
 use Rattle.term_nodes.specs.declared.items.Facts as facts
-use Rattle.term_nodes.specs.declared.evaluation.Sight as seen
+use Rattle.term_nodes.specs.declared.evaluation.AbstractValue as seen
 use Rattle.term_nodes.specs.Things.{Thing, a_term, term_at, parts_at, things}
 use Rattle.term_nodes.specs.Built.{IsBuilt, IsNew, PartsBelow, facts_of, kept}
 use Rattle.term_nodes.specs.Seen.{Sight, sight_of, wide_sight, wide_sum}
@@ -63,7 +63,7 @@ parts_proper : (root : Box) (items : List Item) (xs : List Signed) → IsBuilt r
 parts_proper root items [] all = tt
 parts_proper root items (x ∷ xs) all = ((small_term root items x.term all).proper, parts_proper root items xs all)
 
-pub wide_times_fit : (root : Box) (items : List Item) (subtracted : _) (id : ℕ) (s : seen.Sight) → IsBuilt root items → sight_of s ≡ wide_sight root (term_at (things items) id)
+pub wide_times_fit : (root : Box) (items : List Item) (subtracted : _) (id : ℕ) (s : seen.AbstractValue) → IsBuilt root items → sight_of s ≡ wide_sight root (term_at (things items) id)
     → IsFit (ends_at (forms.sign subtracted) (ends_of s.ends))
 wide_times_fit root items subtracted id s all is =
     let t = term_at (things items) id in
@@ -72,7 +72,7 @@ wide_times_fit root items subtracted id s all is =
     subst (λ (a : ends.Ends). IsFit (ends_at (forms.sign subtracted) a)) (sym (ap (λ (s : Sight). s.ends) is))
     (fit_at (forms.sign subtracted) (atoms Wide root root t) (atoms_weight root t) (bounded root t sound.proper) (omega (arith, once, sound.small)))
 
-pub wide_sum_fit : (root : Box) (items : List Item) (xs : List Signed) (i : ℕ) (d : Signed) (part sum : seen.Sight) → IsBuilt root items → sum_weight root (parts_at (things items) xs) ≤ 2 ^ 40
+pub wide_sum_fit : (root : Box) (items : List Item) (xs : List Signed) (i : ℕ) (d : Signed) (part sum : seen.AbstractValue) → IsBuilt root items → sum_weight root (parts_at (things items) xs) ≤ 2 ^ 40
     → 0 < i → i ≤ length xs → sight_of part ≡ wide_sight root (term_at (things items) (get_or xs (i - 1) d).term) → sight_of sum ≡ wide_sum root (parts_at (things items) (drop i xs))
     → IsFit (ends.plus (ends.scaled (forms.sign (get_or xs (i - 1) d).subtracted) (ends_of part.ends)) (ends_of sum.ends))
 wide_sum_fit root items xs i d part sum all small positive most first later =

@@ -1,12 +1,12 @@
 -- What is known of a term that folds to a number where its operands are numbers, and is an atom else.
 use Rattle.std.specs.Prelude.{ℕ, pos, unsigned_abs, Bool, map, Some, if◌then◌else◌}
-use Rattle.box_rules.specs.Ends.{Ends, exactly, hull_of, cell_ends}
+use Rattle.term_language.specs.Ends.{Ends, exactly, hull_of, cell_ends}
 use Rattle.box_problem.specs.Box.{Box}
-use Rattle.box_rules.specs.Terms.{Item, Fixed, Free, Table, Terms, Element}
-use Rattle.box_rules.specs.Rules.{Wide, folded, unless_folded, item_form, item_ends, mark}
-use Rattle.box_rules.specs.Sizes.{alone_weight, weight_of}
-use Rattle.box_rules.specs.declared.answers.Defined.{Defined}
-use Rattle.box_rules.specs.declared.answers.Truth.TheVariants.{True}
+use Rattle.term_language.specs.Terms.{Item, Fixed, Free, Table, Terms, Element}
+use Rattle.term_language.specs.Rules.{Wide, folded, unless_folded, item_form, item_ends, mark}
+use Rattle.term_language.specs.Sizes.{alone_weight, weight_of}
+use Rattle.term_language.specs.declared.answers.Defined.{Defined}
+use Rattle.term_language.specs.declared.answers.Truth.TheVariants.{True}
 use Rattle.term_nodes.specs.Built.{Facts}
 use Rattle.term_nodes.specs.Seen.{Sight}
 

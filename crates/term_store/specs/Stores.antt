@@ -29,7 +29,7 @@ pub record IsAdded (before after : List Thing) (id : ℕ) (thing : Thing) : Type
 abbrev pub too_large : ℕ → Fault
 too_large size = Limit (record { code = 207; counted = pos size; limit = pos (2 ^ 40) })
 
--- a term is there only with a size of at most 2^40; it is refused for a greater one, or memory is wanting
+-- a term is there only with a size of at most 2^40; it is refused for a greater one, or memory runs out
 abbrev pub IsMeasured : {A : Type 0} → ℕ → Result A Fault → Type 0
 IsMeasured size (Ok x) = size ≤ 2 ^ 40
 IsMeasured size (Err fault) = (fault ≡ NoMemory) ⊎ ((fault ≡ too_large size) × (2 ^ 40 < size))

@@ -1,10 +1,10 @@
 -- Tasks over the root box, by the wide reading.
 use Rattle.std.specs.Prelude.{List}
 use Rattle.box_problem.specs.Box.{Box}
-use Rattle.box_rules.specs.Globals.{TaskEnds}
-use Rattle.box_rules.specs.Marks.{both}
-use Rattle.box_rules.specs.Rules.{Wide, interval, mark}
-use Rattle.box_rules.specs.declared.answers.Defined.{Defined}
+use Rattle.term_language.specs.Globals.{TaskEnds}
+use Rattle.term_language.specs.Marks.{both}
+use Rattle.term_language.specs.Rules.{Wide, interval, mark}
+use Rattle.term_language.specs.declared.answers.Defined.{Defined}
 use Rattle.term_nodes.specs.declared.nodes.Task.{Task}
 use Rattle.term_nodes.specs.Things.{Thing, term_at}
 

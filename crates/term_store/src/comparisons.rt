@@ -1,21 +1,21 @@
 //! Comparisons are added.
 
 ghost use Rattle.std.specs.Prelude.{◌≡◌, ◌<◌, length, negsuc, IfOk, OnErr};
-ghost use Rattle.box_rules.specs.Forms as forms;
-ghost use Rattle.box_rules.specs.Rules as rule;
-ghost use Rattle.box_rules.specs.Terms as term;
-ghost use Rattle.term_rules.specs.Shown.{form_of};
+ghost use Rattle.term_language.specs.Forms as forms;
+ghost use Rattle.term_language.specs.Rules as rule;
+ghost use Rattle.term_language.specs.Terms as term;
+ghost use Rattle.term_math.specs.Shown.{form_of};
 ghost use Rattle.term_nodes.specs.Things.{a_cond, term_at};
 ghost use Rattle.term_nodes.specs.Seen.{sight_of, wide_sight};
 ghost use Rattle.term_store.specs.Stores.{IsAdded, IsSoundStore, all, root_of};
 
 use crate::known::condition;
 use crate::store::TermStore;
-use box_rules::Truth;
 use sopl_base::CmpOp;
 use std::alloc::AllocError;
-use term_nodes::{Comparison, Node, Sight};
-use term_rules::{Combination, Form, WideFactor, both, compared};
+use term_language::Truth;
+use term_math::{Combination, Form, WideFactor, both, compared};
+use term_nodes::{AbstractValue, Comparison, Node};
 
 impl TermStore {
     /// The linear form of a term minus another one.
@@ -46,13 +46,13 @@ impl TermStore {
 
     /// What a term is over the root box, by the wide reading.
     #[tactic(auto, using(term_nodes::proofs::Reading::wide_is))]
-    pub(crate) fn wide_known(&self, id: u32) -> Sight
+    pub(crate) fn wide_known(&self, id: u32) -> AbstractValue
         requires sound { IsSoundStore self.now }
         requires exists { id < length self.now.items.items }
         ensures { sight_of result ≡ wide_sight (root_of self.now) (term_at (all self.now) id) }
     {
         let item = &self.items[id as usize];
-        Sight {
+        AbstractValue {
             ends: item.facts.wide,
             mark: item.facts.wide_mark,
         }

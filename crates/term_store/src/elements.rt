@@ -1,18 +1,18 @@
 //! Arrays are added, and their elements.
 
 ghost use Rattle.std.specs.Prelude.{◌≡◌, ◌<◌, Some, length, map, IfOk, OnErr, option_map};
-ghost use Rattle.box_rules.specs.Arrays as arrays;
-ghost use Rattle.box_rules.specs.Arrays.{item_at};
-ghost use Rattle.box_rules.specs.Ends as ends;
-ghost use Rattle.box_rules.specs.Forms as forms;
-ghost use Rattle.box_rules.specs.Laws.{IsTable};
-ghost use Rattle.box_rules.specs.Marks as marks;
-ghost use Rattle.box_rules.specs.Rules as rule;
-ghost use Rattle.box_rules.specs.Sizes as sizes;
-ghost use Rattle.box_rules.specs.Terms as term;
-ghost use Rattle.term_rules.specs.Shown.{box_in, ends_of, form_of};
-ghost use Rattle.term_tables.specs.Kept.{item_of, sets_of, table_of};
-ghost use Rattle.term_tables.specs.Within.{known_of, ranges_of};
+ghost use Rattle.term_language.specs.Arrays as arrays;
+ghost use Rattle.term_language.specs.Arrays.{item_at};
+ghost use Rattle.term_language.specs.Ends as ends;
+ghost use Rattle.term_language.specs.Forms as forms;
+ghost use Rattle.term_language.specs.Laws.{IsTable};
+ghost use Rattle.term_language.specs.Marks as marks;
+ghost use Rattle.term_language.specs.Rules as rule;
+ghost use Rattle.term_language.specs.Sizes as sizes;
+ghost use Rattle.term_language.specs.Terms as term;
+ghost use Rattle.term_math.specs.Shown.{box_in, ends_of, form_of};
+ghost use Rattle.term_math.specs.Kept.{item_of, sets_of, table_of};
+ghost use Rattle.term_math.specs.Within.{known_of, ranges_of};
 ghost use Rattle.term_nodes.specs.Built.{AllBelow, facts_of, kept};
 ghost use Rattle.term_nodes.specs.Seen.{indexed_sight, sight_of};
 ghost use Rattle.term_nodes.specs.Things.{a_table, a_term, table_at, terms_at};
@@ -23,12 +23,11 @@ use crate::folded::folded_facts;
 use crate::known::condition;
 use crate::store::TermStore;
 use crate::terms::{cell_form, measured, number_form};
-use box_rules::{Defined, Truth};
 use sopl_base::Fault;
 use std::alloc::{AllocError, Global};
-use term_nodes::{Facts, Node, Sight, table_at};
-use term_rules::{BoxView, Ends, Factor, Form, both, weight_of};
-use term_tables::{Element, Indices, Ranges, Table};
+use term_language::{Defined, Truth};
+use term_math::{BoxView, Element, Ends, Factor, Form, Indices, Ranges, Table, both, weight_of};
+use term_nodes::{AbstractValue, Facts, Node, table_at};
 
 /// The form of an element, where its size is at most 2^40.
 fn item_form(alloc: Global, element: &Element, root: &BoxView) -> Result<Form, Fault>
@@ -177,7 +176,7 @@ impl TermStore {
         sets: &[Vec<i64>],
         indices: &Indices,
         behind: &Ranges,
-    ) -> Sight
+    ) -> AbstractValue
         requires sound { IsSoundStore self.now }
         requires exist { AllBelow (length self.now.items.items) at.now }
         requires complete { length (table_of found.now).items ≡ length (arrays.indices (table_of found.now).sets) }
@@ -191,7 +190,7 @@ impl TermStore {
         let mut known = *indices;
         while let Some((last, before)) = left.split_last() {
             let Some((set, others)) = dimensions.split_last() else {
-                return Sight::never(found.hull(&root));
+                return AbstractValue::never(found.hull(&root));
             };
             let range = self.range_known(*last);
             let more = known.with(&range.ends, range.mark, set.as_slice());
@@ -207,12 +206,12 @@ impl TermStore {
     }
 
     /// What an element is over the root box, by the wide reading: any of the array's.
-    fn element_wide(&self, table: u32, at: &[u32]) -> Sight
+    fn element_wide(&self, table: u32, at: &[u32]) -> AbstractValue
         requires sound { IsSoundStore self.now }
         requires exist { AllBelow (length self.now.items.items) at.now }
         ensures { sight_of result ≡ any_element (root_of self.now) (table_at (all self.now) table) (terms_at (all self.now) at.now) }
     {
-        Sight {
+        AbstractValue {
             ends: self.hull_known(table),
             mark: self.element_wide_mark(table, at),
         }

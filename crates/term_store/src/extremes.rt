@@ -1,11 +1,11 @@
 //! The least and the greatest of several are added.
 
 ghost use Rattle.std.specs.Prelude.{◌≡◌, ◌<◌, ◌∷◌, length, IfOk, OnErr};
-ghost use Rattle.box_rules.specs.Marks as marks;
-ghost use Rattle.box_rules.specs.Rules as rule;
-ghost use Rattle.box_rules.specs.Sizes as sizes;
-ghost use Rattle.box_rules.specs.Terms as term;
-ghost use Rattle.term_operations.specs.Made.{extreme_term};
+ghost use Rattle.term_language.specs.Marks as marks;
+ghost use Rattle.term_language.specs.Rules as rule;
+ghost use Rattle.term_language.specs.Sizes as sizes;
+ghost use Rattle.term_language.specs.Terms as term;
+ghost use Rattle.term_math.specs.Made.{extreme_term};
 ghost use Rattle.term_nodes.specs.Built.{AllBelow, facts_of, kept};
 ghost use Rattle.term_nodes.specs.Seen.{extreme_range, sight_of};
 ghost use Rattle.term_nodes.specs.Things.{a_term, term_at, terms_at};
@@ -13,11 +13,10 @@ ghost use Rattle.term_store.specs.Stores.{IsAdded, IsMeasured, IsSoundStore, all
 
 use crate::folded::folded_facts;
 use crate::store::TermStore;
-use box_rules::Defined;
 use sopl_base::Fault;
-use term_nodes::{Facts, Node, Sight};
-use term_operations::Extreme;
-use term_rules::both;
+use term_language::Defined;
+use term_math::{Extreme, both};
+use term_nodes::{AbstractValue, Facts, Node};
 
 impl TermStore {
     /// The mark of several terms over the root box.
@@ -61,7 +60,7 @@ impl TermStore {
 
     /// The least or the greatest of whole intervals over the root box, and the mark of all, by the wide reading.
     #[tactic(auto, using(term_nodes::proofs::Ranges::next_taken, term_nodes::proofs::Ranges::none_taken, term_nodes::proofs::Ranges::taken_is, term_nodes::proofs::Steps::cond_below))]
-    fn extreme_known(&self, extreme: Extreme, first: u32, later: &[u32]) -> Sight
+    fn extreme_known(&self, extreme: Extreme, first: u32, later: &[u32]) -> AbstractValue
         requires sound { IsSoundStore self.now }
         requires first { first < length self.now.items.items }
         requires exist { AllBelow (length self.now.items.items) later.now }

@@ -2,9 +2,9 @@
 
 ghost use Rattle.std.specs.Prelude.{◌≡◌, ◌<◌, true, false, length, IfOk};
 ghost use Rattle.std.specs.List.{list_all};
-ghost use Rattle.box_rules.specs.Forms.{is_constant};
-ghost use Rattle.box_rules.specs.Rules as rule;
-ghost use Rattle.term_rules.specs.Shown.{ends_of};
+ghost use Rattle.term_language.specs.Forms.{is_constant};
+ghost use Rattle.term_language.specs.Rules as rule;
+ghost use Rattle.term_math.specs.Shown.{ends_of};
 ghost use Rattle.term_nodes.specs.Built.{AllBelow, kept};
 ghost use Rattle.term_nodes.specs.Seen.{range, sight_of};
 ghost use Rattle.term_nodes.specs.Things.{term_at, terms_at};
@@ -13,14 +13,14 @@ ghost use Rattle.term_store.specs.Stores.{IsMeasured, IsSoundStore, all, root_of
 
 use crate::store::TermStore;
 use crate::terms::{measured, number_form};
-use box_rules::{Defined, Truth};
 use sopl_base::Fault;
 use std::alloc::Global;
-use term_nodes::{Facts, Sight};
-use term_rules::{Ends, Factor, Form, weight_of};
+use term_language::{Defined, Truth};
+use term_math::{Ends, Factor, Form, weight_of};
+use term_nodes::{AbstractValue, Facts};
 
 /// What is known of a term that is a number, where its interval has that number alone.
-fn number_facts(alloc: Global, mark: Defined, wide: &Sight) -> Facts
+fn number_facts(alloc: Global, mark: Defined, wide: &AbstractValue) -> Facts
     ensures { kept result ≡ of_folded true mark (sight_of wide.now) }
 {
     Facts {
@@ -34,7 +34,7 @@ fn number_facts(alloc: Global, mark: Defined, wide: &Sight) -> Facts
 }
 
 /// What is known of a term that is an atom.
-fn atom_facts(alloc: Global, mark: Defined, wide: &Sight) -> Facts
+fn atom_facts(alloc: Global, mark: Defined, wide: &AbstractValue) -> Facts
     ensures { kept result ≡ of_folded false mark (sight_of wide.now) }
 {
     Facts {
@@ -56,7 +56,7 @@ pub(crate) fn folded_facts(
     alloc: Global,
     folds: bool,
     mark: Defined,
-    wide: &Sight,
+    wide: &AbstractValue,
 ) -> Result<Facts, Fault>
     ensures facts { IfOk result (λ facts. kept facts ≡ of_folded folds mark (sight_of wide.now)) }
     ensures measured { IsMeasured (size_of_folded folds (ends_of wide.now.ends)) result }
@@ -71,12 +71,12 @@ pub(crate) fn folded_facts(
 
 impl TermStore {
     /// The whole interval of a term over the root box, and its mark, by the wide reading.
-    pub(crate) fn range_known(&self, id: u32) -> Sight
+    pub(crate) fn range_known(&self, id: u32) -> AbstractValue
         requires sound { IsSoundStore self.now }
         requires exists { id < length self.now.items.items }
         ensures { sight_of result ≡ range rule.Wide (root_of self.now) (root_of self.now) (term_at (all self.now) id) }
     {
-        Sight {
+        AbstractValue {
             ends: self.interval_known(id),
             mark: self.wide_known(id).mark,
         }

@@ -1,12 +1,12 @@
 //! `allDifferent` and `cumulative` are added.
 
 ghost use Rattle.std.specs.Prelude.{◌≡◌, ◌<◌, length, IfOk, OnErr};
-ghost use Rattle.box_rules.specs.Globals as globals;
-ghost use Rattle.box_rules.specs.Marks as marks;
-ghost use Rattle.box_rules.specs.Rules as rule;
-ghost use Rattle.box_rules.specs.Terms as term;
+ghost use Rattle.term_language.specs.Globals as globals;
+ghost use Rattle.term_language.specs.Marks as marks;
+ghost use Rattle.term_language.specs.Rules as rule;
+ghost use Rattle.term_language.specs.Terms as term;
 ghost use Rattle.term_crowds.specs.Crowds.{AllOrdered, DemandsOrdered};
-ghost use Rattle.term_rules.specs.Shown.{ends_of};
+ghost use Rattle.term_math.specs.Shown.{ends_of};
 ghost use Rattle.term_windows.specs.Tasks.{task_ends_of, task_spans};
 ghost use Rattle.term_windows.specs.Windows.{spans};
 ghost use Rattle.term_nodes.specs.Built.{AllBelow, TasksBelow};
@@ -16,10 +16,10 @@ ghost use Rattle.term_store.specs.Tasks.{wide_task, wide_task_mark};
 
 use crate::known::condition;
 use crate::store::TermStore;
-use box_rules::{Defined, Truth};
 use std::alloc::AllocError;
+use term_language::{Defined, Truth};
+use term_math::{Ends, both};
 use term_nodes::{Node, Task};
-use term_rules::{Ends, both};
 use term_windows::{TaskRange, always_differ, always_fit, never_differ, never_fit};
 
 /// False where an operand is Never defined or the condition surely fails, True where all are Always defined and it surely holds.

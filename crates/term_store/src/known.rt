@@ -1,16 +1,16 @@
 //! What is known of nodes that are made of others.
 
 ghost use Rattle.std.specs.Prelude.{◌≡◌, ◌<◌, length};
-ghost use Rattle.box_rules.specs.Rules as rule;
+ghost use Rattle.term_language.specs.Rules as rule;
 ghost use Rattle.term_nodes.specs.Things.{cond_at, conds_at};
 ghost use Rattle.term_nodes.specs.Built.{AllBelow, kept, of_truth};
 ghost use Rattle.term_store.specs.Stores.{IsSoundStore, all, root_of};
 
 use crate::store::TermStore;
-use box_rules::{Defined, Truth};
 use std::alloc::Global;
+use term_language::{Defined, Truth};
+use term_math::{Ends, Form, and_truth, or_truth};
 use term_nodes::Facts;
-use term_rules::{Ends, Form, and_truth, or_truth};
 
 /// What is known of a condition with this truth.
 pub(crate) fn condition(alloc: Global, truth: Truth) -> Facts

@@ -1,10 +1,10 @@
 //! Quotients, remainders and sizes are added.
 
 ghost use Rattle.std.specs.Prelude.{◌≡◌, ◌<◌, [], ◌∷◌, length, IfOk, OnErr};
-ghost use Rattle.box_rules.specs.Rules as rule;
-ghost use Rattle.box_rules.specs.Sizes as sizes;
-ghost use Rattle.box_rules.specs.Terms as term;
-ghost use Rattle.term_operations.specs.Made.{IsDivisor, IsPossible, made, operation_term};
+ghost use Rattle.term_language.specs.Rules as rule;
+ghost use Rattle.term_language.specs.Sizes as sizes;
+ghost use Rattle.term_language.specs.Terms as term;
+ghost use Rattle.term_math.specs.Made.{IsDivisor, IsPossible, made, operation_term};
 ghost use Rattle.term_nodes.specs.Built.{facts_of, kept};
 ghost use Rattle.term_nodes.specs.Seen.{sight_of};
 ghost use Rattle.term_nodes.specs.Things.{a_term, term_at};
@@ -12,10 +12,10 @@ ghost use Rattle.term_store.specs.Stores.{IsAdded, IsMeasured, IsSoundStore, all
 
 use crate::folded::folded_facts;
 use crate::store::TermStore;
-use box_rules::Defined;
 use sopl_base::Fault;
-use term_nodes::{Facts, Node, Sight};
-use term_operations::{Divisor, Operation};
+use term_language::Defined;
+use term_math::{Divisor, Operation};
+use term_nodes::{AbstractValue, Facts, Node};
 
 impl TermStore {
     /// Whether what is made of a term is a number.
@@ -35,7 +35,7 @@ impl TermStore {
     }
 
     /// The interval and the mark of what is made of a term over the root box, by the wide reading.
-    fn made_known(&self, operation: &Operation, id: u32) -> Sight
+    fn made_known(&self, operation: &Operation, id: u32) -> AbstractValue
         requires sound { IsSoundStore self.now }
         requires exists { id < length self.now.items.items }
         requires possible { IsPossible operation.now }
@@ -45,7 +45,7 @@ impl TermStore {
         } }
     {
         let range = self.range_known(id);
-        Sight {
+        AbstractValue {
             ends: operation.made(&range.ends),
             mark: range.mark,
         }

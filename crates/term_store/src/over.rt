@@ -2,20 +2,20 @@
 
 ghost use Rattle.std.specs.Prelude.{◌≡◌, ◌<◌, length, Some};
 ghost use Rattle.box_problem.specs.Box.{Inside};
-ghost use Rattle.box_rules.specs.Rules as rule;
-ghost use Rattle.term_rules.specs.Shown.{IsPart, box_in, box_under, ends_of, with_part};
+ghost use Rattle.term_language.specs.Rules as rule;
+ghost use Rattle.term_math.specs.Shown.{IsPart, box_in, box_under, ends_of, with_part};
 ghost use Rattle.term_nodes.specs.Seen.{IsReady};
 ghost use Rattle.term_nodes.specs.Things.{cond_at, term_at, things};
 ghost use Rattle.term_store.specs.Stores.{IsSoundStore, all, root_of};
 
 use crate::store::TermStore;
-use box_rules::Truth;
-use term_nodes::{Here, Sight};
-use term_rules::{BoxView, Part};
+use term_language::Truth;
+use term_math::{BoxView, Part};
+use term_nodes::{AbstractValue, Evaluator};
 
 impl TermStore {
     /// The nodes and the root, beside a box.
-    pub fn here<'a>(&'a self, view: &BoxView<'a>) -> Here<'a>
+    pub fn here<'a>(&'a self, view: &BoxView<'a>) -> Evaluator<'a>
         requires sound { IsSoundStore self.now }
         requires inside { Inside (box_in view.now) (root_of self.now) }
         ensures ready { IsReady result }
@@ -23,7 +23,7 @@ impl TermStore {
         ensures view { box_in result.view ≡ box_in view.now }
         ensures things { things result.items.now ≡ all self.now }
     {
-        Here {
+        Evaluator {
             items: self.items.as_slice(),
             root: self.root(),
             view: *view,
@@ -40,7 +40,7 @@ impl TermStore {
     }
 
     /// The interval and the mark of a term over the box.
-    pub fn range_of(&self, id: u32, view: &BoxView) -> Sight
+    pub fn range_of(&self, id: u32, view: &BoxView) -> AbstractValue
         requires sound { IsSoundStore self.now }
         requires exists { id < length (all self.now) }
         requires inside { Inside (box_in view.now) (root_of self.now) }
@@ -62,7 +62,7 @@ impl TermStore {
     }
 
     /// The interval and the mark of a term over the box, with another interval for one cell.
-    pub fn range_in(&self, id: u32, view: &BoxView, part: &Part) -> Sight
+    pub fn range_in(&self, id: u32, view: &BoxView, part: &Part) -> AbstractValue
         requires sound { IsSoundStore self.now }
         requires exists { id < length (all self.now) }
         requires inside { Inside (box_under view.now) (root_of self.now) }

@@ -1,23 +1,23 @@
 //! Products are added.
 
 ghost use Rattle.std.specs.Prelude.{◌≡◌, ◌<◌, ◌≤◌, ◌^◌, length, IfOk, OnErr};
-ghost use Rattle.box_rules.specs.Forms as forms;
-ghost use Rattle.box_rules.specs.Rules as rule;
-ghost use Rattle.box_rules.specs.Sizes as sizes;
-ghost use Rattle.box_rules.specs.Terms as term;
-ghost use Rattle.term_rules.specs.Shown.{ends_of, form_of};
-ghost use Rattle.term_rules.specs.Sums.{wide_form};
+ghost use Rattle.term_language.specs.Forms as forms;
+ghost use Rattle.term_language.specs.Rules as rule;
+ghost use Rattle.term_language.specs.Sizes as sizes;
+ghost use Rattle.term_language.specs.Terms as term;
+ghost use Rattle.term_math.specs.Shown.{ends_of, form_of};
+ghost use Rattle.term_math.specs.Sums.{wide_form};
 ghost use Rattle.term_nodes.specs.Things.{a_term, term_at};
 ghost use Rattle.term_nodes.specs.Built.{facts_of, kept};
 ghost use Rattle.term_store.specs.Stores.{IsAdded, IsMeasured, IsSoundStore, all, root_of};
 
 use crate::store::TermStore;
 use crate::terms::measured;
-use box_rules::Truth;
 use sopl_base::Fault;
 use std::alloc::AllocError;
+use term_language::Truth;
+use term_math::{Ends, Form, WideForm, both, scaled, times_weight, weight_of_times};
 use term_nodes::{Facts, Node};
-use term_rules::{Ends, Form, WideForm, both, scaled, times_weight, weight_of_times};
 
 impl TermStore {
     /// The form of a product.
@@ -54,7 +54,7 @@ impl TermStore {
         self.root().whole(self.form_known(id), &wide.ends)
     }
 
-    /// The weight of what is no cell in a product.
+    /// The weight of the non-linear part of a product.
     fn product_weight(&self, a: u32, b: u32) -> u128
         requires sound { IsSoundStore self.now }
         requires left { a < length self.now.items.items }

@@ -2,7 +2,7 @@
 
 ghost use Rattle.std.specs.Prelude.{◌≡◌, ◌<◌, [], length, IfOk, OnErr};
 ghost use Rattle.box_problem.specs.Box.{box_of};
-ghost use Rattle.box_rules.specs.Terms as term;
+ghost use Rattle.term_language.specs.Terms as term;
 ghost use Rattle.term_nodes.specs.Things.{a_cond, cond_at, conds_at, thing_of};
 ghost use Rattle.term_nodes.specs.Built.{AllBelow, IsNew};
 ghost use Rattle.term_store.specs.Stores.{IsAdded, IsSoundStore, all, root_of};
@@ -10,8 +10,8 @@ ghost use Rattle.term_store.specs.Stores.{IsAdded, IsSoundStore, all, root_of};
 use crate::known::condition;
 use sopl_base::Interval;
 use std::alloc::{AllocError, Global};
+use term_math::{opposite, or_truth};
 use term_nodes::{Facts, Item, Node, push};
-use term_rules::{opposite, or_truth};
 
 /// Terms and conditions over the cells of a root box, each by a number.
 #[derive(Drop)]

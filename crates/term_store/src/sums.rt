@@ -1,11 +1,11 @@
 //! Sums are added.
 
 ghost use Rattle.std.specs.Prelude.{◌≡◌, ◌<◌, ◌≤◌, ◌^◌, length, IfOk, OnErr};
-ghost use Rattle.box_rules.specs.Rules as rule;
-ghost use Rattle.box_rules.specs.Sizes as sizes;
-ghost use Rattle.box_rules.specs.Terms as term;
-ghost use Rattle.term_rules.specs.Sums.{combination_of};
-ghost use Rattle.term_rules.specs.Shown.{form_of};
+ghost use Rattle.term_language.specs.Rules as rule;
+ghost use Rattle.term_language.specs.Sizes as sizes;
+ghost use Rattle.term_language.specs.Terms as term;
+ghost use Rattle.term_math.specs.Sums.{combination_of};
+ghost use Rattle.term_math.specs.Shown.{form_of};
 ghost use Rattle.term_nodes.specs.Things.{a_term, parts_at, term_at};
 ghost use Rattle.term_nodes.specs.Built.{PartsBelow, facts_of, kept};
 ghost use Rattle.term_nodes.specs.Seen.{sight_of, wide_sum};
@@ -13,11 +13,11 @@ ghost use Rattle.term_store.specs.Stores.{IsAdded, IsMeasured, IsSoundStore, all
 
 use crate::store::TermStore;
 use crate::terms::measured;
-use box_rules::{Defined, Truth};
 use sopl_base::Fault;
 use std::alloc::AllocError;
-use term_nodes::{Facts, Node, Sight, Signed, factor};
-use term_rules::{Combination, Form, both};
+use term_language::{Defined, Truth};
+use term_math::{Combination, Form, both};
+use term_nodes::{AbstractValue, Facts, Node, Signed, factor};
 
 impl TermStore {
     /// The sum of the forms of all parts.
@@ -37,7 +37,7 @@ impl TermStore {
         Ok(sum)
     }
 
-    /// The weight of what is no cell in a term.
+    /// The weight of the non-linear part of a term.
     #[tactic(auto, using(term_nodes::proofs::Reading::weight_is))]
     pub(crate) fn weight_known(&self, id: u32) -> u64
         requires sound { IsSoundStore self.now }
@@ -48,7 +48,7 @@ impl TermStore {
         item.facts.weight
     }
 
-    /// The weight of what is no cell in the parts.
+    /// The weight of the non-linear part of the parts.
     #[tactic(auto, using(crate::proofs::Summing::next_weight, crate::proofs::Summing::no_sum_weight))]
     fn sum_weight(&self, parts: &[Signed]) -> u128
         requires sound { IsSoundStore self.now }
@@ -93,13 +93,13 @@ impl TermStore {
 
     /// What a sum is over the root box, by the wide reading.
     #[tactic(auto, using(crate::proofs::Summing::next_wide, crate::proofs::Summing::no_wide))]
-    fn sum_wide(&self, parts: &[Signed]) -> Sight
+    fn sum_wide(&self, parts: &[Signed]) -> AbstractValue
         requires sound { IsSoundStore self.now }
         requires exist { PartsBelow (length self.now.items.items) parts.now }
         requires small { sizes.sum_weight (root_of self.now) (parts_at (all self.now) parts.now) ≤ 2 ^ 40 }
         ensures { sight_of result ≡ wide_sum (root_of self.now) (parts_at (all self.now) parts.now) }
     {
-        let mut sum = Sight::clear();
+        let mut sum = AbstractValue::clear();
         let count = parts.len();
         for i in (0..count).rev() {
             let part = &parts[i];
@@ -109,7 +109,7 @@ impl TermStore {
         sum
     }
 
-    /// The form of a sum, and the weight of what is no cell in it, where its size is at most 2^40.
+    /// The form of a sum, and the weight of the non-linear part of it, where its size is at most 2^40.
     fn measured_sum(&self, parts: &[Signed]) -> Result<Form, Fault>
         requires sound { IsSoundStore self.now }
         requires exist { PartsBelow (length self.now.items.items) parts.now }

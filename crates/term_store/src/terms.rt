@@ -2,20 +2,20 @@
 
 ghost use Rattle.std.specs.Prelude.{◌≡◌, ◌<◌, ◌^◌, length, IfOk, OnErr};
 ghost use Rattle.box_problem.specs.Box.{Inside};
-ghost use Rattle.box_rules.specs.Forms as forms;
-ghost use Rattle.box_rules.specs.Sizes.{size};
-ghost use Rattle.box_rules.specs.Terms as term;
-ghost use Rattle.term_rules.specs.Shown.{box_in, form_of};
+ghost use Rattle.term_language.specs.Forms as forms;
+ghost use Rattle.term_language.specs.Sizes.{size};
+ghost use Rattle.term_language.specs.Terms as term;
+ghost use Rattle.term_math.specs.Shown.{box_in, form_of};
 ghost use Rattle.term_nodes.specs.Things.{a_term, cond_at};
 ghost use Rattle.term_nodes.specs.Built.{kept, of_atom, of_form};
 ghost use Rattle.term_store.specs.Stores.{IsAdded, IsMeasured, IsSoundStore, all, root_of, too_large};
 
 use crate::store::TermStore;
-use box_rules::{Defined, Truth};
 use sopl_base::{Excess, Fault, codes, limits};
 use std::alloc::{AllocError, Global};
+use term_language::{Defined, Truth};
+use term_math::{BoxView, Coefficient, Ends, Factor, Form, truth_ends, weight_of};
 use term_nodes::{Facts, Node};
-use term_rules::{BoxView, Coefficient, Ends, Factor, Form, truth_ends, weight_of};
 
 /// The refusal of a term of this size.
 fn too_large(size: u128) -> Fault

@@ -1,11 +1,11 @@
 -- The arrays of the tests have one item for each index, and no index twice.
 use Rattle.std.proofs.Common.{◌≡◌, ℤ, pos, List, [], ◌∷◌, length, AllPairs, Vec, Global, refl, ap, subst, sym, ◌∙◌}
 use Rattle.std.proofs.lemmas.List.{length-map}
-use Rattle.box_rules.specs.Arrays.{indices}
-use Rattle.box_rules.specs.Laws.{IsTable}
-use Rattle.term_tables.specs.Kept.{sets_of, table_of}
-use Rattle.term_tables.specs.declared.tables.Table.{Table}
-use Rattle.term_tables.proofs.Apart.{all_apart, table_is}
+use Rattle.term_language.specs.Arrays.{indices}
+use Rattle.term_language.specs.Laws.{IsTable}
+use Rattle.term_math.specs.Kept.{sets_of, table_of}
+use Rattle.term_math.specs.declared.tables.Table.{Table}
+use Rattle.term_math.proofs.Apart.{all_apart, table_is}
 use Rattle.term_nodes.specs.Things.{Thing, thing_at}
 use Rattle.term_program.specs.declared.ids.TermId.{TermId}
 use Rattle.sopl_term.specs.Built as builder

@@ -1,5 +1,11 @@
-//! Tests of the store of terms and of the builder: terms, conditions and elements over a small root box, and what is refused for its size.
+//! Tests of terms and of what is made of them: the store and the builder over a small root box, what is refused for its size, long chains
+//! of operations, what closes boxes, and the ends of objectives.
 #![tactic(auto)]
 
+mod boxes;
+#[cfg(test)]
+mod chain_tests;
 #[cfg(test)]
 mod tests;
+
+pub use boxes::add_root;

@@ -1,15 +1,14 @@
 ghost use Rattle.std.specs.Prelude.{◌≡◌, IfOk};
-ghost use Rattle.box_rules.specs.Laws.{IsTable};
-ghost use Rattle.term_tables.specs.Kept.{table_of};
+ghost use Rattle.term_language.specs.Laws.{IsTable};
+ghost use Rattle.term_math.specs.Kept.{table_of};
 ghost use Rattle.term_store.specs.Stores.{IsSoundStore};
 
-use box_rules::{Defined, Truth};
 use sopl_base::{CmpOp, Fault, Interval};
 use std::alloc::{AllocError, Global};
+use term_language::{Defined, Truth};
+use term_math::{Divisor, Element, Table};
 use term_nodes::Signed;
-use term_operations::Divisor;
 use term_store::TermStore;
-use term_tables::{Element, Table};
 
 /// A store over x from -7 to 9 and y from -5 to 4.
 fn small(alloc: Global) -> Result<TermStore, AllocError>
@@ -254,7 +253,7 @@ fn pair(alloc: Global, first: Element, second: Element) -> Result<Table, AllocEr
 }
 
 /// An array with an index set that is empty.
-#[tactic(auto, using(term_tables::proofs::Apart::empty_is))]
+#[tactic(auto, using(term_math::proofs::Apart::empty_is))]
 fn empty(alloc: Global) -> Result<Table, AllocError>
     ensures proper { IfOk result (λ table. IsTable (table_of table)) }
 {

@@ -2,8 +2,8 @@
 use Rattle.std.proofs.Common.{◌≡◌, ℕ, ◌-◌, ◌<◌, ◌≤◌, ℤ, pos, ◌+ℤ◌, Bool, true, false, List, length, arith, ap, sym, subst, ◌∙◌}
 use Rattle.std.specs.List.{list_any}
 use Rattle.std.proofs.lemmas.Int.{ints}
-use Rattle.box_rules.specs.Ends.{Ends}
-use Rattle.box_rules.specs.Globals.{are_crowded}
+use Rattle.term_language.specs.Ends.{Ends}
+use Rattle.term_language.specs.Globals.{are_crowded}
 use Rattle.term_crowds.specs.Crowds.{AllOrdered, NoneCrowded, inside_count}
 use Rattle.term_crowds.proofs.Crowding.{none_at_first, none_narrower, none_crowded, some_crowded}
 use Rattle.term_windows.specs.declared.windows.Window.{Window}

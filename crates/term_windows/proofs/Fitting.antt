@@ -1,11 +1,11 @@
 -- The room that is left under a capacity, and what is told of tasks by their parts.
 use Rattle.std.proofs.Common.{◌≡◌, ℤ, pos, ◌+ℤ◌, ◌-ℤ◌, ◌≤ℤ◌, ◌<ℤ◌, int_lt, int_le, Bool, true, false, ◌&&◌, ◌||◌, List, [], ◌∷◌, map, arith, ap, sym, ◌∙◌}
 use Rattle.std.proofs.lemmas.Int.{ints}
-use Rattle.box_rules.specs.Ends.{Ends}
-use Rattle.box_rules.specs.Globals.{TaskEnds, total, least_asked, most_asked, is_overfull, never_fit, is_enough, always_fit}
+use Rattle.term_language.specs.Ends.{Ends}
+use Rattle.term_language.specs.Globals.{TaskEnds, total, least_asked, most_asked, is_overfull, never_fit, is_enough, always_fit}
 use Rattle.term_crowds.specs.Crowds.{DemandsOrdered, some_negative, all_sound}
 use Rattle.term_crowds.proofs.Times.{least_total, most_total}
-use Rattle.box_rules.proofs.Tasks.{SoundEnds}
+use Rattle.term_language.proofs.Tasks.{SoundEnds}
 use Rattle.term_windows.specs.Tasks.{all_enough, some_overfull}
 use Rattle.term_windows.proofs.Steps.{or_false, or_true, and_true, and_false}
 

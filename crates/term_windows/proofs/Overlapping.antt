@@ -2,12 +2,12 @@
 use Rattle.std.proofs.Common.{◌≡◌, ℕ, zero, suc, ◌+◌, ◌-◌, ◌<◌, ◌≤◌, ℤ, pos, Bool, true, false, not, ◌&&◌, ◌||◌, List, [], ◌∷◌, length, get_or, take, arith, refl, ap, sym, subst, ◌∙◌}
 use Rattle.std.proofs.lemmas.Int.{ints}
 use Rattle.std.proofs.lemmas.List.{get_or_default}
-use Rattle.box_rules.specs.Ends as rule
-use Rattle.box_rules.specs.Globals.{is_inside}
+use Rattle.term_language.specs.Ends as rule
+use Rattle.term_language.specs.Globals.{is_inside}
 use Rattle.term_crowds.specs.Crowds.{at_low, at_high, HoldsWhole, HoldWhole, AreWholeFrom, LowsWhole}
 use Rattle.term_crowds.proofs.Tight.{whole_at_first, whole_few, whole_next}
-use Rattle.term_rules.specs.Shown.{ends_of}
-use Rattle.term_rules.specs.declared.ends.Ends.{Ends}
+use Rattle.term_math.specs.Shown.{ends_of}
+use Rattle.term_math.specs.declared.ends.Ends.{Ends}
 use Rattle.term_windows.specs.declared.overlaps.Overlap.{Overlap}
 use Rattle.term_windows.specs.declared.windows.Window.{Window}
 use Rattle.term_windows.specs.Overlaps.{overlaps, interval_at, IsFirstIn, IsWidest, IsFirstOverlap}

@@ -2,13 +2,13 @@
 use Rattle.std.proofs.Common.{◌≡◌, ℕ, suc, ◌+◌, ◌<◌, ◌≤◌, ℤ, int_le, Bool, true, false, List, [], ◌∷◌, length, get_or, drop, arith, refl, ap, sym, ◌∙◌}
 use Rattle.std.specs.List.{list_all, list_any}
 use Rattle.std.proofs.lemmas.List.{at_drop_more, at_drop_all}
-use Rattle.box_rules.specs.Ends as rule
-use Rattle.box_rules.specs.Globals.{is_inside, are_crowded, are_apart, always_differ}
-use Rattle.box_rules.proofs.FormValues.{and_first, and_second}
-use Rattle.box_rules.proofs.Different.{le_tested}
+use Rattle.term_language.specs.Ends as rule
+use Rattle.term_language.specs.Globals.{is_inside, are_crowded, are_apart, always_differ}
+use Rattle.term_language.proofs.FormValues.{and_first, and_second}
+use Rattle.term_language.proofs.Different.{le_tested}
 use Rattle.term_crowds.specs.Crowds.{AllOrdered}
-use Rattle.term_rules.specs.Shown.{ends_of}
-use Rattle.term_rules.specs.declared.ends.Ends.{Ends}
+use Rattle.term_math.specs.Shown.{ends_of}
+use Rattle.term_math.specs.declared.ends.Ends.{Ends}
 use Rattle.term_windows.specs.declared.windows.Window.{Window}
 use Rattle.term_windows.specs.Windows.{last_in, inside_in, spans}
 use Rattle.term_windows.proofs.Steps.{and_true, and_false, next_any, this_any, next_each, this_fails, one_more, no_more}

@@ -1,8 +1,8 @@
 -- Steps of loops over what is left of a list: what is told of all that is left, from its first item.
 use Rattle.std.proofs.Common.{◌≡◌, ◌+◌, Bool, true, false, ◌&&◌, ◌||◌, if◌then◌else◌, List, ◌∷◌, length, arith, refl, ap, ◌∙◌}
 use Rattle.std.specs.List.{filter, list_all, list_any}
-use Rattle.box_rules.specs.Ends.{Ends}
-use Rattle.box_rules.specs.Globals.{is_inside}
+use Rattle.term_language.specs.Ends.{Ends}
+use Rattle.term_language.specs.Globals.{is_inside}
 use Rattle.term_windows.specs.declared.windows.Window.{Window}
 use Rattle.term_windows.specs.Windows.{last_in, inside_in}
 

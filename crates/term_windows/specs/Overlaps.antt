@@ -1,7 +1,7 @@
 -- Intervals that have an end in a tight window and do not lie in it.
 use Rattle.std.specs.Prelude.{◌≡◌, ℕ, ◌<◌, ℤ, pos, Bool, true, not, ◌&&◌, ◌||◌, List, length, get_or, take}
-use Rattle.box_rules.specs.Ends.{Ends, exactly}
-use Rattle.box_rules.specs.Globals.{is_inside}
+use Rattle.term_language.specs.Ends.{Ends, exactly}
+use Rattle.term_language.specs.Globals.{is_inside}
 use Rattle.term_crowds.specs.Crowds.{at_low, at_high, IsTight, HoldWhole, AreWholeFrom, LowsWhole}
 use Rattle.term_windows.specs.declared.overlaps.Overlap.{Overlap}
 use Rattle.term_windows.specs.Windows.{last_in}

@@ -1,9 +1,9 @@
 -- Tasks as they are kept, and the parts of what is told of them.
 use Rattle.std.specs.Prelude.{Bool, List, map}
 use Rattle.std.specs.List.{list_all, list_any}
-use Rattle.box_rules.specs.Ends as rule
-use Rattle.box_rules.specs.Globals.{TaskEnds, is_enough, is_overfull}
-use Rattle.term_rules.specs.Shown.{ends_of}
+use Rattle.term_language.specs.Ends as rule
+use Rattle.term_language.specs.Globals.{TaskEnds, is_enough, is_overfull}
+use Rattle.term_math.specs.Shown.{ends_of}
 use Rattle.term_windows.specs.declared.tasks.TaskRange.{TaskRange}
 
 -- the intervals of a task, and of several, as they are by the rules

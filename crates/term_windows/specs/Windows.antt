@@ -1,9 +1,9 @@
 -- Windows of numbers, and intervals as they are kept.
 use Rattle.std.specs.Prelude.{ℕ, ℤ, pos, ◌+ℤ◌, ◌-ℤ◌, List, map}
-use Rattle.box_rules.specs.Ends as rule
+use Rattle.term_language.specs.Ends as rule
 use Rattle.term_crowds.specs.Crowds.{inside_count}
-use Rattle.term_rules.specs.Shown.{ends_of}
-use Rattle.term_rules.specs.declared.ends.Ends.{Ends}
+use Rattle.term_math.specs.Shown.{ends_of}
+use Rattle.term_math.specs.declared.ends.Ends.{Ends}
 use Rattle.term_windows.specs.declared.windows.Window.{Window}
 
 -- several intervals as they are by the rules

@@ -2,13 +2,13 @@
 
 ghost use Rattle.std.specs.Prelude.{◌≡◌};
 ghost use Rattle.std.specs.List.{list_all, list_any};
-ghost use Rattle.box_rules.specs.Globals as globals;
+ghost use Rattle.term_language.specs.Globals as globals;
 ghost use Rattle.term_crowds.specs.Crowds.{AllOrdered};
-ghost use Rattle.term_rules.specs.Shown.{ends_of};
+ghost use Rattle.term_math.specs.Shown.{ends_of};
 ghost use Rattle.term_windows.specs.Windows.{spans};
 
 use crate::windows::{Window, are_apart};
-use term_rules::Ends;
+use term_math::Ends;
 
 /// Whether more intervals lie between a lower end and the upper end of some of them than there are numbers: in windows that get narrower,
 /// since one that has few intervals tells it of all that are not too narrow for these.

@@ -1,14 +1,14 @@
 //! Whether tasks whose numbers lie in intervals surely do not fit under a capacity, or surely fit.
 
 ghost use Rattle.std.specs.Prelude.{◌≡◌, ◌≤ℤ◌, pos, true};
-ghost use Rattle.box_rules.specs.Globals as globals;
+ghost use Rattle.term_language.specs.Globals as globals;
 ghost use Rattle.term_crowds.specs.Crowds as crowds;
-ghost use Rattle.term_rules.specs.Shown.{ends_of};
+ghost use Rattle.term_math.specs.Shown.{ends_of};
 ghost use Rattle.term_windows.specs.Tasks as parts;
 ghost use Rattle.term_windows.specs.Tasks.{task_spans};
 
 use crate::tasks::{Amount, TaskRange};
-use term_rules::Ends;
+use term_math::Ends;
 
 /// Whether the length or the demand of some task is surely negative.
 #[tactic(auto, using(crate::proofs::TaskSlices::next_negative, crate::proofs::TaskSlices::this_negative, crate::proofs::TaskSlices::none_negative))]

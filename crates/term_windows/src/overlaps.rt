@@ -2,13 +2,13 @@
 
 ghost use Rattle.std.specs.Prelude.{◌≡◌, length, IfNone, IfSome};
 ghost use Rattle.term_crowds.specs.Crowds.{AreWholeFrom, HoldWhole, LowsWhole};
-ghost use Rattle.term_rules.specs.Shown.{ends_of};
+ghost use Rattle.term_math.specs.Shown.{ends_of};
 ghost use Rattle.term_windows.specs.Overlaps as rule;
 ghost use Rattle.term_windows.specs.Overlaps.{IsFirstIn, IsFirstOverlap, IsWidest};
 ghost use Rattle.term_windows.specs.Windows.{last_in, spans};
 
 use crate::windows::Window;
-use term_rules::Ends;
+use term_math::Ends;
 
 /// A window, and the place of an interval that has an end in it and does not lie in it.
 #[derive(Clone, Copy, Debug, PartialEq, Eq)]

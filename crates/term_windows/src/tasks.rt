@@ -2,11 +2,11 @@
 
 ghost use Rattle.std.specs.Prelude.{◌≡◌, ◌+ℤ◌, ◌-ℤ◌, ◌≤ℤ◌, ◌&&◌, ◌||◌, int_le, int_lt, pos};
 ghost use Rattle.std.specs.Int.{int_max};
-ghost use Rattle.box_rules.specs.Globals as globals;
+ghost use Rattle.term_language.specs.Globals as globals;
 ghost use Rattle.term_windows.specs.Tasks.{task_ends_of};
 
-use box_rules::Defined;
-use term_rules::Ends;
+use term_language::Defined;
+use term_math::Ends;
 
 /// The intervals of a task's start, length and demand, and the mark of all three.
 #[derive(Clone, Copy, Debug, PartialEq, Eq)]

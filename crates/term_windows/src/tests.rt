@@ -2,8 +2,8 @@ ghost use Rattle.std.specs.Prelude.{◌≡◌, int_le};
 ghost use Rattle.std.specs.List.{list_all};
 
 use super::*;
-use box_rules::Defined;
-use term_rules::Ends;
+use term_language::Defined;
+use term_math::Ends;
 
 /// The interval from one number to another.
 fn ends(low: i64, high: i64) -> Ends {

@@ -1,11 +1,11 @@
 //! Windows: so many numbers in a row, in which intervals may lie.
 
 ghost use Rattle.std.specs.Prelude.{◌≡◌, ◌-◌};
-ghost use Rattle.box_rules.specs.Globals as globals;
-ghost use Rattle.term_rules.specs.Shown.{ends_of};
+ghost use Rattle.term_language.specs.Globals as globals;
+ghost use Rattle.term_math.specs.Shown.{ends_of};
 ghost use Rattle.term_windows.specs.Windows.{inside_in, last_in, spans};
 
-use term_rules::Ends;
+use term_math::Ends;
 
 /// So many numbers in a row, from the least on.
 #[derive(Clone, Copy, Debug, PartialEq, Eq)]

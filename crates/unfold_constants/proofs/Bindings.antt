@@ -13,8 +13,8 @@ bindings_more [] b value = refl
 bindings_more (first ∷ later) b value = ap (λ rest. (record { name = first.0.now; value = first.1 }) ∷ rest) (bindings_more later b value)
 
 -- a list without its last item
-pub take_front : {A : Type 0} (xs : List A) (x : A) → take (length (xs ++ x ∷ []) - 1) (xs ++ x ∷ []) ≡ xs
-take_front xs x = (λ i. take (one_fewer i) (xs ++ x ∷ [])) ∙ take-append_seam xs (x ∷ [])
+pub take_prefix : {A : Type 0} (xs : List A) (x : A) → take (length (xs ++ x ∷ []) - 1) (xs ++ x ∷ []) ≡ xs
+take_prefix xs x = (λ i. take (one_fewer i) (xs ++ x ∷ [])) ∙ take-append_seam xs (x ∷ [])
   where
     one_fewer : length (xs ++ x ∷ []) - 1 ≡ length xs
     one_fewer = omega (arith, length-append xs (x ∷ []))

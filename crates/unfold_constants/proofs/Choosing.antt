@@ -6,11 +6,11 @@ use Rattle.sopl_base.specs.declared.fault.Fault.{Fault}
 use Rattle.sopl_base.specs.declared.fault.Fault.TheVariants as variant
 use Rattle.sopl_base.specs.declared.fault.Fault.TheVariants.{NoMemory}
 use Rattle.sopl_ast.specs.Known.{Known}
-use Rattle.sopl_ast.specs.Occurrences.{Counted, excess, met, most_counted}
-use Rattle.unfold_constants.specs.Choosing.{Choice, Among, advanced, left, remaining, entered, give_name, leave_name}
+use Rattle.sopl_ast.specs.UnfoldEvents.{Counted, excess, first_failure, most_counted}
+use Rattle.unfold_constants.specs.Choosing.{OpenChoice, Among, advanced, left, remaining, entered, give_name, leave_name}
 use Rattle.unfold_constants.specs.CountedAnswers.{Answers, Fails}
 use Rattle.unfold_constants.specs.Evaluation.{Step, ◌>>=◌, continued, done, for_each, count_one}
-use Rattle.unfold_constants.proofs.Bindings.{take_front}
+use Rattle.unfold_constants.proofs.Bindings.{take_prefix}
 
 -- a step behind a step behind a step
 continued_twice : {A B C : Type 0} (r : Result (A × ℕ) Fault) (f : A → Step B) (g : B → Step C) → continued (continued r f) g ≡ continued r (λ x. f x >>= g)
@@ -37,7 +37,7 @@ fails_on (variant.Limit excess) r next is = ap (λ outcome. continued outcome ne
 fails_on variant.NoMemory r next is = tt
 
 -- one thing more is counted
-counted_one : (count behind : ℕ) → met count (Counted ∷ []) ≡ Ok behind → ◌≡◌ {A = Result (Unit {0} × ℕ) Fault} (count_one count) (Ok (tt, behind))
+counted_one : (count behind : ℕ) → first_failure count (Counted ∷ []) ≡ Ok behind → ◌≡◌ {A = Result (Unit {0} × ℕ) Fault} (count_one count) (Ok (tt, behind))
 counted_one count behind is = on (nat_lt count most_counted) is
   where
     on : (b : Bool) → cond b (Ok (count + 1)) (Err (variant.Limit (excess 205 (pos (most_counted + 1)) (pos most_counted)))) ≡ Ok behind
@@ -46,7 +46,7 @@ counted_one count behind is = on (nat_lt count most_counted) is
     on false so = absurd (subst (λ r. T (is_err r)) so tt)
 
 -- one thing too many
-count_fails : (count : ℕ) (fault : Fault) → (fault ≡ NoMemory) ⊎ (met count (Counted ∷ []) ≡ Err fault) → Fails {B = Unit {0} × ℕ} fault (count_one count)
+count_fails : (count : ℕ) (fault : Fault) → (fault ≡ NoMemory) ⊎ (first_failure count (Counted ∷ []) ≡ Err fault) → Fails {B = Unit {0} × ℕ} fault (count_one count)
 count_fails count fault (inl is) = subst (λ f. Fails {B = Unit {0} × ℕ} f (count_one count)) (sym is) tt
 count_fails count fault (inr is) = on (nat_lt count most_counted) is
   where
@@ -66,7 +66,7 @@ module _ {S F A : Type 0} (give : F → ℤ → S → S) (leave : F → S → S)
   begun here found count = continued_done (inside 0 here found count)
 
   -- a choice takes its next number
-  next_taken : (here : S) (f : F) (n : ℤ) (ns : List ℤ) (outer : List (Choice F)) (found : A) (count : ℕ)
+  next_taken : (here : S) (f : F) (n : ℤ) (ns : List ℤ) (outer : List (OpenChoice F)) (found : A) (count : ℕ)
       → remaining give leave inside here (Among f (n ∷ ns) ∷ outer) found count
       ≡ (count_one >>= (λ u. entered give leave inside (give f n here) (Among f ns ∷ outer) found)) count
   next_taken here f n ns outer found count =
@@ -80,44 +80,44 @@ module _ {S F A : Type 0} (give : F → ℤ → S → S) (leave : F → S → S)
       ∙ ap (λ s. continued (inside (suc (length outer)) (give f n here) found count_behind) (λ more. remaining give leave inside s (Among f ns ∷ outer) more)) (sym (law f n here))) i))
 
   -- the state and the choices of the next number
-  pub turned : (here : S) (opened : List (Choice F)) (next : S) (opened_next : List (Choice F)) (found : A) (count : ℕ)
-      → ◌≡◌ {A = Option (S × List (Choice F))} (Some (next, opened_next)) (advanced give leave here opened)
+  pub turned : (here : S) (opened : List (OpenChoice F)) (next : S) (opened_next : List (OpenChoice F)) (found : A) (count : ℕ)
+      → ◌≡◌ {A = Option (S × List (OpenChoice F))} (Some (next, opened_next)) (advanced give leave here opened)
       → remaining give leave inside here opened found count ≡ (count_one >>= (λ u. entered give leave inside next opened_next found)) count
   turned here [] next opened_next found count is = absurd (subst (λ o. T (is_some o)) is tt)
   turned here (Among f [] ∷ outer) next opened_next found count is = turned (left leave here outer) outer next opened_next found count is
   turned here (Among f (n ∷ ns) ∷ outer) next opened_next found count is =
       next_taken here f n ns outer found count
-      ∙ ap (λ (o : Option (S × List (Choice F))).
+      ∙ ap (λ (o : Option (S × List (OpenChoice F))).
       (count_one >>= (λ u. entered give leave inside (unwrap_or o (next, opened_next)).0 (unwrap_or o (next, opened_next)).1 found)) count) (sym is)
 
   -- no choice has a number left
-  pub ended : (here : S) (opened : List (Choice F)) (found : A) (count : ℕ)
-      → ◌≡◌ {A = Option (S × List (Choice F))} None (advanced give leave here opened)
+  pub ended : (here : S) (opened : List (OpenChoice F)) (found : A) (count : ℕ)
+      → ◌≡◌ {A = Option (S × List (OpenChoice F))} None (advanced give leave here opened)
       → remaining give leave inside here opened found count ≡ Ok (found, count)
   ended here [] found count is = refl
   ended here (Among f [] ∷ outer) found count is = ended (left leave here outer) outer found count is
   ended here (Among f (n ∷ ns) ∷ outer) found count is = absurd (subst (λ o. T (is_some o)) (sym is) tt)
 
   -- the loop ends
-  pub stops : (here : S) (opened : List (Choice F)) (found : A) (count : ℕ) (more : Bool) (next : S) (opened_next : List (Choice F)) → more ≡ false
-      → ◌≡◌ {A = Option (S × List (Choice F))} (if more then Some (next, opened_next) else None) (advanced give leave here opened)
+  pub stops : (here : S) (opened : List (OpenChoice F)) (found : A) (count : ℕ) (more : Bool) (next : S) (opened_next : List (OpenChoice F)) → more ≡ false
+      → ◌≡◌ {A = Option (S × List (OpenChoice F))} (if more then Some (next, opened_next) else None) (advanced give leave here opened)
       → remaining give leave inside here opened found count ≡ Ok (found, count)
   stops here opened found count more next opened_next spent is =
       ended here opened found count (sym (ap (λ (b : Bool). if b then Some (next, opened_next) else None) spent) ∙ is)
 
   -- a turn of the loop: a number is taken, counted, and entered
-  pub turn : (here : S) (opened : List (Choice F)) (found : A) (count : ℕ) (more : Bool) (next : S) (opened_next : List (Choice F)) (behind : ℕ) → more ≡ true
-      → ◌≡◌ {A = Option (S × List (Choice F))} (if more then Some (next, opened_next) else None) (advanced give leave here opened)
-      → met count (Counted ∷ []) ≡ Ok behind
+  pub turn : (here : S) (opened : List (OpenChoice F)) (found : A) (count : ℕ) (more : Bool) (next : S) (opened_next : List (OpenChoice F)) (behind : ℕ) → more ≡ true
+      → ◌≡◌ {A = Option (S × List (OpenChoice F))} (if more then Some (next, opened_next) else None) (advanced give leave here opened)
+      → first_failure count (Counted ∷ []) ≡ Ok behind
       → remaining give leave inside here opened found count ≡ entered give leave inside next opened_next found behind
   turn here opened found count more next opened_next behind found_more is one =
       turned here opened next opened_next found count (sym (ap (λ (b : Bool). if b then Some (next, opened_next) else None) found_more) ∙ is)
       ∙ ap (λ r. continued r (λ u. entered give leave inside next opened_next found)) (counted_one count behind one)
 
   -- a turn of the loop where one thing too many is counted
-  pub turn_fails : (here : S) (opened : List (Choice F)) (found : A) (count : ℕ) (more : Bool) (next : S) (opened_next : List (Choice F)) (fault : Fault) → more ≡ true
-      → ◌≡◌ {A = Option (S × List (Choice F))} (if more then Some (next, opened_next) else None) (advanced give leave here opened)
-      → (fault ≡ NoMemory) ⊎ (met count (Counted ∷ []) ≡ Err fault)
+  pub turn_fails : (here : S) (opened : List (OpenChoice F)) (found : A) (count : ℕ) (more : Bool) (next : S) (opened_next : List (OpenChoice F)) (fault : Fault) → more ≡ true
+      → ◌≡◌ {A = Option (S × List (OpenChoice F))} (if more then Some (next, opened_next) else None) (advanced give leave here opened)
+      → (fault ≡ NoMemory) ⊎ (first_failure count (Counted ∷ []) ≡ Err fault)
       → Fails fault (remaining give leave inside here opened found count)
   turn_fails here opened found count more next opened_next fault found_more is one =
       subst (Fails fault)
@@ -125,7 +125,7 @@ module _ {S F A : Type 0} (give : F → ℤ → S → S) (leave : F → S → S)
       (fails_on fault (count_one count) (λ u. entered give leave inside next opened_next found) (count_fails count fault one))
 
   -- all is done inside the innermost choice, which gives its number up
-  pub leaves : (here : S) (opened : List (Choice F)) (found : A) (count : ℕ) (next : S) (opened_next : List (Choice F)) (found_next : A) (behind : ℕ)
+  pub leaves : (here : S) (opened : List (OpenChoice F)) (found : A) (count : ℕ) (next : S) (opened_next : List (OpenChoice F)) (found_next : A) (behind : ℕ)
       → next ≡ left leave here opened → opened_next ≡ opened → inside (length opened) here found count ≡ Ok (found_next, behind)
       → entered give leave inside here opened found count ≡ remaining give leave inside next opened_next found_next behind
   leaves here opened found count next opened_next found_next behind is_left same is =
@@ -133,7 +133,7 @@ module _ {S F A : Type 0} (give : F → ℤ → S → S) (leave : F → S → S)
       ∙ (λ i. remaining give leave inside (sym is_left i) (sym same i) found_next behind)
 
   -- a choice is opened inside the innermost
-  pub opens : (here : S) (opened : List (Choice F)) (found : A) (count : ℕ) (next : S) (opened_next : List (Choice F)) (f : F) (range : Step (List ℤ)) (ns : List ℤ) (behind : ℕ)
+  pub opens : (here : S) (opened : List (OpenChoice F)) (found : A) (count : ℕ) (next : S) (opened_next : List (OpenChoice F)) (f : F) (range : Step (List ℤ)) (ns : List ℤ) (behind : ℕ)
       → inside (length opened) here found ≡ range >>= (λ numbers. for_each (λ n more. inside (suc (length opened)) (give f n here) more) numbers found)
       → range count ≡ Ok (ns, behind) → next ≡ here → opened_next ≡ Among f ns ∷ opened
       → entered give leave inside here opened found count ≡ remaining give leave inside next opened_next found behind
@@ -145,4 +145,4 @@ module _ {S F A : Type 0} (give : F → ℤ → S → S) (leave : F → S → S)
 
 -- a name gives its number up
 pub name_left : (name : List ℕ) (n : ℤ) (known : Known) → leave_name name (give_name name n known) ≡ known
-name_left name n known i = record known { bound = take_front known.bound (record { name = name; value = n }) i }
+name_left name n known i = record known { bound = take_prefix known.bound (record { name = name; value = n }) i }

@@ -11,8 +11,8 @@ use Rattle.sopl_ast.specs.Constants as c
 use Rattle.sopl_ast.specs.Constants.{is_true, applied_within, within}
 use Rattle.sopl_ast.specs.Known.{Known, with_bound, known_value}
 use Rattle.sopl_ast.specs.Numbers.{both_of, all_of, joined, up_to, count_between, total, all_distinct, are_within, one_or_zero, compares, extreme, applied}
-use Rattle.sopl_ast.specs.Occurrences.{Occurrence, Counted, no_value, too_many, constant_occurrences, inside_occurrences, constants_occurrences, constant_terms_occurrences}
-use Rattle.sopl_ast.specs.Occurrences.{constant_factors_occurrences, binding_occurrences, range_occurrences}
+use Rattle.sopl_ast.specs.UnfoldEvents.{UnfoldEvent, Counted, no_value, too_many, constant_events, inside_events, constants_events, constant_terms_events}
+use Rattle.sopl_ast.specs.UnfoldEvents.{constant_factors_events, binding_events, range_events}
 use Rattle.unfold_constants.specs.Evaluation as w
 use Rattle.unfold_tables.specs.Tables.{tasks_of}
 use Rattle.unfold_constants.specs.Evaluation.{Step, ◌>>=◌, done, given, checked_between, for_each}
@@ -20,17 +20,17 @@ use Rattle.unfold_constants.proofs.Steps.{Agrees, agree_value, agree_done, agree
 use Rattle.unfold_constants.proofs.Gathered.{gathered, three, nothing_before, zero_before, nothing_behind, more_found, more_added, gathered_all, more_gathered, one_each, task_each, three_more}
 
 -- a body adds what it finds at each place
-abbrev pub Adds : (Known → List ℤ → Step (List ℤ)) → (Known → List Occurrence) → (Known → Option (List ℤ)) → Type 0
+abbrev pub Adds : (Known → List ℤ → Step (List ℤ)) → (Known → List UnfoldEvent) → (Known → Option (List ℤ)) → Type 0
 Adds body each result = (here : Known) (found : List ℤ) → Agrees (body here found) (each here) (option_map (λ xs. found ++ xs) (result here))
 
 -- so do binders over each body
 abbrev pub Over : Known → ℕ → Binders → Type 0
 Over known whole bs =
-    (body : Known → List ℤ → Step (List ℤ)) (each : Known → List Occurrence) (result : Known → Option (List ℤ)) → Adds body each result
-    → (found : List ℤ) → Agrees (w.over known whole bs body found) (binding_occurrences known (Some whole) bs each) (option_map (λ xs. found ++ xs) (gathered result (c.bindings known bs)))
+    (body : Known → List ℤ → Step (List ℤ)) (each : Known → List UnfoldEvent) (result : Known → Option (List ℤ)) → Adds body each result
+    → (found : List ℤ) → Agrees (w.over known whole bs body found) (binding_events known (Some whole) bs each) (option_map (λ xs. found ++ xs) (gathered result (c.bindings known bs)))
 
 -- what is found for each of some numbers
-agree_each : (next : ℤ → List ℤ → Step (List ℤ)) (marks : ℤ → List Occurrence) (result : ℤ → Option (List ℤ))
+agree_each : (next : ℤ → List ℤ → Step (List ℤ)) (marks : ℤ → List UnfoldEvent) (result : ℤ → Option (List ℤ))
     → ((n : ℤ) (found : List ℤ) → Agrees (next n found) (marks n) (option_map (λ xs. found ++ xs) (result n)))
     → (ns : List ℤ) (found : List ℤ) → Agrees (for_each next ns found) (flat_map (λ n. Counted ∷ marks n) ns) (option_map (λ xs. found ++ xs) (option_map joined (all_of result ns)))
 agree_each next marks result a [] found = agree_done found (Some (found ++ [])) (ap Some (append-nil found))
@@ -39,26 +39,26 @@ agree_each next marks result a (n ∷ ns) found =
 
 -- one expression at each place
 agree_one : (known : Known) (whole : ℕ) (bs : Binders) (e : Tree) → Over known whole bs
-    → ((here : Known) → Agrees (w.number here whole e) (constant_occurrences here whole e) (c.value here e))
-    → Agrees (w.over known whole bs (λ here found. w.number here whole e >>= (λ x. done (found ++ x ∷ []))) []) (binding_occurrences known (Some whole) bs (λ here. constant_occurrences here whole e))
+    → ((here : Known) → Agrees (w.number here whole e) (constant_events here whole e) (c.value here e))
+    → Agrees (w.over known whole bs (λ here found. w.number here whole e >>= (λ x. done (found ++ x ∷ []))) []) (binding_events known (Some whole) bs (λ here. constant_events here whole e))
     (option_and_then (all_of (λ here. c.value here e)) (c.bindings known bs))
 agree_one known whole bs e over a =
     agree_value (nothing_before _ ∙ one_each (λ here. c.value here e) (c.bindings known bs))
-    (over _ (λ here. constant_occurrences here whole e) (λ here. option_map (λ x. x ∷ []) (c.value here e))
+    (over _ (λ here. constant_events here whole e) (λ here. option_map (λ x. x ∷ []) (c.value here e))
     (λ here found. agree_then (λ x. found ++ x ∷ []) (a here) (λ x is. ap (λ v. option_map (λ xs. found ++ xs) (option_map (λ y. y ∷ []) v)) is)) [])
 
 -- three expressions at each place
 agree_three : (known : Known) (whole : ℕ) (bs : Binders) (e f g : Tree) → Over known whole bs
-    → ((here : Known) → Agrees (w.number here whole e) (constant_occurrences here whole e) (c.value here e))
-    → ((here : Known) → Agrees (w.number here whole f) (constant_occurrences here whole f) (c.value here f))
-    → ((here : Known) → Agrees (w.number here whole g) (constant_occurrences here whole g) (c.value here g))
+    → ((here : Known) → Agrees (w.number here whole e) (constant_events here whole e) (c.value here e))
+    → ((here : Known) → Agrees (w.number here whole f) (constant_events here whole f) (c.value here f))
+    → ((here : Known) → Agrees (w.number here whole g) (constant_events here whole g) (c.value here g))
     → Agrees (w.over known whole bs (λ here found.
     w.number here whole e >>= (λ x. w.number here whole f >>= (λ y. w.number here whole g >>= (λ z. done (((found ++ x ∷ []) ++ y ∷ []) ++ z ∷ []))))) [])
-    (binding_occurrences known (Some whole) bs (λ here. constant_occurrences here whole e ++ (constant_occurrences here whole f ++ constant_occurrences here whole g)))
+    (binding_events known (Some whole) bs (λ here. constant_events here whole e ++ (constant_events here whole f ++ constant_events here whole g)))
     (gathered (λ here. three (c.value here e) (c.value here f) (c.value here g)) (c.bindings known bs))
 agree_three known whole bs e f g over a b d =
     agree_value (nothing_before _)
-    (over _ (λ here. constant_occurrences here whole e ++ (constant_occurrences here whole f ++ constant_occurrences here whole g)) (λ here. three (c.value here e) (c.value here f) (c.value here g))
+    (over _ (λ here. constant_events here whole e ++ (constant_events here whole f ++ constant_events here whole g)) (λ here. three (c.value here e) (c.value here f) (c.value here g))
     (λ here found.
     agree_bind (a here) (λ x p.
     agree_both (λ y z. ((found ++ x ∷ []) ++ y ∷ []) ++ z ∷ []) (b here) (d here) (λ y z q r.
@@ -66,8 +66,8 @@ agree_three known whole bs e f g over a b d =
 
 -- values that are found behind nothing
 from_nothing : (known : Known) (whole : ℕ) (es : Trees)
-    → Agrees (w.numbers known whole [] es) (constants_occurrences known whole es) (option_map (λ xs. [] ++ xs) (c.values known es))
-    → Agrees (w.numbers known whole [] es) (constants_occurrences known whole es) (c.values known es)
+    → Agrees (w.numbers known whole [] es) (constants_events known whole es) (option_map (λ xs. [] ++ xs) (c.values known es))
+    → Agrees (w.numbers known whole [] es) (constants_events known whole es) (c.values known es)
 from_nothing known whole es a = agree_value (nothing_before (c.values known es)) a
 
 -- what two ends are, and what lies between them
@@ -77,9 +77,9 @@ between (Some a) None ends is = absurd (subst (λ o. T (is_some o)) (sym is) tt)
 between (Some a) (Some b) ends is = ap (λ (o : Option (ℤ × ℤ)). Some (up_to (unwrap_or o ends).0 (unwrap_or o ends).1)) is
 
 ends_agree : (known : Known) (whole : Option ℕ) (lo hi : Tree)
-    → Agrees (w.number known (unwrap_or whole (place_of lo)) lo) (constant_occurrences known (unwrap_or whole (place_of lo)) lo) (c.value known lo)
-    → Agrees (w.number known (unwrap_or whole (place_of hi)) hi) (constant_occurrences known (unwrap_or whole (place_of hi)) hi) (c.value known hi)
-    → Agrees (w.range_ends known whole lo hi) (range_occurrences known whole (Ends lo hi)) (both_of (λ a b. (a, b)) (c.value known lo) (c.value known hi))
+    → Agrees (w.number known (unwrap_or whole (place_of lo)) lo) (constant_events known (unwrap_or whole (place_of lo)) lo) (c.value known lo)
+    → Agrees (w.number known (unwrap_or whole (place_of hi)) hi) (constant_events known (unwrap_or whole (place_of hi)) hi) (c.value known hi)
+    → Agrees (w.range_ends known whole lo hi) (range_events known whole (Ends lo hi)) (both_of (λ a b. (a, b)) (c.value known lo) (c.value known hi))
 ends_agree known whole lo hi lower upper =
     agree_bind lower (λ a p.
     agree_bind upper (λ b q.
@@ -87,7 +87,7 @@ ends_agree known whole lo hi lower upper =
     (λ i. (sym p i, sym q i)) (agree_checked a b)))
 
 mutual
-  pub agree_number : (e : Tree) (known : Known) (whole : ℕ) → Agrees (w.number known whole e) (constant_occurrences known whole e) (c.value known e)
+  pub agree_number : (e : Tree) (known : Known) (whole : ℕ) → Agrees (w.number known whole e) (constant_events known whole e) (c.value known e)
   agree_number (Node at shape) known whole =
       agree_bind (agree_untested shape known whole) (λ x is.
       subst (λ v. Agrees (given whole v) (no_value (c.value known (Node at shape)) whole) (c.value known (Node at shape))) (here x is)
@@ -96,7 +96,7 @@ mutual
       here : (x : Option ℤ) → Some (c.untested known shape) ≡ Some x → option_and_then within (c.untested known shape) ≡ option_and_then within x
       here x is = ap (λ o. option_and_then within (unwrap_or o None)) is
 
-  agree_untested : (shape : Shape) (known : Known) (whole : ℕ) → Agrees (w.untested known whole shape) (inside_occurrences known whole shape) (Some (c.untested known shape))
+  agree_untested : (shape : Shape) (known : Known) (whole : ℕ) → Agrees (w.untested known whole shape) (inside_events known whole shape) (Some (c.untested known shape))
   agree_untested (t.Lit z) known whole = agree_done _ _ refl
   agree_untested (t.Name name) known whole = agree_done _ _ refl
   agree_untested (t.Index name es) known whole =
@@ -106,7 +106,7 @@ mutual
       agree_then (λ x. Some x) (agree_value (zero_before (c.sum_of known parts)) (agree_sum parts known whole (pos 0))) (λ x is. ap Some is)
   agree_untested (t.Mul first others) known whole =
       agree_then (λ x. Some x) (agree_bind (agree_number first known whole) (λ x is.
-      subst (λ v. Agrees (w.product known whole x others) (constant_factors_occurrences known whole v others) (c.product_of known v others)) (sym is) (agree_product others known whole x)))
+      subst (λ v. Agrees (w.product known whole x others) (constant_factors_events known whole v others) (c.product_of known v others)) (sym is) (agree_product others known whole x)))
       (λ x is. ap Some is)
   agree_untested (t.Cmp op a b) known whole =
       agree_both (λ x y. Some (one_or_zero (compares op x y))) (agree_number a known whole) (agree_number b known whole)
@@ -143,7 +143,7 @@ mutual
       ((sym (task_each (λ here. c.value here start) (λ here. c.value here duration) (λ here. c.value here demand) (c.bindings known bs)) ∙ ap (option_map tasks_of) p) i) (q i)))
 
   pub agree_numbers : (es : Trees) (known : Known) (whole : ℕ) (found : List ℤ)
-      → Agrees (w.numbers known whole found es) (constants_occurrences known whole es) (option_map (λ xs. found ++ xs) (c.values known es))
+      → Agrees (w.numbers known whole found es) (constants_events known whole es) (option_map (λ xs. found ++ xs) (c.values known es))
   agree_numbers no_tree known whole found = agree_done found (Some (found ++ [])) (ap Some (append-nil found))
   agree_numbers (tree e es) known whole found =
       agree_bind (agree_number e known whole) (λ x is.
@@ -152,7 +152,7 @@ mutual
       (agree_numbers es known whole (found ++ x ∷ [])))
 
   agree_sum : (parts : Terms) (known : Known) (whole : ℕ) (before : ℤ)
-      → Agrees (w.sum known whole before parts) (constant_terms_occurrences known whole parts) (option_map (λ s. before +ℤ s) (c.sum_of known parts))
+      → Agrees (w.sum known whole before parts) (constant_terms_events known whole parts) (option_map (λ s. before +ℤ s) (c.sum_of known parts))
   agree_sum no_term known whole before = agree_done before (Some (before +ℤ pos 0)) (nothing_behind before)
   agree_sum (term minus e more) known whole before =
       agree_bind (agree_number e known whole) (λ x is.
@@ -162,7 +162,7 @@ mutual
       (agree_sum more known whole (before +ℤ (if minus then neg_ℤ x else x))))
 
   agree_product : (parts : Factors) (known : Known) (whole : ℕ) (before : ℤ)
-      → Agrees (w.product known whole before parts) (constant_factors_occurrences known whole (Some before) parts) (c.product_of known (Some before) parts)
+      → Agrees (w.product known whole before parts) (constant_factors_events known whole (Some before) parts) (c.product_of known (Some before) parts)
   agree_product no_factor known whole before = agree_done before (Some before) refl
   agree_product (factor op e more) known whole before =
       agree_bind_two (agree_number e known whole)
@@ -170,7 +170,7 @@ mutual
       subst (λ v. Agrees (given whole (option_and_then within (applied op before x))) (no_value v whole) v) (ap (applied_within op (Some before)) (sym is))
       (agree_given whole (option_and_then within (applied op before x))))
       (λ y is.
-      subst (λ v. Agrees (w.product known whole y more) (constant_factors_occurrences known whole v more) (c.product_of known v more)) (sym is) (agree_product more known whole y))
+      subst (λ v. Agrees (w.product known whole y more) (constant_factors_events known whole v more) (c.product_of known v more)) (sym is) (agree_product more known whole y))
 
   agree_over : (bs : Binders) (known : Known) (whole : ℕ) → Over known whole bs
   agree_over no_binder known whole body each result adds found =
@@ -182,14 +182,14 @@ mutual
   agree_over (binder name at range more) known whole body each result adds found =
       agree_bind (agree_range range known (Some whole)) (λ ns is.
       subst (λ v. Agrees (for_each (λ n xs. w.over (with_bound name n known) whole more body xs) ns found)
-      (flat_map (λ n. Counted ∷ binding_occurrences (with_bound name n known) (Some whole) more each) (unwrap_or v []))
+      (flat_map (λ n. Counted ∷ binding_events (with_bound name n known) (Some whole) more each) (unwrap_or v []))
       (option_map (λ xs. found ++ xs) (gathered result (option_and_then (λ numbers. option_map joined (all_of (λ n. c.bindings (with_bound name n known) more) numbers)) v))))
       (sym is)
       (agree_value (ap (option_map (λ xs. found ++ xs)) (gathered_all result (λ n. c.bindings (with_bound name n known) more) ns))
-      (agree_each _ (λ n. binding_occurrences (with_bound name n known) (Some whole) more each) (λ n. gathered result (c.bindings (with_bound name n known) more))
+      (agree_each _ (λ n. binding_events (with_bound name n known) (Some whole) more each) (λ n. gathered result (c.bindings (with_bound name n known) more))
       (λ n xs. agree_over more (with_bound name n known) whole body each result adds xs) ns found)))
 
-  pub agree_range : (range : Range) (known : Known) (whole : Option ℕ) → Agrees (w.range_numbers known whole range) (range_occurrences known whole range) (c.numbers_of known range)
+  pub agree_range : (range : Range) (known : Known) (whole : Option ℕ) → Agrees (w.range_numbers known whole range) (range_events known whole range) (c.numbers_of known range)
   agree_range (Named name at) known whole = agree_done _ _ refl
   agree_range (Ends lo hi) known whole =
       agree_then (λ (ends : ℤ × ℤ). up_to ends.0 ends.1)
@@ -198,6 +198,6 @@ mutual
 
 -- the ends of a range
 pub agree_ends : (lo hi : Tree) (known : Known) (whole : Option ℕ)
-    → Agrees (w.range_ends known whole lo hi) (range_occurrences known whole (Ends lo hi)) (both_of (λ a b. (a, b)) (c.value known lo) (c.value known hi))
+    → Agrees (w.range_ends known whole lo hi) (range_events known whole (Ends lo hi)) (both_of (λ a b. (a, b)) (c.value known lo) (c.value known hi))
 agree_ends lo hi known whole =
     ends_agree known whole lo hi (agree_number lo known (unwrap_or whole (place_of lo))) (agree_number hi known (unwrap_or whole (place_of hi)))

@@ -3,7 +3,7 @@ use Rattle.std.proofs.Common.{◌≡◌, refl, sym, ap, subst, ◌∙◌, ℕ, �
 use Rattle.sopl_base.specs.declared.fault.Fault.{Fault}
 use Rattle.sopl_base.specs.declared.fault.Fault.TheVariants.{Limit}
 use Rattle.sopl_ast.specs.Known.{Known}
-use Rattle.sopl_ast.specs.Occurrences.{Occurrence, Counted, Refused, Passed, excess, met, most_counted}
+use Rattle.sopl_ast.specs.UnfoldEvents.{UnfoldEvent, Counted, Refused, Passed, excess, first_failure, most_counted}
 use Rattle.sopl_ast.specs.Tree.{Trees, Range}
 use Rattle.unfold_constants.specs.Evaluation as w
 use Rattle.unfold_constants.specs.Evaluation.{Step}
@@ -20,23 +20,23 @@ abbrev count_or : {A : Type 0} → ℕ → Result (A × ℕ) Fault → ℕ
 count_or d (Ok x) = x.1
 count_or d (Err fault) = d
 
-met_grows : (occurrences : List Occurrence) (count behind : ℕ) → met count occurrences ≡ Ok behind → count ≤ behind
+met_grows : (events : List UnfoldEvent) (count behind : ℕ) → first_failure count events ≡ Ok behind → count ≤ behind
 met_grows [] count behind is = omega (arith, ap (number_or count) is)
 met_grows (Counted ∷ later) count behind is = on (nat_lt count most_counted) is (met_grows later (count + 1) behind)
   where
-    on : (b : Bool) → cond b (met (count + 1) later) (Err (Limit (excess 205 (pos (most_counted + 1)) (pos most_counted)))) ≡ Ok behind
-        → (met (count + 1) later ≡ Ok behind → count + 1 ≤ behind) → count ≤ behind
+    on : (b : Bool) → cond b (first_failure (count + 1) later) (Err (Limit (excess 205 (pos (most_counted + 1)) (pos most_counted)))) ≡ Ok behind
+        → (first_failure (count + 1) later ≡ Ok behind → count + 1 ≤ behind) → count ≤ behind
     on true so next = omega (arith, next so)
     on false so next = absurd (subst (λ r. T (is_err r)) so tt)
 met_grows (Refused refusal ∷ later) count behind is = absurd (subst (λ r. T (is_err r)) is tt)
 met_grows (Passed passed ∷ later) count behind is = absurd (subst (λ r. T (is_err r)) is tt)
 
 -- a step that agrees with what is met
-pub step_grows : {A : Type 0} {s : Step A} {ms : List Occurrence} {v : Option A} → Agrees s ms v → (count : ℕ) (x : A) (behind : ℕ)
+pub step_grows : {A : Type 0} {s : Step A} {ms : List UnfoldEvent} {v : Option A} → Agrees s ms v → (count : ℕ) (x : A) (behind : ℕ)
     → ◌≡◌ {A = Result (A × ℕ) Fault} (s count) (Ok (x, behind)) → count ≤ behind
-step_grows {A} {s} {ms} {v} a count x behind is = on (met count ms) refl (a.at count)
+step_grows {A} {s} {ms} {v} a count x behind is = on (first_failure count ms) refl (a.at count)
   where
-    on : (m : Result ℕ Fault) → met count ms ≡ m → At m (s count) v → count ≤ behind
+    on : (m : Result ℕ Fault) → first_failure count ms ≡ m → At m (s count) v → count ≤ behind
     on (Ok n) met_is found = omega (arith, met_grows ms count n met_is, ap (count_or n) (sym (found.2) ∙ is))
     on (Err f) met_is failed = absurd (subst (λ r. T (is_err r)) (sym failed ∙ is) tt)
 

@@ -9,7 +9,7 @@ use Rattle.sopl_ast.specs.Tree.{Tree, place_of}
 use Rattle.unfold_tables.specs.declared.sets.Ends.{Ends}
 use Rattle.unfold_tables.specs.Tables.{ends_in}
 use Rattle.unfold_constants.specs.CountedAnswers.{Answers}
-use Rattle.sopl_ast.specs.Occurrences.{Occurrence, met}
+use Rattle.sopl_ast.specs.UnfoldEvents.{UnfoldEvent, first_failure}
 use Rattle.unfold_tables.specs.Walks.{Walks}
 use Rattle.unfold_constants.specs.Evaluation.{Step, ◌>>=◌, continued, number, checked_between, range_ends}
 use Rattle.unfold_constants.proofs.Steps.{Agrees, At}
@@ -35,17 +35,17 @@ module _ {A B : Type 0} (view : A → B) (v : Option B) (outcome : Result (B × 
   failed_so (Ok n) f found is = absurd (subst (λ r. T (is_ok r)) (sym (found.2) ∙ is) tt)
   failed_so (Err g) f failed is = ap Err (ap (fault_or g) (sym failed ∙ is))
 
-module _ {A B : Type 0} (view : A → B) {s : Step B} {ms : List Occurrence} {v : Option B} (before behind : ℕ) where
+module _ {A B : Type 0} (view : A → B) {s : Step B} {ms : List UnfoldEvent} {v : Option B} (before behind : ℕ) where
   -- what was counted, and why the way ends
   pub walks_so : (result : Result A Fault) → Agrees s ms v → Answers view behind result (s before) → Walks before behind ms result
-  walks_so (Ok x) a is = (answered view v (s before) behind (met before ms) x (a.at before) is).0
-  walks_so (Err (fault.Text r)) a is = inr (failed_so view v (s before) behind (met before ms) (fault.Text r) (a.at before) is)
-  walks_so (Err (fault.Limit e)) a is = inr (failed_so view v (s before) behind (met before ms) (fault.Limit e) (a.at before) is)
+  walks_so (Ok x) a is = (answered view v (s before) behind (first_failure before ms) x (a.at before) is).0
+  walks_so (Err (fault.Text r)) a is = inr (failed_so view v (s before) behind (first_failure before ms) (fault.Text r) (a.at before) is)
+  walks_so (Err (fault.Limit e)) a is = inr (failed_so view v (s before) behind (first_failure before ms) (fault.Limit e) (a.at before) is)
   walks_so (Err fault.NoMemory) a is = inl refl
 
   -- the value
   pub worth_so : (result : Result A Fault) → Agrees s ms v → Answers view behind result (s before) → IfOk result (λ x. v ≡ Some (view x))
-  worth_so (Ok x) a is = (answered view v (s before) behind (met before ms) x (a.at before) is).1
+  worth_so (Ok x) a is = (answered view v (s before) behind (first_failure before ms) x (a.at before) is).1
   worth_so (Err f) a is = tt
 
 -- both ends of a range

@@ -3,7 +3,7 @@ use Rattle.std.specs.Prelude.{◌≡◌, ℕ, Result, Ok, Err}
 use Rattle.sopl_base.specs.declared.fault.Fault.{Fault}
 use Rattle.sopl_base.specs.declared.fault.Fault.TheVariants as fault
 
--- the outcome is the fault that is answered; want of memory says nothing
+-- the outcome is the fault that is answered; out of memory says nothing
 abbrev pub Fails : {B : Type 0} → Fault → Result B Fault → Type 0
 Fails (fault.Text refusal) outcome = outcome ≡ Err (fault.Text refusal)
 Fails (fault.Limit excess) outcome = outcome ≡ Err (fault.Limit excess)

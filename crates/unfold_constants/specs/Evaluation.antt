@@ -15,7 +15,7 @@ use Rattle.unfold_tables.specs.Tables.{tasks_of}
 use Rattle.sopl_ast.specs.Numbers.{up_to, count_between, total, extreme, one_or_zero, compares, applied, all_distinct, are_within}
 use Rattle.sopl_ast.specs.Known.{Known, with_bound, known_value, set_named, ascending}
 use Rattle.sopl_ast.specs.Constants.{within, is_true}
-use Rattle.sopl_ast.specs.Occurrences.{excess, most_counted, most_numbers}
+use Rattle.sopl_ast.specs.UnfoldEvents.{excess, most_counted, most_numbers}
 
 -- a step: what it answers, and how many things were counted behind it, where so many were before
 abbrev pub Step : Type 0 → Type 0

@@ -1,7 +1,7 @@
 -- What is known at a place.
 use Rattle.std.specs.Prelude.{ℕ, ◌-◌, ℤ, List, [], ◌∷◌, length, take}
 use Rattle.std.specs.Borrow.{Bor}
-use Rattle.unfold_constants.specs.declared.known.Known as declared
+use Rattle.unfold_constants.specs.declared.constant_scope.ConstantScope as declared
 use Rattle.unfold_tables.specs.Tables.{items, table_known}
 use Rattle.sopl_ast.specs.Known.{Binding, Known}
 
@@ -11,7 +11,7 @@ bindings_in [] = []
 bindings_in (first ∷ later) = (record { name = first.0.now; value = first.1 }) ∷ bindings_in later
 
 -- what is known at a place
-abbrev pub known_in : declared.Known → Known
+abbrev pub known_in : declared.ConstantScope → Known
 known_in place = record (table_known place.table.now) { bound = bindings_in (items place.bound) }
 
 -- what is known without the value that was given last

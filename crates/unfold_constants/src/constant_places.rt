@@ -3,19 +3,19 @@
 ghost use Rattle.std.specs.Prelude.{◌≡◌, ◌≤◌, ◌^◌, IfOk, Some, None};
 ghost use Rattle.std.specs.Int.RustNames.{unsigned_abs};
 ghost use Rattle.sopl_ast.specs.Constants.{value, numbers_of};
-ghost use Rattle.sopl_ast.specs.Occurrences.{constant_place, range_occurrences, expression_occurrences};
+ghost use Rattle.sopl_ast.specs.UnfoldEvents.{constant_place, range_events, expression_events};
 ghost use Rattle.sopl_ast.specs.Ranges.{range_of};
 ghost use Rattle.sopl_ast.specs.Tree.{Ends};
 ghost use Rattle.unfold_tables.specs.Tables.{shown};
 ghost use Rattle.unfold_constants.specs.Here.{known_in};
 ghost use Rattle.unfold_tables.specs.Walks.{Walks};
 
-use crate::known::Known;
+use crate::constant_scope::ConstantScope;
 use sopl_ast::{Expr, RangeText};
 use sopl_base::Fault;
 use unfold_tables::{Count, Ends as RangeEnds, Numbers};
 
-impl<'a> Known<'a> {
+impl<'a> ConstantScope<'a> {
     /// The value of an expression that is a constant place of its own.
     pub fn constant(&self, count: &mut Count, e: &'a Expr) -> Result<i64, Fault>
         ensures met { Walks count.old.counted count.new.counted (constant_place (known_in self.now) e.now) result }
@@ -27,7 +27,7 @@ impl<'a> Known<'a> {
 
     /// The numbers of a range or a set in ascending order; its ends are constant places of their own.
     pub fn range(&self, count: &mut Count, range: &'a RangeText) -> Result<Numbers<'a>, Fault>
-        ensures met { Walks count.old.counted count.new.counted (range_occurrences (known_in self.now) None (range_of range.now)) result }
+        ensures met { Walks count.old.counted count.new.counted (range_events (known_in self.now) None (range_of range.now)) result }
         ensures numbers { IfOk result (λ numbers. numbers_of (known_in self.now) (range_of range.now) ≡ Some (shown numbers)) }
     {
         self.range_inside(count, None, range)
@@ -40,7 +40,7 @@ impl<'a> Known<'a> {
         whole: Option<usize>,
         range: &'a RangeText,
     ) -> Result<Numbers<'a>, Fault>
-        ensures met { Walks count.old.counted count.new.counted (range_occurrences (known_in self.now) whole (range_of range.now)) result }
+        ensures met { Walks count.old.counted count.new.counted (range_events (known_in self.now) whole (range_of range.now)) result }
         ensures numbers { IfOk result (λ numbers. numbers_of (known_in self.now) (range_of range.now) ≡ Some (shown numbers)) }
     {
         self.range_numbers(count, whole, range)
@@ -48,7 +48,7 @@ impl<'a> Known<'a> {
 
     /// The ends of a range, of which each is a constant place of its own.
     pub fn between(&self, count: &mut Count, lo: &'a Expr, hi: &'a Expr) -> Result<RangeEnds, Fault>
-        ensures met { Walks count.old.counted count.new.counted (range_occurrences (known_in self.now) None (Ends lo.now hi.now)) result }
+        ensures met { Walks count.old.counted count.new.counted (range_events (known_in self.now) None (Ends lo.now hi.now)) result }
         ensures lower { IfOk result (λ ends. value (known_in self.now) lo.now ≡ Some ends.lo) }
         ensures upper { IfOk result (λ ends. value (known_in self.now) hi.now ≡ Some ends.hi) }
     {
@@ -57,7 +57,7 @@ impl<'a> Known<'a> {
 
     /// Walks through an expression of a constraint or an objective, whose divisors and ranges are constant places.
     pub fn expression(&self, count: &mut Count, e: &'a Expr) -> Result<(), Fault>
-        ensures met { Walks count.old.counted count.new.counted (expression_occurrences (known_in self.now) e.now) result }
+        ensures met { Walks count.old.counted count.new.counted (expression_events (known_in self.now) e.now) result }
     {
         self.walk(count, e)
     }

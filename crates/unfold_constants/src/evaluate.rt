@@ -17,8 +17,8 @@ ghost use Rattle.sopl_ast.specs.References.{now_of};
 ghost use Rattle.unfold_constants.specs.Evaluation as spec;
 ghost use Rattle.unfold_constants.specs.Evaluation.{each_of, inside};
 
-use crate::choices::Choices;
-use crate::known::Known;
+use crate::binder_walk::BinderWalk;
+use crate::constant_scope::ConstantScope;
 use sopl_ast::{Binder, Binders, Expr, Exprs, Factors, Kind, MulOp, Name, RangeText};
 use sopl_base::{CmpOp, Fault, codes};
 use unfold_tables::{
@@ -81,7 +81,7 @@ fn sized(worth: Option<i128>) -> Option<i64>
 }
 
 #[tactic(auto, using(sopl_ast::proofs::Lighter::lighter, crate::proofs::Body::parts, crate::proofs::Growing::growing))]
-impl<'a> Known<'a> {
+impl<'a> ConstantScope<'a> {
     /// The value of an expression, inside the one that begins at `whole`.
     #[cycle(evaluate)]
     pub(crate) fn number(&self, count: &mut Count, whole: usize, e: &'a Expr) -> Result<i64, Fault>
@@ -384,11 +384,11 @@ impl<'a> Known<'a> {
         ensures { Answers (λ u. found.new.items) count.new.counted result
             (spec.over (known_in self.now) body.now.whole (binders over.now) (each_of body.now.whole (map now_of body.now.parts.now)) found.old.items count.old.counted) }
     {
-        let mut choices = Choices::new(self)?;
-        Known::enter(&mut choices, count, over, body, found)?;
+        let mut choices = BinderWalk::new(self)?;
+        ConstantScope::enter(&mut choices, count, over, body, found)?;
         'choices: while choices.advance()? {
             count.add()?;
-            Known::enter(&mut choices, count, over, body, found)?;
+            ConstantScope::enter(&mut choices, count, over, body, found)?;
         }
         Ok(())
     }
@@ -396,7 +396,7 @@ impl<'a> Known<'a> {
     /// Adds to `found` what a body is worth where all binders have values; else opens the name of the next one, whose range is evaluated.
     #[cycle(evaluate)]
     fn enter(
-        choices: &mut Choices<'a>,
+        choices: &mut BinderWalk<'a>,
         count: &mut Count,
         over: &'a [Binder],
         body: &Body<'a, '_>,

@@ -1,14 +1,14 @@
 //! What is known at a constant place of a text, and what an expression there is worth.
-//! Its tests stand in `text_tests`.
+//! Its tests stand in `compile_tests`.
 #![tactic(auto)]
 
-mod choices;
+mod binder_walk;
 mod constant_places;
+mod constant_scope;
 mod evaluate;
-mod known;
 mod refusals;
 mod walk;
 
-pub use choices::Choices;
-pub use known::Known;
+pub use binder_walk::BinderWalk;
+pub use constant_scope::ConstantScope;
 pub use refusals::unless;

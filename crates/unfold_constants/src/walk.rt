@@ -9,15 +9,15 @@ ghost use Rattle.unfold_constants.specs.CountedAnswers.{Answers};
 ghost use Rattle.unfold_constants.specs.Here.{known_in};
 ghost use Rattle.unfold_constants.specs.Traversal as spec;
 
-use crate::choices::Choices;
+use crate::binder_walk::BinderWalk;
+use crate::constant_scope::ConstantScope;
 use crate::evaluate::TaskText;
-use crate::known::Known;
 use sopl_ast::{Binder, Binders, Expr, Factors, Kind, MulOp};
 use sopl_base::{Fault, codes};
 use unfold_tables::Count;
 
 #[tactic(auto, using(sopl_ast::proofs::Lighter::lighter, crate::proofs::Body::parts, crate::proofs::Growing::growing))]
-impl<'a> Known<'a> {
+impl<'a> ConstantScope<'a> {
     /// Walks through an expression.
     #[cycle(walk)]
     pub(crate) fn walk(&self, count: &mut Count, e: &'a Expr) -> Result<(), Fault>
@@ -147,11 +147,11 @@ impl<'a> Known<'a> {
         ensures { Answers (λ u. u) count.new.counted result
             (spec.over (known_in self.now) (binders over.now) (spec.walk_body (map now_of body.now)) count.old.counted) }
     {
-        let mut choices = Choices::new(self)?;
-        Known::walk_inside(&mut choices, count, over, body)?;
+        let mut choices = BinderWalk::new(self)?;
+        ConstantScope::walk_inside(&mut choices, count, over, body)?;
         'choices: while choices.advance()? {
             count.add()?;
-            Known::walk_inside(&mut choices, count, over, body)?;
+            ConstantScope::walk_inside(&mut choices, count, over, body)?;
         }
         Ok(())
     }
@@ -159,7 +159,7 @@ impl<'a> Known<'a> {
     /// Walks through the expressions of `body` where all binders have values; else opens the name of the next one, whose range is evaluated.
     #[cycle(walk)]
     fn walk_inside(
-        choices: &mut Choices<'a>,
+        choices: &mut BinderWalk<'a>,
         count: &mut Count,
         over: &'a [Binder],
         body: &[&'a Expr],

@@ -3,7 +3,7 @@ use Rattle.std.proofs.Common.{◌≡◌, refl, sym, ap, subst, ◌∙◌, ◌⊎
 use Rattle.std.specs.Option.{unwrap_or}
 use Rattle.sopl_base.specs.declared.fault.Fault.{Fault}
 use Rattle.sopl_base.specs.declared.fault.Fault.TheVariants as fault
-use Rattle.sopl_ast.specs.Occurrences.{Occurrence, met}
+use Rattle.sopl_ast.specs.UnfoldEvents.{UnfoldEvent, first_failure}
 use Rattle.unfold_constants.specs.CountedAnswers.{Answers}
 use Rattle.unfold_constants.specs.Evaluation.{Step}
 use Rattle.unfold_constants.proofs.Steps.{Agrees, At}
@@ -36,12 +36,12 @@ module _ {A B : Type 0} (view : A → B) (v : Option B) (outcome : Result (B × 
   stopped (Ok n) f found other (inr is) = absurd (subst (λ r. T (is_ok r)) is tt)
   stopped (Err g) f failed other (inr is) = failed ∙ ap Err (ap (fault_or g) is)
 
-module _ {A B : Type 0} (view : A → B) {s : Step B} {ms : List Occurrence} {v : Option B} (before after : ℕ) where
+module _ {A B : Type 0} (view : A → B) {s : Step B} {ms : List UnfoldEvent} {v : Option B} (before after : ℕ) where
   -- from what is met in a call and from what its value is
   pub answers_so : (result : Result A Fault) → Agrees s ms v → Walks before after ms result → IfOk result (λ x. v ≡ Some (view x)) → Answers view after result (s before)
-  answers_so (Ok x) a walks there = answered view v (s before) after (met before ms) x (a.at before) walks there
-  answers_so (Err (fault.Text r)) a walks there = stopped view v (s before) after (met before ms) (fault.Text r) (a.at before) refl walks
-  answers_so (Err (fault.Limit e)) a walks there = stopped view v (s before) after (met before ms) (fault.Limit e) (a.at before) refl walks
+  answers_so (Ok x) a walks there = answered view v (s before) after (first_failure before ms) x (a.at before) walks there
+  answers_so (Err (fault.Text r)) a walks there = stopped view v (s before) after (first_failure before ms) (fault.Text r) (a.at before) refl walks
+  answers_so (Err (fault.Limit e)) a walks there = stopped view v (s before) after (first_failure before ms) (fault.Limit e) (a.at before) refl walks
   answers_so (Err fault.NoMemory) a walks there = tt
 
 -- nothing more is answered

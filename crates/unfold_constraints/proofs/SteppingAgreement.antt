@@ -8,10 +8,10 @@ use Rattle.sopl_ast.specs.Constants as c
 use Rattle.sopl_ast.specs.Constants.{value_or_zero}
 use Rattle.sopl_ast.specs.Known.{Known, with_bound}
 use Rattle.sopl_ast.specs.Numbers.{both_of, all_of, joined}
-use Rattle.sopl_ast.specs.Occurrences.{Occurrence, Counted, met, refused_unless, expression_occurrences, binding_occurrences}
+use Rattle.sopl_ast.specs.UnfoldEvents.{UnfoldEvent, Counted, first_failure, refused_unless, expression_events, binding_events}
 use Rattle.sopl_ast.specs.Tree.{Tree, Binders, no_binder, binder, place_of}
 use Rattle.sopl_ast.specs.Unfolding as stated
-use Rattle.sopl_ast.specs.Unfolding.{ConstraintInstance, hard_instance, chance_instance, conditions_of, hards_among, chances_among, is_threshold, threshold_occurrences}
+use Rattle.sopl_ast.specs.Unfolding.{ConstraintInstance, hard_instance, chance_instance, conditions_of, hards_among, chances_among, is_threshold, threshold_events}
 use Rattle.sopl_ast.specs.Whole.{ConsTree, ConsTrees, ForallTree, BlockTree, HardTree, ChanceTree, no_cons, cons}
 use Rattle.unfold_constants.specs.Evaluation.{Step, ◌>>=◌, done, for_each}
 use Rattle.unfold_constants.specs.Traversal as k
@@ -46,9 +46,9 @@ behind_both found xs ys i =
     }
 
 -- what is made of something that is there
-agree_there : {A B : Type 0} {step : Step B} {ms : List Occurrence} (g : A → B) (d : A) (v : Option A) → Agrees step ms (option_map g v) → Agrees step ms (Some (g (unwrap_or v d)))
+agree_there : {A B : Type 0} {step : Step B} {ms : List UnfoldEvent} (g : A → B) (d : A) (v : Option A) → Agrees step ms (option_map g v) → Agrees step ms (Some (g (unwrap_or v d)))
 agree_there g d (Some x) a = a
-agree_there {A} {B} {step} {ms} g d None a = record { at = λ count. on (met count ms) (step count) (a.at count) }
+agree_there {A} {B} {step} {ms} g d None a = record { at = λ count. on (first_failure count ms) (step count) (a.at count) }
   where
     on : (m : Result ℕ Fault) (outcome : Result (B × ℕ) Fault) → At m outcome None → At m outcome (Some (g d))
     on (Ok n) outcome found = absurd (subst (λ o. T (is_some o)) (sym (found.1)) tt)
@@ -77,7 +77,7 @@ more_places result found more (Some heres) (Some later) is =
     ∙ ap (λ xs. Some (behind found xs)) (sym (flat_map_append result heres (joined later)))
 
 -- what is found for each of some numbers
-agree_each : (result : Known → List ConstraintInstance) (next : ℤ → Found → Step Found) (marks : ℤ → List Occurrence) (here : ℤ → Option (List Known))
+agree_each : (result : Known → List ConstraintInstance) (next : ℤ → Found → Step Found) (marks : ℤ → List UnfoldEvent) (here : ℤ → Option (List Known))
     → ((n : ℤ) (found : Found) → Agrees (next n found) (marks n) (at_all result found (here n)))
     → (ns : List ℤ) (found : Found) → Agrees (for_each next ns found) (flat_map (λ n. Counted ∷ marks n) ns) (at_all result found (places here ns))
 agree_each result next marks here a [] found = agree_done found (Some (behind found [])) (ap Some (behind_nothing found))
@@ -86,35 +86,35 @@ agree_each result next marks here a (n ∷ ns) found =
     agree_value (more_places result found more (here n) (all_of here ns) is) (agree_each result next marks here a ns more))
 
 -- a body adds what it finds at each place
-abbrev Adds : (Known → Found → Step Found) → (Known → List Occurrence) → (Known → List ConstraintInstance) → Type 0
+abbrev Adds : (Known → Found → Step Found) → (Known → List UnfoldEvent) → (Known → List ConstraintInstance) → Type 0
 Adds body each result = (here : Known) (found : Found) → Agrees (body here found) (each here) (Some (behind found (result here)))
 
 -- so do binders over it
-agree_bindings : (body : Known → Found → Step Found) (each : Known → List Occurrence) (result : Known → List ConstraintInstance) → Adds body each result
-    → (bs : Binders) (known : Known) (found : Found) → Agrees (s.over known bs body found) (binding_occurrences known None bs each) (at_all result found (c.bindings known bs))
+agree_bindings : (body : Known → Found → Step Found) (each : Known → List UnfoldEvent) (result : Known → List ConstraintInstance) → Adds body each result
+    → (bs : Binders) (known : Known) (found : Found) → Agrees (s.over known bs body found) (binding_events known None bs each) (at_all result found (c.bindings known bs))
 agree_bindings body each result adds no_binder known found =
     agree_value (ap (λ xs. Some (behind found xs)) (sym (append-nil (result known)))) (adds known found)
 agree_bindings body each result adds (binder name at range more) known found =
     agree_bind (agree_range range known None) (λ ns is.
     subst (λ v. Agrees (for_each (λ n xs. s.over (with_bound name n known) more body xs) ns found)
-    (flat_map (λ n. Counted ∷ binding_occurrences (with_bound name n known) None more each) (unwrap_or v []))
+    (flat_map (λ n. Counted ∷ binding_events (with_bound name n known) None more each) (unwrap_or v []))
     (at_all result found (option_and_then (λ numbers. places (λ n. c.bindings (with_bound name n known) more) numbers) v)))
     (sym is)
-    (agree_each result _ (λ n. binding_occurrences (with_bound name n known) None more each) (λ n. c.bindings (with_bound name n known) more)
+    (agree_each result _ (λ n. binding_events (with_bound name n known) None more each) (λ n. c.bindings (with_bound name n known) more)
     (λ n xs. agree_bindings body each result adds more (with_bound name n known) xs) ns found))
 
-agree_over : (body : Known → Found → Step Found) (each : Known → List Occurrence) (result : Known → List ConstraintInstance) → Adds body each result
+agree_over : (body : Known → Found → Step Found) (each : Known → List UnfoldEvent) (result : Known → List ConstraintInstance) → Adds body each result
     → (bs : Binders) (known : Known) (found : Found)
-    → Agrees (s.over known bs body found) (binding_occurrences known None bs each) (Some (behind found (flat_map result (c.all_bindings known bs))))
+    → Agrees (s.over known bs body found) (binding_events known None bs each) (Some (behind found (flat_map result (c.all_bindings known bs))))
 agree_over body each result adds bs known found =
     agree_there (λ heres. behind found (flat_map result heres)) [] (c.bindings known bs) (agree_bindings body each result adds bs known found)
 
 -- an instance, and its condition
-agree_condition : (known : Known) (e : Tree) → Agrees (s.condition known e) (Counted ∷ expression_occurrences known e) counted
+agree_condition : (known : Known) (e : Tree) → Agrees (s.condition known e) (Counted ∷ expression_events known e) counted
 agree_condition known e = agree_bind agree_count (λ t is. meets_walk e known)
 
 -- a threshold
-agree_threshold : (known : Known) (p q : Tree) → Agrees {A = ℤ × ℤ} (s.threshold known p q) (threshold_occurrences known p q) (Some (value_or_zero known p, value_or_zero known q))
+agree_threshold : (known : Known) (p q : Tree) → Agrees {A = ℤ × ℤ} (s.threshold known p q) (threshold_events known p q) (Some (value_or_zero known p, value_or_zero known q))
 agree_threshold known p q =
     agree_bind (agree_number p known (place_of p)) (λ x is.
     agree_bind (agree_number q known (place_of q)) (λ y so.
@@ -127,14 +127,14 @@ agree_threshold known p q =
 
 -- a hard constraint
 agree_hard : (known : Known) (text : ℕ) (e : Tree) (found : Found)
-    → Agrees (s.hard known text e found) (Counted ∷ expression_occurrences known e) (Some (behind found (hard_instance (record { text = text; bound = known.bound }) ∷ [])))
+    → Agrees (s.hard known text e found) (Counted ∷ expression_events known e) (Some (behind found (hard_instance (record { text = text; bound = known.bound }) ∷ [])))
 agree_hard known text e found =
     agree_value (ap (λ chances. Some (record { hards = found.hards ++ (record { text = text; bound = known.bound }) ∷ []; chances = chances })) (sym (append-nil found.chances)))
     (agree_then (λ t. s.with_hard found text known.bound) (agree_condition known e) (λ t is. refl))
 
 -- a chance constraint
 agree_chance : (known : Known) (text : ℕ) (e p q : Tree) (found : Found)
-    → Agrees (s.chance known text e p q found) (Counted ∷ (expression_occurrences known e ++ threshold_occurrences known p q))
+    → Agrees (s.chance known text e p q found) (Counted ∷ (expression_events known e ++ threshold_events known p q))
     (Some (behind found (chance_instance (record { text = text; bound = known.bound; p = value_or_zero known p; q = value_or_zero known q }) ∷ [])))
 agree_chance known text e p q found =
     agree_value
@@ -146,15 +146,15 @@ agree_chance known text e p q found =
 
 mutual
   pub agree_constraint : (tree : ConsTree) (known : Known) (first : ℕ) (found : Found)
-      → Agrees (s.constraint known first tree found) (stated.constraint_occurrences known tree) (Some (behind found (stated.constraint_instances known first tree)))
+      → Agrees (s.constraint known first tree found) (stated.constraint_events known tree) (Some (behind found (stated.constraint_instances known first tree)))
   agree_constraint (ForallTree bs tree) known first found =
-      agree_over _ (λ here. stated.constraint_occurrences here tree) (λ here. stated.constraint_instances here first tree) (λ here more. agree_constraint tree here first more) bs known found
+      agree_over _ (λ here. stated.constraint_events here tree) (λ here. stated.constraint_instances here first tree) (λ here more. agree_constraint tree here first more) bs known found
   agree_constraint (BlockTree trees) known first found = agree_constraints trees known first found
   agree_constraint (HardTree e) known first found = agree_hard known first e found
   agree_constraint (ChanceTree e p q) known first found = agree_chance known first e p q found
 
   pub agree_constraints : (trees : ConsTrees) (known : Known) (first : ℕ) (found : Found)
-      → Agrees (s.constraints known first trees found) (stated.constraints_occurrences known trees) (Some (behind found (stated.all_constraint_instances known first trees)))
+      → Agrees (s.constraints known first trees found) (stated.constraints_events known trees) (Some (behind found (stated.all_constraint_instances known first trees)))
   agree_constraints no_cons known first found = agree_done found (Some (behind found [])) (ap Some (behind_nothing found))
   agree_constraints (cons tree trees) known first found =
       agree_bind (agree_constraint tree known first found) (λ more is.

@@ -11,7 +11,7 @@ ghost use Rattle.unfold_tables.specs.Tables.{shown};
 
 use sopl_ast::{Expr, RangeText};
 use sopl_base::Fault;
-use unfold_constants::Known;
+use unfold_constants::ConstantScope;
 use unfold_tables::{Count, Numbers};
 
 /// Counts one thing more.
@@ -22,7 +22,11 @@ pub fn count_one(count: &mut Count) -> Result<(), Fault>
 }
 
 /// The value of an expression that is a constant place of its own.
-pub fn constant_at<'a>(known: &Known<'a>, count: &mut Count, e: &'a Expr) -> Result<i64, Fault>
+pub fn constant_at<'a>(
+    known: &ConstantScope<'a>,
+    count: &mut Count,
+    e: &'a Expr,
+) -> Result<i64, Fault>
     ensures { Answers (λ x. x) count.new.counted result (evaluation.number (known_in known.now) (place_of e.now) e.now count.old.counted) }
 {
     known.constant(count, e)
@@ -30,7 +34,7 @@ pub fn constant_at<'a>(known: &Known<'a>, count: &mut Count, e: &'a Expr) -> Res
 
 /// The numbers of a range or a set.
 pub fn numbers_at<'a>(
-    known: &Known<'a>,
+    known: &ConstantScope<'a>,
     count: &mut Count,
     range: &'a RangeText,
 ) -> Result<Numbers<'a>, Fault>
@@ -41,7 +45,11 @@ pub fn numbers_at<'a>(
 }
 
 /// Walks through the expression of a condition.
-pub fn expression_at<'a>(known: &Known<'a>, count: &mut Count, e: &'a Expr) -> Result<(), Fault>
+pub fn expression_at<'a>(
+    known: &ConstantScope<'a>,
+    count: &mut Count,
+    e: &'a Expr,
+) -> Result<(), Fault>
     ensures { Answers (λ u. u) count.new.counted result (traversal.walk (known_in known.now) e.now count.old.counted) }
 {
     known.expression(count, e)

@@ -3,7 +3,7 @@
 ghost use Rattle.std.specs.Prelude.{◌≡◌, ◌++◌, IfOk, OnOk, map};
 ghost use Rattle.sopl_ast.specs.Constraints.{cons_tree, cons_trees};
 ghost use Rattle.sopl_ast.specs.References.{now_of};
-ghost use Rattle.sopl_ast.specs.Unfolding.{conditions_of, all_conditions, constraints_occurrences, all_constraint_instances, hards_among, chances_among};
+ghost use Rattle.sopl_ast.specs.Unfolding.{conditions_of, all_conditions, constraints_events, all_constraint_instances, hards_among, chances_among};
 ghost use Rattle.sopl_ast.specs.Whole.{conses};
 ghost use Rattle.unfold_constants.specs.CountedAnswers.{Answers};
 ghost use Rattle.unfold_constants.specs.Here.{known_in};
@@ -17,7 +17,7 @@ use crate::place::Place;
 use sopl_ast::{Cons, ConsList, Expr};
 use sopl_base::Fault;
 use std::alloc::{AllocError, Global};
-use unfold_constants::Known;
+use unfold_constants::ConstantScope;
 use unfold_tables::{Count, Table};
 
 /// The instances of constraints, behind the declarations that have filled the table.
@@ -27,11 +27,11 @@ pub fn instances(
     count: &mut Count,
     body: &ConsList,
 ) -> Result<Instances, Fault>
-    ensures met { Walks count.old.counted count.new.counted (constraints_occurrences (table_known table.now) (conses (cons_trees body.now))) result }
+    ensures met { Walks count.old.counted count.new.counted (constraints_events (table_known table.now) (conses (cons_trees body.now))) result }
     ensures hards { IfOk result (λ found. found.hards.items ≡ hards_among (all_constraint_instances (table_known table.now) 0 (conses (cons_trees body.now)))) }
     ensures chances { IfOk result (λ found. found.chances.items ≡ chances_among (all_constraint_instances (table_known table.now) 0 (conses (cons_trees body.now)))) }
 {
-    let known = Known::new(alloc, table);
+    let known = ConstantScope::new(alloc, table);
     let place = Place {
         alloc,
         known: &known,

@@ -6,13 +6,13 @@ ghost use Rattle.unfold_constants.specs.Here.{known_in, bindings_in};
 use crate::items::Env;
 use sopl_ast::{Cons, Name};
 use std::alloc::{AllocError, Global};
-use unfold_constants::Known;
+use unfold_constants::ConstantScope;
 
 /// Where a constraint stands: what is known there.
 #[derive(Clone, Copy)]
 pub struct Place<'a, 'b> {
     pub alloc: Global,
-    pub known: &'b Known<'a>,
+    pub known: &'b ConstantScope<'a>,
 }
 
 /// A constraint, and the number of its first condition among all conditions of the text.

@@ -17,7 +17,7 @@ use crate::place::{Part, Place};
 use sopl_ast::{Binder, Binders, Cons};
 use sopl_base::Fault;
 use std::alloc::Global;
-use unfold_constants::Choices;
+use unfold_constants::BinderWalk;
 use unfold_tables::Count;
 
 #[tactic(auto, using(sopl_ast::proofs::ConstraintTrees::constraints, crate::proofs::Parts::parts, crate::proofs::Entering::growing, unfold_constants::proofs::Growing::growing))]
@@ -91,7 +91,7 @@ impl<'a, 'b> Place<'a, 'b> {
         ensures { Answers (λ u. found_in found.new) count.new.counted result
             (spec.over (known_in self.now.known.now) (binders over.now) (spec.part part.now.first (cons_tree part.now.constraint.now)) (found_in found.old) count.old.counted) }
     {
-        let mut choices = Choices::new(self.known)?;
+        let mut choices = BinderWalk::new(self.known)?;
         Place::enter(self.alloc, &mut choices, count, over, part, found)?;
         'choices: while choices.advance()? {
             count.add()?;
@@ -104,7 +104,7 @@ impl<'a, 'b> Place<'a, 'b> {
     #[cycle(constraint)]
     fn enter(
         alloc: Global,
-        choices: &mut Choices<'a>,
+        choices: &mut BinderWalk<'a>,
         count: &mut Count,
         over: &'a [Binder],
         part: &Part<'a>,

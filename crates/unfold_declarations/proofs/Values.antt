@@ -3,7 +3,7 @@ use Rattle.std.proofs.Common.{◌≡◌, refl, sym, ap, subst, ◌∙◌, ◌⊎
 use Rattle.std.specs.Option.{unwrap_or}
 use Rattle.sopl_base.specs.declared.fault.Fault.{Fault}
 use Rattle.sopl_base.specs.declared.fault.Fault.TheVariants as fault
-use Rattle.sopl_ast.specs.Occurrences.{Occurrence, met, too_many}
+use Rattle.sopl_ast.specs.UnfoldEvents.{UnfoldEvent, first_failure, too_many}
 use Rattle.unfold_constants.specs.CountedAnswers.{Answers, Fails}
 use Rattle.unfold_tables.specs.Walks.{Walks}
 use Rattle.unfold_declarations.specs.Declaring.{behind, reached}
@@ -25,12 +25,12 @@ no_memory (fault.Limit excess) = false
 no_memory fault.NoMemory = true
 
 -- what is met, and then an answer
-module _ {A B : Type 0} (view : A → B) (x : B) (before after : ℕ) (occurrences : List Occurrence) where
-  failed : (f : Fault) → no_memory f ≡ false → (f ≡ fault.NoMemory) ⊎ (met before occurrences ≡ Err f) → reached occurrences x before ≡ Err f
+module _ {A B : Type 0} (view : A → B) (x : B) (before after : ℕ) (events : List UnfoldEvent) where
+  failed : (f : Fault) → no_memory f ≡ false → (f ≡ fault.NoMemory) ⊎ (first_failure before events ≡ Err f) → reached events x before ≡ Err f
   failed f other (inl is) = absurd (true≢false (sym (ap no_memory is) ∙ other))
   failed f other (inr is) = ap (behind x) is
 
-  pub reached_so : (result : Result A Fault) → Walks before after occurrences result → IfOk result (λ a. x ≡ view a) → Answers view after result (reached occurrences x before)
+  pub reached_so : (result : Result A Fault) → Walks before after events result → IfOk result (λ a. x ≡ view a) → Answers view after result (reached events x before)
   reached_so (Ok a) walks is = ap (behind x) walks ∙ ap (λ y. Ok (y, after)) is
   reached_so (Err (fault.Text r)) walks is = failed (fault.Text r) refl walks
   reached_so (Err (fault.Limit e)) walks is = failed (fault.Limit e) refl walks
@@ -47,17 +47,17 @@ counted_so (Ok u) = refl
 counted_so (Err f) = tt
 
 -- there are few numbers
-pub few_found : (numbers : List ℤ) (n count : ℕ) → n ≡ length numbers → met count (too_many 208 n) ≡ Ok count
+pub few_found : (numbers : List ℤ) (n count : ℕ) → n ≡ length numbers → first_failure count (too_many 208 n) ≡ Ok count
     → ◌≡◌ {A = Result (List ℤ × ℕ) Fault} (reached (too_many 208 (length numbers)) numbers count) (Ok (numbers, count))
-few_found numbers n count is h = ap (behind numbers) ((λ i. met count (too_many 208 (sym is i))) ∙ h)
+few_found numbers n count is h = ap (behind numbers) ((λ i. first_failure count (too_many 208 (sym is i))) ∙ h)
 
 -- there are too many
-pub few_fails : (numbers : List ℤ) (n count : ℕ) (f : Fault) → n ≡ length numbers → (f ≡ fault.NoMemory) ⊎ (met count (too_many 208 n) ≡ Err f)
+pub few_fails : (numbers : List ℤ) (n count : ℕ) (f : Fault) → n ≡ length numbers → (f ≡ fault.NoMemory) ⊎ (first_failure count (too_many 208 n) ≡ Err f)
     → Fails {B = List ℤ × ℕ} f (reached (too_many 208 (length numbers)) numbers count)
 few_fails numbers n count f is (inl memory) = subst (λ g. Fails {B = List ℤ × ℕ} g (reached (too_many 208 (length numbers)) numbers count)) (sym memory) tt
-few_fails numbers n count f is (inr h) = of_fault f ((λ i. met count (too_many 208 (sym is i))) ∙ h)
+few_fails numbers n count f is (inr h) = of_fault f ((λ i. first_failure count (too_many 208 (sym is i))) ∙ h)
   where
-    of_fault : (g : Fault) → met count (too_many 208 (length numbers)) ≡ Err g → Fails {B = List ℤ × ℕ} g (reached (too_many 208 (length numbers)) numbers count)
+    of_fault : (g : Fault) → first_failure count (too_many 208 (length numbers)) ≡ Err g → Fails {B = List ℤ × ℕ} g (reached (too_many 208 (length numbers)) numbers count)
     of_fault (fault.Text r) p = ap (behind numbers) p
     of_fault (fault.Limit e) p = ap (behind numbers) p
     of_fault fault.NoMemory p = tt

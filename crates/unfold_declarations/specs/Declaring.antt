@@ -7,7 +7,7 @@ use Rattle.sopl_ast.specs.Tree.{Tree, Trees, no_tree, tree}
 use Rattle.sopl_ast.specs.Whole.{DimTree, InitTree, InitTrees, One, Many, no_init, init, inits_list}
 use Rattle.sopl_ast.specs.Known.{Known}
 use Rattle.sopl_ast.specs.Constants.{value_or_zero, numbers_in}
-use Rattle.sopl_ast.specs.Occurrences.{Occurrence, Counted, met, constant_place, range_occurrences, too_many}
+use Rattle.sopl_ast.specs.UnfoldEvents.{UnfoldEvent, Counted, first_failure, constant_place, range_events, too_many}
 use Rattle.sopl_ast.specs.Arrays.{Dimension, taking}
 use Rattle.unfold_constants.specs.Evaluation.{Step, ◌>>=◌, done}
 use Rattle.unfold_constants.specs.Traversal.{unless}
@@ -19,8 +19,8 @@ behind x (Ok count) = Ok (x, count)
 behind x (Err fault) = Err fault
 
 -- what is met, and then an answer
-abbrev pub reached : {A : Type 0} → List Occurrence → A → Step A
-reached occurrences x count = behind x (met count occurrences)
+abbrev pub reached : {A : Type 0} → List UnfoldEvent → A → Step A
+reached events x count = behind x (first_failure count events)
 
 -- the value of an expression that is a constant place of its own
 abbrev pub constant : Known → Tree → Step ℤ
@@ -38,7 +38,7 @@ Entry = List ℤ × ℤ
 abbrev pub dimensions : Known → List Dimension → List DimTree → Step (List Dimension)
 dimensions known found [] = done found
 dimensions known found (d ∷ ds) =
-    reached (range_occurrences known None d.range) (numbers_in known d.range) >>= (λ ns. dimensions known (found ++ (record { name = d.binder; numbers = ns }) ∷ []) ds)
+    reached (range_events known None d.range) (numbers_in known d.range) >>= (λ ns. dimensions known (found ++ (record { name = d.binder; numbers = ns }) ∷ []) ds)
 
 -- one element, which is counted
 abbrev pub entry : Known → Tree → List ℤ → List Entry → Step (List Entry)

@@ -1,7 +1,7 @@
-//! The dimensions of arrays, the fronts of their indices, and the walk through them.
+//! The dimensions of arrays, the prefixes of their indices, and the walk through them.
 
 ghost use Rattle.std.specs.Prelude.{◌≡◌, [], ◌∷◌, ◌++◌, length, option_map, if◌then◌else◌, Some, None, IfOk, OnOk};
-ghost use Rattle.sopl_ast.specs.Arrays.{taking as taking_in, dimensions_of, dimension_occurrences};
+ghost use Rattle.sopl_ast.specs.Arrays.{taking as taking_in, dimensions_of, dimension_events};
 ghost use Rattle.unfold_constants.specs.Choosing.{advanced, left};
 ghost use Rattle.unfold_constants.specs.CountedAnswers.{Answers};
 ghost use Rattle.unfold_tables.specs.Tables.{shown};
@@ -9,14 +9,14 @@ ghost use Rattle.unfold_tables.specs.Walks.{Walks};
 ghost use Rattle.unfold_constants.specs.Here.{known_in};
 ghost use Rattle.unfold_declarations.specs.Declaring as spec;
 ghost use Rattle.unfold_declarations.specs.Places.{any_empty as any_empty_in, give_dimension, leave_dimension, losing};
-ghost use Rattle.unfold_declarations.specs.Shown.{dimensions_in, dimensions_open, front_in, open_dimension};
+ghost use Rattle.unfold_declarations.specs.Shown.{dimensions_in, dimensions_open, prefix_in, open_dimension};
 
 use crate::calls::numbers_at;
 use smallvec::SmallVec;
 use sopl_ast::{Dim, Name};
 use sopl_base::Fault;
 use std::alloc::{AllocError, Global};
-use unfold_constants::Known;
+use unfold_constants::ConstantScope;
 use unfold_tables::{Count, Numbers};
 
 /// A dimension of an array: the name that stands for its index, if it has one, and the numbers of its index set in ascending order.
@@ -29,11 +29,11 @@ pub struct Dimension<'a> {
 /// The dimensions of an array, whose ranges are evaluated in order.
 pub fn dimensions<'a>(
     alloc: Global,
-    known: &Known<'a>,
+    known: &ConstantScope<'a>,
     count: &mut Count,
     dims: &'a [Dim],
 ) -> Result<Vec<Dimension<'a>>, Fault>
-    ensures met { Walks count.old.counted count.new.counted (dimension_occurrences (known_in known.now) dims.now) result }
+    ensures met { Walks count.old.counted count.new.counted (dimension_events (known_in known.now) dims.now) result }
     ensures found { IfOk result (λ found. dimensions_in found.items ≡ dimensions_of (known_in known.now) dims.now) }
 {
     listed_dimensions(alloc, known, count, dims)
@@ -42,7 +42,7 @@ pub fn dimensions<'a>(
 /// The same, as a step.
 pub(crate) fn listed_dimensions<'a>(
     alloc: Global,
-    known: &Known<'a>,
+    known: &ConstantScope<'a>,
     count: &mut Count,
     dims: &'a [Dim],
 ) -> Result<Vec<Dimension<'a>>, Fault>
@@ -85,16 +85,20 @@ pub fn any_empty(dimensions: &[Dimension<'_>]) -> bool
     false
 }
 
-/// Where elements of an array are evaluated: what is known there, and the front of their indices.
+/// Where elements of an array are evaluated: what is known there, and the prefix of their indices.
 #[derive(Drop)]
-pub struct Front<'a> {
+pub struct IndexPrefix<'a> {
     pub alloc: Global,
-    pub known: Known<'a>,
+    pub known: ConstantScope<'a>,
     pub index: SmallVec<i64, 4>,
 }
 
 /// A name, if there is one, stands for a number.
-fn bind<'a>(known: &mut Known<'a>, name: Option<&'a Name>, number: i64) -> Result<(), AllocError>
+fn bind<'a>(
+    known: &mut ConstantScope<'a>,
+    name: Option<&'a Name>,
+    number: i64,
+) -> Result<(), AllocError>
     ensures { OnOk result (known_in known.new ≡ taking_in (option_map (λ n. n.now) name.entry) number (known_in known.old)) }
 {
     match name {
@@ -104,7 +108,7 @@ fn bind<'a>(known: &mut Known<'a>, name: Option<&'a Name>, number: i64) -> Resul
 }
 
 /// Takes away what a name, if there is one, stands for; it is the last one that was bound.
-fn forget(known: &mut Known<'_>, name: Option<&Name>)
+fn forget(known: &mut ConstantScope<'_>, name: Option<&Name>)
     ensures { known_in known.new ≡ losing (option_map (λ n. n.now) name.entry) (known_in known.old) }
 {
     match name {
@@ -113,13 +117,13 @@ fn forget(known: &mut Known<'_>, name: Option<&Name>)
     }
 }
 
-impl<'a> Front<'a> {
+impl<'a> IndexPrefix<'a> {
     /// Where no number of an index is there yet.
-    pub fn new(alloc: Global, known: &Known<'a>) -> Result<Front<'a>, AllocError>
-        ensures known { IfOk result (λ front. known_in front.known ≡ known_in known.now) }
-        ensures index { IfOk result (λ front. front.index.items ≡ []) }
+    pub fn new(alloc: Global, known: &ConstantScope<'a>) -> Result<IndexPrefix<'a>, AllocError>
+        ensures known { IfOk result (λ prefix. known_in prefix.known ≡ known_in known.now) }
+        ensures index { IfOk result (λ prefix. prefix.index.items ≡ []) }
     {
-        Ok(Front {
+        Ok(IndexPrefix {
             alloc,
             known: known.copy()?,
             index: SmallVec::new(alloc),
@@ -127,10 +131,10 @@ impl<'a> Front<'a> {
     }
 
     /// The same once more.
-    fn copy(&self) -> Result<Front<'a>, AllocError>
-        ensures { IfOk result (λ front. front_in front ≡ front_in self.now) }
+    fn copy(&self) -> Result<IndexPrefix<'a>, AllocError>
+        ensures { IfOk result (λ prefix. prefix_in prefix ≡ prefix_in self.now) }
     {
-        Ok(Front {
+        Ok(IndexPrefix {
             alloc: self.alloc,
             known: self.known.copy()?,
             index: SmallVec::from_slice(self.alloc, self.index.as_slice())?,
@@ -142,17 +146,17 @@ impl<'a> Front<'a> {
         &self,
         name: Option<&'a Name>,
         number: i64,
-    ) -> Result<Front<'a>, AllocError>
-        ensures { IfOk result (λ front. front_in front ≡ give_dimension (option_map (λ n. n.now) name.entry) number (front_in self.now)) }
+    ) -> Result<IndexPrefix<'a>, AllocError>
+        ensures { IfOk result (λ prefix. prefix_in prefix ≡ give_dimension (option_map (λ n. n.now) name.entry) number (prefix_in self.now)) }
     {
-        let mut front = self.copy()?;
-        front.take(name, number)?;
-        Ok(front)
+        let mut prefix = self.copy()?;
+        prefix.take(name, number)?;
+        Ok(prefix)
     }
 
     /// Adds a number of a dimension, for which its name stands, if it has one.
     fn take(&mut self, name: Option<&'a Name>, number: i64) -> Result<(), AllocError>
-        ensures { OnOk result (front_in self.new ≡ give_dimension (option_map (λ n. n.now) name.entry) number (front_in self.old)) }
+        ensures { OnOk result (prefix_in self.new ≡ give_dimension (option_map (λ n. n.now) name.entry) number (prefix_in self.old)) }
     {
         bind(&mut self.known, name, number)?;
         self.index.push(number)?;
@@ -161,31 +165,31 @@ impl<'a> Front<'a> {
 
     /// Takes away the number of a dimension, the last one, and what its name stands for.
     fn leave(&mut self, name: Option<&Name>)
-        ensures { front_in self.new ≡ leave_dimension (option_map (λ n. n.now) name.entry) (front_in self.old) }
+        ensures { prefix_in self.new ≡ leave_dimension (option_map (λ n. n.now) name.entry) (prefix_in self.old) }
     {
         forget(&mut self.known, name);
         self.index.pop();
     }
 }
 
-/// The dimensions that are open, the innermost last, each with the numbers that it has not had yet; and the front of the indices in which all of them but perhaps
-/// the innermost have taken a number. However many there are, no call stands inside another for them.
+/// The dimensions that are open, the innermost last, each with the numbers that it has not had yet; and the prefix of the indices in which all of them but perhaps
+/// the innermost have taken a number. However many there are, there is no recursion for them.
 #[derive(Drop)]
 pub struct IndexWalk<'a> {
-    pub front: Front<'a>,
+    pub prefix: IndexPrefix<'a>,
     kept: Vec<Dimension<'a>>,
 }
 
 #[tactic(auto, using(crate::proofs::Walking::walking))]
 impl<'a> IndexWalk<'a> {
-    /// Where the indices begin with a front, and no dimension behind it is open.
-    pub fn new(front: &Front<'a>) -> Result<IndexWalk<'a>, AllocError>
-        ensures front { IfOk result (λ walk. front_in walk.front ≡ front_in front.now) }
+    /// Where the indices begin with a prefix, and no dimension behind it is open.
+    pub fn new(prefix: &IndexPrefix<'a>) -> Result<IndexWalk<'a>, AllocError>
+        ensures prefix { IfOk result (λ walk. prefix_in walk.prefix ≡ prefix_in prefix.now) }
         ensures kept { IfOk result (λ walk. dimensions_open walk ≡ []) }
     {
         Ok(IndexWalk {
-            front: front.copy()?,
-            kept: Vec::new(front.alloc),
+            prefix: prefix.copy()?,
+            kept: Vec::new(prefix.alloc),
         })
     }
 
@@ -198,7 +202,7 @@ impl<'a> IndexWalk<'a> {
 
     /// Opens a dimension inside the others.
     pub fn begin(&mut self, dimension: &Dimension<'a>) -> Result<(), AllocError>
-        ensures front { OnOk result (front_in self.new.front ≡ front_in self.old.front) }
+        ensures prefix { OnOk result (prefix_in self.new.prefix ≡ prefix_in self.old.prefix) }
         ensures kept { OnOk result (dimensions_open self.new ≡ open_dimension dimension.now ∷ dimensions_open self.old) }
     {
         self.kept.push(*dimension)?;
@@ -207,18 +211,18 @@ impl<'a> IndexWalk<'a> {
 
     /// The innermost dimension, if one is open, gives its number up.
     pub fn leave(&mut self)
-        ensures front { front_in self.new.front ≡ left leave_dimension (front_in self.old.front) (dimensions_open self.old) }
+        ensures prefix { prefix_in self.new.prefix ≡ left leave_dimension (prefix_in self.old.prefix) (dimensions_open self.old) }
         ensures kept { dimensions_open self.new ≡ dimensions_open self.old }
     {
         if let Some(dimension) = self.kept.last() {
-            self.front.leave(dimension.name);
+            self.prefix.leave(dimension.name);
         }
     }
 
     /// Gives the innermost dimension that has a number left the next one, and closes those inside it, which have none; false where no dimension has one left.
     pub fn advance(&mut self) -> Result<bool, AllocError>
-        ensures { IfOk result (λ more. (if more then Some (front_in self.new.front, dimensions_open self.new) else None)
-            ≡ advanced give_dimension leave_dimension (front_in self.old.front) (dimensions_open self.old)) }
+        ensures { IfOk result (λ more. (if more then Some (prefix_in self.new.prefix, dimensions_open self.new) else None)
+            ≡ advanced give_dimension leave_dimension (prefix_in self.old.prefix) (dimensions_open self.old)) }
     {
         'kept: while let Some(dimension) = self.kept.pop() {
             if let Some((number, later)) = dimension.numbers.split_first() {
@@ -227,7 +231,7 @@ impl<'a> IndexWalk<'a> {
                     name,
                     numbers: later,
                 })?;
-                self.front.take(name, number)?;
+                self.prefix.take(name, number)?;
                 return Ok(true);
             }
             self.leave();

@@ -2,7 +2,7 @@
 
 ghost use Rattle.std.specs.Prelude.{◌≡◌, ℕ, None, length};
 ghost use Rattle.sopl_ast.specs.Constants.{numbers_in};
-ghost use Rattle.sopl_ast.specs.Occurrences.{range_occurrences, too_many};
+ghost use Rattle.sopl_ast.specs.UnfoldEvents.{range_events, too_many};
 ghost use Rattle.sopl_ast.specs.Ranges.{range_of};
 ghost use Rattle.unfold_constants.specs.CountedAnswers.{Answers};
 ghost use Rattle.unfold_tables.specs.Tables.{shown, items};
@@ -11,7 +11,7 @@ ghost use Rattle.unfold_declarations.specs.Declaring as spec;
 
 use sopl_ast::{Expr, RangeText};
 use sopl_base::{Fault, codes};
-use unfold_constants::Known;
+use unfold_constants::ConstantScope;
 use unfold_tables::{Count, Numbers, checked_count};
 
 /// Counts one thing more.
@@ -22,7 +22,11 @@ pub fn count_one(count: &mut Count) -> Result<(), Fault>
 }
 
 /// The value of an expression that is a constant place of its own.
-pub fn constant_at<'a>(known: &Known<'a>, count: &mut Count, e: &'a Expr) -> Result<i64, Fault>
+pub fn constant_at<'a>(
+    known: &ConstantScope<'a>,
+    count: &mut Count,
+    e: &'a Expr,
+) -> Result<i64, Fault>
     ensures { Answers (λ x. x) count.new.counted result (spec.constant (known_in known.now) e.now count.old.counted) }
 {
     known.constant(count, e)
@@ -30,12 +34,12 @@ pub fn constant_at<'a>(known: &Known<'a>, count: &mut Count, e: &'a Expr) -> Res
 
 /// The numbers of a range or a set.
 pub fn numbers_at<'a>(
-    known: &Known<'a>,
+    known: &ConstantScope<'a>,
     count: &mut Count,
     range: &'a RangeText,
 ) -> Result<Numbers<'a>, Fault>
     ensures { Answers shown count.new.counted result
-        (spec.reached (range_occurrences (known_in known.now) None (range_of range.now)) (numbers_in (known_in known.now) (range_of range.now)) count.old.counted) }
+        (spec.reached (range_events (known_in known.now) None (range_of range.now)) (numbers_in (known_in known.now) (range_of range.now)) count.old.counted) }
 {
     known.range(count, range)
 }

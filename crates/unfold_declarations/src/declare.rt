@@ -3,11 +3,11 @@
 ghost use Rattle.std.specs.Prelude.{◌≡◌, ◌∷◌, [], ◌++◌, None, IfOk, OnOk, OnErr};
 ghost use Rattle.sopl_ast.specs.Arrays.{dimensions_of};
 ghost use Rattle.sopl_ast.specs.Constants.{value_or_zero};
-ghost use Rattle.sopl_ast.specs.Declarations.{constants_of, int_occurrences, set_occurrences, set_of, values_from};
+ghost use Rattle.sopl_ast.specs.Declarations.{constants_of, int_events, set_events, set_of, values_from};
 ghost use Rattle.sopl_ast.specs.Inits.{init_tree};
 ghost use Rattle.sopl_ast.specs.Known.{Between, Listed};
 ghost use Rattle.sopl_ast.specs.Lists.{trees};
-ghost use Rattle.sopl_ast.specs.Occurrences.{range_occurrences};
+ghost use Rattle.sopl_ast.specs.UnfoldEvents.{range_events};
 ghost use Rattle.sopl_ast.specs.Tree.{Ends};
 ghost use Rattle.unfold_tables.specs.Tables.{table_known, elements_in};
 ghost use Rattle.unfold_tables.specs.Walks.{Walks};
@@ -17,7 +17,7 @@ use crate::sets::set_numbers;
 use sopl_ast::{Dim, Expr, Init, Name};
 use sopl_base::Fault;
 use std::alloc::Global;
-use unfold_constants::Known;
+use unfold_constants::ConstantScope;
 use unfold_tables::{Count, Elements, Ends as RangeEnds, NumberSet, Table};
 
 /// Enters the elements of a constant.
@@ -29,7 +29,7 @@ pub fn declare_constant(
     dims: &[Dim],
     init: &Init,
 ) -> Result<(), Fault>
-    ensures met { Walks count.old.counted count.new.counted (int_occurrences (table_known table.old) dims.now (init_tree init.now)) result }
+    ensures met { Walks count.old.counted count.new.counted (int_events (table_known table.old) dims.now (init_tree init.now)) result }
     ensures declared { OnOk result (table_known table.new ≡ record (table_known table.old) {
       constants = (table_known table.old).constants ++ constants_of (table_known table.old) name.now dims.now (init_tree init.now);
     }) }
@@ -49,11 +49,11 @@ fn constant_entries(
     init: &Init,
 ) -> Result<Elements, Fault>
     ensures met { Walks count.old.counted count.new.counted
-        (int_occurrences (table_known table.now) dims.now (init_tree init.now)) result }
+        (int_events (table_known table.now) dims.now (init_tree init.now)) result }
     ensures values { IfOk result (λ found.
         elements_in found ≡ values_from (table_known table.now) (dimensions_of (table_known table.now) dims.now) (init_tree init.now)) }
 {
-    let known = Known::new(alloc, table);
+    let known = ConstantScope::new(alloc, table);
     entries(alloc, &known, count, dims, init)
 }
 
@@ -66,7 +66,7 @@ pub fn declare_range(
     lo: &Expr,
     hi: &Expr,
 ) -> Result<(), Fault>
-    ensures met { Walks count.old.counted count.new.counted (range_occurrences (table_known table.old) None (Ends lo.now hi.now)) result }
+    ensures met { Walks count.old.counted count.new.counted (range_events (table_known table.old) None (Ends lo.now hi.now)) result }
     ensures declared { OnOk result (table_known table.new ≡ record (table_known table.old) {
       sets = (table_known table.old).sets ++ (record {
         name = name.now;
@@ -88,11 +88,11 @@ fn range_ends(
     lo: &Expr,
     hi: &Expr,
 ) -> Result<RangeEnds, Fault>
-    ensures met { Walks count.old.counted count.new.counted (range_occurrences (table_known table.now) None (Ends lo.now hi.now)) result }
+    ensures met { Walks count.old.counted count.new.counted (range_events (table_known table.now) None (Ends lo.now hi.now)) result }
     ensures lower { IfOk result (λ ends. ends.lo ≡ value_or_zero (table_known table.now) lo.now) }
     ensures upper { IfOk result (λ ends. ends.hi ≡ value_or_zero (table_known table.now) hi.now) }
 {
-    let known = Known::new(alloc, table);
+    let known = ConstantScope::new(alloc, table);
     known.between(count, lo, hi)
 }
 
@@ -104,7 +104,7 @@ pub fn declare_set(
     name: &Name,
     elements: &[Expr],
 ) -> Result<(), Fault>
-    ensures met { Walks count.old.counted count.new.counted (set_occurrences (table_known table.old) (trees elements.now)) result }
+    ensures met { Walks count.old.counted count.new.counted (set_events (table_known table.old) (trees elements.now)) result }
     ensures declared { OnOk result (table_known table.new ≡ record (table_known table.old) {
       sets = (table_known table.old).sets ++ (record {
         name = name.now;
@@ -126,9 +126,9 @@ fn element_numbers(
     elements: &[Expr],
 ) -> Result<Vec<i64>, Fault>
     ensures met { Walks count.old.counted count.new.counted
-        (set_occurrences (table_known table.now) (trees elements.now)) result }
+        (set_events (table_known table.now) (trees elements.now)) result }
     ensures numbers { IfOk result (λ numbers. numbers.items ≡ set_of (table_known table.now) (trees elements.now)) }
 {
-    let known = Known::new(alloc, table);
+    let known = ConstantScope::new(alloc, table);
     set_numbers(alloc, &known, count, elements)
 }

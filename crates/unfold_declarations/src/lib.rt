@@ -1,5 +1,5 @@
 //! What declarations state of constants, ranges and sets, and the dimensions of arrays.
-//! Its tests stand in `text_tests`.
+//! Its tests stand in `compile_tests`.
 #![tactic(auto)]
 
 mod arrays;
@@ -8,6 +8,6 @@ mod declare;
 mod elements;
 mod sets;
 
-pub use arrays::{Dimension, Front, IndexWalk, any_empty, dimensions};
+pub use arrays::{Dimension, IndexPrefix, IndexWalk, any_empty, dimensions};
 pub use calls::{constant_at, count_one};
 pub use declare::{declare_constant, declare_range, declare_set};

@@ -14,13 +14,13 @@ use sopl_ast::Expr;
 use sopl_base::Fault;
 use std::alloc::{AllocError, Global};
 use std::collections::BTreeSet;
-use unfold_constants::Known;
+use unfold_constants::ConstantScope;
 use unfold_tables::Count;
 
 /// The numbers of a set in ascending order, each once.
 pub fn set_numbers<'a>(
     alloc: Global,
-    known: &Known<'a>,
+    known: &ConstantScope<'a>,
     count: &mut Count,
     elements: &'a [Expr],
 ) -> Result<Vec<i64>, Fault>
@@ -34,7 +34,7 @@ pub fn set_numbers<'a>(
 /// The values of expressions, as a set.
 fn values<'a>(
     alloc: Global,
-    known: &Known<'a>,
+    known: &ConstantScope<'a>,
     count: &mut Count,
     elements: &'a [Expr],
 ) -> Result<BTreeSet<i64>, Fault>

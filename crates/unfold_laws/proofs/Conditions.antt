@@ -7,11 +7,11 @@ use Rattle.sopl_ast.specs.Tree.{Tree, place_of}
 use Rattle.sopl_ast.specs.Whole.{ConsTree, ConsTrees, ForallTree, BlockTree, HardTree, ChanceTree, no_cons, cons, conses, GoalTree, ModelTree}
 use Rattle.sopl_ast.specs.Known.{Known, with_bound}
 use Rattle.sopl_ast.specs.Constants.{value_or_zero, all_bindings}
-use Rattle.sopl_ast.specs.Occurrences.{refused_unless, constant_place, expression_occurrences}
+use Rattle.sopl_ast.specs.UnfoldEvents.{refused_unless, constant_place, expression_events}
 use Rattle.sopl_ast.specs.Instances.{Hard, Chance}
 use Rattle.sopl_ast.specs.Unfolding.{ConstraintInstance, hard_instance, chance_instance, conditions_of, all_conditions, constraint_instances, all_constraint_instances, hards_among}
-use Rattle.sopl_ast.specs.Unfolding.{chances_among, is_threshold, threshold_occurrences, constraint_occurrences, constraints_occurrences, goal_occurrences, problem_of}
-use Rattle.unfold_laws.specs.Passing.{Passes}
+use Rattle.sopl_ast.specs.Unfolding.{chances_among, is_threshold, threshold_events, constraint_events, constraints_events, goal_events, problem_of}
+use Rattle.unfold_laws.specs.Passing.{NothingFails}
 use Rattle.unfold_laws.specs.Conditions.{placed, IsMet, IsThreshold, HardsAreMet, ChancesAreMet, ObjectiveIsMet}
 use Rattle.unfold_laws.proofs.Passing.{parts_pass, passes_counted, test_holds}
 use Rattle.unfold_laws.proofs.Declared.{all_append, both_true, each_joined, each_of}
@@ -46,33 +46,33 @@ threshold_there p q is =
     record { least = ordered (pos 0) p first.0; most = ordered p q second.0; positive = ordered (pos 1) q third.0; small = ordered q (pos 1048576) third.1 }
 
 mutual
-  met_instances : (c : ConsTree) (before after : List Tree) (known here : Known) → IsPlaced known here → Passes (constraint_occurrences here c)
+  met_instances : (c : ConsTree) (before after : List Tree) (known here : Known) → IsPlaced known here → NothingFails (constraint_events here c)
       → AllByRecursion (IsMetInstance known (before ++ (conditions_of c ++ after))) (constraint_instances here (length before) c)
   met_instances (ForallTree bs c) before after known here is passes =
       each_joined (IsMetInstance known (before ++ (conditions_of c ++ after))) (λ inner. constraint_instances inner (length before) c) (all_bindings here bs)
-      (each_of (λ inner. IsPlaced known inner × Passes (constraint_occurrences inner c))
+      (each_of (λ inner. IsPlaced known inner × NothingFails (constraint_events inner c))
       (λ inner. AllByRecursion (IsMetInstance known (before ++ (conditions_of c ++ after))) (constraint_instances inner (length before) c))
       (λ inner both. met_instances c before after known inner both.0 both.1) (all_bindings here bs)
-      (all_given (IsPlaced known) (placed_further known) bs here (λ inner. constraint_occurrences inner c) is passes))
+      (all_given (IsPlaced known) (placed_further known) bs here (λ inner. constraint_events inner c) is passes))
   met_instances (BlockTree cs) before after known here is passes = met_all cs before after known here is passes
   met_instances (HardTree e) before after known here is passes =
-      (record { condition = e; stands = stands_at before after e; passes = subst (λ k. Passes (expression_occurrences k e)) is (passes_counted (expression_occurrences here e) passes) }, tt)
+      (record { condition = e; stands = stands_at before after e; passes = subst (λ k. NothingFails (expression_events k e)) is (passes_counted (expression_events here e) passes) }, tt)
   met_instances (ChanceTree e p q) before after known here is passes =
-      let both = parts_pass (expression_occurrences here e) (threshold_occurrences here p q) (passes_counted (expression_occurrences here e ++ threshold_occurrences here p q) passes) in
+      let both = parts_pass (expression_events here e) (threshold_events here p q) (passes_counted (expression_events here e ++ threshold_events here p q) passes) in
       let first = parts_pass (constant_place here p) (constant_place here q ++ refused_unless (is_threshold (value_or_zero here p) (value_or_zero here q)) 115 (place_of p)) both.1 in
       let second = parts_pass (constant_place here q) (refused_unless (is_threshold (value_or_zero here p) (value_or_zero here q)) 115 (place_of p)) first.1 in (
         (
-          record { condition = e; stands = stands_at before after e; passes = subst (λ k. Passes (expression_occurrences k e)) is both.0 },
+          record { condition = e; stands = stands_at before after e; passes = subst (λ k. NothingFails (expression_events k e)) is both.0 },
           threshold_there (value_or_zero here p) (value_or_zero here q) (test_holds _ 115 (place_of p) second.1),
         ),
         tt,
       )
 
-  met_all : (cs : ConsTrees) (before after : List Tree) (known here : Known) → IsPlaced known here → Passes (constraints_occurrences here cs)
+  met_all : (cs : ConsTrees) (before after : List Tree) (known here : Known) → IsPlaced known here → NothingFails (constraints_events here cs)
       → AllByRecursion (IsMetInstance known (before ++ (all_conditions cs ++ after))) (all_constraint_instances here (length before) cs)
   met_all no_cons before after known here is passes = tt
   met_all (cons c cs) before after known here is passes =
-      let both = parts_pass (constraint_occurrences here c) (constraints_occurrences here cs) passes in
+      let both = parts_pass (constraint_events here c) (constraints_events here cs) passes in
       all_append (IsMetInstance known (before ++ ((conditions_of c ++ all_conditions cs) ++ after))) (constraint_instances here (length before) c)
       (all_constraint_instances here (length before + length (conditions_of c)) cs)
       (subst (λ rest. AllByRecursion (IsMetInstance known (before ++ rest)) (constraint_instances here (length before) c))
@@ -96,13 +96,13 @@ chances_met known conditions [] all = tt
 chances_met known conditions (hard_instance h ∷ xs) all = chances_met known conditions xs all.1
 chances_met known conditions (chance_instance c ∷ xs) all = (all.0, chances_met known conditions xs all.1)
 
-body_parts : (model : ModelTree) → Passes (goal_occurrences (found_in model).known model.goal ++ constraints_occurrences (found_in model).known (conses model.body))
+body_parts : (model : ModelTree) → NothingFails (goal_events (found_in model).known model.goal ++ constraints_events (found_in model).known (conses model.body))
     → AllByRecursion (IsMetInstance (found_in model).known (all_conditions (conses model.body))) (all_constraint_instances (found_in model).known 0 (conses model.body))
 body_parts model passes =
     subst (λ conditions. AllByRecursion (IsMetInstance (found_in model).known conditions) (all_constraint_instances (found_in model).known 0 (conses model.body)))
     (append-nil (all_conditions (conses model.body)))
     (met_all (conses model.body) [] [] (found_in model).known (found_in model).known refl
-    (parts_pass (goal_occurrences (found_in model).known model.goal) (constraints_occurrences (found_in model).known (conses model.body)) passes).1)
+    (parts_pass (goal_events (found_in model).known model.goal) (constraints_events (found_in model).known (conses model.body)) passes).1)
 
 pub hards_are_met : HardsAreMet
 unfolding problem_of
@@ -116,9 +116,9 @@ pub objective_is_met : ObjectiveIsMet
 unfolding problem_of
 objective_is_met model passes =
     on model.goal
-    (parts_pass (goal_occurrences (found_in model).known model.goal) (constraints_occurrences (found_in model).known (conses model.body)) (text_parts model passes).1).0
+    (parts_pass (goal_events (found_in model).known model.goal) (constraints_events (found_in model).known (conses model.body)) (text_parts model passes).1).0
   where
-    on : (goal : Option GoalTree) → Passes (goal_occurrences (found_in model).known goal)
-        → IfSome goal (λ (g : GoalTree). Passes (expression_occurrences (found_in model).known g.expr))
+    on : (goal : Option GoalTree) → NothingFails (goal_events (found_in model).known goal)
+        → IfSome goal (λ (g : GoalTree). NothingFails (expression_events (found_in model).known g.expr))
     on None is = tt
     on (Some g) is = is

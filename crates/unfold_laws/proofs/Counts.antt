@@ -13,55 +13,55 @@ use Rattle.sopl_ast.specs.Whole.{cons, conses}
 use Rattle.sopl_ast.specs.Numbers.{both_of, all_of, joined}
 use Rattle.sopl_ast.specs.Known.{Known, with_bound}
 use Rattle.sopl_ast.specs.Constants.{bindings, all_bindings, numbers_of}
-use Rattle.sopl_ast.specs.Occurrences.{Occurrence, Counted, Refused, Passed, excess, met, most_counted, range_occurrences, binding_occurrences}
+use Rattle.sopl_ast.specs.UnfoldEvents.{UnfoldEvent, Counted, Refused, Passed, excess, first_failure, most_counted, range_events, binding_events}
 use Rattle.sopl_ast.specs.Instances.{Stochastic}
-use Rattle.sopl_ast.specs.Arrays.{dimensions_of, indices, with_index, array_of, dimension_occurrences, array_occurrences}
-use Rattle.sopl_ast.specs.Declarations.{Declared, nothing_declared, domain_of, stage_of, outcome_of, domain_occurrences, stage_occurrences, outcome_occurrences, decisions_of}
-use Rattle.sopl_ast.specs.Declarations.{stochastics_of, behind, behind_all, declaration_occurrences, declarations_occurrences}
+use Rattle.sopl_ast.specs.Arrays.{dimensions_of, indices, with_index, array_of, dimension_events, array_events}
+use Rattle.sopl_ast.specs.Declarations.{Declared, nothing_declared, domain_of, stage_of, outcome_of, domain_events, stage_events, outcome_events, decisions_of}
+use Rattle.sopl_ast.specs.Declarations.{stochastics_of, behind, behind_all, declaration_events, declarations_events}
 use Rattle.sopl_ast.specs.Unfolding.{ConstraintInstance, hard_instance, chance_instance, conditions_of, constraint_instances, all_constraint_instances, hards_among, chances_among}
-use Rattle.sopl_ast.specs.Unfolding.{by_stage, constraint_occurrences, constraints_occurrences, goal_occurrences, problem_of, text_occurrences, body_occurrences}
+use Rattle.sopl_ast.specs.Unfolding.{by_stage, constraint_events, constraints_events, goal_events, problem_of, text_events, body_events}
 use Rattle.unfold_laws.specs.Bounds.{InstancesAreCounted}
 use Rattle.unfold_laws.proofs.Whole.{found_in}
 
 -- how many of occurrences are things that are counted
-abbrev counted : List Occurrence → ℕ
+abbrev counted : List UnfoldEvent → ℕ
 counted [] = 0
 counted (Counted ∷ later) = suc (counted later)
 counted (Refused r ∷ later) = counted later
 counted (Passed e ∷ later) = counted later
 
-counted_append : (xs ys : List Occurrence) → counted (xs ++ ys) ≡ counted xs + counted ys
+counted_append : (xs ys : List UnfoldEvent) → counted (xs ++ ys) ≡ counted xs + counted ys
 counted_append [] ys = omega arith
 counted_append (Counted ∷ xs) ys = let more = counted_append xs ys in omega (arith, more)
 counted_append (Refused r ∷ xs) ys = counted_append xs ys
 counted_append (Passed e ∷ xs) ys = counted_append xs ys
 
 -- not more are counted than may be
-few_counted : (occurrences : List Occurrence) (n : ℕ) → n ≤ 262144 → IsOk (met n occurrences) → n + counted occurrences ≤ 262144
+few_counted : (events : List UnfoldEvent) (n : ℕ) → n ≤ 262144 → IsOk (first_failure n events) → n + counted events ≤ 262144
 few_counted [] n few is = omega (arith, few)
 few_counted (Counted ∷ later) n few is = on (nat_lt n most_counted) refl (few_counted later (n + 1)) is
   where
-    on : (b : Bool) → nat_lt n most_counted ≡ b → (n + 1 ≤ 262144 → IsOk (met (n + 1) later) → (n + 1) + counted later ≤ 262144)
-        → IsOk (cond b (met (n + 1) later) (Err (Limit (excess 205 (pos (most_counted + 1)) (pos most_counted))))) → n + suc (counted later) ≤ 262144
+    on : (b : Bool) → nat_lt n most_counted ≡ b → (n + 1 ≤ 262144 → IsOk (first_failure (n + 1) later) → (n + 1) + counted later ≤ 262144)
+        → IsOk (cond b (first_failure (n + 1) later) (Err (Limit (excess 205 (pos (most_counted + 1)) (pos most_counted))))) → n + suc (counted later) ≤ 262144
     on true less again ok = let h : n < 262144 = ltb-true n 262144 less in let all = again (omega (arith, h)) ok in omega (arith, all)
     on false less again ok = absurd (true≢false (sym ok))
 few_counted (Refused r ∷ later) n few is = absurd (true≢false (sym is))
 few_counted (Passed e ∷ later) n few is = absurd (true≢false (sym is))
 
 -- something that is counted for each of some things
-each_counted : {A : Type 0} (each : A → List Occurrence) (xs : List A) → length xs ≤ counted (flat_map (λ x. Counted ∷ each x) xs)
+each_counted : {A : Type 0} (each : A → List UnfoldEvent) (xs : List A) → length xs ≤ counted (flat_map (λ x. Counted ∷ each x) xs)
 each_counted each [] = omega arith
 each_counted each (x ∷ xs) =
     let more = each_counted each xs in
     let both = counted_append (each x) (flat_map (λ x. Counted ∷ each x) xs) in omega (arith, more, both)
 
-array_counted : {A : Type 0} (known : Known) (dims : List DimTree) (make : List ℤ → Known → A) (each : Known → List Occurrence)
-    → length (array_of known dims make) ≤ counted (array_occurrences known dims each)
+array_counted : {A : Type 0} (known : Known) (dims : List DimTree) (make : List ℤ → Known → A) (each : Known → List UnfoldEvent)
+    → length (array_of known dims make) ≤ counted (array_events known dims each)
 array_counted known dims make each =
     let ds = dimensions_of known dims in
     let all = each_counted (λ index. each (with_index ds index known)) (indices ds) in
     let made = length-map (indices ds) (λ index. make index (with_index ds index known)) in
-    let both = counted_append (dimension_occurrences known dims) (flat_map (λ index. Counted ∷ each (with_index ds index known)) (indices ds)) in
+    let both = counted_append (dimension_events known dims) (flat_map (λ index. Counted ∷ each (with_index ds index known)) (indices ds)) in
     omega (arith, all, made, both)
 
 -- Declarations.
@@ -69,29 +69,29 @@ array_counted known dims make each =
 abbrev variables : Declared → ℕ
 variables found = length found.decisions + length found.stochastics
 
-variables_behind : (d : Declaration) (found : Declared) → variables (behind d found) ≤ variables found + counted (declaration_occurrences found d)
+variables_behind : (d : Declaration) (found : Declared) → variables (behind d found) ≤ variables found + counted (declaration_events found d)
 variables_behind (IntDecl name at dims x) found = omega arith
 variables_behind (RangeDecl name at lo hi) found = omega arith
 variables_behind (SetDecl name at elements) found = omega arith
 variables_behind (DvarDecl name at dims range stage) found =
     let more = length-append found.decisions (decisions_of found.known name dims range stage) in
-    let all : length (decisions_of found.known name dims range stage) ≤ counted (declaration_occurrences found (DvarDecl name at dims range stage)) =
+    let all : length (decisions_of found.known name dims range stage) ≤ counted (declaration_events found (DvarDecl name at dims range stage)) =
     array_counted found.known dims (λ index here. record { name = name; index = index; lo = (domain_of here range).0; hi = (domain_of here range).1; stage = stage_of here stage })
-    (λ here. domain_occurrences here range ++ stage_occurrences here stage) in
+    (λ here. domain_events here range ++ stage_events here stage) in
     omega (arith, more, all)
 variables_behind (StochDecl name at dims dist stage) found =
     let more = length-append found.stochastics (stochastics_of found.known name dims dist stage) in
-    let all : length (stochastics_of found.known name dims dist stage) ≤ counted (declaration_occurrences found (StochDecl name at dims dist stage)) =
+    let all : length (stochastics_of found.known name dims dist stage) ≤ counted (declaration_events found (StochDecl name at dims dist stage)) =
     array_counted found.known dims (λ index here. record { name = name; index = index; outcomes = map (outcome_of here) dist; stage = stage_of here stage })
-    (λ here. outcome_occurrences here [] dist ++ stage_occurrences here stage) in
+    (λ here. outcome_events here [] dist ++ stage_events here stage) in
     omega (arith, more, all)
 
-variables_behind_all : (ds : List Declaration) (found : Declared) → variables (behind_all ds found) ≤ variables found + counted (declarations_occurrences found ds)
+variables_behind_all : (ds : List Declaration) (found : Declared) → variables (behind_all ds found) ≤ variables found + counted (declarations_events found ds)
 variables_behind_all [] found = omega arith
 variables_behind_all (d ∷ ds) found =
     let first = variables_behind d found in
     let more = variables_behind_all ds (behind d found) in
-    let both = counted_append (declaration_occurrences found d) (declarations_occurrences (behind d found) ds) in
+    let both = counted_append (declaration_events found d) (declarations_events (behind d found) ds) in
     omega (arith, first, more, both)
 
 -- Stages.
@@ -150,7 +150,7 @@ by_stage_kept (s ∷ ss) =
 -- Constraints.
 
 module _ {A : Type 0} (f : Known → List A) where
-  all_counted : (g : ℤ → Option (List Known)) (met_in : ℤ → List Occurrence) → ((n : ℤ) → length (flat_map f (unwrap_or (g n) [])) ≤ counted (met_in n))
+  all_counted : (g : ℤ → Option (List Known)) (met_in : ℤ → List UnfoldEvent) → ((n : ℤ) → length (flat_map f (unwrap_or (g n) [])) ≤ counted (met_in n))
       → (ns : List ℤ) → length (flat_map f (unwrap_or (option_map joined (all_of g ns)) [])) ≤ counted (flat_map (λ n. Counted ∷ met_in n) ns)
   all_counted g met_in each [] = omega arith
   all_counted g met_in each (n ∷ ns) = on (g n) (all_of g ns) (each n) (all_counted g met_in each ns)
@@ -166,40 +166,40 @@ module _ {A : Type 0} (f : Known → List A) where
           let both = counted_append (met_in n) (flat_map (λ n. Counted ∷ met_in n) ns) in
           omega (arith, first, more, split, lengths, both)
 
-  over_counted : (bs : Binders) (known : Known) (each : Known → List Occurrence) → ((here : Known) → length (f here) ≤ counted (each here))
-      → length (flat_map f (all_bindings known bs)) ≤ counted (binding_occurrences known None bs each)
+  over_counted : (bs : Binders) (known : Known) (each : Known → List UnfoldEvent) → ((here : Known) → length (f here) ≤ counted (each here))
+      → length (flat_map f (all_bindings known bs)) ≤ counted (binding_events known None bs each)
   over_counted no_binder known each fits = let all = length-append (f known) [] in let here = fits known in omega (arith, all, here)
   over_counted (binder name at range more) known each fits =
       on (numbers_of known range)
-      (all_counted (λ n. bindings (with_bound name n known) more) (λ n. binding_occurrences (with_bound name n known) None more each)
+      (all_counted (λ n. bindings (with_bound name n known) more) (λ n. binding_events (with_bound name n known) None more each)
       (λ n. over_counted more (with_bound name n known) each fits))
     where
       on : (o : Option (List ℤ))
           → ((ns : List ℤ) → length (flat_map f (unwrap_or (option_map joined (all_of (λ n. bindings (with_bound name n known) more) ns)) []))
-          ≤ counted (flat_map (λ n. Counted ∷ binding_occurrences (with_bound name n known) None more each) ns))
+          ≤ counted (flat_map (λ n. Counted ∷ binding_events (with_bound name n known) None more each) ns))
           → length (flat_map f (unwrap_or (option_and_then (λ numbers. option_map joined (all_of (λ n. bindings (with_bound name n known) more) numbers)) o) []))
-          ≤ counted (range_occurrences known None range ++ flat_map (λ n. Counted ∷ binding_occurrences (with_bound name n known) None more each) (unwrap_or o []))
+          ≤ counted (range_events known None range ++ flat_map (λ n. Counted ∷ binding_events (with_bound name n known) None more each) (unwrap_or o []))
       on None all = omega arith
       on (Some ns) all =
           let here = all ns in
-          let both = counted_append (range_occurrences known None range) (flat_map (λ n. Counted ∷ binding_occurrences (with_bound name n known) None more each) ns) in
+          let both = counted_append (range_events known None range) (flat_map (λ n. Counted ∷ binding_events (with_bound name n known) None more each) ns) in
           omega (arith, here, both)
 
 mutual
-  instances_counted : (c : ConsTree) (known : Known) (first : ℕ) → length (constraint_instances known first c) ≤ counted (constraint_occurrences known c)
+  instances_counted : (c : ConsTree) (known : Known) (first : ℕ) → length (constraint_instances known first c) ≤ counted (constraint_events known c)
   instances_counted (ForallTree bs c) known first =
-      over_counted (λ here. constraint_instances here first c) bs known (λ here. constraint_occurrences here c) (λ here. instances_counted c here first)
+      over_counted (λ here. constraint_instances here first c) bs known (λ here. constraint_events here c) (λ here. instances_counted c here first)
   instances_counted (BlockTree cs) known first = all_instances_counted cs known first
   instances_counted (HardTree e) known first = omega arith
   instances_counted (ChanceTree e p q) known first = omega arith
 
-  all_instances_counted : (cs : ConsTrees) (known : Known) (first : ℕ) → length (all_constraint_instances known first cs) ≤ counted (constraints_occurrences known cs)
+  all_instances_counted : (cs : ConsTrees) (known : Known) (first : ℕ) → length (all_constraint_instances known first cs) ≤ counted (constraints_events known cs)
   all_instances_counted no_cons known first = omega arith
   all_instances_counted (cons c cs) known first =
       let here = instances_counted c known first in
       let more = all_instances_counted cs known (first + length (conditions_of c)) in
       let lengths = length-append (constraint_instances known first c) (all_constraint_instances known (first + length (conditions_of c)) cs) in
-      let both = counted_append (constraint_occurrences known c) (constraints_occurrences known cs) in
+      let both = counted_append (constraint_events known c) (constraints_events known cs) in
       omega (arith, here, more, lengths, both)
 
 kinds_counted : (xs : List ConstraintInstance) → length (hards_among xs) + length (chances_among xs) ≡ length xs
@@ -208,14 +208,14 @@ kinds_counted (hard_instance h ∷ xs) = let more = kinds_counted xs in omega (a
 kinds_counted (chance_instance c ∷ xs) = let more = kinds_counted xs in omega (arith, more)
 
 pub instances_are_counted : InstancesAreCounted
-unfolding problem_of text_occurrences
+unfolding problem_of text_events
 instances_are_counted model passes =
     let found = found_in model in
     let declared = variables_behind_all model.decls nothing_declared in
     let staged = by_stage_kept found.stochastics in
     let walked = all_instances_counted (conses model.body) found.known 0 in
     let kinds = kinds_counted (all_constraint_instances found.known 0 (conses model.body)) in
-    let inner = counted_append (goal_occurrences found.known model.goal) (constraints_occurrences found.known (conses model.body)) in
-    let outer = counted_append (declarations_occurrences nothing_declared model.decls) (body_occurrences found model) in
-    let few = few_counted (declarations_occurrences nothing_declared model.decls ++ body_occurrences found model) 0 (omega arith) passes in
+    let inner = counted_append (goal_events found.known model.goal) (constraints_events found.known (conses model.body)) in
+    let outer = counted_append (declarations_events nothing_declared model.decls) (body_events found model) in
+    let few = few_counted (declarations_events nothing_declared model.decls ++ body_events found model) 0 (omega arith) passes in
     omega (arith, declared, staged, walked, kinds, inner, outer, few)

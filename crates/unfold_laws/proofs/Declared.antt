@@ -11,12 +11,12 @@ use Rattle.sopl_ast.specs.Whole.{DimTree, Declaration, IntDecl, RangeDecl, SetDe
 use Rattle.sopl_ast.specs.Numbers.{natural, count_between, all_distinct}
 use Rattle.sopl_ast.specs.Known.{Known, NumberSet, Between, Listed, NamedSet, set_named, ends_of}
 use Rattle.sopl_ast.specs.Constants.{value_or_zero}
-use Rattle.sopl_ast.specs.Occurrences.{Occurrence, Counted, refused_unless, too_many, constant_place}
+use Rattle.sopl_ast.specs.UnfoldEvents.{UnfoldEvent, Counted, refused_unless, too_many, constant_place}
 use Rattle.sopl_ast.specs.Instances.{Outcome}
-use Rattle.sopl_ast.specs.Arrays.{Dimension, dimensions_of, indices, taking, with_index, array_of, dimension_occurrences, array_occurrences}
-use Rattle.sopl_ast.specs.Declarations.{Declared, nothing_declared, stage_of, stage_occurrences, domain_of, domain_occurrences, outcome_of, outcome_occurrences, decisions_of}
-use Rattle.sopl_ast.specs.Declarations.{stochastics_of, behind, declaration_occurrences, behind_all, declarations_occurrences}
-use Rattle.unfold_laws.specs.Passing.{Passes, IsConstant}
+use Rattle.sopl_ast.specs.Arrays.{Dimension, dimensions_of, indices, taking, with_index, array_of, dimension_events, array_events}
+use Rattle.sopl_ast.specs.Declarations.{Declared, nothing_declared, stage_of, stage_events, domain_of, domain_events, outcome_of, outcome_events, decisions_of}
+use Rattle.sopl_ast.specs.Declarations.{stochastics_of, behind, declaration_events, behind_all, declarations_events}
+use Rattle.unfold_laws.specs.Passing.{NothingFails, IsConstant}
 use Rattle.unfold_laws.specs.Bounds.{IsStage, IsBoundedDecision, IsBoundedOutcome, IsBoundedStochastic}
 use Rattle.unfold_laws.proofs.Passing.{parts_pass, each_passes, passes_counted, test_holds, count_fits, value_given}
 
@@ -43,7 +43,7 @@ each_joined P f (x ∷ xs) all = all_append P (f x) (flat_map f xs) all.0 (each_
 -- Values and ranges.
 
 -- the value of a constant place, or 0, is of a size that constants have
-pub worth_small : (known : Known) (e : Tree) → Passes (constant_place known e) → IsConstant (value_or_zero known e)
+pub worth_small : (known : Known) (e : Tree) → NothingFails (constant_place known e) → IsConstant (value_or_zero known e)
 worth_small known e is =
     let there = value_given known (place_of e) e is in
     subst (λ v. IsConstant (unwrap_or v (pos 0))) (sym there.1) there.2
@@ -76,13 +76,13 @@ AreEnds lo hi = IsConstant lo × IsConstant hi × (lo ≤ℤ hi) × (count_betwe
 ordered : (lo hi : ℤ) → int_le lo hi ≡ true → lo ≤ℤ hi
 ordered lo hi is = omega (arith, ints, is)
 
-ends_bounded : (found : Option NumberSet) (at : ℕ) → IsBoundedIfThere found → Passes (refused_unless (int_le (ends_of found).0 (ends_of found).1) 111 at)
+ends_bounded : (found : Option NumberSet) (at : ℕ) → IsBoundedIfThere found → NothingFails (refused_unless (int_le (ends_of found).0 (ends_of found).1) 111 at)
     → AreEnds (ends_of found).0 (ends_of found).1
 ends_bounded None at all is = absurd (true≢false (sym (test_holds false 111 at is)))
 ends_bounded (Some (Between lo hi)) at all is = (all.0, all.1, ordered lo hi (test_holds (int_le lo hi) 111 at is), all.2)
 ends_bounded (Some (Listed numbers)) at all is = absurd (true≢false (sym (test_holds false 111 at is)))
 
-domain_bounded : (known : Known) (range : Range) → AreBoundedSets known.sets → Passes (domain_occurrences known range) → AreEnds (domain_of known range).0 (domain_of known range).1
+domain_bounded : (known : Known) (range : Range) → AreBoundedSets known.sets → NothingFails (domain_events known range) → AreEnds (domain_of known range).0 (domain_of known range).1
 domain_bounded known (Named name at) all is = ends_bounded (set_named name known.sets) at (named_bounded name known.sets all) is
 domain_bounded known (Ends lo hi) all is =
     let first = parts_pass (constant_place known lo) (constant_place known hi
@@ -105,7 +105,7 @@ number_is_stage : (x : ℤ) → int_le (pos 1) x ≡ true → int_le x (pos 24) 
 number_is_stage (pos n) low high = (omega (arith, ints, low), omega (arith, ints, high))
 number_is_stage (negsuc n) low high = absurd (omega (arith, ints, low))
 
-stage_bounded : (known : Known) (stage : Option Tree) → Passes (stage_occurrences known stage) → IsStage (stage_of known stage)
+stage_bounded : (known : Known) (stage : Option Tree) → NothingFails (stage_events known stage) → IsStage (stage_of known stage)
 stage_bounded known None is = (omega arith, omega arith)
 stage_bounded known (Some e) is =
     let parts = parts_pass (constant_place known e) (refused_unless (int_le (pos 1) (value_or_zero known e) && int_le (value_or_zero known e) (pos 24)) 114 (place_of e)) is in
@@ -145,28 +145,28 @@ distinct_more (y ∷ ys) x all new =
     λ i. not (absent_more ys y x tests.0 (int_eq_turned y x ∙ others.0) i) && distinct_more ys x tests.1 others.1 i
 
 -- Each outcome of a distribution, and that no value stands earlier in it.
-abbrev outcome_rest : Known → List ℤ → Tree × Tree → List (Tree × Tree) → List Occurrence
+abbrev outcome_rest : Known → List ℤ → Tree × Tree → List (Tree × Tree) → List UnfoldEvent
 outcome_rest known earlier pair later =
     constant_place known pair.1
     ++ (refused_unless (int_le (pos 1) (value_or_zero known pair.1)) 113 (place_of pair.1)
-    ++ outcome_occurrences known (earlier ++ value_or_zero known pair.0 ∷ []) later)
+    ++ outcome_events known (earlier ++ value_or_zero known pair.0 ∷ []) later)
 
-abbrev test_new : Known → List ℤ → Tree × Tree → List Occurrence
+abbrev test_new : Known → List ℤ → Tree × Tree → List UnfoldEvent
 test_new known earlier pair = refused_unless (not (list_any (int_eq (value_or_zero known pair.0)) earlier)) 113 (place_of pair.0)
 
 abbrev drawn : Known → Tree × Tree → ℤ
 drawn known pair = value_or_zero known pair.0
 
-outcomes_bounded : (dist : List (Tree × Tree)) (known : Known) (earlier : List ℤ) → all_distinct earlier ≡ true → Passes (outcome_occurrences known earlier dist)
+outcomes_bounded : (dist : List (Tree × Tree)) (known : Known) (earlier : List ℤ) → all_distinct earlier ≡ true → NothingFails (outcome_events known earlier dist)
     → AllByRecursion IsBoundedOutcome (map (outcome_of known) dist) × (all_distinct (earlier ++ map (drawn known) dist) ≡ true)
 outcomes_bounded [] known earlier distinct is = (tt, ap all_distinct (append-nil earlier) ∙ distinct)
 outcomes_bounded (pair ∷ later) known earlier distinct is =
     let first = parts_pass (constant_place known pair.0) (test_new known earlier pair ++ outcome_rest known earlier pair later) is in
     let second = parts_pass (test_new known earlier pair) (outcome_rest known earlier pair later) first.1 in
     let third = parts_pass (constant_place known pair.1) (refused_unless (int_le (pos 1) (value_or_zero known pair.1)) 113 (place_of pair.1)
-    ++ outcome_occurrences known (earlier ++ value_or_zero known pair.0 ∷ []) later) second.1 in
+    ++ outcome_events known (earlier ++ value_or_zero known pair.0 ∷ []) later) second.1 in
     let fourth = parts_pass (refused_unless (int_le (pos 1) (value_or_zero known pair.1)) 113 (place_of pair.1))
-    (outcome_occurrences known (earlier ++ value_or_zero known pair.0 ∷ []) later) third.1 in
+    (outcome_events known (earlier ++ value_or_zero known pair.0 ∷ []) later) third.1 in
     let more = outcomes_bounded later known (earlier ++ drawn known pair ∷ []) (distinct_more earlier (drawn known pair) distinct (test_holds _ 113 (place_of pair.0) second.0)) fourth.1 in (
       (
         record {
@@ -197,29 +197,29 @@ sets_kept (d ∷ ds) (number ∷ index) known = sets_kept ds index (taking d.nam
     same (Some name) = refl
 
 -- what is made at each index of an array has a property, where what is met there passes
-all_of_array : {A : Type 0} (P : A → Type 0) (known : Known) (dims : List DimTree) (make : List ℤ → Known → A) (each : Known → List Occurrence)
-    → ((index : List ℤ) (here : Known) → here.sets ≡ known.sets → Passes (each here) → P (make index here))
-    → Passes (array_occurrences known dims each) → AllByRecursion P (array_of known dims make)
+all_of_array : {A : Type 0} (P : A → Type 0) (known : Known) (dims : List DimTree) (make : List ℤ → Known → A) (each : Known → List UnfoldEvent)
+    → ((index : List ℤ) (here : Known) → here.sets ≡ known.sets → NothingFails (each here) → P (make index here))
+    → NothingFails (array_events known dims each) → AllByRecursion P (array_of known dims make)
 all_of_array P known dims make each there is =
     let ds = dimensions_of known dims in
-    let both = parts_pass (dimension_occurrences known dims) (flat_map (λ index. Counted ∷ each (with_index ds index known)) (indices ds)) is in
-    all_map P (λ index. Passes (Counted ∷ each (with_index ds index known))) (λ index. make index (with_index ds index known))
+    let both = parts_pass (dimension_events known dims) (flat_map (λ index. Counted ∷ each (with_index ds index known)) (indices ds)) is in
+    all_map P (λ index. NothingFails (Counted ∷ each (with_index ds index known))) (λ index. make index (with_index ds index known))
     (λ index passes. there index (with_index ds index known) (sets_kept ds index known) (passes_counted (each (with_index ds index known)) passes))
     (indices ds) (each_passes (λ index. Counted ∷ each (with_index ds index known)) (indices ds) both.1)
 
 decision_bounded : (name : List ℕ) (range : Range) (stage : Option Tree) (index : List ℤ) (here : Known) → AreBoundedSets here.sets
-    → Passes (domain_occurrences here range ++ stage_occurrences here stage)
+    → NothingFails (domain_events here range ++ stage_events here stage)
     → IsBoundedDecision (record { name = name; index = index; lo = (domain_of here range).0; hi = (domain_of here range).1; stage = stage_of here stage })
 decision_bounded name range stage index here sets is =
-    let both = parts_pass (domain_occurrences here range) (stage_occurrences here stage) is in
+    let both = parts_pass (domain_events here range) (stage_events here stage) is in
     let ends = domain_bounded here range sets both.0 in
     record { least = ends.0; greatest = ends.1; ordered = ends.2; few = ends.3; stage = stage_bounded here stage both.1 }
 
 stochastic_bounded : (name : List ℕ) (dist : List (Tree × Tree)) (stage : Option Tree) (index : List ℤ) (here : Known)
-    → Passes (outcome_occurrences here [] dist ++ stage_occurrences here stage)
+    → NothingFails (outcome_events here [] dist ++ stage_events here stage)
     → IsBoundedStochastic (record { name = name; index = index; outcomes = map (outcome_of here) dist; stage = stage_of here stage })
 stochastic_bounded name dist stage index here is =
-    let both = parts_pass (outcome_occurrences here [] dist) (stage_occurrences here stage) is in
+    let both = parts_pass (outcome_events here [] dist) (stage_events here stage) is in
     let all = outcomes_bounded dist here [] refl both.0 in
     record { outcomes = all.0; distinct = ap all_distinct (values_drawn here dist) ∙ all.1; stage = stage_bounded here stage both.1 }
 
@@ -234,7 +234,7 @@ pub record AreBounded (found : Declared) : Type 0 where
 nothing_bounded : AreBounded nothing_declared
 nothing_bounded = record { sets = tt; decisions = tt; stochastics = tt }
 
-bounded_behind : (d : Declaration) (found : Declared) → AreBounded found → Passes (declaration_occurrences found d) → AreBounded (behind d found)
+bounded_behind : (d : Declaration) (found : Declared) → AreBounded found → NothingFails (declaration_events found d) → AreBounded (behind d found)
 bounded_behind (IntDecl name at dims x) found all is = record { sets = all.sets; decisions = all.decisions; stochastics = all.stochastics }
 bounded_behind (RangeDecl name at lo hi) found all is =
     let first = parts_pass (constant_place found.known lo) (constant_place found.known hi ++ too_many 208 (count_between (value_or_zero found.known lo) (value_or_zero found.known hi))) is in
@@ -255,7 +255,7 @@ bounded_behind (DvarDecl name at dims range stage) found all is =
     record {
       sets = all.sets;
       decisions = all_append IsBoundedDecision found.decisions (decisions_of found.known name dims range stage) all.decisions
-          (all_of_array IsBoundedDecision found.known dims _ (λ here. domain_occurrences here range ++ stage_occurrences here stage)
+          (all_of_array IsBoundedDecision found.known dims _ (λ here. domain_events here range ++ stage_events here stage)
           (λ index here same passes. decision_bounded name range stage index here (subst AreBoundedSets (sym same) all.sets) passes) is);
       stochastics = all.stochastics;
     }
@@ -264,15 +264,15 @@ bounded_behind (StochDecl name at dims dist stage) found all is =
       sets = all.sets;
       decisions = all.decisions;
       stochastics = all_append IsBoundedStochastic found.stochastics (stochastics_of found.known name dims dist stage) all.stochastics
-          (all_of_array IsBoundedStochastic found.known dims _ (λ here. outcome_occurrences here [] dist ++ stage_occurrences here stage)
+          (all_of_array IsBoundedStochastic found.known dims _ (λ here. outcome_events here [] dist ++ stage_events here stage)
           (λ index here same passes. stochastic_bounded name dist stage index here passes) is);
     }
 
-bounded_behind_all : (ds : List Declaration) (found : Declared) → AreBounded found → Passes (declarations_occurrences found ds) → AreBounded (behind_all ds found)
+bounded_behind_all : (ds : List Declaration) (found : Declared) → AreBounded found → NothingFails (declarations_events found ds) → AreBounded (behind_all ds found)
 bounded_behind_all [] found all is = all
 bounded_behind_all (d ∷ ds) found all is =
-    let both = parts_pass (declaration_occurrences found d) (declarations_occurrences (behind d found) ds) is in
+    let both = parts_pass (declaration_events found d) (declarations_events (behind d found) ds) is in
     bounded_behind_all ds (behind d found) (bounded_behind d found all both.0) both.1
 
-pub declared_bounded : (ds : List Declaration) → Passes (declarations_occurrences nothing_declared ds) → AreBounded (behind_all ds nothing_declared)
+pub declared_bounded : (ds : List Declaration) → NothingFails (declarations_events nothing_declared ds) → AreBounded (behind_all ds nothing_declared)
 declared_bounded ds is = bounded_behind_all ds nothing_declared nothing_bounded is

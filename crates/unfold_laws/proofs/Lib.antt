@@ -6,3 +6,5 @@ pub mod Bindings
 pub mod Conditions
 pub mod Outcomes
 pub mod Counts
+pub mod Behind
+pub mod Names

@@ -9,76 +9,76 @@ use Rattle.sopl_base.specs.declared.fault.Fault.TheVariants.{Limit}
 use Rattle.sopl_ast.specs.Tree.{Tree, Node}
 use Rattle.sopl_ast.specs.Known.{Known}
 use Rattle.sopl_ast.specs.Constants.{value, untested, within}
-use Rattle.sopl_ast.specs.Occurrences.{Occurrence, Counted, Refused, Passed, excess, met, most_counted, most_numbers, no_value, refused_unless, too_many, constant_occurrences, inside_occurrences}
-use Rattle.unfold_laws.specs.Passing.{Passes, IsConstant}
+use Rattle.sopl_ast.specs.UnfoldEvents.{UnfoldEvent, Counted, Refused, Passed, excess, first_failure, most_counted, most_numbers, no_value, refused_unless, too_many, constant_events, inside_events}
+use Rattle.unfold_laws.specs.Passing.{NothingFails, IsConstant}
 
 -- what is met behind what was met
-abbrev pub behind : Result ℕ Fault → List Occurrence → Result ℕ Fault
-behind (Ok n) occurrences = met n occurrences
-behind (Err f) occurrences = Err f
+abbrev pub behind : Result ℕ Fault → List UnfoldEvent → Result ℕ Fault
+behind (Ok n) events = first_failure n events
+behind (Err f) events = Err f
 
-chosen : (b : Bool) (n : ℕ) (f : Fault) (occurrences more : List Occurrence) → met n (occurrences ++ more) ≡ behind (met n occurrences) more
-    → cond b (met n (occurrences ++ more)) (Err f) ≡ behind (cond b (met n occurrences) (Err f)) more
-chosen true n f occurrences more is = is
-chosen false n f occurrences more is = refl
+chosen : (b : Bool) (n : ℕ) (f : Fault) (events more : List UnfoldEvent) → first_failure n (events ++ more) ≡ behind (first_failure n events) more
+    → cond b (first_failure n (events ++ more)) (Err f) ≡ behind (cond b (first_failure n events) (Err f)) more
+chosen true n f events more is = is
+chosen false n f events more is = refl
 
-pub met_append : (count : ℕ) (occurrences more : List Occurrence) → met count (occurrences ++ more) ≡ behind (met count occurrences) more
+pub met_append : (count : ℕ) (events more : List UnfoldEvent) → first_failure count (events ++ more) ≡ behind (first_failure count events) more
 met_append count [] more = refl
-met_append count (Counted ∷ occurrences) more = chosen (nat_lt count most_counted) (count + 1) (Limit (excess 205 (pos (most_counted + 1)) (pos most_counted))) occurrences more
-    (met_append (count + 1) occurrences more)
-met_append count (Refused r ∷ occurrences) more = refl
-met_append count (Passed e ∷ occurrences) more = refl
+met_append count (Counted ∷ events) more = chosen (nat_lt count most_counted) (count + 1) (Limit (excess 205 (pos (most_counted + 1)) (pos most_counted))) events more
+    (met_append (count + 1) events more)
+met_append count (Refused r ∷ events) more = refl
+met_append count (Passed e ∷ events) more = refl
 
 -- what passes where more was counted passes where less was
 fewer : (n m : ℕ) → m ≤ n → nat_lt n most_counted ≡ true → nat_lt m most_counted ≡ true
 fewer n m less is = let h : n < 262144 = ltb-true n 262144 is in lt-ltb m 262144 (omega (arith, h, less))
 
-abbrev counted_then : ℕ → List Occurrence → Bool → Result ℕ Fault
-counted_then n occurrences b = cond b (met (n + 1) occurrences) (Err (Limit (excess 205 (pos (most_counted + 1)) (pos most_counted))))
+abbrev counted_then : ℕ → List UnfoldEvent → Bool → Result ℕ Fault
+counted_then n events b = cond b (first_failure (n + 1) events) (Err (Limit (excess 205 (pos (most_counted + 1)) (pos most_counted))))
 
-counted_from : (n m : ℕ) (occurrences : List Occurrence) → (IsOk (met (n + 1) occurrences) → IsOk (met (m + 1) occurrences)) → (b : Bool) → (b ≡ true → nat_lt m most_counted ≡ true)
-    → IsOk (counted_then n occurrences b) → IsOk (counted_then m occurrences (nat_lt m most_counted))
-counted_from n m occurrences again true few ok = subst (λ b. IsOk (counted_then m occurrences b)) (sym (few refl)) (again ok)
-counted_from n m occurrences again false few ok = absurd (true≢false (sym ok))
+counted_from : (n m : ℕ) (events : List UnfoldEvent) → (IsOk (first_failure (n + 1) events) → IsOk (first_failure (m + 1) events)) → (b : Bool) → (b ≡ true → nat_lt m most_counted ≡ true)
+    → IsOk (counted_then n events b) → IsOk (counted_then m events (nat_lt m most_counted))
+counted_from n m events again true few ok = subst (λ b. IsOk (counted_then m events b)) (sym (few refl)) (again ok)
+counted_from n m events again false few ok = absurd (true≢false (sym ok))
 
-pub passes_from : (occurrences : List Occurrence) (n m : ℕ) → m ≤ n → IsOk (met n occurrences) → IsOk (met m occurrences)
+pub passes_from : (events : List UnfoldEvent) (n m : ℕ) → m ≤ n → IsOk (first_failure n events) → IsOk (first_failure m events)
 passes_from [] n m less is = refl
-passes_from (Counted ∷ occurrences) n m less is =
-    counted_from n m occurrences (passes_from occurrences (n + 1) (m + 1) (omega (arith, less))) (nat_lt n most_counted) (fewer n m less) is
-passes_from (Refused r ∷ occurrences) n m less is = absurd (true≢false (sym is))
-passes_from (Passed e ∷ occurrences) n m less is = absurd (true≢false (sym is))
+passes_from (Counted ∷ events) n m less is =
+    counted_from n m events (passes_from events (n + 1) (m + 1) (omega (arith, less))) (nat_lt n most_counted) (fewer n m less) is
+passes_from (Refused r ∷ events) n m less is = absurd (true≢false (sym is))
+passes_from (Passed e ∷ events) n m less is = absurd (true≢false (sym is))
 
-pub parts_pass : (xs ys : List Occurrence) → Passes (xs ++ ys) → Passes xs × Passes ys
-parts_pass xs ys is = on (met 0 xs) refl (subst IsOk (met_append 0 xs ys) is)
+pub parts_pass : (xs ys : List UnfoldEvent) → NothingFails (xs ++ ys) → NothingFails xs × NothingFails ys
+parts_pass xs ys is = on (first_failure 0 xs) refl (subst IsOk (met_append 0 xs ys) is)
   where
-    on : (m : Result ℕ Fault) → met 0 xs ≡ m → IsOk (behind m ys) → Passes xs × Passes ys
+    on : (m : Result ℕ Fault) → first_failure 0 xs ≡ m → IsOk (behind m ys) → NothingFails xs × NothingFails ys
     on (Ok n) found ok = (subst IsOk (sym found) refl, passes_from ys n 0 (omega arith) ok)
     on (Err f) found ok = absurd (true≢false (sym ok))
 
 -- the parts of each of some things
-pub each_passes : {A : Type 0} (f : A → List Occurrence) (xs : List A) → Passes (flat_map f xs) → AllByRecursion (λ x. Passes (f x)) xs
+pub each_passes : {A : Type 0} (f : A → List UnfoldEvent) (xs : List A) → NothingFails (flat_map f xs) → AllByRecursion (λ x. NothingFails (f x)) xs
 each_passes f [] is = tt
 each_passes f (x ∷ xs) is = let both = parts_pass (f x) (flat_map f xs) is in (both.0, each_passes f xs both.1)
 
 -- what stands behind a thing that is counted
-pub passes_counted : (occurrences : List Occurrence) → Passes (Counted ∷ occurrences) → Passes occurrences
-passes_counted occurrences is = (parts_pass (Counted ∷ []) occurrences is).1
+pub passes_counted : (events : List UnfoldEvent) → NothingFails (Counted ∷ events) → NothingFails events
+passes_counted events is = (parts_pass (Counted ∷ []) events is).1
 
 -- a test that does not refuse holds
-pub test_holds : (b : Bool) (code at : ℕ) → Passes (refused_unless b code at) → b ≡ true
+pub test_holds : (b : Bool) (code at : ℕ) → NothingFails (refused_unless b code at) → b ≡ true
 test_holds true code at is = refl
 test_holds false code at is = absurd (true≢false (sym is))
 
 -- a limit that is not passed
-pub count_fits : (code count : ℕ) → Passes (too_many code count) → count ≤ most_numbers
+pub count_fits : (code count : ℕ) → NothingFails (too_many code count) → count ≤ most_numbers
 count_fits code count is = on (nat_le count most_numbers) refl is
   where
-    on : (b : Bool) → nat_le count most_numbers ≡ b → Passes (cond b [] (Passed (excess code (pos count) (pos most_numbers)) ∷ [])) → count ≤ most_numbers
+    on : (b : Bool) → nat_le count most_numbers ≡ b → NothingFails (cond b [] (Passed (excess code (pos count) (pos most_numbers)) ∷ [])) → count ≤ most_numbers
     on true few ok = leb-true count most_numbers few
     on false few ok = absurd (true≢false (sym ok))
 
 -- a value that is there
-given : (whole : ℕ) (v : Option ℤ) → Passes (no_value v whole) → (x : ℤ) × (v ≡ Some x)
+given : (whole : ℕ) (v : Option ℤ) → NothingFails (no_value v whole) → (x : ℤ) × (v ≡ Some x)
 given whole None is = absurd (true≢false (sym is))
 given whole (Some x) is = (x, refl)
 
@@ -104,7 +104,7 @@ sized (Some z) x is = small z x is
 pub value_small : (known : Known) (e : Tree) (x : ℤ) → value known e ≡ Some x → IsConstant x
 value_small known (Node at shape) x is = sized (untested known shape) x is
 
-pub value_given : (known : Known) (whole : ℕ) (e : Tree) → Passes (constant_occurrences known whole e) → (x : ℤ) × (value known e ≡ Some x) × IsConstant x
+pub value_given : (known : Known) (whole : ℕ) (e : Tree) → NothingFails (constant_events known whole e) → (x : ℤ) × (value known e ≡ Some x) × IsConstant x
 value_given known whole (Node at shape) is =
-    let there = given whole (value known (Node at shape)) (parts_pass (inside_occurrences known whole shape) (no_value (value known (Node at shape)) whole) is).1 in
+    let there = given whole (value known (Node at shape)) (parts_pass (inside_events known whole shape) (no_value (value known (Node at shape)) whole) is).1 in
     (there.0, there.1, value_small known (Node at shape) there.0 there.1)

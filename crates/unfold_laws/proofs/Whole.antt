@@ -1,8 +1,8 @@
 -- The numbers of what a whole text states.
 use Rattle.sopl_ast.specs.Whole.{ModelTree}
-use Rattle.sopl_ast.specs.Declarations.{Declared, nothing_declared, behind_all, declarations_occurrences}
-use Rattle.sopl_ast.specs.Unfolding.{problem_of, text_occurrences, body_occurrences}
-use Rattle.unfold_laws.specs.Passing.{Passes}
+use Rattle.sopl_ast.specs.Declarations.{Declared, nothing_declared, behind_all, declarations_events}
+use Rattle.sopl_ast.specs.Unfolding.{problem_of, text_events, body_events}
+use Rattle.unfold_laws.specs.Passing.{NothingFails}
 use Rattle.unfold_laws.specs.Bounds.{IsBoundedStochastic, DecisionsAreBounded, StochasticsAreBounded}
 use Rattle.unfold_laws.proofs.Passing.{parts_pass}
 use Rattle.unfold_laws.proofs.Declared.{declared_bounded}
@@ -13,10 +13,10 @@ abbrev pub found_in : ModelTree → Declared
 found_in model = behind_all model.decls nothing_declared
 
 -- both parts of a text pass
-pub text_parts : (model : ModelTree) → Passes (text_occurrences model)
-    → Passes (declarations_occurrences nothing_declared model.decls) × Passes (body_occurrences (behind_all model.decls nothing_declared) model)
-unfolding text_occurrences
-text_parts model is = parts_pass (declarations_occurrences nothing_declared model.decls) (body_occurrences (behind_all model.decls nothing_declared) model) is
+pub text_parts : (model : ModelTree) → NothingFails (text_events model)
+    → NothingFails (declarations_events nothing_declared model.decls) × NothingFails (body_events (behind_all model.decls nothing_declared) model)
+unfolding text_events
+text_parts model is = parts_pass (declarations_events nothing_declared model.decls) (body_events (behind_all model.decls nothing_declared) model) is
 
 pub decisions_are_bounded : DecisionsAreBounded
 unfolding problem_of

@@ -4,10 +4,10 @@ use Rattle.std.specs.List.{AllByRecursion}
 use Rattle.sopl_ast.specs.Numbers.{count_between, all_distinct}
 use Rattle.sopl_ast.specs.Instances.{Decision, Outcome, Stochastic}
 use Rattle.sopl_ast.specs.Whole.{ModelTree}
-use Rattle.sopl_ast.specs.Unfolding.{problem_of, text_occurrences}
+use Rattle.sopl_ast.specs.Unfolding.{problem_of, text_events}
 use Rattle.sopl_ast.specs.Origin.{IsFromTokens}
-use Rattle.sopl_ast.specs.Occurrences.{most_counted}
-use Rattle.unfold_laws.specs.Passing.{Passes, IsConstant}
+use Rattle.sopl_ast.specs.UnfoldEvents.{most_counted}
+use Rattle.unfold_laws.specs.Passing.{NothingFails, IsConstant}
 
 -- a stage is 1 to 24
 abbrev pub IsStage : ℕ → Type 0
@@ -35,11 +35,11 @@ pub record IsBoundedStochastic (s : Stochastic) : Type 0 where
 
 -- the decisions of a text that passes
 abbrev pub DecisionsAreBounded : Type 0
-DecisionsAreBounded = (model : ModelTree) → Passes (text_occurrences model) → AllByRecursion IsBoundedDecision (problem_of model).decisions
+DecisionsAreBounded = (model : ModelTree) → NothingFails (text_events model) → AllByRecursion IsBoundedDecision (problem_of model).decisions
 
 -- the stochastic variables of a text that passes
 abbrev pub StochasticsAreBounded : Type 0
-StochasticsAreBounded = (model : ModelTree) → Passes (text_occurrences model) → AllByRecursion IsBoundedStochastic (problem_of model).stochastics
+StochasticsAreBounded = (model : ModelTree) → NothingFails (text_events model) → AllByRecursion IsBoundedStochastic (problem_of model).stochastics
 
 -- the stochastic variables of a text have an outcome each
 abbrev pub StochasticsHaveOutcomes : Type 0
@@ -49,5 +49,5 @@ StochasticsHaveOutcomes =
 -- how many instances a text has in all, where nothing stops its unfolding
 abbrev pub InstancesAreCounted : Type 0
 InstancesAreCounted =
-    (model : ModelTree) → Passes (text_occurrences model)
+    (model : ModelTree) → NothingFails (text_events model)
     → length (problem_of model).decisions + length (problem_of model).stochastics + length (problem_of model).hards + length (problem_of model).chances ≤ most_counted

@@ -1,3 +1,4 @@
 pub mod Passing
 pub mod Bounds
 pub mod Conditions
+pub mod Laws

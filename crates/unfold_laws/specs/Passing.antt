@@ -4,15 +4,15 @@ use Rattle.std.specs.Int.RustNames.{unsigned_abs}
 use Rattle.sopl_ast.specs.Tree.{Tree}
 use Rattle.sopl_ast.specs.Known.{Known}
 use Rattle.sopl_ast.specs.Constants.{value}
-use Rattle.sopl_ast.specs.Occurrences.{Occurrence, met, constant_place}
+use Rattle.sopl_ast.specs.UnfoldEvents.{UnfoldEvent, first_failure, constant_place}
 
 -- nothing stops the way through these occurrences, where nothing was counted before
-abbrev pub Passes : List Occurrence → Type 0
-Passes occurrences = IsOk (met 0 occurrences)
+abbrev pub NothingFails : List UnfoldEvent → Type 0
+NothingFails events = IsOk (first_failure 0 events)
 
 -- parts of what passes pass, each counted from nothing
 abbrev pub PartsPass : Type 0
-PartsPass = (xs ys : List Occurrence) → Passes (xs ++ ys) → Passes xs × Passes ys
+PartsPass = (xs ys : List UnfoldEvent) → NothingFails (xs ++ ys) → NothingFails xs × NothingFails ys
 
 -- a size that constants have
 abbrev pub IsConstant : ℤ → Type 0
@@ -20,4 +20,4 @@ IsConstant z = unsigned_abs z ≤ 2 ^ 40
 
 -- an expression in a constant place has a value of such a size, where what is met there passes
 abbrev pub ConstantsHaveValues : Type 0
-ConstantsHaveValues = (known : Known) (e : Tree) → Passes (constant_place known e) → (x : ℤ) × (value known e ≡ Some x) × IsConstant x
+ConstantsHaveValues = (known : Known) (e : Tree) → NothingFails (constant_place known e) → (x : ℤ) × (value known e ≡ Some x) × IsConstant x

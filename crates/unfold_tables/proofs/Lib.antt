@@ -4,6 +4,6 @@ mod Placing
 mod Folds
 mod Distinct
 mod Upward
-mod Fronts
+mod Prefixes
 mod TooMany
 mod Named

@@ -9,8 +9,8 @@ use Rattle.std.specs.declared.vec.Vec.{Vec}
 use Rattle.sopl_ast.specs.Known.{Constant}
 use Rattle.unfold_tables.specs.declared.elements.Elements.{Elements}
 use Rattle.unfold_tables.specs.declared.listed.ConstantElement.{ConstantElement}
-use Rattle.unfold_tables.specs.declared.table.Entity.{Entity}
-use Rattle.unfold_tables.specs.declared.table.Entity.TheVariants as entity
+use Rattle.unfold_tables.specs.declared.table.TableEntry.{TableEntry}
+use Rattle.unfold_tables.specs.declared.table.TableEntry.TheVariants as entity
 use Rattle.unfold_tables.specs.declared.table.Entry.{Entry}
 use Rattle.unfold_tables.specs.Listed.{element_shown, elements_named}
 use Rattle.unfold_tables.proofs.Placing.{has_name, none_of}
@@ -39,7 +39,7 @@ other_named name own (e ∷ later) other =
     ∙ other_named name own later other
 
 -- an entry of another name has none
-pub none_named : (name own : List ℕ) (e : Entity) → bytes_eq name own ≡ false → elements_named name (constants_under own e) ≡ []
+pub none_named : (name own : List ℕ) (e : TableEntry) → bytes_eq name own ≡ false → elements_named name (constants_under own e) ≡ []
 none_named name own (entity.Array elements) other = other_named name own (elements_in elements) other
 none_named name own (entity.Set numbers) other = refl
 
@@ -97,11 +97,11 @@ pub pairs_taken : (done : List (List ℤ × ℤ)) → done ++ [] ≡ done
 pairs_taken done = append-nil done
 
 -- an entry of another name adds none
-pub other_listed : (done : List (List ℤ × ℤ)) (name own : List ℕ) (e : Entity) → bytes_eq name own ≡ false → done ≡ done ++ elements_named name (constants_under own e)
+pub other_listed : (done : List (List ℤ × ℤ)) (name own : List ℕ) (e : TableEntry) → bytes_eq name own ≡ false → done ≡ done ++ elements_named name (constants_under own e)
 other_listed done name own e other = sym (ap (λ rest. done ++ rest) (none_named name own e other) ∙ append-nil done)
 
 -- and one of the name adds its own
-pub own_listed : {A B : Type 0} (result : Result A B) (done new : List (List ℤ × ℤ)) (name own : List ℕ) (elements : Elements) (e : Entity)
+pub own_listed : {A B : Type 0} (result : Result A B) (done new : List (List ℤ × ℤ)) (name own : List ℕ) (elements : Elements) (e : TableEntry)
     → e ≡ entity.Array elements → bytes_eq name own ≡ true → OnOk result (new ≡ done ++ elements_in elements)
     → OnOk result (new ≡ done ++ elements_named name (constants_under own e))
 own_listed (Ok x) done new name own elements e is same added =

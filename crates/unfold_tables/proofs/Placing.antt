@@ -13,8 +13,8 @@ use Rattle.std.specs.declared.vec.Vec.{Vec}
 use Rattle.indexmap.specs.IndexMap.{insert_entry}
 use Rattle.sopl_ast.specs.Numbers.{or_else}
 use Rattle.sopl_ast.specs.Known.{constant_value, set_named, same_values}
-use Rattle.unfold_tables.specs.declared.table.Entity.{Entity}
-use Rattle.unfold_tables.specs.declared.table.Entity.TheVariants as entity
+use Rattle.unfold_tables.specs.declared.table.TableEntry.{TableEntry}
+use Rattle.unfold_tables.specs.declared.table.TableEntry.TheVariants as entity
 use Rattle.unfold_tables.specs.declared.table.Entry.{Entry}
 use Rattle.unfold_tables.specs.Starts.{start_of}
 use Rattle.unfold_tables.specs.Tables.{constants_in, sets_in, constants_under, sets_under, element_value, elements_in, named, number_set, pairs, items}
@@ -46,12 +46,12 @@ none_of false b h = (refl, h)
 both_none : (a b : Bool) → a ≡ false → b ≡ false → (a || b) ≡ false
 both_none a b p q = (λ i. p i || q i)
 
--- the front of a list does not change where more stands behind it
-front_any : {A : Type 0} (p : A → Bool) (xs ys : List A) (n : ℕ) → n ≤ length xs → list_any p (take n (xs ++ ys)) ≡ list_any p (take n xs)
-front_any p [] ys zero h = refl
-front_any p [] ys (suc n) h = absurd (omega (arith, h))
-front_any p (x ∷ xs) ys zero h = refl
-front_any p (x ∷ xs) ys (suc n) h = ap (λ rest. p x || rest) (front_any p xs ys n (omega (arith, h)))
+-- the prefix of a list does not change where more stands behind it
+prefix_any : {A : Type 0} (p : A → Bool) (xs ys : List A) (n : ℕ) → n ≤ length xs → list_any p (take n (xs ++ ys)) ≡ list_any p (take n xs)
+prefix_any p [] ys zero h = refl
+prefix_any p [] ys (suc n) h = absurd (omega (arith, h))
+prefix_any p (x ∷ xs) ys zero h = refl
+prefix_any p (x ∷ xs) ys (suc n) h = ap (λ rest. p x || rest) (prefix_any p xs ys n (omega (arith, h)))
 
 whole_any : {A : Type 0} (p : A → Bool) (xs : List A) → list_any p (take (length xs) xs) ≡ list_any p xs
 whole_any p [] = refl
@@ -92,7 +92,7 @@ module _ (ps : List (Vec ℕ Global × ℕ)) (es : List Entry) (x : Entry) (know
           → list_any (has_name name) (take (unwrap_or o (length (es ++ x ∷ []))) (es ++ x ∷ [])) ≡ false
       by None none h all =
           whole_any (has_name name) (es ++ x ∷ []) ∙ one_more_any (has_name name) es x (sym (whole_any (has_name name) es) ∙ all) (other name none)
-      by (Some n) some h all = front_any (has_name name) es (x ∷ []) n h ∙ all
+      by (Some n) some h all = prefix_any (has_name name) es (x ∷ []) n h ∙ all
 
 -- elements under a name are found under this name alone
 pub under_name : (name own : List ℕ) (index : List ℤ) (xs : List (List ℤ × ℤ))
@@ -110,13 +110,13 @@ under_name name own index (x ∷ xs) = on (bytes_eq name own) (under_name name o
     on false h = h
 
 -- an entry of another name has no such element
-no_element : (name : List ℕ) (index : List ℤ) (own : List ℕ) (e : Entity) → bytes_eq name own ≡ false → constant_value name index (constants_under own e) ≡ None
+no_element : (name : List ℕ) (index : List ℤ) (own : List ℕ) (e : TableEntry) → bytes_eq name own ≡ false → constant_value name index (constants_under own e) ≡ None
 no_element name index own (entity.Array elements) h =
     under_name name own index (elements_in elements) ∙ ap (λ b. cond b (element_value index (elements_in elements)) None) h
 no_element name index own (entity.Set numbers) h = refl
 
 -- and is no such set
-no_set : (name own : List ℕ) (e : Entity) → bytes_eq name own ≡ false → set_named name (sets_under own e) ≡ None
+no_set : (name own : List ℕ) (e : TableEntry) → bytes_eq name own ≡ false → set_named name (sets_under own e) ≡ None
 no_set name own (entity.Array elements) h = refl
 no_set name own (entity.Set numbers) h = ap (λ b. cond b (Some (number_set numbers)) None) h
 

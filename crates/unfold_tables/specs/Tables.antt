@@ -8,8 +8,8 @@ use Rattle.unfold_tables.specs.declared.sets.NumberSet as set
 use Rattle.unfold_tables.specs.declared.sets.NumberSet.TheVariants as in_set
 use Rattle.unfold_tables.specs.declared.sets.Numbers.{Numbers}
 use Rattle.unfold_tables.specs.declared.sets.Numbers.TheVariants as in_numbers
-use Rattle.unfold_tables.specs.declared.table.Entity.{Entity}
-use Rattle.unfold_tables.specs.declared.table.Entity.TheVariants as entity
+use Rattle.unfold_tables.specs.declared.table.TableEntry.{TableEntry}
+use Rattle.unfold_tables.specs.declared.table.TableEntry.TheVariants as entity
 use Rattle.unfold_tables.specs.declared.table.Entry.{Entry}
 use Rattle.unfold_tables.specs.declared.table.Table.{Table}
 use Rattle.unfold_tables.specs.declared.tasks.Task as task
@@ -54,12 +54,12 @@ abbrev pub named : List ℕ → List (List ℤ × ℤ) → List Constant
 named name elements = map (λ (e : List ℤ × ℤ). record { name = name; index = e.0; value = e.1 }) elements
 
 -- the elements that an entry has under a name
-abbrev pub constants_under : List ℕ → Entity → List Constant
+abbrev pub constants_under : List ℕ → TableEntry → List Constant
 constants_under name (entity.Array elements) = named name (elements_in elements)
 constants_under name (entity.Set numbers) = []
 
 -- the range or set that an entry has under a name
-abbrev pub sets_under : List ℕ → Entity → List NamedSet
+abbrev pub sets_under : List ℕ → TableEntry → List NamedSet
 sets_under name (entity.Array elements) = []
 sets_under name (entity.Set numbers) = (record { name = name; numbers = number_set numbers }) ∷ []
 

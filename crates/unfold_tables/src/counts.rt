@@ -1,7 +1,7 @@
 //! How many things are met while a text is unfolded.
 
 ghost use Rattle.std.specs.Prelude.{◌≡◌, [], ◌∷◌};
-ghost use Rattle.sopl_ast.specs.Occurrences.{Counted};
+ghost use Rattle.sopl_ast.specs.UnfoldEvents.{Counted};
 ghost use Rattle.unfold_tables.specs.Walks.{Walks};
 
 use sopl_base::{Excess, Fault, codes, limits};

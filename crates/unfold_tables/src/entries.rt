@@ -11,7 +11,7 @@ ghost use Rattle.unfold_tables.specs.Tables.{table_known, constants_in, sets_in,
 
 use crate::elements::Elements;
 use crate::sets::NumberSet;
-use crate::table::{Entity, Entry, Table};
+use crate::table::{Entry, Table, TableEntry};
 use indexmap::IndexMap;
 use sopl_ast::Name;
 use std::alloc::{AllocError, Global};
@@ -34,7 +34,7 @@ impl Table {
             ≡ record (table_known self.old) { constants = (table_known self.old).constants ++ named name.now (elements_in elements) }) }
         ensures kept { OnErr result (table_known self.new ≡ table_known self.old) }
     {
-        self.add(name, Entity::Array(elements))
+        self.add(name, TableEntry::Array(elements))
     }
 
     /// Enters the numbers of a range or a set.
@@ -43,11 +43,11 @@ impl Table {
             ≡ record (table_known self.old) { sets = (table_known self.old).sets ++ (record { name = name.now; numbers = number_set numbers }) ∷ [] }) }
         ensures kept { OnErr result (table_known self.new ≡ table_known self.old) }
     {
-        self.add(name, Entity::Set(numbers))
+        self.add(name, TableEntry::Set(numbers))
     }
 
     /// Enters what a name stands for, behind all others.
-    fn add(&mut self, name: &Name, entity: Entity) -> Result<(), AllocError>
+    fn add(&mut self, name: &Name, entity: TableEntry) -> Result<(), AllocError>
         ensures constants { OnOk result (constants_in self.new.entries.items ≡ constants_in self.old.entries.items ++ constants_under name.now entity) }
         ensures sets { OnOk result (sets_in self.new.entries.items ≡ sets_in self.old.entries.items ++ sets_under name.now entity) }
         ensures kept { OnErr result (self.new.entries.items ≡ self.old.entries.items) }
@@ -130,8 +130,8 @@ impl Entry {
         ensures { result ≡ constant_value name.now index.now (constants_under self.now.name.items self.now.entity) }
     {
         match &self.entity {
-            Entity::Array(elements) => self.value(elements, name, index),
-            Entity::Set(_) => None,
+            TableEntry::Array(elements) => self.value(elements, name, index),
+            TableEntry::Set(_) => None,
         }
     }
 
@@ -153,8 +153,8 @@ impl Entry {
             return None;
         }
         match &self.entity {
-            Entity::Array(_) => None,
-            Entity::Set(numbers) => Some(numbers),
+            TableEntry::Array(_) => None,
+            TableEntry::Set(numbers) => Some(numbers),
         }
     }
 }

@@ -1,5 +1,5 @@
 //! What a text makes known at its constant places, as it is kept: elements of constants, ranges and sets; and numbers, lists of them and tasks.
-//! Its tests stand in `text_tests`.
+//! Its tests stand in `compile_tests`.
 #![tactic(auto)]
 
 mod borrows;

@@ -5,7 +5,7 @@ ghost use Rattle.unfold_tables.specs.Listed.{element_shown, elements_named};
 ghost use Rattle.unfold_tables.specs.Tables.{constants_under, elements_in, items, pairs, table_known};
 
 use crate::elements::Elements;
-use crate::table::{Entity, Entry, Table};
+use crate::table::{Entry, Table, TableEntry};
 use sopl_ast::Name;
 use std::alloc::{AllocError, Global};
 
@@ -49,8 +49,8 @@ impl Entry {
             return Ok(());
         }
         match &self.entity {
-            Entity::Array(elements) => elements.list(found),
-            Entity::Set(_) => Ok(()),
+            TableEntry::Array(elements) => elements.list(found),
+            TableEntry::Set(_) => Ok(()),
         }
     }
 }

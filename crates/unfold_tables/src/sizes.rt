@@ -2,7 +2,7 @@
 
 ghost use Rattle.std.specs.Prelude.{◌≡◌, ℕ, nat_eq, pos, length};
 ghost use Rattle.sopl_ast.specs.Numbers.{count_between};
-ghost use Rattle.sopl_ast.specs.Occurrences.{too_many};
+ghost use Rattle.sopl_ast.specs.UnfoldEvents.{too_many};
 ghost use Rattle.unfold_tables.specs.Tables.{shown};
 ghost use Rattle.unfold_tables.specs.Walks.{Walks};
 

@@ -12,7 +12,7 @@ use std::alloc::Global;
 
 /// What a name stands for: a constant, or a range or a set.
 #[derive(Drop)]
-pub enum Entity {
+pub enum TableEntry {
     Array(Elements),
     Set(NumberSet),
 }
@@ -21,7 +21,7 @@ pub enum Entity {
 #[derive(Drop)]
 pub struct Entry {
     pub name: Vec<u8>,
-    pub entity: Entity,
+    pub entity: TableEntry,
 }
 
 /// The constants, ranges and sets of a text, in the order in which they were entered, and the place of the first entry of each name.

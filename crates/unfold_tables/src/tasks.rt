@@ -70,7 +70,7 @@ fn all_sound(tasks: &[Task]) -> bool
 }
 
 /// The first of the tasks that numbers give, three for each of them, and the numbers behind it.
-#[tactic(auto, using(crate::proofs::Fronts::fronts))]
+#[tactic(auto, using(crate::proofs::Prefixes::prefixes))]
 fn next_task(numbers: &[i64]) -> Option<(Task, &[i64])>
     ensures some { IfSome result (λ next. tasks_in numbers.now ≡ task_in next.0 ∷ tasks_in next.1.now) }
     ensures fewer { IfSome result (λ next. length next.1.now < length numbers.now) }

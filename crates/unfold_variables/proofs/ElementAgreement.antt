@@ -10,22 +10,22 @@ use Rattle.sopl_ast.specs.Instances.{Outcome}
 use Rattle.sopl_ast.specs.Known.{Known}
 use Rattle.sopl_ast.specs.Numbers.{natural, count_between}
 use Rattle.sopl_ast.specs.Constants.{value_or_zero}
-use Rattle.sopl_ast.specs.Occurrences.{Occurrence, refused_unless, too_many, constant_place}
-use Rattle.sopl_ast.specs.Declarations.{stage_of, stage_occurrences, domain_of, domain_occurrences, outcome_of, outcome_occurrences}
+use Rattle.sopl_ast.specs.UnfoldEvents.{UnfoldEvent, refused_unless, too_many, constant_place}
+use Rattle.sopl_ast.specs.Declarations.{stage_of, stage_events, domain_of, domain_events, outcome_of, outcome_events}
 use Rattle.unfold_constants.specs.Evaluation.{Step, ◌>>=◌, done}
-use Rattle.unfold_constants.proofs.Steps.{Agrees, agree_value, agree_occurrences, agree_done, agree_bind, agree_then}
+use Rattle.unfold_constants.proofs.Steps.{Agrees, agree_value, agree_events, agree_done, agree_bind, agree_then}
 use Rattle.unfold_constants.proofs.TraversalAgreement.{meets_unless}
 use Rattle.unfold_declarations.proofs.DeclaringAgreement.{agree_reached}
 use Rattle.unfold_variables.specs.Listing as s
 use Rattle.unfold_variables.proofs.Repeated.{Same, same_more}
 
 -- a step behind one whose answer is known
-pub agree_next : {A B : Type 0} {step : Step A} {ms ns : List Occurrence} {w : Option B} (next : A → Step B) (x : A)
+pub agree_next : {A B : Type 0} {step : Step A} {ms ns : List UnfoldEvent} {w : Option B} (next : A → Step B) (x : A)
     → Agrees step ms (Some x) → Agrees (next x) ns w → Agrees (step >>= next) (ms ++ ns) w
 agree_next {A} {B} {step} {ms} {ns} {w} next x a b = agree_bind a (λ y is. subst (λ v. Agrees (next (unwrap_or v x)) ns w) is b)
 
 -- what is made of that answer
-pub agree_last : {A B : Type 0} {step : Step A} {ms : List Occurrence} {x : A} (g : A → B)
+pub agree_last : {A B : Type 0} {step : Step A} {ms : List UnfoldEvent} {x : A} (g : A → B)
     → Agrees step ms (Some x) → Agrees (step >>= (λ y. done (g y))) ms (Some (g x))
 agree_last {A} {B} {step} {ms} {x} g a = agree_then g a (λ y is. ap (λ v. Some (g (unwrap_or v x))) is)
 
@@ -34,7 +34,7 @@ abbrev is_stage : ℤ → Bool
 is_stage x = int_le (pos 1) x && int_le x (pos 24)
 
 -- a stage
-agree_stage : (known : Known) (e : Option Tree) → Agrees (s.stage known e) (stage_occurrences known e) (Some (stage_of known e))
+agree_stage : (known : Known) (e : Option Tree) → Agrees (s.stage known e) (stage_events known e) (Some (stage_of known e))
 agree_stage known None = agree_done 1 _ refl
 agree_stage known (Some e) =
     agree_next _ (value_or_zero known e) (agree_reached (constant_place known e) (value_or_zero known e))
@@ -53,11 +53,11 @@ agree_checked at a b =
     agree_next _ tt (meets_unless (int_le a b) 111 at) (agree_last (λ u. (a, b)) (agree_reached (too_many 203 (count_between a b)) tt))
 
 -- a domain
-agree_domain : (known : Known) (range : Range) → Agrees (s.domain known range) (domain_occurrences known range) (Some (domain_of known range))
+agree_domain : (known : Known) (range : Range) → Agrees (s.domain known range) (domain_events known range) (Some (domain_of known range))
 agree_domain known (Named name at) =
     agree_last (λ u. domain_of known (Named name at)) (meets_unless (int_le (domain_of known (Named name at)).0 (domain_of known (Named name at)).1) 111 at)
 agree_domain known (Ends lo hi) =
-    agree_occurrences (append_assoc (constant_place known lo) (constant_place known hi)
+    agree_events (append_assoc (constant_place known lo) (constant_place known hi)
     (refused_unless (int_le (value_or_zero known lo) (value_or_zero known hi)) 111 (place_of lo)
     ++ too_many 203 (count_between (value_or_zero known lo) (value_or_zero known hi))))
     (agree_next _ (value_or_zero known lo, value_or_zero known hi) (agree_between known lo hi) (agree_checked (place_of lo) (value_or_zero known lo) (value_or_zero known hi)))
@@ -68,7 +68,7 @@ agree_new : (known : Known) (keys earlier : List ℤ) → Same keys earlier → 
     (constant_place known e ++ refused_unless (not (list_any (int_eq (value_or_zero known e)) earlier)) 113 (place_of e)) (Some (value_or_zero known e))
 agree_new known keys earlier same e =
     agree_next _ (value_or_zero known e) (agree_reached (constant_place known e) (value_or_zero known e))
-    (agree_occurrences (ap (λ t. refused_unless (not t) 113 (place_of e)) (same (value_or_zero known e)))
+    (agree_events (ap (λ t. refused_unless (not t) 113 (place_of e)) (same (value_or_zero known e)))
     (agree_last (λ u. value_or_zero known e) (meets_unless (not (list_any (int_eq (value_or_zero known e)) keys)) 113 (place_of e))))
 
 -- a weight
@@ -78,7 +78,7 @@ agree_weight known e =
     agree_next _ (value_or_zero known e) (agree_reached (constant_place known e) (value_or_zero known e))
     (agree_last (λ u. value_or_zero known e) (meets_unless (int_le (pos 1) (value_or_zero known e)) 113 (place_of e)))
 
-four : (a b c d e : List Occurrence) → ((a ++ b) ++ (c ++ d)) ++ e ≡ a ++ (b ++ (c ++ (d ++ e)))
+four : (a b c d e : List UnfoldEvent) → ((a ++ b) ++ (c ++ d)) ++ e ≡ a ++ (b ++ (c ++ (d ++ e)))
 four a b c d e =
     append_assoc (a ++ b) (c ++ d) e
     ∙ append_assoc a b ((c ++ d) ++ e)
@@ -86,12 +86,12 @@ four a b c d e =
 
 -- outcomes
 agree_outcomes : (dist : List (Tree × Tree)) (known : Known) (keys earlier : List ℤ) → Same keys earlier → (found : List Outcome)
-    → Agrees (s.outcomes known keys found dist) (outcome_occurrences known earlier dist) (Some (found ++ map (outcome_of known) dist))
+    → Agrees (s.outcomes known keys found dist) (outcome_events known earlier dist) (Some (found ++ map (outcome_of known) dist))
 agree_outcomes [] known keys earlier same found = agree_done found (Some (found ++ [])) (ap Some (append-nil found))
 agree_outcomes (pair ∷ later) known keys earlier same found =
-    agree_occurrences (four (constant_place known pair.0) (refused_unless (not (list_any (int_eq (value_or_zero known pair.0)) earlier)) 113 (place_of pair.0))
+    agree_events (four (constant_place known pair.0) (refused_unless (not (list_any (int_eq (value_or_zero known pair.0)) earlier)) 113 (place_of pair.0))
     (constant_place known pair.1) (refused_unless (int_le (pos 1) (value_or_zero known pair.1)) 113 (place_of pair.1))
-    (outcome_occurrences known (earlier ++ value_or_zero known pair.0 ∷ []) later))
+    (outcome_events known (earlier ++ value_or_zero known pair.0 ∷ []) later))
     (agree_next _ (outcome_of known pair)
     (agree_next _ (value_or_zero known pair.0) (agree_new known keys earlier same pair.0)
     (agree_last (λ w. record { value = value_or_zero known pair.0; weight = w }) (agree_weight known pair.1)))
@@ -101,7 +101,7 @@ agree_outcomes (pair ∷ later) known keys earlier same found =
 
 -- the decision at an index
 pub agree_decision : (name : List ℕ) (range : Range) (e : Option Tree) (known : Known) (index : List ℤ)
-    → Agrees (s.decision known name range e index) (domain_occurrences known range ++ stage_occurrences known e)
+    → Agrees (s.decision known name range e index) (domain_events known range ++ stage_events known e)
     (Some (record { name = name; index = index; lo = (domain_of known range).0; hi = (domain_of known range).1; stage = stage_of known e }))
 agree_decision name range e known index =
     agree_next _ (domain_of known range) (agree_domain known range)
@@ -109,7 +109,7 @@ agree_decision name range e known index =
 
 -- the stochastic variable at an index
 pub agree_stochastic : (name : List ℕ) (dist : List (Tree × Tree)) (e : Option Tree) (known : Known) (index : List ℤ)
-    → Agrees (s.stochastic known name dist e index) (outcome_occurrences known [] dist ++ stage_occurrences known e)
+    → Agrees (s.stochastic known name dist e index) (outcome_events known [] dist ++ stage_events known e)
     (Some (record { name = name; index = index; outcomes = map (outcome_of known) dist; stage = stage_of known e }))
 agree_stochastic name dist e known index =
     agree_next _ (map (outcome_of known) dist) (agree_outcomes dist known [] [] (λ q. refl) [])

@@ -9,9 +9,9 @@ use Rattle.sopl_ast.specs.Whole.{DimTree}
 use Rattle.sopl_ast.specs.Numbers.{natural, count_between}
 use Rattle.sopl_ast.specs.Known.{Known}
 use Rattle.sopl_ast.specs.Instances.{Decision, Outcome, Stochastic}
-use Rattle.sopl_ast.specs.Arrays.{Dimension, dimensions_of, taking, dimension_occurrences}
+use Rattle.sopl_ast.specs.Arrays.{Dimension, dimensions_of, taking, dimension_events}
 use Rattle.sopl_ast.specs.Declarations.{domain_of}
-use Rattle.sopl_ast.specs.Occurrences.{too_many}
+use Rattle.sopl_ast.specs.UnfoldEvents.{too_many}
 use Rattle.unfold_constants.specs.Evaluation.{Step, ◌>>=◌, done}
 use Rattle.unfold_constants.specs.Traversal.{unless}
 use Rattle.unfold_declarations.specs.Declaring.{reached, constant, count_one}
@@ -87,4 +87,4 @@ inside element ds depth place found = listed element place.known (drop depth ds)
 
 -- what stands at each index of an array
 abbrev pub array : {A : Type 0} → (Known → List ℤ → Step A) → Known → List DimTree → Step (List A)
-array element known dims = reached (dimension_occurrences known dims) (dimensions_of known dims) >>= (λ ds. listed element known ds [] [])
+array element known dims = reached (dimension_events known dims) (dimensions_of known dims) >>= (λ ds. listed element known ds [] [])

@@ -7,15 +7,15 @@ ghost use Rattle.unfold_constants.specs.Choosing.{Leads};
 ghost use Rattle.unfold_constants.specs.CountedAnswers.{Answers};
 ghost use Rattle.unfold_constants.specs.Here.{known_in};
 ghost use Rattle.unfold_declarations.specs.Places.{entered, give_dimension, leave_dimension, remaining, turns, turns_left};
-ghost use Rattle.unfold_declarations.specs.Shown.{dimensions_in, dimensions_open, front_in};
+ghost use Rattle.unfold_declarations.specs.Shown.{dimensions_in, dimensions_open, prefix_in};
 ghost use Rattle.unfold_variables.specs.Listing as spec;
 
 use crate::calls::dimensions_at;
 use sopl_ast::Dim;
 use sopl_base::Fault;
 use std::alloc::{AllocError, Global};
-use unfold_constants::Known;
-use unfold_declarations::{Dimension, Front, IndexWalk, any_empty, count_one};
+use unfold_constants::ConstantScope;
+use unfold_declarations::{Dimension, IndexPrefix, IndexWalk, any_empty, count_one};
 use unfold_tables::Count;
 
 /// What stands at each index of an array.
@@ -24,14 +24,14 @@ pub trait Element<T> {
     ghost step: { Self → KnownValue → List ℤ → ℕ → Result (T × ℕ) FaultValue };
 
     /// What stands at an index.
-    fn at(&self, front: &Front<'_>, count: &mut Count) -> Result<T, Fault>
-        ensures { Answers (λ x. x) count.new.counted result (step self.now (known_in front.now.known) front.now.index.items count.old.counted) };
+    fn at(&self, prefix: &IndexPrefix<'_>, count: &mut Count) -> Result<T, Fault>
+        ensures { Answers (λ x. x) count.new.counted result (step self.now (known_in prefix.now.known) prefix.now.index.items count.old.counted) };
 }
 
 /// What stands at each index of an array, in lexicographic order of the indices.
 pub fn array<'a, T: Drop, E: Element<T>>(
     alloc: Global,
-    known: &Known<'a>,
+    known: &ConstantScope<'a>,
     count: &mut Count,
     dims: &'a [Dim],
     element: &E,
@@ -40,28 +40,28 @@ pub fn array<'a, T: Drop, E: Element<T>>(
         (spec.array (E.step element.now) (known_in known.now) dims.now count.old.counted) }
 {
     let left = dimensions_at(alloc, known, count, dims)?;
-    let front = Front::new(alloc, known)?;
+    let prefix = IndexPrefix::new(alloc, known)?;
     let mut found = Vec::new(alloc);
-    listed(&front, count, left.as_slice(), element, &mut found)?;
+    listed(&prefix, count, left.as_slice(), element, &mut found)?;
     Ok(found)
 }
 
-/// Adds what stands at each index with this front.
+/// Adds what stands at each index with this prefix.
 #[tactic(auto, using(crate::proofs::Listed::listing))]
 fn listed<'a, T: Drop, E: Element<T>>(
-    front: &Front<'a>,
+    prefix: &IndexPrefix<'a>,
     count: &mut Count,
     left: &[Dimension<'a>],
     element: &E,
     found: &mut Vec<T>,
 ) -> Result<(), Fault>
     ensures { Answers (λ u. found.new.items) count.new.counted result
-        (spec.listed (E.step element.now) (known_in front.now.known) (dimensions_in left.now) front.now.index.items found.old.items count.old.counted) }
+        (spec.listed (E.step element.now) (known_in prefix.now.known) (dimensions_in left.now) prefix.now.index.items found.old.items count.old.counted) }
 {
     if any_empty(left) {
         return Ok(());
     }
-    let mut walk = IndexWalk::new(front)?;
+    let mut walk = IndexWalk::new(prefix)?;
     enter(&mut walk, count, left, element, found)?;
     'walk: while walk.advance()? {
         enter(&mut walk, count, left, element, found)?;
@@ -79,16 +79,16 @@ fn enter<'a, T: Drop, E: Element<T>>(
     found: &mut Vec<T>,
 ) -> Result<(), Fault>
     ensures leads { Leads
-        (entered give_dimension leave_dimension (spec.inside (E.step element.now) (dimensions_in left.now)) (front_in walk.old.front) (dimensions_open walk.old)
+        (entered give_dimension leave_dimension (spec.inside (E.step element.now) (dimensions_in left.now)) (prefix_in walk.old.prefix) (dimensions_open walk.old)
         found.old.items count.old.counted)
-        (remaining give_dimension leave_dimension (spec.inside (E.step element.now) (dimensions_in left.now)) (front_in walk.new.front) (dimensions_open walk.new)
+        (remaining give_dimension leave_dimension (spec.inside (E.step element.now) (dimensions_in left.now)) (prefix_in walk.new.prefix) (dimensions_open walk.new)
         found.new.items count.new.counted)
         result }
     ensures turns { OnOk result (turns_left (dimensions_in left.now) (dimensions_open walk.new)
         ≤ turns (drop (length (dimensions_open walk.old)) (dimensions_in left.now)) + turns_left (dimensions_in left.now) (dimensions_open walk.old)) }
 {
     let Some(dimension) = left.get(walk.depth()) else {
-        add(&walk.front, count, element, found)?;
+        add(&walk.prefix, count, element, found)?;
         walk.leave();
         return Ok(());
     };
@@ -98,16 +98,16 @@ fn enter<'a, T: Drop, E: Element<T>>(
 
 /// Adds what stands at an index, which is counted.
 fn add<'a, T: Drop, E: Element<T>>(
-    front: &Front<'a>,
+    prefix: &IndexPrefix<'a>,
     count: &mut Count,
     element: &E,
     found: &mut Vec<T>,
 ) -> Result<(), Fault>
     ensures { Answers (λ u. found.new.items) count.new.counted result
-        (spec.listed (E.step element.now) (known_in front.now.known) [] front.now.index.items found.old.items count.old.counted) }
+        (spec.listed (E.step element.now) (known_in prefix.now.known) [] prefix.now.index.items found.old.items count.old.counted) }
 {
     count_one(count)?;
-    let item = element.at(front, count)?;
+    let item = element.at(prefix, count)?;
     Ok(put(found, item)?)
 }
 

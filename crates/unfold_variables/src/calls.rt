@@ -1,7 +1,7 @@
 //! What is asked of constant places, as steps.
 
 ghost use Rattle.std.specs.Prelude.{◌≡◌, ℕ};
-ghost use Rattle.sopl_ast.specs.Arrays.{dimension_occurrences, dimensions_of};
+ghost use Rattle.sopl_ast.specs.Arrays.{dimension_events, dimensions_of};
 ghost use Rattle.unfold_constants.specs.CountedAnswers.{Answers};
 ghost use Rattle.unfold_constants.specs.Here.{known_in};
 ghost use Rattle.unfold_declarations.specs.Declaring as declaring;
@@ -11,19 +11,19 @@ ghost use Rattle.unfold_variables.specs.Listing as spec;
 use sopl_ast::Dim;
 use sopl_base::{Fault, codes};
 use std::alloc::Global;
-use unfold_constants::Known;
+use unfold_constants::ConstantScope;
 use unfold_declarations::{Dimension, dimensions};
 use unfold_tables::{Count, Ends, checked_between};
 
 /// The dimensions of an array.
 pub fn dimensions_at<'a>(
     alloc: Global,
-    known: &Known<'a>,
+    known: &ConstantScope<'a>,
     count: &mut Count,
     dims: &'a [Dim],
 ) -> Result<Vec<Dimension<'a>>, Fault>
     ensures { Answers (λ found. dimensions_in found.items) count.new.counted result
-        (declaring.reached (dimension_occurrences (known_in known.now) dims.now) (dimensions_of (known_in known.now) dims.now) count.old.counted) }
+        (declaring.reached (dimension_events (known_in known.now) dims.now) (dimensions_of (known_in known.now) dims.now) count.old.counted) }
 {
     dimensions(alloc, known, count, dims)
 }

@@ -14,14 +14,14 @@ use sopl_ast::Expr;
 use sopl_base::{Fault, codes};
 use std::alloc::{AllocError, Global};
 use std::collections::BTreeSet;
-use unfold_constants::{Known, unless};
+use unfold_constants::{ConstantScope, unless};
 use unfold_declarations::constant_at;
 use unfold_tables::Count;
 
 /// The outcomes of a distribution.
 pub fn outcomes<'a>(
     alloc: Global,
-    known: &Known<'a>,
+    known: &ConstantScope<'a>,
     count: &mut Count,
     dist: &'a [(Expr, Expr)],
 ) -> Result<Weighted, Fault>
@@ -38,7 +38,7 @@ pub fn outcomes<'a>(
 
 /// A value with its weight; the value is none of those before it.
 fn outcome<'a>(
-    known: &Known<'a>,
+    known: &ConstantScope<'a>,
     count: &mut Count,
     earlier: &BTreeSet<i64>,
     pair: &'a (Expr, Expr),
@@ -52,7 +52,7 @@ fn outcome<'a>(
 
 /// A value that is none of those before it.
 fn new_value<'a>(
-    known: &Known<'a>,
+    known: &ConstantScope<'a>,
     count: &mut Count,
     earlier: &BTreeSet<i64>,
     e: &'a Expr,
@@ -72,7 +72,7 @@ fn is_new(set: &BTreeSet<i64>, number: i64) -> bool
 }
 
 /// A weight, which is 1 at least.
-fn weight<'a>(known: &Known<'a>, count: &mut Count, e: &'a Expr) -> Result<i64, Fault>
+fn weight<'a>(known: &ConstantScope<'a>, count: &mut Count, e: &'a Expr) -> Result<i64, Fault>
     ensures { Answers (λ x. x) count.new.counted result (spec.weight (known_in known.now) e.now count.old.counted) }
 {
     let weight = constant_at(known, count, e)?;

@@ -11,12 +11,16 @@ ghost use Rattle.unfold_variables.specs.Listing as spec;
 use crate::calls::checked_values;
 use sopl_ast::{Expr, Name, RangeText};
 use sopl_base::{Fault, codes, limits};
-use unfold_constants::{Known, unless};
+use unfold_constants::{ConstantScope, unless};
 use unfold_declarations::constant_at;
 use unfold_tables::{Count, Ends, NumberSet};
 
 /// A stage; it is 1 where none is written.
-pub fn stage<'a>(known: &Known<'a>, count: &mut Count, e: Option<&'a Expr>) -> Result<u32, Fault>
+pub fn stage<'a>(
+    known: &ConstantScope<'a>,
+    count: &mut Count,
+    e: Option<&'a Expr>,
+) -> Result<u32, Fault>
     ensures { Answers (λ k. k) count.new.counted result (spec.stage (known_in known.now) (option_map (λ x. x.now) e.entry) count.old.counted) }
 {
     let Some(e) = e else {
@@ -30,7 +34,11 @@ pub fn stage<'a>(known: &Known<'a>, count: &mut Count, e: Option<&'a Expr>) -> R
 }
 
 /// The domain of a decision, by its least and its greatest value.
-pub fn domain<'a>(known: &Known<'a>, count: &mut Count, range: &'a RangeText) -> Result<Ends, Fault>
+pub fn domain<'a>(
+    known: &ConstantScope<'a>,
+    count: &mut Count,
+    range: &'a RangeText,
+) -> Result<Ends, Fault>
     ensures { Answers ends_in count.new.counted result (spec.domain (known_in known.now) (range_of range.now) count.old.counted) }
 {
     match range {
@@ -43,7 +51,7 @@ pub fn domain<'a>(known: &Known<'a>, count: &mut Count, range: &'a RangeText) ->
 }
 
 /// The ends of a range by its name.
-fn named(known: &Known<'_>, name: &Name) -> Ends
+fn named(known: &ConstantScope<'_>, name: &Name) -> Ends
     ensures { ends_in result ≡ ends_of (set_named name.now (known_in known.now).sets) }
 {
     match known.named(name) {
@@ -55,7 +63,7 @@ fn named(known: &Known<'_>, name: &Name) -> Ends
 
 /// The values of two ends.
 fn between<'a>(
-    known: &Known<'a>,
+    known: &ConstantScope<'a>,
     count: &mut Count,
     lo: &'a Expr,
     hi: &'a Expr,

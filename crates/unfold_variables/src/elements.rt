@@ -10,7 +10,7 @@ use crate::items::{DecisionItem, Index, StochItem, Weighted};
 use sopl_ast::{Expr, Name, RangeText};
 use sopl_base::Fault;
 use std::alloc::AllocError;
-use unfold_declarations::Front;
+use unfold_declarations::IndexPrefix;
 use unfold_tables::{Count, Ends};
 
 /// A decision at each index, with a domain and, if it is written, a stage.
@@ -30,30 +30,30 @@ impl Element<DecisionItem> for DecisionArray<'_> {
     ghost step = { λ array known index.
         spec.decision known array.name.now (range_of array.range.now) (option_map (λ (e : Bor Tree). e.now) array.stage) index };
 
-    fn at(&self, front: &Front<'_>, count: &mut Count) -> Result<DecisionItem, Fault> {
-        let domain = domain(&front.known, count, self.range)?;
-        let stage = stage(&front.known, count, self.stage)?;
-        Ok(decision(front, self.name, &domain, stage)?)
+    fn at(&self, prefix: &IndexPrefix<'_>, count: &mut Count) -> Result<DecisionItem, Fault> {
+        let domain = domain(&prefix.known, count, self.range)?;
+        let stage = stage(&prefix.known, count, self.stage)?;
+        Ok(decision(prefix, self.name, &domain, stage)?)
     }
 }
 
 /// The decision at an index.
 fn decision(
-    front: &Front<'_>,
+    prefix: &IndexPrefix<'_>,
     name: &Name,
     domain: &Ends,
     stage: u32,
 ) -> Result<DecisionItem, AllocError>
     ensures { IfOk result (λ item. item ≡ record {
       name = name.now;
-      index = front.now.index.items;
+      index = prefix.now.index.items;
       lo = domain.now.lo;
       hi = domain.now.hi;
       stage = stage;
     }) }
 {
-    let name = name.copy(front.alloc)?;
-    let index = Index::from_slice(front.alloc, front.index.as_slice())?;
+    let name = name.copy(prefix.alloc)?;
+    let index = Index::from_slice(prefix.alloc, prefix.index.as_slice())?;
     Ok(DecisionItem {
         name,
         index,
@@ -79,29 +79,29 @@ impl Element<StochItem> for StochArray<'_> {
     ghost step = { λ array known index.
         spec.stochastic known array.name.now array.dist.now (option_map (λ (e : Bor Tree). e.now) array.stage) index };
 
-    fn at(&self, front: &Front<'_>, count: &mut Count) -> Result<StochItem, Fault> {
-        let values = outcomes(front.alloc, &front.known, count, self.dist)?;
-        let stage = stage(&front.known, count, self.stage)?;
-        Ok(stochastic(front, self.name, values, stage)?)
+    fn at(&self, prefix: &IndexPrefix<'_>, count: &mut Count) -> Result<StochItem, Fault> {
+        let values = outcomes(prefix.alloc, &prefix.known, count, self.dist)?;
+        let stage = stage(&prefix.known, count, self.stage)?;
+        Ok(stochastic(prefix, self.name, values, stage)?)
     }
 }
 
 /// The stochastic variable at an index.
 fn stochastic(
-    front: &Front<'_>,
+    prefix: &IndexPrefix<'_>,
     name: &Name,
     values: Weighted,
     stage: u32,
 ) -> Result<StochItem, AllocError>
     ensures { IfOk result (λ item. item ≡ record {
       name = name.now;
-      index = front.now.index.items;
+      index = prefix.now.index.items;
       outcomes = values;
       stage = stage;
     }) }
 {
-    let name = name.copy(front.alloc)?;
-    let index = Index::from_slice(front.alloc, front.index.as_slice())?;
+    let name = name.copy(prefix.alloc)?;
+    let index = Index::from_slice(prefix.alloc, prefix.index.as_slice())?;
     Ok(StochItem {
         name,
         index,

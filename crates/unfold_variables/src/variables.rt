@@ -1,8 +1,8 @@
 //! The decisions and the stochastic variables that declarations state.
 
 ghost use Rattle.std.specs.Prelude.{◌≡◌, ◌++◌, [], IfOk, option_map};
-ghost use Rattle.sopl_ast.specs.Arrays.{array_occurrences};
-ghost use Rattle.sopl_ast.specs.Declarations.{domain_occurrences, outcome_occurrences, stage_occurrences, decisions_of, stochastics_of};
+ghost use Rattle.sopl_ast.specs.Arrays.{array_events};
+ghost use Rattle.sopl_ast.specs.Declarations.{domain_events, outcome_events, stage_events, decisions_of, stochastics_of};
 ghost use Rattle.sopl_ast.specs.Ranges.{range_of};
 ghost use Rattle.unfold_tables.specs.Tables.{table_known};
 ghost use Rattle.unfold_tables.specs.Walks.{Walks};
@@ -13,7 +13,7 @@ use crate::items::{DecisionItem, StochItem};
 use sopl_ast::{Dim, Expr, Name, RangeText};
 use sopl_base::Fault;
 use std::alloc::Global;
-use unfold_constants::Known;
+use unfold_constants::ConstantScope;
 use unfold_tables::{Count, Table};
 
 /// The decisions of a declaration, in lexicographic order of their indices.
@@ -27,12 +27,12 @@ pub fn decisions(
     stage: Option<&Expr>,
 ) -> Result<Vec<DecisionItem>, Fault>
     ensures met { Walks count.old.counted count.new.counted
-        (array_occurrences (table_known table.now) dims.now (λ here.
-        domain_occurrences here (range_of range.now) ++ stage_occurrences here (option_map (λ e. e.now) stage.entry))) result }
+        (array_events (table_known table.now) dims.now (λ here.
+        domain_events here (range_of range.now) ++ stage_events here (option_map (λ e. e.now) stage.entry))) result }
     ensures stated { IfOk result (λ found.
         found.items ≡ decisions_of (table_known table.now) name.now dims.now (range_of range.now) (option_map (λ e. e.now) stage.entry)) }
 {
-    let known = Known::new(alloc, table);
+    let known = ConstantScope::new(alloc, table);
     let element = DecisionArray { name, range, stage };
     array(alloc, &known, count, dims, &element)
 }
@@ -48,12 +48,12 @@ pub fn stochastics(
     stage: Option<&Expr>,
 ) -> Result<Vec<StochItem>, Fault>
     ensures met { Walks count.old.counted count.new.counted
-        (array_occurrences (table_known table.now) dims.now (λ here.
-        outcome_occurrences here [] dist.now ++ stage_occurrences here (option_map (λ e. e.now) stage.entry))) result }
+        (array_events (table_known table.now) dims.now (λ here.
+        outcome_events here [] dist.now ++ stage_events here (option_map (λ e. e.now) stage.entry))) result }
     ensures stated { IfOk result (λ found.
         found.items ≡ stochastics_of (table_known table.now) name.now dims.now dist.now (option_map (λ e. e.now) stage.entry)) }
 {
-    let known = Known::new(alloc, table);
+    let known = ConstantScope::new(alloc, table);
     let element = StochArray { name, dist, stage };
     array(alloc, &known, count, dims, &element)
 }

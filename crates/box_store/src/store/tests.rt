@@ -12,13 +12,13 @@ fn small(alloc: Global) -> Result<BoxStore, AllocError>
             roots.push(interval)?;
         }
     }
-    let mut store = BoxStore::new(alloc, front(roots.as_slice()))?;
+    let mut store = BoxStore::new(alloc, prefix(roots.as_slice()))?;
     store.reserve(4)?;
     Ok(store)
 }
 
 /// The first two intervals.
-fn front(roots: &[Interval]) -> &[Interval]
+fn prefix(roots: &[Interval]) -> &[Interval]
     ensures { length result.now ≤ 2 }
 {
     if roots.len() > 2 { &roots[..2] } else { roots }

@@ -3,7 +3,7 @@
 use crate::tests::runs::{
     Ended, ORDER, ORDER_ANSWER, WIDE, claims, ends, ran, ran_over, source_of,
 };
-use sopl_run::{Status, Word, Words};
+use answer_run::{Status, Word, Words};
 use std::alloc::{AllocError, Global};
 use std::process::Abort;
 use std::test::Fail;

@@ -1,7 +1,7 @@
-//! Runs that a source, a sink or want of memory ends early.
+//! Runs that end early: a source or a sink fails, or memory runs out.
 
 use crate::tests::runs::{ORDER, ORDER_ANSWER, Room, WIDE, claims, ends, ran};
-use sopl_run::Status;
+use answer_run::Status;
 use std::test::Fail;
 
 /// Runs on the ordering text that end early: the calls of the source that fail, what the sinks take, and the status, the line and the last line of the
@@ -66,7 +66,7 @@ fn faults(rt: HostRuntime) -> Result<(), Fail> {
     Ok(())
 }
 
-/// The right line is answered, or nothing where memory is wanting: also where any one allocation fails.
+/// The right line is answered, or nothing where memory runs out: also where any one allocation fails.
 #[test]
 fn line_or_nothing(rt: HostRuntime) {
     let Ok(ended) = ran(rt.alloc(), &["solve", "m"], ORDER, &[], &WIDE) else {

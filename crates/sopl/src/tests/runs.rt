@@ -1,7 +1,7 @@
 //! Runs over sources and sinks in memory, and how they must end.
 
+use answer_run::{Status, Word, Words, run};
 use sopl_io::{MemSink, MemSource};
-use sopl_run::{Status, Word, Words, run};
 use std::alloc::{AllocError, Global};
 use std::process::Abort;
 

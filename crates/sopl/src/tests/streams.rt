@@ -3,8 +3,8 @@
 ghost use Rattle.std.specs.Prelude.{None};
 
 use crate::tests::runs::{ORDER, ORDER_ANSWER, words_of};
+use answer_run::{Status, run};
 use sopl_io::{Failed, FileSink, FileSource, Sink, Source, read_all, write_all};
-use sopl_run::{Status, run};
 use std::alloc::AllocError;
 use std::test::Fail;
 

@@ -1,7 +1,7 @@
 //! Tables of texts and their answers, and of texts and what their logs claim.
 
 use crate::tests::runs::{Ended, WIDE, claims, ran};
-use sopl_run::Status;
+use answer_run::Status;
 use std::alloc::{AllocError, Global};
 use std::process::Abort;
 use std::test::Fail;
@@ -171,7 +171,7 @@ fn refusals_and_limits(rt: HostRuntime) -> Result<(), Fail> {
     Ok(())
 }
 
-/// Texts, and what their logs claim: the best sum over the scenarios of their weights times the objective, reckoned by hand. Chains of signs, of factors and of divisors, that
+/// Texts, and what their logs claim: the best sum over the scenarios of their weights times the objective, computed by hand. Chains of signs, of factors and of divisors, that
 /// of a binder, the least, the greatest and the size, sums behind binders, conditions as numbers and in one another, arrays by constants, scenarios and cells, binders in binders, and
 /// what is undefined in a scenario.
 const CLAIMED: &str = r##"

@@ -12,7 +12,7 @@ use box_store::BoxStore;
 use sopl_base::{Direction, Fault, Interval};
 use sopl_term::{Builder, Defined, Indices, Program, TableId, TermId, range_of};
 use std::alloc::{AllocError, Global};
-use term_tables::Element;
+use term_math::Element;
 
 /// The index set of 1 and 3.
 fn one_set(alloc: Global) -> Result<Vec<Indices>, AllocError>

@@ -9,14 +9,14 @@ ghost use Rattle.term_program.specs.declared.shapes.Form.TheVariants.{Linear};
 ghost use Rattle.term_program.specs.Comparisons.{shape_in};
 ghost use Rattle.term_program.specs.Programs.{IsMade, problem_in, root_in, things_in};
 
+use crate::boxes::add_root;
 use box_store::BoxStore;
 use sopl_base::{CmpOp, Direction, Fault, Interval};
 use sopl_term::{Builder, CondId, Defined, Form, Program, TermId, Truth, kleene, range_of};
 use std::alloc::{AllocError, Global};
-use test_boxes::add_root;
 
 /// The intervals of x and y.
-#[tactic(auto, using(test_boxes::proofs::Roots::none_near))]
+#[tactic(auto, using(crate::proofs::Roots::none_near))]
 pub(crate) fn two_roots(alloc: Global) -> Result<Vec<Interval>, AllocError>
     ensures two { IfOk result (λ roots. length roots.items ≡ 2) }
     ensures near { IfOk result (λ roots. AllByRecursion IsNear roots.items) }

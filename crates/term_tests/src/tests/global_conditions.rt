@@ -2,18 +2,18 @@
 
 ghost use Rattle.std.specs.Prelude.{◌≡◌, ◌&&◌, nat_lt, IfOk};
 ghost use Rattle.std.specs.List.{list_all};
-ghost use Rattle.box_rules.specs.Laws.{IsTable};
-ghost use Rattle.term_tables.specs.Kept.{table_of};
+ghost use Rattle.term_language.specs.Laws.{IsTable};
+ghost use Rattle.term_math.specs.Kept.{table_of};
 ghost use Rattle.term_store.specs.Stores.{IsSoundStore};
 
 use super::indices::at_one;
 use super::pair;
-use box_rules::Truth;
 use sopl_base::{Fault, Interval};
 use std::alloc::{AllocError, Global};
+use term_language::Truth;
+use term_math::{Element, Table};
 use term_nodes::Task;
 use term_store::TermStore;
-use term_tables::{Element, Table};
 
 /// A cell from 0 to 9, and cells of one number.
 const X: u32 = 0;

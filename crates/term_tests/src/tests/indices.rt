@@ -1,16 +1,16 @@
 //! Elements of arrays at indices that are cells, elements and conditions.
 
 ghost use Rattle.std.specs.Prelude.{◌≡◌, IfOk};
-ghost use Rattle.box_rules.specs.Laws.{IsTable};
-ghost use Rattle.term_tables.specs.Kept.{table_of};
+ghost use Rattle.term_language.specs.Laws.{IsTable};
+ghost use Rattle.term_math.specs.Kept.{table_of};
 ghost use Rattle.term_store.specs.Stores.{IsSoundStore};
 
 use super::{compare, empty, marked, pair};
-use box_rules::Defined;
 use sopl_base::{CmpOp, Fault, Interval};
 use std::alloc::{AllocError, Global};
+use term_language::Defined;
+use term_math::{Element, Table};
 use term_store::TermStore;
-use term_tables::{Element, Table};
 
 /// A store over cells by which arrays are indexed; cell 0 is an element.
 fn indexed(alloc: Global) -> Result<TermStore, AllocError>

@@ -1,15 +1,15 @@
 //! Which cells terms and conditions mention.
 
-ghost use Rattle.box_rules.specs.Laws.{IsTable};
-ghost use Rattle.term_tables.specs.Kept.{table_of};
+ghost use Rattle.term_language.specs.Laws.{IsTable};
+ghost use Rattle.term_math.specs.Kept.{table_of};
 ghost use Rattle.term_store.specs.Stores.{IsSoundStore};
 
 use super::{compare, divided, element, extremes, pair, product, size, small, sum};
 use sopl_base::{CmpOp, Fault};
 use std::alloc::{AllocError, Global};
 use term_cells::Nodes;
+use term_math::{Element, Table};
 use term_store::TermStore;
-use term_tables::{Element, Table};
 
 /// Whether these are the cells that a term mentions.
 fn of_term(alloc: Global, store: &TermStore, id: u32, want: &[u32]) -> Result<bool, AllocError>

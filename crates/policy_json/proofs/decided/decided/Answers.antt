@@ -4,8 +4,8 @@ use Rattle.std.proofs.lemmas.List.{get_or_read}
 use Rattle.std.proofs.lemmas.Result.{IfOk-weaker}
 use Rattle.sopl_ast.specs.Instances.{Decision}
 use Rattle.sopl_ast.specs.Pieces.{is_word}
-use Rattle.scenario_tree.specs.Layout.{cell_in}
-use Rattle.entry_json.specs.Entries.{entry_of}
+use Rattle.sopl_scen.specs.Layout.{cell_in}
+use Rattle.policy_json.specs.Entries.{entry_of}
 use Rattle.policy_json.specs.Steps.{decided_in, no_decision, parts_in}
 use Rattle.policy_json.proofs.Ready.{decided_word}
 use Rattle.policy_json.proofs.decided.decided.Goals as goal

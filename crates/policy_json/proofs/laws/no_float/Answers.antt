@@ -1,5 +1,5 @@
 use Rattle.std.proofs.Common.{◌-◌, []}
-use Rattle.entry_json.specs.Stages.{last_stage}
+use Rattle.policy_json.specs.LastStage.{last_stage}
 use Rattle.policy_json.proofs.Plain.{node_plain}
 use Rattle.policy_json.proofs.laws.no_float.Goals as goal
 

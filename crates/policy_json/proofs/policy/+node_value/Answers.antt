@@ -1,7 +1,7 @@
 use Rattle.std.proofs.Common.{rules, ◌≡◌, ◌≤◌, ◌<◌, ◌+◌, ◌-◌, ◌*◌, ◌^◌, arith, map, zero-add, ◌∙◌}
 use Rattle.std.proofs.lemmas.Result.{IfOk-weaker}
 use Rattle.serde_json.specs.View.{view}
-use Rattle.scenario_tree.specs.Layout.{count_in}
+use Rattle.sopl_scen.specs.Layout.{count_in}
 use Rattle.policy_json.specs.Steps.{block_in, branch_in, parts_in}
 use Rattle.policy_json.proofs.Ready.{begins_within, histories_some}
 use Rattle.policy_json.proofs.NodeSteps.{branch_made, node_made, step_room}
@@ -12,8 +12,8 @@ pub decide_list-requires-clause-exists : goal.decide_list-requires-clause-exists
 decide_list-requires-clause-exists t c =
     begins_within (parts_in c.args.point.now) c.requires.ready c.args.stage c.args.scenario c.requires.from (omega arith) c.requires.block
 
-pub after-blocks-requires-clause-some : goal.after-blocks-requires-clause-some
-after-blocks-requires-clause-some t c = histories_some (parts_in c.args.point.now) c.requires.ready c.args.stage c.requires.from (omega arith)
+pub after-blocks-requires-clause-at_least_one : goal.after-blocks-requires-clause-at_least_one
+after-blocks-requires-clause-at_least_one t c = histories_some (parts_in c.args.point.now) c.requires.ready c.args.stage c.requires.from (omega arith)
 
 pub after-blocks-requires-clause-next : goal.after-blocks-requires-clause-next
 after-blocks-requires-clause-next t c =

@@ -2,7 +2,7 @@ use Rattle.std.proofs.Common.{◌∙◌}
 use Rattle.std.proofs.lemmas.Result.{IfOk-weaker}
 use Rattle.serde_json.specs.View.{view}
 use Rattle.sopl_ast.specs.Cells.{policy_at}
-use Rattle.scenario_tree.specs.Layout.{cells_for}
+use Rattle.sopl_scen.specs.Layout.{cells_for}
 use Rattle.policy_json.specs.Steps.{ready}
 use Rattle.policy_json.proofs.Held.{shown_outermost}
 use Rattle.policy_json.proofs.Plain.{outermost_plain}

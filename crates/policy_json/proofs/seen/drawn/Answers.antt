@@ -4,8 +4,8 @@ use Rattle.std.proofs.lemmas.List.{get_or_read}
 use Rattle.std.proofs.lemmas.Result.{IfOk-weaker}
 use Rattle.sopl_ast.specs.Instances.{Stochastic}
 use Rattle.sopl_ast.specs.Pieces.{is_word}
-use Rattle.scenario_tree.specs.Layout.{value_in}
-use Rattle.entry_json.specs.Entries.{entry_of}
+use Rattle.sopl_scen.specs.Layout.{value_in}
+use Rattle.policy_json.specs.Entries.{entry_of}
 use Rattle.policy_json.specs.Steps.{drawn_in, no_variable, parts_in}
 use Rattle.policy_json.proofs.Ready.{drawn_within, drawn_word}
 use Rattle.policy_json.proofs.seen.drawn.Goals as goal

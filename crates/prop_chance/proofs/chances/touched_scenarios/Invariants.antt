@@ -1,5 +1,5 @@
 use Rattle.std.proofs.Common.{◌≡◌, map, take}
-use Rattle.chance_sums.specs.Sums.{touched_by}
+use Rattle.prop_shave.specs.ChanceSums.{touched_by}
 use Rattle.term_program.specs.Programs.{problem_in, root_in}
 use Rattle.prop_chance.specs.Chances.{numbers_in}
 use Rattle.prop_chance.proofs.chances.touched_scenarios.Given as goal

@@ -1,5 +1,5 @@
 use Rattle.std.proofs.Common.{◌≡◌, map, take}
-use Rattle.goal_sums.specs.Sums.{touched_by}
+use Rattle.prop_shave.specs.GoalSums.{touched_by}
 use Rattle.term_program.specs.Programs.{root_in, things_in}
 use Rattle.prop_chance.specs.Goals.{atoms_in}
 use Rattle.prop_chance.proofs.goals.touched_parts.Given as goal

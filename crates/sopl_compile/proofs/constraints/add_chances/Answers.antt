@@ -1,10 +1,10 @@
 use Rattle.std.proofs.Common.{rules, ◌<◌, ◌+◌, length, map, drop}
 use Rattle.std.proofs.lemmas.Result.{err_from_is_err_and}
 use Rattle.sopl_ast.specs.References.{now_of}
-use Rattle.instantiation.specs.Whole.{chance_terms}
-use Rattle.program_rules.specs.Problems.{ChanceTerms}
-use Rattle.program_sizes.specs.Measured.{constraint_subterms}
-use Rattle.scene_terms.specs.Scenes.{root_in}
+use Rattle.compile_laws.specs.Whole.{chance_terms}
+use Rattle.term_problem.specs.Problems.{ChanceTerms}
+use Rattle.compile_laws.specs.Measured.{constraint_subterms}
+use Rattle.compile_scene.specs.Scenes.{root_in}
 use Rattle.sopl_compile.specs.Adding.{with_chances}
 use Rattle.sopl_compile.specs.Posed.{posed}
 use Rattle.sopl_compile.proofs.Additions.{chances_appended, next_item, to_add_more}

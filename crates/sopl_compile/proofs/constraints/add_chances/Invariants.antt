@@ -1,8 +1,8 @@
 use Rattle.std.proofs.Common.{drop, map}
 use Rattle.sopl_ast.specs.References.{now_of}
-use Rattle.instantiation.specs.Whole.{chance_terms}
-use Rattle.program_rules.specs.Problems.{ChanceTerms}
-use Rattle.program_sizes.specs.Measured.{constraint_subterms}
+use Rattle.compile_laws.specs.Whole.{chance_terms}
+use Rattle.term_problem.specs.Problems.{ChanceTerms}
+use Rattle.compile_laws.specs.Measured.{constraint_subterms}
 use Rattle.sopl_compile.specs.Adding.{with_chances}
 use Rattle.sopl_compile.specs.Posed.{posed}
 use Rattle.sopl_compile.proofs.Additions.{AreToAdd}

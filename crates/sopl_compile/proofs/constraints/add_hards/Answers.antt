@@ -1,9 +1,9 @@
 use Rattle.std.proofs.Common.{rules, ◌<◌, ◌+◌, length, map, drop}
 use Rattle.std.proofs.lemmas.Result.{err_from_is_err_and}
 use Rattle.sopl_ast.specs.References.{now_of}
-use Rattle.instantiation.specs.Whole.{hard_terms}
-use Rattle.program_sizes.specs.Measured.{constraint_subterms}
-use Rattle.scene_terms.specs.Scenes.{root_in}
+use Rattle.compile_laws.specs.Whole.{hard_terms}
+use Rattle.compile_laws.specs.Measured.{constraint_subterms}
+use Rattle.compile_scene.specs.Scenes.{root_in}
 use Rattle.sopl_compile.specs.Adding.{with_hards}
 use Rattle.sopl_compile.specs.Posed.{posed}
 use Rattle.sopl_compile.proofs.Additions.{hards_appended, next_item, to_add_more}

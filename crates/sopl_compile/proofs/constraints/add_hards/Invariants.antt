@@ -1,7 +1,7 @@
 use Rattle.std.proofs.Common.{drop, map}
 use Rattle.sopl_ast.specs.References.{now_of}
-use Rattle.instantiation.specs.Whole.{hard_terms}
-use Rattle.program_sizes.specs.Measured.{constraint_subterms}
+use Rattle.compile_laws.specs.Whole.{hard_terms}
+use Rattle.compile_laws.specs.Measured.{constraint_subterms}
 use Rattle.sopl_compile.specs.Adding.{with_hards}
 use Rattle.sopl_compile.specs.Posed.{posed}
 use Rattle.sopl_compile.proofs.Additions.{AreToAdd}

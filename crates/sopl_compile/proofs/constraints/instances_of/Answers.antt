@@ -2,10 +2,10 @@ use Rattle.std.proofs.Common.{List, map, subst, IfOk}
 use Rattle.std.specs.declared.alloc.Global.{Global}
 use Rattle.std.specs.declared.vec.Vec.{Vec}
 use Rattle.sopl_ast.specs.References.{now_of}
-use Rattle.box_rules.specs.Terms.{Cond}
-use Rattle.program_sizes.specs.Measured.{Measures, constraint_subterms}
-use Rattle.scene_terms.specs.Scenes.{root_in}
-use Rattle.scene_terms.specs.Works.{things_of}
+use Rattle.term_language.specs.Terms.{Cond}
+use Rattle.compile_laws.specs.Measured.{Measures, constraint_subterms}
+use Rattle.compile_scene.specs.Scenes.{root_in}
+use Rattle.compile_scene.specs.Works.{things_of}
 use Rattle.sopl_compile.specs.Listed.{AreListed}
 use Rattle.sopl_term.specs.Built.{cond_ids}
 use Rattle.term_nodes.specs.Things.{cond_in}

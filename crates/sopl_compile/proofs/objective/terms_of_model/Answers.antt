@@ -2,11 +2,11 @@ use Rattle.std.proofs.Common.{List, ap, sym, subst, option_map, IfOk}
 use Rattle.std.specs.List.{flat_map}
 use Rattle.std.specs.declared.alloc.Global.{Global}
 use Rattle.std.specs.declared.vec.Vec.{Vec}
-use Rattle.box_rules.specs.Terms.{Term}
-use Rattle.program_sizes.specs.Measured.{Measures, first_large}
-use Rattle.program_sizes.specs.Subterms.{subterms}
-use Rattle.scene_terms.specs.Scenes.{root_in}
-use Rattle.scene_terms.specs.Works.{things_of}
+use Rattle.term_language.specs.Terms.{Term}
+use Rattle.compile_laws.specs.Measured.{Measures, first_large}
+use Rattle.compile_laws.specs.Subterms.{subterms}
+use Rattle.compile_scene.specs.Scenes.{root_in}
+use Rattle.compile_scene.specs.Works.{things_of}
 use Rattle.sopl_ast.specs.Unfolding.{problem_of}
 use Rattle.sopl_ast.specs.WholeModel.{goal_tree, whole}
 use Rattle.sopl_compile.specs.Listed.{AreListed}

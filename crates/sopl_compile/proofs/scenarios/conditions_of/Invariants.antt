@@ -1,8 +1,8 @@
 -- The scenarios so far have their conditions.
 use Rattle.std.proofs.Common.{drop, map}
 use Rattle.std.specs.List.{range_with_len}
-use Rattle.program_sizes.specs.Subterms.{condition_subterms}
-use Rattle.scenario_tree.specs.Layout.{count_in}
+use Rattle.compile_laws.specs.Subterms.{condition_subterms}
+use Rattle.sopl_scen.specs.Layout.{count_in}
 use Rattle.sopl_compile.specs.Listed.{condition_at, conditions_in}
 use Rattle.sopl_term.specs.Built.{cond_ids}
 use Rattle.term_nodes.specs.Things.{cond_in}

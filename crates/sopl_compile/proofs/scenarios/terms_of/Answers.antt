@@ -1,8 +1,8 @@
 use Rattle.std.proofs.Common.{rules, ◌∙◌, refl, ap, ◌<◌, ◌≤◌, [], ◌∷◌}
 use Rattle.std.proofs.lemmas.List.{map-append}
 use Rattle.std.proofs.lemmas.Result.{err_from_is_err_and}
-use Rattle.program_sizes.specs.Subterms.{subterms}
-use Rattle.scenario_tree.specs.Layout.{count_in}
+use Rattle.compile_laws.specs.Subterms.{subterms}
+use Rattle.sopl_scen.specs.Layout.{count_in}
 use Rattle.sopl_compile.specs.Listed.{expression_at}
 use Rattle.sopl_term.specs.Built.{term_ids}
 use Rattle.term_nodes.specs.Things.{a_term, term_in}

@@ -25,25 +25,25 @@ new-requires-clause-few_cells c =
 pub new-requires-clause-first : goal.new-requires-clause-first
 new-requires-clause-first c =
     subst (λ (list : List ℤ). 1 ≤ length list)
-    (sym (weights_own (problem_of (whole c.args.ground.now.typed.model)) c.args.setting.now c.requires.laid c.requires.setting c.as_slice-2.result.now
+    (sym (weights_own (problem_of (whole c.args.ground.now.typed.model)) c.args.setting.now c.requires.laid_out c.requires.setting c.as_slice-2.result.now
     (c.as_slice-2.ensures.value ∙ c.in_ok-weights.ensures.weights)))
     (some_weight (whole c.args.ground.now.typed.model) c.args.ground.now.typed.origin c.args.ground.now.unfolded.passes)
 
 pub new-requires-clause-few_scenarios : goal.new-requires-clause-few_scenarios
 new-requires-clause-few_scenarios c =
-    weights_few (problem_of (whole c.args.ground.now.typed.model)) c.args.setting.now c.requires.laid c.requires.setting c.as_slice-2.result.now
+    weights_few (problem_of (whole c.args.ground.now.typed.model)) c.args.setting.now c.requires.laid_out c.requires.setting c.as_slice-2.result.now
     (c.as_slice-2.ensures.value ∙ c.in_ok-weights.ensures.weights) (few_scenarios (problem_of (whole c.args.ground.now.typed.model)) c.requires.within)
 
 pub new-requires-clause-weighs : goal.new-requires-clause-weighs
 new-requires-clause-weighs c =
     subst (λ (list : List ℤ). AllByRecursion (λ weight. pos 1 ≤ℤ weight) list)
-    (sym (weights_own (problem_of (whole c.args.ground.now.typed.model)) c.args.setting.now c.requires.laid c.requires.setting c.as_slice-2.result.now
+    (sym (weights_own (problem_of (whole c.args.ground.now.typed.model)) c.args.setting.now c.requires.laid_out c.requires.setting c.as_slice-2.result.now
     (c.as_slice-2.ensures.value ∙ c.in_ok-weights.ensures.weights)))
     (weights_weigh (whole c.args.ground.now.typed.model) c.args.ground.now.typed.origin c.args.ground.now.unfolded.passes)
 
 pub new-requires-clause-light : goal.new-requires-clause-light
 new-requires-clause-light c =
-    weights_light (problem_of (whole c.args.ground.now.typed.model)) c.args.setting.now c.requires.laid c.requires.setting c.as_slice-2.result.now
+    weights_light (problem_of (whole c.args.ground.now.typed.model)) c.args.setting.now c.requires.laid_out c.requires.setting c.as_slice-2.result.now
     (c.as_slice-2.ensures.value ∙ c.in_ok-weights.ensures.weights)
     (whole_is (whole c.args.ground.now.typed.model) c.args.ground.now.typed.origin c.args.ground.now.unfolded.passes)
     (light (problem_of (whole c.args.ground.now.typed.model)) c.requires.within)
@@ -52,5 +52,5 @@ pub returns-clause-problem : goal.returns-clause-problem
 returns-clause-problem c =
     ap problem_built c.new-2.ensures.builder
     ∙ (c.in_ok-builder.ensures.problem
-    ∙ bare_is (problem_of (whole c.args.ground.now.typed.model)) c.args.setting.now c.requires.laid c.requires.setting c.as_slice-2.result.now
+    ∙ bare_is (problem_of (whole c.args.ground.now.typed.model)) c.args.setting.now c.requires.laid_out c.requires.setting c.as_slice-2.result.now
     (c.as_slice-2.ensures.value ∙ c.in_ok-weights.ensures.weights) (whole_is (whole c.args.ground.now.typed.model) c.args.ground.now.typed.origin c.args.ground.now.unfolded.passes))

@@ -1,12 +1,12 @@
 use Rattle.std.proofs.Common.{◌≡◌, ◌∙◌, List, map, ap, subst, None}
 use Rattle.std.proofs.lemmas.Result.{err_from_is_err_and}
 use Rattle.std.specs.List.{flat_map}
-use Rattle.box_rules.specs.Terms.{Cond, Term}
-use Rattle.instantiation.specs.Whole.{problem_terms}
-use Rattle.program_rules.specs.Problems.{ChanceTerms, ProblemTerms}
-use Rattle.program_sizes.specs.Measured.{IsSizeFault, Measures, constraint_subterms, first_large}
-use Rattle.program_sizes.specs.Subterms.{subterms}
-use Rattle.scene_terms.specs.Scenes.{root_in}
+use Rattle.term_language.specs.Terms.{Cond, Term}
+use Rattle.compile_laws.specs.Whole.{problem_terms}
+use Rattle.term_problem.specs.Problems.{ChanceTerms, ProblemTerms}
+use Rattle.compile_laws.specs.Measured.{IsSizeFault, Measures, constraint_subterms, first_large}
+use Rattle.compile_laws.specs.Subterms.{subterms}
+use Rattle.compile_scene.specs.Scenes.{root_in}
 use Rattle.sopl_ast.specs.References.{now_of}
 use Rattle.sopl_ast.specs.Unfolding.{problem_of}
 use Rattle.sopl_ast.specs.WholeModel.{whole}

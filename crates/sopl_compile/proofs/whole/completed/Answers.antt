@@ -1,6 +1,6 @@
 use Rattle.std.proofs.Common.{List, sym, subst}
-use Rattle.scene_terms.specs.Scenes.{root_in}
-use Rattle.scene_terms.specs.Works.{things_of}
+use Rattle.compile_scene.specs.Scenes.{root_in}
+use Rattle.compile_scene.specs.Works.{things_of}
 use Rattle.sopl_ast.specs.Unfolding.{problem_of}
 use Rattle.sopl_ast.specs.Whole.{ModelTree}
 use Rattle.sopl_ast.specs.WholeModel.{whole}

@@ -1,7 +1,7 @@
 use Rattle.std.proofs.Common.{◌≡◌, ◌∙◌, ap, subst, None, IfErr, IfOk}
 use Rattle.box_problem.specs.Box.{Box}
-use Rattle.instantiation.specs.Whole.{problem_terms}
-use Rattle.program_sizes.specs.Measured.{measured_excess}
+use Rattle.compile_laws.specs.Whole.{problem_terms}
+use Rattle.compile_laws.specs.Measured.{measured_excess}
 use Rattle.sopl_ast.specs.Unfolding.{problem_of}
 use Rattle.sopl_ast.specs.WholeModel.{whole}
 use Rattle.sopl_compile.specs.Posed.{IsSettingOf}

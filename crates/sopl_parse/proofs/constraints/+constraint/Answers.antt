@@ -1,7 +1,7 @@
 -- What follows is read as the chain of its items is.
 use Rattle.std.proofs.Common.{false, arith, rules}
-use Rattle.sopl_grammar.specs.Phrases as phrase
-use Rattle.sopl_grammar.specs.Phrases.{way}
+use Rattle.parse_grammar.specs.Phrases as phrase
+use Rattle.parse_grammar.specs.Phrases.{way}
 use Rattle.sopl_parse.proofs.constraints.+constraint.Goals as goal
 
 pub constraints-returns : goal.constraints-returns

@@ -1,5 +1,5 @@
 use Rattle.sopl_ast.specs.WholeModel.{whole}
-use Rattle.sopl_scen.proofs.Stated.{ground_stated}
+use Rattle.sopl_scen.proofs.GroundStated.{ground_stated}
 use Rattle.sopl_scen.proofs.grounded.scenarios.Goals as goal
 
 pub of-requires : goal.of-requires

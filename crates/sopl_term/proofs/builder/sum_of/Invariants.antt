@@ -1,5 +1,5 @@
 use Rattle.std.proofs.Common.{◌≡◌, drop}
-use Rattle.box_rules.specs.Globals.{total}
+use Rattle.term_language.specs.Globals.{total}
 use Rattle.sopl_term.proofs.builder.sum_of.Given as goal
 
 abbrev pub invariant-loop-i : goal.invariant-loop-i

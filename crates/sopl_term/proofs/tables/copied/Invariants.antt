@@ -1,5 +1,5 @@
 use Rattle.std.proofs.Common.{◌≡◌, ◌++◌, map, drop, List, ℤ}
-use Rattle.term_tables.specs.Kept.{sets_of}
+use Rattle.term_math.specs.Kept.{sets_of}
 use Rattle.sopl_term.proofs.tables.copied.Given as goal
 
 abbrev pub invariant-loop-set : goal.invariant-loop-set

@@ -1,7 +1,7 @@
 use Rattle.std.proofs.Common.{◌≡◌, drop}
 use Rattle.std.specs.List.{flat_map}
-use Rattle.term_tables.specs.Kept.{items_of}
-use Rattle.cell_mentions.specs.Mentions.{item_mentions}
+use Rattle.term_math.specs.Kept.{items_of}
+use Rattle.term_language.specs.Mentions.{item_mentions}
 use Rattle.term_cells.specs.Cells.{with_cells}
 use Rattle.term_cells.proofs.elements.put_elements.Given as goal
 

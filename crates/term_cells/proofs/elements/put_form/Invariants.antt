@@ -1,5 +1,5 @@
 use Rattle.std.proofs.Common.{◌≡◌, drop}
-use Rattle.term_rules.specs.Shown.{cells_of}
+use Rattle.term_math.specs.Shown.{cells_of}
 use Rattle.term_cells.specs.Cells.{form_cells, with_cells}
 use Rattle.term_cells.proofs.elements.put_form.Given as goal
 

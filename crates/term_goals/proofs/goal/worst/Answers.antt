@@ -1,5 +1,5 @@
 use Rattle.std.proofs.Common.{arith, ◌<◌, length, ◌∙◌}
-use Rattle.term_rules.specs.Shown.{box_in, ends_of}
+use Rattle.term_math.specs.Shown.{box_in, ends_of}
 use Rattle.term_nodes.specs.Things.{things}
 use Rattle.term_nodes.proofs.Steps.{cond_back}
 use Rattle.term_goals.proofs.Summing.{worst_back, no_worst, some_there, worst_first, all_worst}

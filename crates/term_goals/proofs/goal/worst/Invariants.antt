@@ -1,6 +1,6 @@
 use Rattle.std.proofs.Common.{◌≡◌, drop}
-use Rattle.program_rules.specs.Objective.{worst_ends}
-use Rattle.term_rules.specs.Shown.{box_in, ends_of}
+use Rattle.term_problem.specs.Objective.{worst_ends}
+use Rattle.term_math.specs.Shown.{box_in, ends_of}
 use Rattle.term_nodes.specs.Things.{things}
 use Rattle.term_goals.specs.Goals.{terms_of}
 use Rattle.term_goals.proofs.goal.worst.Given as goal

@@ -1,8 +1,8 @@
 use Rattle.std.proofs.Common.{rules, arith, ◌≡◌, ℕ, ◌*◌, ◌<◌, ◌^◌, ℤ, ◌*ℤ◌, false, unsigned_abs, List, OnOk, get_or, ap, subst, sym, ◌∙◌}
 use Rattle.std.proofs.lemmas.List.{get_or_default}
-use Rattle.box_rules.specs.Ends as ends
-use Rattle.box_rules.specs.Sizes.{atoms_weight, sum_weight}
-use Rattle.term_rules.specs.Shown.{box_in}
+use Rattle.term_language.specs.Ends as ends
+use Rattle.term_language.specs.Sizes.{atoms_weight, sum_weight}
+use Rattle.term_math.specs.Shown.{box_in}
 use Rattle.term_nodes.specs.declared.nodes.Node.TheVariants as node
 use Rattle.term_nodes.specs.declared.nodes.Signed.{Signed}
 use Rattle.term_nodes.specs.Built.{PartsBelow}

@@ -1,9 +1,9 @@
 use Rattle.std.proofs.Common.{◌≡◌, ◌+◌, ◌*◌, ◌<◌, ◌≤◌, ◌^◌, unsigned_abs, drop, length}
 use Rattle.box_problem.specs.Box.{Box}
-use Rattle.box_rules.specs.Ends as ends
-use Rattle.box_rules.specs.Rules.{Near, atoms, sum_atoms}
-use Rattle.box_rules.specs.Sizes.{atoms_weight}
-use Rattle.term_rules.specs.Shown.{box_in}
+use Rattle.term_language.specs.Ends as ends
+use Rattle.term_language.specs.Rules.{Near, atoms, sum_atoms}
+use Rattle.term_language.specs.Sizes.{atoms_weight}
+use Rattle.term_math.specs.Shown.{box_in}
 use Rattle.term_nodes.specs.Things.{parts_at, term_at, things}
 use Rattle.term_goals.specs.Goals.{Listed}
 use Rattle.term_goals.proofs.listing.+list.Given as goal

@@ -1,5 +1,5 @@
 use Rattle.std.proofs.Common.{drop, length}
-use Rattle.term_rules.specs.Shown.{box_in}
+use Rattle.term_math.specs.Shown.{box_in}
 use Rattle.term_nodes.specs.Things.{things}
 use Rattle.term_goals.specs.Goals.{Listed, atoms_ends}
 use Rattle.term_goals.proofs.listing.add_atoms.Given as goal

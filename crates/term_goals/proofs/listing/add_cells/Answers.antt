@@ -1,6 +1,6 @@
 use Rattle.std.proofs.Common.{get_or, refl, pos}
-use Rattle.term_rules.specs.declared.combinations.WideCoefficient.{WideCoefficient}
-use Rattle.term_rules.specs.Shown.{box_in}
+use Rattle.term_math.specs.declared.combinations.WideCoefficient.{WideCoefficient}
+use Rattle.term_math.specs.Shown.{box_in}
 use Rattle.term_nodes.specs.Things.{things}
 use Rattle.term_goals.specs.Goals.{listed_ends}
 use Rattle.term_goals.proofs.Cells.{cell_exists, cell_skip, cell_step, cells_done}

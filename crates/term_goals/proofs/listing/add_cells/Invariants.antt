@@ -1,7 +1,7 @@
 use Rattle.std.proofs.Common.{drop, length}
-use Rattle.box_rules.specs.Forms.{cells_ends}
-use Rattle.term_rules.specs.Shown.{box_in}
-use Rattle.term_rules.specs.Sums.{wide_cells}
+use Rattle.term_language.specs.Forms.{cells_ends}
+use Rattle.term_math.specs.Shown.{box_in}
+use Rattle.term_math.specs.Sums.{wide_cells}
 use Rattle.term_nodes.specs.Things.{things}
 use Rattle.term_goals.specs.Goals.{Listed}
 use Rattle.term_goals.proofs.listing.add_cells.Given as goal

@@ -1,5 +1,5 @@
 use Rattle.std.proofs.Common.{length, refl}
-use Rattle.term_rules.specs.Shown.{box_in}
+use Rattle.term_math.specs.Shown.{box_in}
 use Rattle.term_nodes.specs.Things.{things}
 use Rattle.term_goals.proofs.Growing.{atom_exists, leaf_added}
 use Rattle.term_goals.proofs.listing.add_leaf.Goals as goal

@@ -1,6 +1,6 @@
 use Rattle.std.proofs.Common.{◌<◌, ◌^◌, ℤ, ◌*ℤ◌, unsigned_abs, ap, subst, sym, ◌∙◌}
-use Rattle.box_rules.specs.Forms.{Form, is_constant}
-use Rattle.term_rules.specs.Shown.{box_in}
+use Rattle.term_language.specs.Forms.{Form, is_constant}
+use Rattle.term_math.specs.Shown.{box_in}
 use Rattle.term_nodes.specs.Things.{term_at, things}
 use Rattle.term_goals.specs.declared.sums.Atom.{Atom}
 use Rattle.term_goals.proofs.Growing.{left_room, right_room}

@@ -1,6 +1,6 @@
 use Rattle.std.proofs.Common.{◌≡◌, drop}
-use Rattle.program_rules.specs.Objective.{greatest_size}
-use Rattle.term_rules.specs.Shown.{box_in}
+use Rattle.term_problem.specs.Objective.{greatest_size}
+use Rattle.term_math.specs.Shown.{box_in}
 use Rattle.term_nodes.specs.Things.{things}
 use Rattle.term_goals.specs.Goals.{terms_of}
 use Rattle.term_goals.proofs.sizes.greatest_size.Given as goal

@@ -1,5 +1,5 @@
 use Rattle.std.proofs.Common.{arith}
-use Rattle.term_rules.specs.Shown.{box_in}
+use Rattle.term_math.specs.Shown.{box_in}
 use Rattle.term_goals.proofs.Weights.{greatest_small}
 use Rattle.term_goals.proofs.sizes.measured.Goals as goal
 

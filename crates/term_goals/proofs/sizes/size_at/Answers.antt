@@ -1,6 +1,6 @@
 use Rattle.std.proofs.Common.{arith, ◌∙◌}
-use Rattle.term_rules.specs.Shown.{box_in}
-use Rattle.term_rules.specs.Sums.{wide_form}
+use Rattle.term_math.specs.Shown.{box_in}
+use Rattle.term_math.specs.Sums.{wide_form}
 use Rattle.term_nodes.proofs.Ready.{small_term}
 use Rattle.term_goals.proofs.Summing.{size_room, size_of_term}
 use Rattle.term_goals.proofs.sizes.size_at.Goals as goal

@@ -1,5 +1,5 @@
 use Rattle.std.proofs.Common.{◌≡◌, drop}
-use Rattle.term_rules.specs.Shown.{box_in}
+use Rattle.term_math.specs.Shown.{box_in}
 use Rattle.term_nodes.specs.Things.{things}
 use Rattle.term_goals.specs.Wide.{wide_ends}
 use Rattle.term_goals.specs.Goals.{atoms_ends}

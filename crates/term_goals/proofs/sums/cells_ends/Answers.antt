@@ -1,5 +1,5 @@
 use Rattle.std.proofs.Common.{pos}
-use Rattle.term_rules.specs.declared.combinations.WideCoefficient.{WideCoefficient}
+use Rattle.term_math.specs.declared.combinations.WideCoefficient.{WideCoefficient}
 use Rattle.term_goals.specs.Wide.{wide_ends}
 use Rattle.term_goals.proofs.Steps.{times_cell_fit, cells_fit}
 use Rattle.term_goals.proofs.sums.cells_ends.Goals as goal

@@ -1,7 +1,7 @@
 use Rattle.std.proofs.Common.{◌≡◌, drop}
-use Rattle.box_rules.specs.Forms.{cells_ends}
-use Rattle.term_rules.specs.Shown.{box_in}
-use Rattle.term_rules.specs.Sums.{wide_cells}
+use Rattle.term_language.specs.Forms.{cells_ends}
+use Rattle.term_math.specs.Shown.{box_in}
+use Rattle.term_math.specs.Sums.{wide_cells}
 use Rattle.term_goals.specs.Wide.{wide_ends}
 use Rattle.term_goals.proofs.sums.cells_ends.Given as goal
 

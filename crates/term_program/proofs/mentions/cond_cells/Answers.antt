@@ -1,4 +1,4 @@
-use Rattle.term_rules.specs.Shown.{box_in}
+use Rattle.term_math.specs.Shown.{box_in}
 use Rattle.term_nodes.specs.Things.{things}
 use Rattle.term_program.specs.Drafts.{draft_root, draft_things}
 use Rattle.term_program.proofs.Lists.{cond_listed}

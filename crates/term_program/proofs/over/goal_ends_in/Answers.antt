@@ -1,7 +1,7 @@
 use Rattle.std.proofs.Common.{rules, subst, sym}
 use Rattle.box_problem.specs.Box.{Box, Inside}
-use Rattle.term_rules.specs.Shown.{IsPart, box_under}
-use Rattle.term_rules.proofs.Inner.{part_inside}
+use Rattle.term_math.specs.Shown.{IsPart, box_under}
+use Rattle.term_math.proofs.Inner.{part_inside}
 use Rattle.term_program.specs.Programs.{root_in}
 use Rattle.term_program.proofs.over.goal_ends_in.Goals as goal
 

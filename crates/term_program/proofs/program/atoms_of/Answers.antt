@@ -1,5 +1,5 @@
 use Rattle.std.proofs.Common.{◌∙◌, ap, length, subst, sym}
-use Rattle.term_rules.specs.Shown.{box_in}
+use Rattle.term_math.specs.Shown.{box_in}
 use Rattle.term_nodes.specs.Things.{Thing, things}
 use Rattle.term_nodes.proofs.Reading.{length_things}
 use Rattle.term_goals.specs.Goals.{AtomsExist}

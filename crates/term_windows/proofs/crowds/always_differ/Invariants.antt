@@ -1,5 +1,5 @@
 use Rattle.std.proofs.Common.{◌≡◌, length}
-use Rattle.box_rules.specs.Globals.{always_differ}
+use Rattle.term_language.specs.Globals.{always_differ}
 use Rattle.term_windows.specs.Windows.{spans}
 use Rattle.term_windows.proofs.crowds.always_differ.Given as goal
 

@@ -1,7 +1,7 @@
 use Rattle.std.proofs.Common.{◌≡◌, drop}
 use Rattle.std.specs.List.{list_all}
-use Rattle.box_rules.specs.Globals.{are_apart}
-use Rattle.term_rules.specs.Shown.{ends_of}
+use Rattle.term_language.specs.Globals.{are_apart}
+use Rattle.term_math.specs.Shown.{ends_of}
 use Rattle.term_windows.specs.Windows.{spans}
 use Rattle.term_windows.proofs.crowds.apart_from.Given as goal
 

@@ -1,6 +1,6 @@
 use Rattle.std.proofs.Common.{arith, sym}
 use Rattle.std.proofs.lemmas.Int.{ints}
-use Rattle.term_rules.specs.Shown.{ends_of}
+use Rattle.term_math.specs.Shown.{ends_of}
 use Rattle.term_windows.specs.Tasks.{task_spans}
 use Rattle.term_windows.proofs.TaskSlices.{first_most, is_there, most_asked_nonneg, next_most, no_most, task_at}
 use Rattle.term_windows.proofs.fits.enough_at.Goals as goal

@@ -1,6 +1,6 @@
 use Rattle.std.proofs.Common.{arith, sym}
 use Rattle.std.proofs.lemmas.Int.{ints}
-use Rattle.term_rules.specs.Shown.{ends_of}
+use Rattle.term_math.specs.Shown.{ends_of}
 use Rattle.term_windows.proofs.TaskSlices.{is_there, next_room, no_room, task_at}
 use Rattle.term_windows.proofs.fits.overfull_at.Goals as goal
 

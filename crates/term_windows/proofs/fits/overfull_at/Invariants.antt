@@ -1,5 +1,5 @@
 use Rattle.std.proofs.Common.{drop}
-use Rattle.box_rules.specs.Globals.{least_asked}
+use Rattle.term_language.specs.Globals.{least_asked}
 use Rattle.term_windows.specs.Tasks.{task_spans}
 use Rattle.term_windows.proofs.Fitting.{HasRoom}
 use Rattle.term_windows.proofs.fits.overfull_at.Given as goal

@@ -1,5 +1,5 @@
 use Rattle.std.proofs.Common.{◌≡◌, drop}
-use Rattle.term_rules.specs.Shown.{ends_of}
+use Rattle.term_math.specs.Shown.{ends_of}
 use Rattle.term_windows.specs.Tasks.{some_overfull, task_spans}
 use Rattle.term_windows.proofs.fits.some_overfull.Given as goal
 

@@ -1,6 +1,6 @@
 use Rattle.std.proofs.Common.{pos}
 use Rattle.sopl_ast.specs.Constants.{value, value_or_zero}
-use Rattle.sopl_ast.specs.Occurrences.{constant_place}
+use Rattle.sopl_ast.specs.UnfoldEvents.{constant_place}
 use Rattle.unfold_constants.specs.Here.{known_in}
 use Rattle.unfold_declarations.proofs.Values.{reached_so, worth_is}
 use Rattle.unfold_declarations.proofs.calls.constant_at.Goals as goal

@@ -1,5 +1,5 @@
 use Rattle.std.proofs.Common.{[], ◌∷◌}
-use Rattle.sopl_ast.specs.Occurrences.{Counted}
+use Rattle.sopl_ast.specs.UnfoldEvents.{Counted}
 use Rattle.unfold_declarations.proofs.Values.{reached_so, counted_so}
 use Rattle.unfold_declarations.proofs.calls.count_one.Goals as goal
 

@@ -26,9 +26,9 @@ decreases-bracket l = 3 * weight_inits (inits (map init_tree l.parts.now)) + 1
 abbrev pub invariant-parts_in-parts : goal.invariant-parts_in-parts
 invariant-parts_in-parts l = record {
   walked :
-      spec.parts_in (known_in l.front.known) (option_map (λ (n : Bor (List ℕ)). n.now) l.first.name) (dimensions_in l.later.dimensions.now) (shown l.left) l.front.index.items
+      spec.parts_in (known_in l.prefix.known) (option_map (λ (n : Bor (List ℕ)). n.now) l.first.name) (dimensions_in l.later.dimensions.now) (shown l.left) l.prefix.index.items
       (inits (map init_tree (drop l.x-index l.parts))) (elements_in l.found) l.count.counted
-      ≡ spec.parts_in (known_in l.front.known) (option_map (λ (n : Bor (List ℕ)). n.now) l.first.name) (dimensions_in l.later.dimensions.now) (shown l.first.numbers) l.front.index.items
+      ≡ spec.parts_in (known_in l.prefix.known) (option_map (λ (n : Bor (List ℕ)). n.now) l.first.name) (dimensions_in l.later.dimensions.now) (shown l.first.numbers) l.prefix.index.items
       (inits (map init_tree l.parts)) (elements_in l.fn.found) l.fn.count.counted;
   hollow : l.later.hollow ≡ true → (nat_eq 0 (length (shown l.left)) || any_empty (dimensions_in l.later.dimensions.now)) ≡ true;
 }

@@ -1,7 +1,7 @@
 use Rattle.std.proofs.Common.{rules, ◌<◌, ◌≤◌, length}
 use Rattle.std.proofs.lemmas.Result.{err_from_is_err_and}
 use Rattle.unfold_tables.specs.Tables.{elements_in}
-use Rattle.unfold_declarations.specs.Shown.{dimensions_open, front_in}
+use Rattle.unfold_declarations.specs.Shown.{dimensions_open, prefix_in}
 use Rattle.unfold_declarations.proofs.Filling.{filled, by_dimension}
 use Rattle.unfold_declarations.proofs.Walking.{leads_inside, fails_inside, turns_open}
 use Rattle.unfold_declarations.proofs.elements.enter.Goals as goal
@@ -11,14 +11,14 @@ returns-in_err-add_entry-clause-leads c =
     let p = err_from_is_err_and c.from_residual.result c.from_residual.ensures.1 in
     let past : length c.args.left.now ≤ c.depth.result = search rules in
     rw (p.1, p.2)
-    (fails_inside (filled c.args.e.now) (by_dimension c.args.e.now) c.args.left.now (front_in c.args.walk.now.front) (dimensions_open c.args.walk.now) c.depth.result
+    (fails_inside (filled c.args.e.now) (by_dimension c.args.e.now) c.args.left.now (prefix_in c.args.walk.now.prefix) (dimensions_open c.args.walk.now) c.depth.result
     (elements_in c.args.found.now) c.args.count.now.counted c.in_err-add_entry.field-0.0 c.depth.ensures past c.in_err-add_entry.ensures)
 
 pub returns-clause-leads : goal.returns-clause-leads
 returns-clause-leads c =
     let below : c.depth.result < length c.args.left.now = search rules in
-    leads_inside (filled c.args.e.now) (by_dimension c.args.e.now) c.args.left.now (front_in c.args.walk.now.front) _ (dimensions_open c.args.walk.now) _ c.depth.result
-    c.in-Some.dimension.now (elements_in c.args.found.now) c.args.count.now.counted c.depth.ensures below c.in-Some.ensures.lookup.1 c.in_ok-begin.ensures.front c.in_ok-begin.ensures.kept
+    leads_inside (filled c.args.e.now) (by_dimension c.args.e.now) c.args.left.now (prefix_in c.args.walk.now.prefix) _ (dimensions_open c.args.walk.now) _ c.depth.result
+    c.in-Some.dimension.now (elements_in c.args.found.now) c.args.count.now.counted c.depth.ensures below c.in-Some.ensures.lookup.1 c.in_ok-begin.ensures.prefix c.in_ok-begin.ensures.kept
 
 pub returns-clause-turns : goal.returns-clause-turns
 returns-clause-turns c =

@@ -1,6 +1,6 @@
 use Rattle.std.proofs.Common.{rules, pos, w64, SFits, slice_index_or}
 use Rattle.std.proofs.lemmas.Int.{to_z-of_z}
-use Rattle.unfold_tables.proofs.Fronts.{first_task}
+use Rattle.unfold_tables.proofs.Prefixes.{first_task}
 use Rattle.unfold_tables.proofs.tasks.next_task.Goals as goal
 
 pub returns-in-len3-up-clause-some : goal.returns-in-len3-up-clause-some

@@ -1,5 +1,5 @@
 use Rattle.sopl_ast.specs.Numbers.{count_between}
-use Rattle.sopl_ast.specs.Occurrences.{too_many}
+use Rattle.sopl_ast.specs.UnfoldEvents.{too_many}
 use Rattle.unfold_declarations.proofs.Values.{reached_so, counted_so}
 use Rattle.unfold_variables.proofs.calls.checked_values.Goals as goal
 

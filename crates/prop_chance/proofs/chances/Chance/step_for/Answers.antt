@@ -1,5 +1,5 @@
 use Rattle.std.proofs.Common.{◌∙◌, ap, sym}
-use Rattle.chance_sums.specs.Sums.{touched_by}
+use Rattle.prop_shave.specs.ChanceSums.{touched_by}
 use Rattle.term_program.specs.Programs.{problem_in, root_in}
 use Rattle.prop_chance.specs.Chances.{numbers_in}
 use Rattle.prop_chance.proofs.Conditions.{list_at}
@@ -7,7 +7,7 @@ use Rattle.prop_chance.proofs.chances.Chance.step_for.Goals as goal
 
 pub step_at-requires-clause-asked : goal.step_at-requires-clause-asked
 step_at-requires-clause-asked c =
-    let touched = touched_by (root_in c.args.question.now.program.now) (problem_in c.args.question.now.program.now) c.args.self.now.instance in
+    let touched = touched_by (root_in c.args.probe.now.program.now) (problem_in c.args.probe.now.program.now) c.args.self.now.instance in
     record {
       made = c.requires.asked.made;
       inside = c.requires.asked.inside;

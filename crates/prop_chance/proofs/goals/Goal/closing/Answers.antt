@@ -1,6 +1,6 @@
 use Rattle.std.proofs.Common.{◌∙◌, ◌≤◌, arith, rules, sym}
 use Rattle.sopl_base.specs.declared.reason.Reason.TheVariants.{Bound, Undefined}
-use Rattle.program_laws.specs.Stated.{box_problem_of}
+use Rattle.term_program.specs.Stated.{box_problem_of}
 use Rattle.prop_chance.specs.Goals.{IsOpenTo, reasons_of}
 use Rattle.prop_chance.proofs.Objectives.{all_and_last, closed_by, has_last, has_scenario, one_before, open_to}
 use Rattle.prop_chance.proofs.goals.Goal.closing.Goals as goal

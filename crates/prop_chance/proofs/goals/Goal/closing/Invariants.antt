@@ -1,7 +1,7 @@
 use Rattle.std.proofs.Common.{map}
 use Rattle.std.specs.List.{All, range_with_len}
 use Rattle.sopl_base.specs.declared.reason.Reason.TheVariants.{Undefined}
-use Rattle.program_laws.specs.Stated.{box_problem_of}
+use Rattle.term_program.specs.Stated.{box_problem_of}
 use Rattle.prop_chance.specs.Goals.{IsOpenTo}
 use Rattle.prop_chance.proofs.goals.Goal.closing.Given as goal
 

@@ -1,20 +1,20 @@
 use Rattle.std.proofs.Common.{◌≤◌, arith, rules, subst, sym, None}
 use Rattle.std.specs.List.{Contains}
 use Rattle.sopl_base.specs.declared.reason.Reason.TheVariants.{Bound, Undefined}
-use Rattle.cell_questions.specs.declared.questions.Question.{Question}
-use Rattle.program_laws.specs.Stated.{box_problem_of}
+use Rattle.prop_shave.specs.declared.probes.Probe.{Probe}
+use Rattle.term_program.specs.Stated.{box_problem_of}
 use Rattle.prop_chance.specs.Goals.{reasons_of}
 use Rattle.prop_chance.proofs.Objectives.{RestsFor, all_and_last, has_last, has_scenario, none_last, one_before, own_last, rest_together, whole_for}
 use Rattle.prop_chance.proofs.goals.Goal.first_step.Goals as goal
 
 pub undefined_step-requires-clause-whole : goal.undefined_step-requires-clause-whole
 undefined_step-requires-clause-whole c =
-    let q : Question = record { program = c.args.program; store = c.args.store; reason = Undefined c.scenarios.scenario; best = c.args.best; weighed = None; counted = None } in
+    let q : Probe = record { program = c.args.program; store = c.args.store; reason = Undefined c.scenarios.scenario; best = c.args.best; weighed = None; counted = None } in
     whole_for q (reasons_of c.args.self.now) c.requires.whole (has_scenario Undefined c.args.self.now.scenarios c.scenarios.scenario Bound c.scenarios-test.true)
 
-pub returns-in-Some-clause-own : goal.returns-in-Some-clause-own
-returns-in-Some-clause-own c =
-    subst (Contains (reasons_of c.args.self.now)) (sym c.in-Some.ensures.own) (has_scenario Undefined c.args.self.now.scenarios c.scenarios.scenario Bound c.scenarios-test.true)
+pub returns-in-Some-clause-own_reason : goal.returns-in-Some-clause-own_reason
+returns-in-Some-clause-own_reason c =
+    subst (Contains (reasons_of c.args.self.now)) (sym c.in-Some.ensures.own_reason) (has_scenario Undefined c.args.self.now.scenarios c.scenarios.scenario Bound c.scenarios-test.true)
 
 pub scenarios-preserved : goal.scenarios-preserved
 scenarios-preserved c =
@@ -22,12 +22,12 @@ scenarios-preserved c =
 
 pub bound_step-requires-clause-whole : goal.bound_step-requires-clause-whole
 bound_step-requires-clause-whole c =
-    let q : Question = record { program = c.args.program; store = c.args.store; reason = Bound; best = c.args.best; weighed = None; counted = None } in
+    let q : Probe = record { program = c.args.program; store = c.args.store; reason = Bound; best = c.args.best; weighed = None; counted = None } in
     whole_for q (reasons_of c.args.self.now) c.requires.whole (has_last Undefined c.args.self.now.scenarios Bound)
 
-pub returns-clause-own : goal.returns-clause-own
-returns-clause-own c =
-    own_last (reasons_of c.args.self.now) Bound c.bound_step.result (has_last Undefined c.args.self.now.scenarios Bound) c.bound_step.ensures.own
+pub returns-clause-own_reason : goal.returns-clause-own_reason
+returns-clause-own_reason c =
+    own_last (reasons_of c.args.self.now) Bound c.bound_step.result (has_last Undefined c.args.self.now.scenarios Bound) c.bound_step.ensures.own_reason
 
 pub returns-clause-none : goal.returns-clause-none
 returns-clause-none c =

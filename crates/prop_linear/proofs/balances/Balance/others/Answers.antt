@@ -3,7 +3,7 @@ use Rattle.prop_linear.proofs.balances.Balance.others.Goals as goal
 
 pub without-requires : goal.without-requires
 without-requires c = record {
-  fits = others_fit c.args.self.now c.args.part.now c.part-own.result c.requires.summed c.requires.own c.part-own.ensures;
+  fits = others_fit c.args.self.now c.args.part.now c.part-own.result c.requires.summed c.requires.own_part c.part-own.ensures;
 }
 
 pub returns : goal.returns

@@ -16,7 +16,7 @@ pub returns-in-Some-clause-finds : goal.returns-in-Some-clause-finds
 returns-in-Some-clause-finds c =
     cut_at c.args.program.now (Hard c.args.self.now.instance c.args.self.now.scenario) c.balance-balance.result.difference c.args._best c.args.store.now.box c.balance-balance.ensures.tells
     c.balance-balance.ensures.seen
-    (inside_root c.args.program.now c.args.store.now.box c.requires.inside) c.reason-reason.result c.in-Some.step c.reason-reason.ensures c.in-Some.ensures.own (sym c.is_closed.ensures
+    (inside_root c.args.program.now c.args.store.now.box c.requires.inside) c.reason-reason.result c.in-Some.step c.reason-reason.ensures c.in-Some.ensures.own_reason (sym c.is_closed.ensures
     ∙ c.if-is_closed.false) c.in-Some.ensures.removes
 
 pub returns-in-None-clause-finds : goal.returns-in-None-clause-finds

@@ -1,4 +1,4 @@
-use Rattle.cell_questions.proofs.Finding.{inside_root}
+use Rattle.prop_shave.proofs.Finding.{inside_root}
 use Rattle.prop_term.proofs.any_term.AnyTermPropagator.revise.Goals as goal
 
 pub found-requires-clause-inside : goal.found-requires-clause-inside

@@ -1,5 +1,5 @@
 use Rattle.std.proofs.Common.{◌≡◌, ◌++◌, map, drop}
-use Rattle.term_tables.specs.Kept.{items_of}
+use Rattle.term_math.specs.Kept.{items_of}
 use Rattle.term_nodes.specs.Things.{thing_at}
 use Rattle.term_program.specs.declared.ids.TermId.{TermId}
 use Rattle.sopl_term.specs.Built.{built, item_of}

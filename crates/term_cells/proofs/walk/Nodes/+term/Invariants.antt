@@ -1,7 +1,7 @@
 use Rattle.std.proofs.Common.{◌≡◌, ◌+◌, ◌*◌, ◌≤◌, drop}
-use Rattle.term_rules.specs.Shown.{box_in}
+use Rattle.term_math.specs.Shown.{box_in}
 use Rattle.term_nodes.specs.Things.{conds_at, parts_at, tasks_at, term_at, terms_at, things}
-use Rattle.cell_mentions.specs.Mentions.{conds_mention, mentions, parts_mention, tasks_mention, terms_mention}
+use Rattle.term_language.specs.Mentions.{conds_mention, mentions, parts_mention, tasks_mention, terms_mention}
 use Rattle.term_cells.specs.Cells.{left_mentions, with_cells}
 use Rattle.term_cells.proofs.walk.Nodes.+term.Given as goal
 

@@ -1,8 +1,8 @@
 use Rattle.std.proofs.Common.{◌≡◌}
 use Rattle.std.proofs.lemmas.Result.{IfOk-weaker}
-use Rattle.term_rules.specs.Shown.{box_in}
+use Rattle.term_math.specs.Shown.{box_in}
 use Rattle.term_nodes.specs.Things.{cond_at, things}
-use Rattle.cell_mentions.specs.Mentions.{cond_mentions}
+use Rattle.term_language.specs.Mentions.{cond_mentions}
 use Rattle.term_cells.proofs.Inserting.{mentioned_alone}
 use Rattle.term_cells.proofs.walk.Nodes.cells_of_cond.Goals as goal
 

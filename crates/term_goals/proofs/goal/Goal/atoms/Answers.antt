@@ -1,5 +1,5 @@
 use Rattle.std.proofs.Common.{Option, IfSome, subst}
-use Rattle.term_rules.specs.Shown.{box_in}
+use Rattle.term_math.specs.Shown.{box_in}
 use Rattle.term_nodes.specs.Things.{things}
 use Rattle.term_goals.specs.declared.sums.Summed.{Summed}
 use Rattle.term_goals.specs.Goals.{IsSummed}

@@ -1,5 +1,5 @@
 use Rattle.std.proofs.Common.{Some, None, refl}
-use Rattle.term_rules.specs.Shown.{box_in}
+use Rattle.term_math.specs.Shown.{box_in}
 use Rattle.term_nodes.specs.Things.{things}
 use Rattle.term_goals.proofs.Summing.{sound_goal, summed_room, terms_there}
 use Rattle.term_goals.proofs.goal.Goal.new.Goals as goal

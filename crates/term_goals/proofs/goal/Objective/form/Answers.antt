@@ -1,6 +1,6 @@
 use Rattle.std.proofs.Common.{length}
-use Rattle.term_rules.specs.Shown.{box_in, form_of}
-use Rattle.term_rules.specs.Sums.{combination_of}
+use Rattle.term_math.specs.Shown.{box_in, form_of}
+use Rattle.term_math.specs.Sums.{combination_of}
 use Rattle.term_nodes.specs.Things.{things}
 use Rattle.term_nodes.proofs.Steps.{cond_back}
 use Rattle.term_goals.proofs.Summing.{form_back}

@@ -1,7 +1,7 @@
 use Rattle.std.proofs.Common.{◌≡◌, drop}
-use Rattle.program_rules.specs.Objective.{expected_form}
-use Rattle.term_rules.specs.Shown.{box_in}
-use Rattle.term_rules.specs.Sums.{combination_of}
+use Rattle.term_problem.specs.Objective.{expected_form}
+use Rattle.term_math.specs.Shown.{box_in}
+use Rattle.term_math.specs.Sums.{combination_of}
 use Rattle.term_nodes.specs.Things.{things}
 use Rattle.term_goals.specs.Goals.{terms_of}
 use Rattle.term_goals.proofs.goal.Objective.form.Given as goal

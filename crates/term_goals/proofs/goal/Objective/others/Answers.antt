@@ -1,7 +1,7 @@
 use Rattle.std.proofs.Common.{length, get_or, [], ◌∷◌, ◌++◌, ap, ◌∙◌}
 use Rattle.term_goals.specs.declared.sums.Atom.{Atom}
 use Rattle.std.proofs.lemmas.List.{get_or_default}
-use Rattle.term_rules.specs.Shown.{box_in, form_of}
+use Rattle.term_math.specs.Shown.{box_in, form_of}
 use Rattle.term_nodes.specs.Things.{things}
 use Rattle.term_nodes.proofs.Steps.{cond_below}
 use Rattle.term_goals.specs.Goals.{others}

@@ -1,9 +1,9 @@
 use Rattle.std.proofs.Common.{rules, ◌≡◌, List, ap, ◌∙◌}
-use Rattle.box_rules.specs.Ends as ends
-use Rattle.box_rules.specs.Forms.{cells_ends}
-use Rattle.term_rules.specs.declared.combinations.WideCoefficient.{WideCoefficient}
-use Rattle.term_rules.specs.Shown.{box_in}
-use Rattle.term_rules.specs.Sums.{wide_cells}
+use Rattle.term_language.specs.Ends as ends
+use Rattle.term_language.specs.Forms.{cells_ends}
+use Rattle.term_math.specs.declared.combinations.WideCoefficient.{WideCoefficient}
+use Rattle.term_math.specs.Shown.{box_in}
+use Rattle.term_math.specs.Sums.{wide_cells}
 use Rattle.term_nodes.specs.Things.{things}
 use Rattle.term_goals.specs.declared.sums.Atom.{Atom}
 use Rattle.term_goals.specs.Wide.{wide_ends}

@@ -1,6 +1,6 @@
 use Rattle.std.proofs.Common.{rules, ◌≡◌, ◌∙◌, Some, None, slice_get, length}
 use Rattle.std.proofs.lemmas.Option.{slice_get_read, slice_get_past}
-use Rattle.term_rules.specs.Shown.{box_in}
+use Rattle.term_math.specs.Shown.{box_in}
 use Rattle.term_program.specs.Programs.{problem_in, root_in, things_in}
 use Rattle.term_program.proofs.Reasons.{chance_each, chance_there, chance_missing}
 use Rattle.term_program.proofs.program.Program.chance_closes.Goals as goal

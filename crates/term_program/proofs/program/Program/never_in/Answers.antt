@@ -1,5 +1,5 @@
 use Rattle.std.proofs.Common.{rules, ◌∙◌, ◌<◌, ◌≤◌, length, sym, subst}
-use Rattle.term_rules.specs.Shown.{box_in}
+use Rattle.term_math.specs.Shown.{box_in}
 use Rattle.term_nodes.specs.Built.{AllBelow}
 use Rattle.term_program.specs.Programs.{root_in, things_in}
 use Rattle.term_program.proofs.Goals.{term_exists, never_there, never_missing}

@@ -1,7 +1,7 @@
 use Rattle.std.proofs.Common.{rules, ◌≤ℤ◌, pos, sym, subst, SFits}
 use Rattle.std.proofs.lemmas.Int.{to_z-of_z}
 use Rattle.std.specs.Int.{w128}
-use Rattle.term_rules.specs.Shown.{box_in}
+use Rattle.term_math.specs.Shown.{box_in}
 use Rattle.term_program.specs.Drafts.{conditions_of}
 use Rattle.term_program.specs.Programs.{root_in, things_in}
 use Rattle.term_program.proofs.Weighing.{left_up}

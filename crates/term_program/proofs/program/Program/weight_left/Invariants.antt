@@ -1,6 +1,6 @@
 use Rattle.std.proofs.Common.{◌≡◌, map, drop}
-use Rattle.program_rules.specs.Refuted.{weight_left}
-use Rattle.term_rules.specs.Shown.{box_in}
+use Rattle.term_problem.specs.Refuted.{weight_left}
+use Rattle.term_math.specs.Shown.{box_in}
 use Rattle.term_nodes.specs.Things.{cond_at}
 use Rattle.term_program.specs.Programs.{root_in, things_in}
 use Rattle.term_program.proofs.program.Program.weight_left.Given as goal

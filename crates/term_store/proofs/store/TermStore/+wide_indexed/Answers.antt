@@ -1,12 +1,12 @@
 use Rattle.std.proofs.Common.{◌≡◌, ◌&&◌, ℤ, List, map, length, arith, rules, ap, subst, ◌∙◌}
-use Rattle.box_rules.specs.Arrays.{is_covered}
+use Rattle.term_language.specs.Arrays.{is_covered}
 use Rattle.box_problem.specs.Box.{Box}
-use Rattle.box_rules.specs.Ends.{Ends, hull_of}
-use Rattle.box_rules.specs.Rules.{Wide, item_ends}
-use Rattle.box_rules.specs.Terms.{Table}
-use Rattle.term_rules.specs.Shown.{ends_of}
-use Rattle.term_tables.specs.Kept.{table_of}
-use Rattle.term_tables.specs.Within.{has_one, known_of, ranges_of}
+use Rattle.term_language.specs.Ends.{Ends, hull_of}
+use Rattle.term_language.specs.Rules.{Wide, item_ends}
+use Rattle.term_language.specs.Terms.{Table}
+use Rattle.term_math.specs.Shown.{ends_of}
+use Rattle.term_math.specs.Kept.{table_of}
+use Rattle.term_math.specs.Within.{has_one, known_of, ranges_of}
 use Rattle.term_nodes.specs.Built.{AllBelow}
 use Rattle.term_nodes.specs.Seen.{Sight, sight_of}
 use Rattle.term_nodes.proofs.Elements.{below_last}

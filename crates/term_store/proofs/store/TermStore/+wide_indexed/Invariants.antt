@@ -1,7 +1,7 @@
 use Rattle.std.proofs.Common.{◌≡◌, ◌≤◌, length}
-use Rattle.box_rules.specs.Rules.{Wide}
-use Rattle.term_tables.specs.Kept.{sets_of, table_of}
-use Rattle.term_tables.specs.Within.{known_of, ranges_of}
+use Rattle.term_language.specs.Rules.{Wide}
+use Rattle.term_math.specs.Kept.{sets_of, table_of}
+use Rattle.term_math.specs.Within.{known_of, ranges_of}
 use Rattle.term_nodes.specs.Built.{AllBelow}
 use Rattle.term_nodes.specs.Seen.{indexed_sight}
 use Rattle.term_nodes.specs.Things.{terms_at}

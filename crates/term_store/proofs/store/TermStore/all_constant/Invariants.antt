@@ -1,7 +1,7 @@
 use Rattle.std.proofs.Common.{◌≡◌, drop}
 use Rattle.std.specs.List.{list_all}
-use Rattle.box_rules.specs.Forms.{is_constant}
-use Rattle.box_rules.specs.Rules.{forms}
+use Rattle.term_language.specs.Forms.{is_constant}
+use Rattle.term_language.specs.Rules.{forms}
 use Rattle.term_nodes.specs.Things.{terms_at}
 use Rattle.term_store.specs.Stores.{all, root_of}
 use Rattle.term_store.proofs.store.TermStore.all_constant.Given as goal

@@ -1,6 +1,6 @@
 use Rattle.std.proofs.Common.{ℕ, List, ap, subst, sym, ◌∙◌}
-use Rattle.box_rules.specs.Rules.{Wide, truth}
-use Rattle.box_rules.specs.Terms.{AllDifferent}
+use Rattle.term_language.specs.Rules.{Wide, truth}
+use Rattle.term_language.specs.Terms.{AllDifferent}
 use Rattle.term_nodes.specs.Built.{AllBelow, of_truth}
 use Rattle.term_nodes.specs.Things.{terms_at}
 use Rattle.term_store.specs.Stores.{all, root_of}

@@ -1,5 +1,5 @@
 use Rattle.std.proofs.Common.{◌≡◌, drop}
-use Rattle.box_rules.specs.Rules as rule
+use Rattle.term_language.specs.Rules as rule
 use Rattle.term_nodes.specs.Things.{conds_at}
 use Rattle.term_store.specs.Stores.{all, root_of}
 use Rattle.term_store.proofs.store.TermStore.all_known.Given as goal

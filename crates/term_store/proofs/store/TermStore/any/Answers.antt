@@ -1,5 +1,5 @@
 use Rattle.std.proofs.Common.{ℕ, List, ap, subst, sym, ◌∙◌}
-use Rattle.box_rules.specs.Rules.{Wide, any_truth}
+use Rattle.term_language.specs.Rules.{Wide, any_truth}
 use Rattle.term_nodes.specs.Built.{AllBelow, of_truth}
 use Rattle.term_store.specs.Stores.{all, root_of}
 use Rattle.term_nodes.specs.Things.{conds_at}

@@ -1,7 +1,7 @@
 use Rattle.std.proofs.Common.{rules, ◌-◌, false, unsigned_abs, length, get_or, Fits, w64, ap, ◌∙◌}
-use Rattle.box_rules.proofs.Bounds.{sign_size}
-use Rattle.term_rules.specs.Shown.{form_of}
-use Rattle.term_rules.specs.Sums.{combination_of}
+use Rattle.term_language.proofs.Bounds.{sign_size}
+use Rattle.term_math.specs.Shown.{form_of}
+use Rattle.term_math.specs.Sums.{combination_of}
 use Rattle.term_nodes.specs.declared.nodes.Signed.{Signed}
 use Rattle.term_store.specs.Stores.{root_of}
 use Rattle.term_nodes.proofs.Steps.{part_back}

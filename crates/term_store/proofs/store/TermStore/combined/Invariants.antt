@@ -1,6 +1,6 @@
 use Rattle.std.proofs.Common.{◌≡◌, drop}
-use Rattle.box_rules.specs.Rules.{sum_form}
-use Rattle.term_rules.specs.Sums.{combination_of}
+use Rattle.term_language.specs.Rules.{sum_form}
+use Rattle.term_math.specs.Sums.{combination_of}
 use Rattle.term_nodes.specs.Things.{parts_at}
 use Rattle.term_store.specs.Stores.{all, root_of}
 use Rattle.term_store.proofs.store.TermStore.combined.Given as goal

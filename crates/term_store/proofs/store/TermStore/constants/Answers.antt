@@ -1,6 +1,6 @@
 use Rattle.std.proofs.Common.{◌≡◌, ℕ, ◌+◌, ℤ, List, [], ◌∷◌, ◌++◌, length, get_or, drop, ap, arith, rules, sym, ◌∙◌}
 use Rattle.std.proofs.lemmas.List.{get_or_default}
-use Rattle.box_rules.specs.Forms.{Form}
+use Rattle.term_language.specs.Forms.{Form}
 use Rattle.term_nodes.specs.Things.{terms_at}
 use Rattle.term_nodes.proofs.Steps.{cond_below}
 use Rattle.term_store.specs.Stores.{all, root_of}

@@ -1,6 +1,6 @@
 use Rattle.std.proofs.Common.{List, ap, subst, sym, ◌∙◌}
-use Rattle.box_rules.specs.Rules.{Wide, truth}
-use Rattle.box_rules.specs.Terms.{Cumulative}
+use Rattle.term_language.specs.Rules.{Wide, truth}
+use Rattle.term_language.specs.Terms.{Cumulative}
 use Rattle.term_nodes.specs.declared.nodes.Task.{Task}
 use Rattle.term_nodes.specs.Built.{TasksBelow, of_truth}
 use Rattle.term_nodes.specs.Things.{tasks_at, term_at}

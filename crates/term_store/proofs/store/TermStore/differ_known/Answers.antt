@@ -1,5 +1,5 @@
 use Rattle.std.proofs.Common.{List, ap, ◌∙◌}
-use Rattle.term_rules.specs.declared.ends.Ends.{Ends}
+use Rattle.term_math.specs.declared.ends.Ends.{Ends}
 use Rattle.term_windows.specs.Windows.{spans}
 use Rattle.term_store.specs.Stores.{root_of}
 use Rattle.term_store.proofs.Ranging.{spans_ordered}

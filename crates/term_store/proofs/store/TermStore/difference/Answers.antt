@@ -1,8 +1,8 @@
 use Rattle.std.proofs.Common.{◌≡◌, ◌+◌, ◌*◌, ◌<◌, ◌^◌, pos, unsigned_abs, IfOk, ap, subst, sym, ◌∙◌}
-use Rattle.box_rules.specs.Forms.{Form, plus_form}
-use Rattle.box_rules.specs.Rules.{form}
-use Rattle.term_rules.specs.Shown.{form_of}
-use Rattle.term_rules.specs.Sums.{combination_of, mass_of, wide_form}
+use Rattle.term_language.specs.Forms.{Form, plus_form}
+use Rattle.term_language.specs.Rules.{form}
+use Rattle.term_math.specs.Shown.{form_of}
+use Rattle.term_math.specs.Sums.{combination_of, mass_of, wide_form}
 use Rattle.term_store.specs.Stores.{all, root_of}
 use Rattle.term_nodes.specs.Things.{term_at}
 use Rattle.term_store.proofs.Differences.{first_room, first_is, second_room, difference_is, difference_small}

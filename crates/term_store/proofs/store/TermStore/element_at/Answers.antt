@@ -1,8 +1,8 @@
 use Rattle.std.proofs.Common.{ap, subst, sym, ◌∙◌}
-use Rattle.box_rules.specs.Arrays.{item_at}
-use Rattle.box_rules.specs.Laws.{IsTable}
-use Rattle.box_rules.specs.Terms.{Table}
-use Rattle.term_tables.specs.Kept.{table_of}
+use Rattle.term_language.specs.Arrays.{item_at}
+use Rattle.term_language.specs.Laws.{IsTable}
+use Rattle.term_language.specs.Terms.{Table}
+use Rattle.term_math.specs.Kept.{table_of}
 use Rattle.term_nodes.specs.Things.{no_table}
 use Rattle.term_nodes.proofs.Ready.{table_proper}
 use Rattle.term_store.specs.Stores.{root_of}

@@ -1,8 +1,8 @@
 use Rattle.std.proofs.Common.{◌≡◌, ℕ, Option, IfOk, option_map, ap, subst, sym, ◌∙◌}
-use Rattle.box_rules.specs.Rules.{item_form}
-use Rattle.term_rules.specs.Shown.{ends_of}
-use Rattle.term_tables.specs.declared.elements.Element.{Element}
-use Rattle.term_tables.specs.Kept.{item_of}
+use Rattle.term_language.specs.Rules.{item_form}
+use Rattle.term_math.specs.Shown.{ends_of}
+use Rattle.term_math.specs.declared.elements.Element.{Element}
+use Rattle.term_math.specs.Kept.{item_of}
 use Rattle.term_nodes.specs.Built.{Facts, kept}
 use Rattle.term_nodes.specs.Seen.{Sight, sight_of}
 use Rattle.term_nodes.specs.Things.{table_at, terms_at}

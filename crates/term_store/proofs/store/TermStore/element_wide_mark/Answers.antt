@@ -1,7 +1,7 @@
 use Rattle.std.proofs.Common.{◌≡◌, length, subst, sym}
-use Rattle.box_rules.specs.Arrays.{indices}
-use Rattle.box_rules.specs.Terms.{Table}
-use Rattle.term_tables.specs.Kept.{table_of}
+use Rattle.term_language.specs.Arrays.{indices}
+use Rattle.term_language.specs.Terms.{Table}
+use Rattle.term_math.specs.Kept.{table_of}
 use Rattle.term_nodes.specs.Seen.{sight_of}
 use Rattle.term_nodes.specs.Things.{table_at}
 use Rattle.term_nodes.proofs.Ready.{table_proper}

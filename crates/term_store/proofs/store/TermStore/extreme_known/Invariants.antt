@@ -1,6 +1,6 @@
 use Rattle.std.proofs.Common.{◌≡◌, drop}
-use Rattle.box_rules.specs.Rules.{Wide, interval, mark}
-use Rattle.term_rules.specs.Shown.{ends_of}
+use Rattle.term_language.specs.Rules.{Wide, interval, mark}
+use Rattle.term_math.specs.Shown.{ends_of}
 use Rattle.term_nodes.specs.Things.{term_at, terms_at}
 use Rattle.term_nodes.proofs.Ranges.{taken}
 use Rattle.term_store.specs.Stores.{all, root_of}

@@ -1,9 +1,9 @@
 use Rattle.std.proofs.Common.{map, ap, ◌∙◌}
 use Rattle.box_problem.specs.Box.{Box}
-use Rattle.box_rules.specs.Ends.{hull_of}
-use Rattle.box_rules.specs.Rules.{item_ends}
-use Rattle.term_rules.specs.Shown.{ends_of}
-use Rattle.term_tables.specs.Kept.{items_of, table_of}
+use Rattle.term_language.specs.Ends.{hull_of}
+use Rattle.term_language.specs.Rules.{item_ends}
+use Rattle.term_math.specs.Shown.{ends_of}
+use Rattle.term_math.specs.Kept.{items_of, table_of}
 use Rattle.term_nodes.specs.Things.{no_table, table_at, things}
 use Rattle.term_store.proofs.Indexing.{hull_found, hull_missing, seen_table}
 use Rattle.term_store.specs.Stores.{root_of}

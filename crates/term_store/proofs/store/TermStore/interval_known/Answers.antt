@@ -1,6 +1,6 @@
 use Rattle.std.proofs.Common.{subst, sym}
 use Rattle.box_problem.specs.Box.{Box}
-use Rattle.term_rules.specs.Shown.{WholeFits, ends_of}
+use Rattle.term_math.specs.Shown.{WholeFits, ends_of}
 use Rattle.term_store.specs.Stores.{root_of}
 use Rattle.term_store.proofs.Multiplying.{interval_fits}
 use Rattle.term_store.proofs.store.TermStore.interval_known.Goals as goal

@@ -1,7 +1,7 @@
 use Rattle.std.proofs.Common.{subst, sym}
 use Rattle.box_problem.specs.Box.{Box, Inside}
-use Rattle.term_rules.specs.Shown.{box_under}
-use Rattle.term_rules.proofs.Inner.{part_inside}
+use Rattle.term_math.specs.Shown.{box_under}
+use Rattle.term_math.proofs.Inner.{part_inside}
 use Rattle.term_store.specs.Stores.{root_of}
 use Rattle.term_store.proofs.store.TermStore.kleene_in.Goals as goal
 

@@ -1,5 +1,5 @@
 use Rattle.std.proofs.Common.{ap}
-use Rattle.term_rules.specs.Shown.{ends_of}
+use Rattle.term_math.specs.Shown.{ends_of}
 use Rattle.term_nodes.specs.Seen.{Sight}
 use Rattle.term_store.specs.Stores.{root_of}
 use Rattle.term_store.proofs.Folding.{wide_small}

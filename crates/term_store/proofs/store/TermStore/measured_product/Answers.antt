@@ -1,6 +1,6 @@
 use Rattle.std.proofs.Common.{arith, ◌≡◌, ◌+◌, ◌<◌, ◌≤◌, ◌^◌, ap, subst, sym, ◌∙◌}
 use Rattle.box_problem.specs.Box.{Box}
-use Rattle.term_rules.specs.Sums.{weight_in, wide_form}
+use Rattle.term_math.specs.Sums.{weight_in, wide_form}
 use Rattle.term_store.specs.Stores.{root_of}
 use Rattle.term_store.proofs.Multiplying.{weight_room}
 use Rattle.term_store.proofs.Summing.{form_small}

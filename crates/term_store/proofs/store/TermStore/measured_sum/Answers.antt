@@ -1,6 +1,6 @@
 use Rattle.std.proofs.Common.{rules, arith, ◌≡◌, ◌+◌, ◌<◌, ◌≤◌, ◌^◌, length, Fits, w64, ap, subst, sym, ◌∙◌}
 use Rattle.box_problem.specs.Box.{Box}
-use Rattle.term_rules.specs.Sums.{weight_in, wide_form}
+use Rattle.term_math.specs.Sums.{weight_in, wide_form}
 use Rattle.term_store.specs.Stores.{root_of}
 use Rattle.term_store.proofs.Summing.{weight_room, form_small}
 use Rattle.term_store.proofs.store.TermStore.measured_sum.Goals as goal

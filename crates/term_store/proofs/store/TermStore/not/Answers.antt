@@ -1,5 +1,5 @@
 use Rattle.std.proofs.Common.{ap, ◌∙◌}
-use Rattle.box_rules.specs.Marks.{opposite}
+use Rattle.term_language.specs.Marks.{opposite}
 use Rattle.term_nodes.specs.Built.{of_truth}
 use Rattle.term_store.specs.Stores.{root_of}
 use Rattle.term_store.proofs.Adding.{is_there, new_not}

@@ -1,6 +1,6 @@
 use Rattle.std.proofs.Common.{subst, sym}
 use Rattle.box_problem.specs.Box.{Box}
-use Rattle.term_rules.specs.Shown.{ProductFits, ends_of}
+use Rattle.term_math.specs.Shown.{ProductFits, ends_of}
 use Rattle.term_store.specs.Stores.{root_of}
 use Rattle.term_store.proofs.Multiplying.{product_known_fits}
 use Rattle.term_store.proofs.store.TermStore.product_facts.Goals as goal

@@ -1,4 +1,4 @@
-use Rattle.term_rules.specs.Shown.{form_of}
+use Rattle.term_math.specs.Shown.{form_of}
 use Rattle.term_store.specs.Stores.{root_of}
 use Rattle.term_store.proofs.Multiplying.{scaled_room}
 use Rattle.term_store.proofs.store.TermStore.product_form.Goals as goal

@@ -1,6 +1,6 @@
 use Rattle.std.proofs.Common.{ap}
-use Rattle.box_rules.specs.Rules.{Wide, interval, mark}
-use Rattle.term_rules.specs.Shown.{ends_of}
+use Rattle.term_language.specs.Rules.{Wide, interval, mark}
+use Rattle.term_math.specs.Shown.{ends_of}
 use Rattle.term_nodes.specs.Seen.{Sight}
 use Rattle.term_nodes.specs.Things.{term_at}
 use Rattle.term_nodes.proofs.Ranges.{same_sight}

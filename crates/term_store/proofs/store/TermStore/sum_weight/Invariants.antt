@@ -1,5 +1,5 @@
 use Rattle.std.proofs.Common.{◌≡◌, drop}
-use Rattle.box_rules.specs.Sizes as sizes
+use Rattle.term_language.specs.Sizes as sizes
 use Rattle.term_nodes.specs.Things.{parts_at}
 use Rattle.term_store.specs.Stores.{all, root_of}
 use Rattle.term_store.proofs.store.TermStore.sum_weight.Given as goal

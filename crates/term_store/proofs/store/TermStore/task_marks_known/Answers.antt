@@ -1,8 +1,8 @@
 use Rattle.std.proofs.Common.{length, get_or, drop, ◌+◌, ap, sym, ◌∙◌}
 use Rattle.std.proofs.lemmas.List.{get_or_default}
-use Rattle.box_rules.specs.Marks.{both}
-use Rattle.box_rules.specs.Rules.{Wide, task_mark}
-use Rattle.box_rules.specs.declared.answers.Defined.{Defined}
+use Rattle.term_language.specs.Marks.{both}
+use Rattle.term_language.specs.Rules.{Wide, task_mark}
+use Rattle.term_language.specs.declared.answers.Defined.{Defined}
 use Rattle.term_nodes.specs.Things.{tasks_at}
 use Rattle.term_nodes.specs.declared.nodes.Task.{Task}
 use Rattle.term_store.specs.Stores.{all, root_of}

@@ -1,6 +1,6 @@
 use Rattle.std.proofs.Common.{◌≡◌, drop}
-use Rattle.box_rules.specs.Marks.{both}
-use Rattle.box_rules.specs.Rules.{Wide, task_mark}
+use Rattle.term_language.specs.Marks.{both}
+use Rattle.term_language.specs.Rules.{Wide, task_mark}
 use Rattle.term_nodes.specs.Things.{tasks_at}
 use Rattle.term_store.specs.Stores.{all, root_of}
 use Rattle.term_store.proofs.store.TermStore.task_marks_known.Given as goal

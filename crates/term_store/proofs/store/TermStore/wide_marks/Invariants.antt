@@ -1,6 +1,6 @@
 use Rattle.std.proofs.Common.{◌≡◌, drop}
-use Rattle.box_rules.specs.Marks.{both, all_marks}
-use Rattle.box_rules.specs.Rules.{Wide, marks}
+use Rattle.term_language.specs.Marks.{both, all_marks}
+use Rattle.term_language.specs.Rules.{Wide, marks}
 use Rattle.term_nodes.specs.Things.{terms_at}
 use Rattle.term_store.specs.Stores.{all, root_of}
 use Rattle.term_store.proofs.store.TermStore.wide_marks.Given as goal

@@ -5,7 +5,7 @@ use Rattle.sopl_ast.specs.Lists.{binders}
 use Rattle.sopl_ast.specs.Weight.{weight_of_binders}
 use Rattle.sopl_ast.specs.Whole.{conses}
 use Rattle.sopl_ast.specs.WholeWeight.{weight_cons, weight_conses}
-use Rattle.sopl_ast.specs.Occurrences.{most_counted}
+use Rattle.sopl_ast.specs.UnfoldEvents.{most_counted}
 use Rattle.unfold_constants.specs.Choosing.{give_name, leave_name, open_in, remaining}
 use Rattle.unfold_constants.specs.Here.{known_in}
 use Rattle.unfold_constraints.specs.Shown.{found_in}

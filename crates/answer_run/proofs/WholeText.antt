@@ -1,0 +1,202 @@
+-- At most one byte more is read of a text than a text may have: what is answered of the bytes that were read holds of the text.
+use Rattle.std.proofs.Common.{◌≡◌, ◌⊎◌, inl, inr, ℕ, ◌≤◌, ◌<◌, List, [], length, take, refl, sym, ap, subst, arith, Option, Some, None, Result, Ok, Err, IfOk, IfErr, IfSome, IsSome, codes}
+use Rattle.std.proofs.lemmas.List.{take_all, length-take}
+use Rattle.std.specs.Option.{option_map_or}
+use Rattle.std.specs.Prelude.{string_bytes}
+use Rattle.std.specs.Io.KnownBytes.{IsAtEnd}
+use Rattle.sopl_io.specs.Causes.{Rose}
+use Rattle.sopl_io.specs.Stock.{Stock, text_of}
+use Rattle.sopl_io.specs.Transfer.{cut_at}
+use Rattle.sopl_base.specs.declared.fault.Excess.{Excess}
+use Rattle.sopl_base.specs.declared.fault.Refusal.{Refusal}
+use Rattle.sopl_ast.specs.Accepted.{IsRefusedFor, no_tokens, misspelled, mistaken, stopped, IsLimitedFor, unfolding_passes, sizes_pass}
+use Rattle.sopl_ast.specs.Tokens.{too_long, no_piece, too_large}
+use Rattle.sopl_ast.specs.Limits.{usual_limits}
+use Rattle.sopl_search.specs.declared.outcome.SearchStop.{SearchStop}
+use Rattle.sopl_search.specs.declared.outcome.SearchStop.TheVariants.{Write, NoMemory}
+use Rattle.answer_lines.specs.AnswerData.{word_data, line_of}
+use Rattle.answer_texts.specs.Logs.{IsUnused, SinkState}
+use Rattle.answer_texts.specs.Replies.{IsRefusedOn, by_rule, not_yet, IsLimitedOn, by_size, by_terms, IsTextReply, optimal, infeasible, bounded, scenes, refused, limited, Replies}
+use Rattle.answer_texts.specs.Replies.{IsCut, Logged, StopsByCause}
+use Rattle.answer_texts.specs.declared.command.Command.{Command}
+use Rattle.answer_texts.specs.declared.command.Command.TheVariants.{Solve}
+use Rattle.answer_texts.specs.declared.reply.Reply.{Reply}
+use Rattle.answer_texts.specs.declared.status.Status.{Status}
+use Rattle.answer_texts.specs.declared.status.Status.TheVariants.{Usage, ReadFault}
+use Rattle.answer_run.specs.Words.{Request, request_of}
+use Rattle.answer_run.specs.Replies.{IsAnswered, IsCutOff, cut_off, IsModelText, IsReply, replied, usage, read_fault, log_name}
+use Rattle.answer_run.specs.Runs.{Replied, StopsWith}
+
+-- a prefix of a text that is short enough is the whole text
+prefix_is_whole : (most : ℕ) → 1048576 < most → (text : List ℕ) → length (take most text) ≤ 1048576 → take most text ≡ text
+prefix_is_whole most more text short = take_all most text (omega (arith, more, short, length-take {A = ℕ} most text))
+
+-- a text that passes a limit is no longer than a text may be
+size_short : (text : List ℕ) (excess : Excess) → IsLimitedFor usual_limits text excess → length text ≤ 1048576
+size_short text excess (unfolding_passes model is typed stops) = is.read.0
+size_short text excess (sizes_pass model is typed passes over) = is.read.0
+
+limited_short : (text : List ℕ) (excess : Excess) (command : Command) → IsLimitedOn text excess command → length text ≤ 1048576
+limited_short text excess _ (by_size command over) = size_short text excess over
+limited_short text excess _ (by_terms over) = over.spelled.read.0
+
+-- a text is refused where what is read of it is
+refused_short : (most : ℕ) → 1048576 < most → (text : List ℕ) (refusal : Refusal) → length (take most text) ≤ 1048576 → IsRefusedFor (take most text) refusal → IsRefusedFor text refusal
+refused_short most more text refusal short r = subst (λ t. IsRefusedFor t refusal) (prefix_is_whole most more text short) r
+
+refused_whole : (most : ℕ) → 1048576 < most → (text : List ℕ) (refusal : Refusal) → IsRefusedFor (take most text) refusal → IsRefusedFor text refusal
+refused_whole most more text refusal (no_tokens (too_long code at long)) =
+    no_tokens (too_long code at (omega (arith, long, length-take {A = ℕ} most text)))
+refused_whole most more text refusal (no_tokens (no_piece rest code short reaches stuck)) =
+    refused_short most more text refusal short (no_tokens (no_piece rest code short reaches stuck))
+refused_whole most more text refusal (no_tokens (too_large rest code short reaches large)) =
+    refused_short most more text refusal short (no_tokens (too_large rest code short reaches large))
+refused_whole most more text refusal (misspelled tokens read wrong) = refused_short most more text refusal read.0 (misspelled tokens read wrong)
+refused_whole most more text refusal (mistaken model is first) = refused_short most more text refusal is.read.0 (mistaken model is first)
+refused_whole most more text refusal (stopped model is typed stops) = refused_short most more text refusal is.read.0 (stopped model is typed stops)
+
+refused_on : (most : ℕ) → 1048576 < most → (text : List ℕ) (refusal : Refusal) (command : Command) → IsRefusedOn (take most text) refusal command → IsRefusedOn text refusal command
+refused_on most more text refusal _ (by_rule command reason) = by_rule command (refused_whole most more text refusal reason)
+refused_on most more text refusal _ (not_yet is) =
+    subst (λ t. IsRefusedOn t refusal Solve) (prefix_is_whole most more text is.spelled.read.0) (not_yet is)
+
+-- a reply to what was read of a text, where that is no longer than a text may be
+reply_moved : (most : ℕ) → 1048576 < most → (text : List ℕ) (budget : ℕ) (command : Command) (log : Option (List ℕ)) (status : Status) (line : List ℕ)
+    → length (take most text) ≤ 1048576 → IsTextReply (take most text) budget command log status line → IsTextReply text budget command log status line
+reply_moved most more text budget command log status line short r =
+    subst (λ t. IsTextReply t budget command log status line) (prefix_is_whole most more text short) r
+
+-- a reply to what was read of a text is a reply to the text
+reply_whole : (most : ℕ) → 1048576 < most → (text : List ℕ) (budget : ℕ) (command : Command) (log : Option (List ℕ)) (status : Status) (line : List ℕ)
+    → IsTextReply (take most text) budget command log status line → IsTextReply text budget command log status line
+reply_whole most more text budget _ _ _ _ (optimal problem policy value log is best logged) =
+    reply_moved most more text budget _ _ _ _ is.spelled.read.0 (optimal problem policy value log is best logged)
+reply_whole most more text budget _ _ _ _ (infeasible problem log is none logged) =
+    reply_moved most more text budget _ _ _ _ is.spelled.read.0 (infeasible problem log is none logged)
+reply_whole most more text budget _ _ _ _ (bounded problem found bound log is known less logged) =
+    reply_moved most more text budget _ _ _ _ is.spelled.read.0 (bounded problem found bound log is known less logged)
+reply_whole most more text budget _ _ _ _ (scenes problem accepted) =
+    reply_moved most more text budget _ _ _ _ accepted.spelled.read.0 (scenes problem accepted)
+reply_whole most more text budget _ _ _ _ (refused command refusal why) = refused command refusal (refused_on most more text refusal command why)
+reply_whole most more text budget _ _ _ _ (limited command excess over) =
+    reply_moved most more text budget _ _ _ _ (limited_short (take most text) excess command over) (limited command excess over)
+
+-- so it is of a log that was cut off
+cut_whole : (most : ℕ) → 1048576 < most → (text : List ℕ) (budget : ℕ) (command : Command) (name : List ℕ) (old new : SinkState)
+    → IsCut (take most text) budget command name old new → IsCut text budget command name old new
+cut_whole most more text budget command name old new cut =
+    subst (λ t. IsCut t budget command name old new) (prefix_is_whole most more text cut.is_solved.spelled.read.0) cut
+
+module _ (words : List (List ℕ)) (stock : Option Stock) (before now : ℕ) (old new : SinkState) where
+  name_is : (request : Request) → request_of words ≡ Some request → log_name words ≡ request.log
+  name_is request asked = ap (λ (o : Option Request). option_map_or (λ (r : Request). r.log) o []) asked
+
+  module _ (bytes : List ℕ) (request : Request) (most : ℕ) (asked : request_of words ≡ Some request) (more : 1048576 < most) where
+    -- what is answered of the bytes that were read is a reply to the words
+    read_reply : (o : Option Stock) → IfSome o (λ s. bytes ≡ cut_at (Some most) (text_of s request.model)) → (log : Option (List ℕ)) (status : Status) (line : List ℕ)
+        → IsTextReply bytes request.budget request.command log status line → IsReply words o before now log status line
+    read_reply None read log status line reply = replied request bytes log status line (record { asked = asked; given = tt }) reply
+    read_reply (Some s) read log status line reply =
+        replied request (text_of s request.model) log status line (record { asked = asked; given = refl })
+        (reply_whole most more (text_of s request.model) request.budget request.command log status line
+        (subst (λ b. IsTextReply b request.budget request.command log status line) read reply))
+
+    read_cut : (o : Option Stock) → IfSome o (λ s. bytes ≡ cut_at (Some most) (text_of s request.model))
+        → IsCut bytes request.budget request.command request.log old new → IsCutOff words o old new
+    read_cut None read cut = cut_off request bytes (record { asked = asked; given = tt }) cut
+    read_cut (Some s) read cut =
+        cut_off request (text_of s request.model) (record { asked = asked; given = refl })
+        (cut_whole most more (text_of s request.model) request.budget request.command request.log old new
+        (subst (λ b. IsCut b request.budget request.command request.log old new) read cut))
+
+    module _ (slice : List ℕ) (same : slice ≡ bytes) (read : IfSome stock (λ s. bytes ≡ cut_at (Some most) (text_of s request.model))) where
+      -- the same of a reply that was made of so many bytes
+      pub reply_made : (result : Result Reply SearchStop)
+          → IfOk result (λ reply. Replies slice request.budget request.command request.log old new reply.status (string_bytes reply.line))
+          → IfOk result (Replied words stock before now old new)
+      reply_made (Err stop) replies = tt
+      reply_made (Ok reply) replies =
+          record {
+            log = replies.log;
+            is = read_reply stock read replies.log reply.status (string_bytes reply.line)
+                (subst (λ b. IsTextReply b request.budget request.command replies.log reply.status (string_bytes reply.line)) same replies.reply);
+            logged = subst (λ n. Logged n replies.log old new) (sym (name_is request asked)) replies.logged;
+          }
+
+      stop_made : (stop : SearchStop) → StopsByCause slice request.budget request.command request.log old new stop → StopsWith words stock old new stop
+      stop_made Write cut = read_cut stock read (subst (λ b. IsCut b request.budget request.command request.log old new) same cut)
+      stop_made NoMemory (inl unused) = inl unused
+      stop_made NoMemory (inr cut) = inr (read_cut stock read (subst (λ b. IsCut b request.budget request.command request.log old new) same cut))
+
+      -- and of why there is none
+      pub stops_made : (result : Result Reply SearchStop) → IfErr result (StopsByCause slice request.budget request.command request.log old new)
+          → IfErr result (StopsWith words stock old new)
+      stops_made (Ok reply) stops = tt
+      stops_made (Err stop) stops = stop_made stop stops
+
+-- a text that is answered is no longer than a text may be
+answered_short : (text : List ℕ) (budget : ℕ) (command : Command) (log : Option (List ℕ)) (status : Status) (line : List ℕ)
+    → IsTextReply text budget command log status line → IsAnswered status → length text ≤ 1048576
+answered_short text budget _ _ _ _ (optimal problem policy value log is best logged) done = is.spelled.read.0
+answered_short text budget _ _ _ _ (infeasible problem log is none logged) done = is.spelled.read.0
+answered_short text budget _ _ _ _ (bounded problem found bound log is known less logged) done = is.spelled.read.0
+answered_short text budget _ _ _ _ (scenes problem accepted) done = accepted.spelled.read.0
+answered_short text budget _ _ _ _ (refused command refusal why) (inl done) = cc
+answered_short text budget _ _ _ _ (refused command refusal why) (inr done) = cc
+answered_short text budget _ _ _ _ (limited command excess over) (inl done) = cc
+answered_short text budget _ _ _ _ (limited command excess over) (inr done) = cc
+
+not_full : (most size : ℕ) → Some most ≡ Some size → size < most → ⊥
+not_full most size same below = absurd (omega (arith, below, one most size same))
+  where
+    one : (a b : ℕ) → Some a ≡ Some b → a ≡ b
+    one a b e = cc
+
+-- so it was read to its end
+pub ended_made : (bytes : List ℕ) (budget : ℕ) (command : Command) (name : List ℕ) (old new : SinkState) (most size : ℕ) (left : Option (List ℕ)) (result : Result Reply SearchStop)
+    → length bytes ≡ size → IsAtEnd left ⊎ (Some most ≡ Some size) → 1048576 < most
+    → IfOk result (λ reply. Replies bytes budget command name old new reply.status (string_bytes reply.line))
+    → IfOk result (λ reply. IsAnswered reply.status → IsAtEnd left)
+ended_made bytes budget command name old new most size left (Err stop) same end more replies = tt
+ended_made bytes budget command name old new most size left (Ok reply) same (inl at_end) more replies = λ done. at_end
+ended_made bytes budget command name old new most size left (Ok reply) same (inr full) more replies =
+    λ done.
+    let short : length bytes ≤ 1048576 = answered_short bytes budget command replies.log reply.status (string_bytes reply.line) replies.reply done in
+    absurd (not_full most size full (omega (arith, more, short, same)))
+
+-- The lines that speak of no text.
+
+is_asked : (r : Request) (o : Option Request) → o ≡ Some r → IsSome o
+is_asked r o some = subst (λ m. IsSome m) (sym some) refl
+
+module _ (words : List (List ℕ)) (stock : Option Stock) (before now : ℕ) (at : SinkState) where
+  unused : IsUnused at at
+  unused = record { taken = refl; names = refl }
+
+  word_replied : (status : Status) (word : List ℕ) → IsReply words stock before now None status (line_of (word_data word)) → (result : Result Reply SearchStop)
+      → IfOk result (λ reply. reply.status ≡ status) → IfOk result (λ reply. string_bytes reply.line ≡ line_of (word_data word))
+      → IfOk result (Replied words stock before now at at)
+  word_replied status word why (Err stop) ends is = tt
+  word_replied status word why (Ok reply) ends is =
+      record {
+        log = None;
+        is = subst (λ s. IsReply words stock before now None s (string_bytes reply.line)) (sym ends) (subst (λ l. IsReply words stock before now None status l) (sym is) why);
+        logged = unused;
+      }
+
+  pub usage_replied : request_of words ≡ None → (result : Result Reply SearchStop) → IfOk result (λ reply. reply.status ≡ Usage)
+      → IfOk result (λ reply. string_bytes reply.line ≡ line_of (word_data (codes "usage"))) → IfOk result (Replied words stock before now at at)
+  usage_replied none result ends is = word_replied Usage (codes "usage") (usage none) result ends is
+
+  pub fault_replied : (request : Request) → request_of words ≡ Some request → Rose before now → (result : Result Reply SearchStop)
+      → IfOk result (λ reply. reply.status ≡ ReadFault) → IfOk result (λ reply. string_bytes reply.line ≡ line_of (word_data (codes "read fault")))
+      → IfOk result (Replied words stock before now at at)
+  fault_replied request asked rose result ends is = word_replied ReadFault (codes "read fault") (read_fault (is_asked request (request_of words) asked) rose) result ends is
+
+  -- where memory ran out before any log
+  pub memory_stops : (result : Result Reply SearchStop) → IfErr result (λ stop. stop ≡ NoMemory) → IfErr result (StopsWith words stock at at)
+  memory_stops (Ok reply) memory = tt
+  memory_stops (Err stop) memory = subst (StopsWith words stock at at) (sym memory) (inl unused)
+
+  pub want_stops : StopsWith words stock at at NoMemory
+  want_stops = inl unused

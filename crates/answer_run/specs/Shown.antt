@@ -1,0 +1,15 @@
+-- What parts and requests of the program are.
+use Rattle.std.specs.Prelude.{ℕ, List}
+use Rattle.std.specs.Borrow.{Bor}
+use Rattle.answer_run.specs.Words as words
+use Rattle.answer_run.specs.declared.options.Part.{Part}
+use Rattle.answer_run.specs.declared.request.Request.{Request}
+
+abbrev pub text_shown : Bor (List ℕ) → List ℕ
+text_shown text = text.now
+
+abbrev pub part_shown : Part → words.Part
+part_shown p = record { kind = p.kind; value = p.value.now }
+
+abbrev pub request_shown : Request → words.Request
+request_shown r = record { command = r.command; model = r.model.now; budget = r.budget; log = r.log.now }

@@ -1,0 +1,145 @@
+//! The top call: words, a source and two sinks in, a status out.
+
+ghost use Rattle.std.specs.Prelude.{◌≡◌, ◌⊎◌, ◌≤◌, None, Some, Err, IfOk, IfErr, IfSome, IsSome, string_bytes, option_map};
+ghost use Rattle.std.specs.Io.KnownBytes.{IsAtEnd};
+ghost use Rattle.sopl_io.specs.Causes.{Rose};
+ghost use Rattle.sopl_search.specs.declared.outcome.SearchStop.TheVariants as search;
+ghost use Rattle.answer_lines.specs.AnswerData.{line_of, word_data};
+ghost use Rattle.answer_texts.specs.Logs.{told};
+ghost use Rattle.answer_run.specs.Words.{model_of, request_of};
+ghost use Rattle.answer_run.specs.Replies.{asked_in, Answers, SettlesInBudget, EndsSoundly, EndsCompletely, IsAnswered, LimitedOnce, RefusedOnce, begun_names, IsUntouched};
+ghost use Rattle.answer_run.specs.Runs.{IsWritten, Replied, StopsWith, stop_status};
+
+use crate::request::asked;
+use crate::words::Words;
+use answer_lines::word_line;
+use answer_texts::{Reply, Status, reply_to};
+use sopl_base::limits;
+use sopl_io::{ReadStop, Sink, Source, read_all, write_all};
+use sopl_search::SearchStop;
+use std::alloc::{AllocError, Global};
+
+/// The bytes of a model text that are read at most: one more than a text may have.
+const MOST_READ: usize = limits::TEXT_BYTES + 1;
+
+/// Runs the command that the words name: it reads from the source, writes the log of a search to the log's sink, and then one answer line to the
+/// answer's sink.
+#[tactic(auto, using(crate::proofs::Statuses::refused_once, crate::proofs::Statuses::limited_once))]
+pub fn run<S: Source, K: Sink>(
+    alloc: Global,
+    words: &Words,
+    source: &mut S,
+    answer: &mut K,
+    log: &mut K,
+) -> Status
+    ensures answered { Answers words.now (S.stock source.old) (S.faults source.old) (S.faults source.new)
+        (K.taken answer.old) (K.taken answer.new) (told (K.taken log.old) (K.names log.old)) (told (K.taken log.new) (K.names log.new)) result }
+
+    // Words that are not of the form, and no others, are answered so.
+    ensures usage { result ≡ Status.Usage → request_of words.now ≡ None }
+    ensures usage_when { request_of words.now ≡ None
+        → (result ≡ Status.Usage) ⊎ (result ≡ Status.WriteFault) ⊎ (result ≡ Status.NoMemory) }
+
+    // A run ends as its command ends on its text: a text that breaks a rule is refused, and so is, by `solve`, one that has a form
+    // that is not solved yet; a text that passes a limit ends so; each other one is answered, or by `solve` with a bound, where the
+    // search ends with as many nodes as the budget allows before it is done.
+    ensures ends { EndsSoundly (asked_in (S.stock source.old) words.now) result }
+    ensures ends_when { EndsCompletely (asked_in (S.stock source.old) words.now) result }
+    ensures enough { SettlesInBudget (asked_in (S.stock source.old) words.now) result }
+
+    // A text is refused by one code at one place, and passes one limit.
+    ensures refused_once { RefusedOnce (asked_in (S.stock source.old) words.now) }
+    ensures limited_once { LimitedOnce (asked_in (S.stock source.old) words.now) }
+
+    // A text that is answered was read to its end.
+    ensures ended { IsAnswered result → IsAtEnd (S.left source.new) }
+
+    // Faults have their causes.
+    ensures read { result ≡ Status.ReadFault → Rose (S.faults source.old) (S.faults source.new) }
+    ensures write { result ≡ Status.WriteFault
+        → Rose (K.faults answer.old) (K.faults answer.new) ⊎ Rose (K.faults log.old) (K.faults log.new) }
+    ensures faults_grow { (S.faults source.old ≤ S.faults source.new) × (K.faults answer.old ≤ K.faults answer.new)
+        × (K.faults log.old ≤ K.faults log.new) }
+
+    // Where the words are not of the form the source stays as it was.
+    ensures untouched { request_of words.now ≡ None → IsUntouched (S.left source.old) (S.stock source.old) (S.faults source.old)
+        (S.left source.new) (S.stock source.new) (S.faults source.new) }
+
+    // The source is begun with the file of the model alone, and the answer's sink is not begun.
+    ensures names { S.names source.new ≡ begun_names (model_of words.now) (S.names source.old) }
+    ensures answer_names { K.names answer.new ≡ K.names answer.old }
+{
+    match reply_for(alloc, words, source, log) {
+        Ok(reply) => written(answer, &reply),
+        Err(stop) => status_of(stop),
+    }
+}
+
+/// How a run ends that has no reply.
+fn status_of(stop: SearchStop) -> Status
+    ensures status { result ≡ stop_status stop }
+{
+    match stop {
+        SearchStop::Write => Status::WriteFault,
+        SearchStop::NoMemory => Status::NoMemory,
+    }
+}
+
+/// Writes the line of a reply, and answers how the run ends.
+fn written<K: Sink>(answer: &mut K, reply: &Reply) -> Status
+    ensures taken { IsWritten (K.taken answer.old) (K.taken answer.new) reply.now result }
+    ensures write { result ≡ Status.WriteFault → (reply.now.status ≡ Status.WriteFault) ⊎ Rose (K.faults answer.old) (K.faults answer.new) }
+    ensures faults_grow { K.faults answer.old ≤ K.faults answer.new }
+    ensures names { K.names answer.new ≡ K.names answer.old }
+{
+    match write_all(answer, reply.line.as_bytes()) {
+        Ok(()) => reply.status,
+        Err(_) => Status::WriteFault,
+    }
+}
+
+/// A reply that is one word.
+fn word_reply(alloc: Global, status: Status, word: &str) -> Result<Reply, SearchStop>
+    ensures status { IfOk result (λ reply. reply.status ≡ status) }
+    ensures line { IfOk result (λ reply. string_bytes reply.line ≡ line_of (word_data word.now)) }
+    ensures memory { IfErr result (λ stop. stop ≡ search.NoMemory) }
+{
+    let line = word_line(alloc, word)?;
+    Ok(Reply { status, line })
+}
+
+/// The reply to the words, made whole in memory; of a search the log is written first.
+fn reply_for<S: Source, K: Sink>(
+    alloc: Global,
+    words: &Words,
+    source: &mut S,
+    log: &mut K,
+) -> Result<Reply, SearchStop>
+    ensures reply { IfOk result (Replied words.now (S.stock source.old) (S.faults source.old) (S.faults source.new)
+        (told (K.taken log.old) (K.names log.old)) (told (K.taken log.new) (K.names log.new))) }
+    ensures stopped { IfErr result (StopsWith words.now (S.stock source.old)
+        (told (K.taken log.old) (K.names log.old)) (told (K.taken log.new) (K.names log.new))) }
+    ensures ended { IfOk result (λ reply. IsAnswered reply.status → IsAtEnd (S.left source.new)) }
+    ensures faults_grow { S.faults source.old ≤ S.faults source.new }
+    ensures log_later { K.faults log.old ≤ K.faults log.new }
+    ensures write { result ≡ Err search.Write → Rose (K.faults log.old) (K.faults log.new) }
+    ensures untouched { request_of words.now ≡ None → IsUntouched (S.left source.old) (S.stock source.old) (S.faults source.old)
+        (S.left source.new) (S.stock source.new) (S.faults source.new) }
+    ensures names { S.names source.new ≡ begun_names (model_of words.now) (S.names source.old) }
+{
+    let Some(request) = asked(words) else {
+        return word_reply(alloc, Status::Usage, "usage");
+    };
+    match read_all(alloc, source, request.model, Some(MOST_READ)) {
+        Ok(text) => reply_to(
+            alloc,
+            request.command,
+            text.as_slice(),
+            request.budget,
+            request.log,
+            log,
+        ),
+        Err(ReadStop::Fault) => word_reply(alloc, Status::ReadFault, "read fault"),
+        Err(ReadStop::NoMemory) => Err(SearchStop::NoMemory),
+    }
+}

@@ -1,0 +1,10 @@
+pub mod Ended
+pub mod Programs
+pub mod Points
+pub mod Root
+pub mod Printing
+pub mod SolveAnswered
+pub mod Stopped
+pub mod Answered
+pub mod Grounds
+pub mod Ends

@@ -1,0 +1,103 @@
+-- What is answered of a problem, and which log goes with it.
+use Rattle.std.specs.Prelude.{◌≡◌, ◌⊎◌, ℕ, ◌<◌, ℤ, Bool, true, false, codes, string_bytes, List, Option, Some, None, IfSome, option_map}
+use Rattle.std.specs.Io.KnownBytes.{Appends}
+use Rattle.serde_json.specs.Data.{Data}
+use Rattle.sopl_base.specs.declared.fault.Fault.{Fault}
+use Rattle.sopl_base.specs.declared.fault.Fault.TheVariants as fault
+use Rattle.sopl_ast.specs.Cells.{cells, IsPoint, policy_at}
+use Rattle.sopl_ast.specs.Instances.{Problem}
+use Rattle.sopl_ast.specs.Optimal.{IsOptimal, IsInfeasible}
+use Rattle.sopl_ast.specs.Policies.{Policy}
+use Rattle.log_rows.specs.declared.rows.Footer.TheVariants as claim
+use Rattle.sopl_search.specs.declared.outcome.Found.{Found}
+use Rattle.sopl_search.specs.declared.outcome.Outcome.{Outcome}
+use Rattle.sopl_search.specs.declared.outcome.Outcome.TheVariants as outcome
+use Rattle.answer_texts.specs.Models.{IsSolvable}
+use Rattle.answer_lines.specs.AnswerData.{Valued, word_data, optimal_data, bounded_data, line_of}
+use Rattle.scen_accept.specs.Stated.{model_in, problem_in}
+use Rattle.scen_accept.specs.declared.accepted.AcceptedProblem.{AcceptedProblem}
+use Rattle.answer_texts.specs.Bounds.{IsBounded}
+use Rattle.answer_texts.specs.Logs.{IsLogOf, most_nodes, IsUnused, SinkState, Wrote, WrotePrefix}
+use Rattle.answer_texts.specs.Solving.{IsSolveFault}
+use Rattle.answer_texts.specs.declared.solve_answer.Answer.{Answer}
+use Rattle.answer_texts.specs.declared.solve_answer.Answer.TheVariants.{Settled, Cut}
+use Rattle.answer_texts.specs.declared.solve_answer.SolveStop.{SolveStop}
+use Rattle.answer_texts.specs.declared.solve_answer.SolveStop.TheVariants.{Unsolved, Write}
+
+-- a line settles a problem, and this is the log of the search
+pub data IsSettledBy (problem : Problem) (budget : ℕ) (log : List ℕ) : List ℕ → Type 0 where
+  -- this policy of it is optimal and has this value
+  optimal : (policy : Policy) (value : ℤ) → IsOptimal problem policy value → IsLogOf problem budget (claim.Optimal value) log
+      → IsSettledBy problem budget log (line_of (optimal_data problem policy value))
+  -- no policy of it satisfies
+  infeasible : IsInfeasible problem → IsLogOf problem budget claim.Infeasible log
+      → IsSettledBy problem budget log (line_of (word_data (codes "infeasible")))
+
+-- the value of what was found, if anything was
+abbrev pub found_value : Option Valued → Option ℤ
+found_value found = option_map (λ (f : Valued). f.value) found
+
+-- a line tells a bound, and this is the log of the search, which ended with as many nodes as the budget allows, and fewer than it may have
+pub data IsBoundedBy (problem : Problem) (budget : ℕ) (log : List ℕ) : List ℕ → Type 0 where
+  bounded : (found : Option Valued) (bound : ℤ) → IsBounded problem found bound → budget < most_nodes problem
+      → IsLogOf problem budget (claim.Bounded (found_value found) bound) log
+      → IsBoundedBy problem budget log (line_of (bounded_data problem found bound))
+
+abbrev pub IsAnsweredBy : Problem → ℕ → List ℕ → Answer → Type 0
+IsAnsweredBy problem budget log (Settled line) = IsSettledBy problem budget log (string_bytes line)
+IsAnsweredBy problem budget log (Cut line) = IsBoundedBy problem budget log (string_bytes line)
+
+-- an answer, and the sink was begun with a name and took the log that goes with it
+pub record Answers (problem : Problem) (budget : ℕ) (name : List ℕ) (old new : SinkState) (answer : Answer) : Type 0 where
+  pub log : List ℕ
+  pub answered : IsAnsweredBy problem budget log answer
+  pub wrote : Wrote name log old new
+
+-- an answer, and a sink took the log that goes with it
+pub record Searched (problem : Problem) (budget : ℕ) (old new : Option (List ℕ)) (answer : Answer) : Type 0 where
+  pub log : List ℕ
+  pub answered : IsAnsweredBy problem budget log answer
+  pub took : Appends old new log
+
+-- the text is solved, and the sink was begun with a name and took a prefix of the log
+pub record IsCutOff (stated : AcceptedProblem) (budget : ℕ) (name : List ℕ) (old new : SinkState) : Type 0 where
+  pub solvable : IsSolvable (model_in stated)
+  pub wrote : WrotePrefix (problem_in stated) budget name old new
+
+-- the sink was not used where the text is not solved; memory may run out before the search and behind its begin
+abbrev pub LogStops : AcceptedProblem → ℕ → List ℕ → SinkState → SinkState → Fault → Type 0
+LogStops stated budget name old new (fault.Text refusal) = IsUnused old new
+LogStops stated budget name old new (fault.Limit excess) = IsUnused old new
+LogStops stated budget name old new fault.NoMemory = IsUnused old new ⊎ IsCutOff stated budget name old new
+
+-- why there is no answer: a fault, or the log's sink failed
+abbrev pub Stops : AcceptedProblem → ℕ → List ℕ → SinkState → SinkState → SolveStop → Type 0
+Stops stated budget name old new (Unsolved f) = IsSolveFault (model_in stated) f × LogStops stated budget name old new f
+Stops stated budget name old new Write = IsCutOff stated budget name old new
+
+-- The answer of an outcome.
+
+-- the policy of a point, with its value
+abbrev pub valued_at : Problem → Found → Valued
+valued_at problem found = record { policy = policy_at (cells problem) found.cells; value = found.value }
+
+abbrev pub outcome_data : Problem → Outcome → Data
+outcome_data problem (outcome.Optimal value point) = optimal_data problem (policy_at (cells problem) point) value
+outcome_data problem outcome.Infeasible = word_data (codes "infeasible")
+outcome_data problem (outcome.Bounded found bound) = bounded_data problem (option_map (valued_at problem) found) bound
+
+abbrev pub is_settled : Outcome → Bool
+is_settled (outcome.Optimal value point) = true
+is_settled outcome.Infeasible = true
+is_settled (outcome.Bounded found bound) = false
+
+-- an answer is that of an outcome
+abbrev pub IsAnswerOf : Problem → Outcome → Answer → Type 0
+IsAnswerOf problem o (Settled line) = (is_settled o ≡ true) × (string_bytes line ≡ line_of (outcome_data problem o))
+IsAnswerOf problem o (Cut line) = (is_settled o ≡ false) × (string_bytes line ≡ line_of (outcome_data problem o))
+
+-- what an outcome found is a point of the problem
+abbrev pub FindsPoint : Problem → Outcome → Type 0
+FindsPoint problem (outcome.Optimal value point) = IsPoint (cells problem) point
+FindsPoint problem outcome.Infeasible = Unit {0}
+FindsPoint problem (outcome.Bounded found bound) = IfSome found (λ (f : Found). IsPoint (cells problem) f.cells)

@@ -1,0 +1,11 @@
+pub mod Models
+pub mod Solved
+pub mod Laws
+pub mod Solving
+pub mod Bounds
+pub mod Logs
+pub mod Answering
+pub mod Stops
+pub mod Codes
+pub mod Replies
+pub mod Unlogged

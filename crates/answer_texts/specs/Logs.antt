@@ -1,0 +1,60 @@
+-- The log of a search of a problem, and what a sink took of it.
+use Rattle.std.specs.Prelude.{◌≡◌, ◌⊎◌, ℕ, List, [], Option, option_map}
+use Rattle.std.specs.Io.KnownBytes.{Keeps, Appends}
+use Rattle.sopl_io.specs.Stock.{with_name}
+use Rattle.sopl_io.specs.Transfer.{AppendsPrefix}
+use Rattle.sopl_ast.specs.Cells.{cells}
+use Rattle.sopl_ast.specs.Instances.{Problem}
+use Rattle.box_problem.specs.Box.{points}
+use Rattle.box_problem.specs.BoxProblem.{BoxProblem}
+use Rattle.box_problem.specs.Covers.{nodes_for}
+use Rattle.log_rows.specs.declared.rows.Footer.{Footer}
+use Rattle.sopl_search.specs.Logged.{IsSearchLog, footer_of}
+use Rattle.sopl_search.specs.declared.outcome.Outcome.{Outcome}
+use Rattle.term_problem.specs.Search.{problem_over}
+use Rattle.compile_laws.specs.Root.{root_box}
+use Rattle.compile_laws.specs.Whole.{problem_terms}
+
+-- the problem over boxes that a search of the problem's points sees
+unfoldable pub searched_problem : Problem → BoxProblem
+searched_problem problem = problem_over (root_box (cells problem)) (problem_terms problem)
+
+-- how many nodes a search of the problem's points has at most
+unfoldable pub most_nodes : Problem → ℕ
+most_nodes problem = nodes_for (points (root_box (cells problem)))
+
+-- these bytes are the log of a search of the problem within a budget of nodes, which ends with this claim
+pub record IsLogOf (problem : Problem) (budget : ℕ) (claim : Footer) (log : List ℕ) : Type 0 where
+  pub outcome : Outcome
+  pub claimed : footer_of outcome ≡ claim
+  pub is_log : IsSearchLog (searched_problem problem) budget outcome log
+
+-- what a sink tells: the bytes that it took since it was begun last, and the names with which it was begun
+pub record SinkState : Type 0 where
+  pub taken : Option (List ℕ)
+  pub names : Option (List (List ℕ))
+
+abbrev pub told : Option (List ℕ) → Option (List (List ℕ)) → SinkState
+told taken names = record { taken = taken; names = names }
+
+-- a sink was not used
+pub record IsUnused (old new : SinkState) : Type 0 where
+  pub taken : new.taken ≡ old.taken
+  pub names : new.names ≡ old.names
+
+-- a sink was begun with a name, and then took these bytes
+abbrev pub emptied : Option (List ℕ) → Option (List ℕ)
+emptied taken = option_map (λ _. []) taken
+
+pub record Wrote (name log : List ℕ) (old new : SinkState) : Type 0 where
+  pub names : new.names ≡ with_name old.names name
+  pub took : Appends (emptied old.taken) new.taken log
+
+-- a sink was begun with a name, and then took nothing, or a prefix of a log of a search of the problem
+pub data TookPrefix (problem : Problem) (budget : ℕ) (old : Option (List ℕ)) (new : Option (List ℕ)) : Type 0 where
+  nothing : Keeps old new → TookPrefix problem budget old new
+  prefix : (claim : Footer) (log : List ℕ) → IsLogOf problem budget claim log → AppendsPrefix old new log → TookPrefix problem budget old new
+
+pub record WrotePrefix (problem : Problem) (budget : ℕ) (name : List ℕ) (old new : SinkState) : Type 0 where
+  pub names : new.names ≡ with_name old.names name
+  pub took : TookPrefix problem budget (emptied old.taken) new.taken

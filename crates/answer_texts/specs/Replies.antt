@@ -1,0 +1,118 @@
+-- How a command ends on a text, which replies it has, and which log goes with them.
+use Rattle.std.specs.Prelude.{◌≡◌, ◌⊎◌, ℕ, ◌<◌, ℤ, pos, codes, List, Option, Some, None}
+use Rattle.sopl_base.specs.declared.fault.Excess.{Excess}
+use Rattle.sopl_base.specs.declared.fault.Fault.{Fault}
+use Rattle.sopl_base.specs.declared.fault.Fault.TheVariants as fault
+use Rattle.sopl_base.specs.declared.fault.Refusal.{Refusal}
+use Rattle.sopl_ast.specs.Accepted.{AcceptedText, IsLimitedFor, IsRefusedFor}
+use Rattle.sopl_ast.specs.Instances.{Problem}
+use Rattle.sopl_ast.specs.Limits.{usual_limits}
+use Rattle.sopl_ast.specs.Policies.{Policy}
+use Rattle.sopl_ast.specs.Optimal.{IsOptimal, IsInfeasible}
+use Rattle.log_rows.specs.declared.rows.Footer.TheVariants as claim
+use Rattle.sopl_search.specs.declared.outcome.SearchStop.{SearchStop}
+use Rattle.sopl_search.specs.declared.outcome.SearchStop.TheVariants as stop
+use Rattle.answer_lines.specs.Answer.{tree_data}
+use Rattle.answer_texts.specs.Solved.{SolvedText, IsNotYet, IsLimitedInTerms}
+use Rattle.answer_lines.specs.AnswerData.{Valued, word_data, refused_data, limit_data, optimal_data, bounded_data, line_of}
+use Rattle.answer_texts.specs.Answering.{found_value}
+use Rattle.answer_texts.specs.Bounds.{IsBounded}
+use Rattle.answer_texts.specs.Logs.{IsLogOf, most_nodes, IsUnused, SinkState, Wrote, WrotePrefix}
+use Rattle.answer_texts.specs.declared.command.Command.{Command}
+use Rattle.answer_texts.specs.declared.command.Command.TheVariants.{Solve, Tree}
+use Rattle.answer_texts.specs.declared.status.Status.{Status}
+use Rattle.answer_texts.specs.declared.status.Status.TheVariants.{Done, Failing, Usage, Refused, Limit, Bounded, ReadFault, WriteFault, NoMemory, Unreadable}
+
+-- a command refuses the text by this code at this place
+pub data IsRefusedOn (text : List ℕ) (refusal : Refusal) : Command → Type 0 where
+  -- the text breaks a rule
+  by_rule : (command : Command) → IsRefusedFor text refusal → IsRefusedOn text refusal command
+  -- the text is accepted and has a form that is not solved yet
+  not_yet : IsNotYet text refusal → IsRefusedOn text refusal Solve
+
+-- a command does not take the text since it passes this limit
+pub data IsLimitedOn (text : List ℕ) (excess : Excess) : Command → Type 0 where
+  -- its unfolding, its scenarios or its decisions pass it
+  by_size : (command : Command) → IsLimitedFor usual_limits text excess → IsLimitedOn text excess command
+  -- the text is accepted, and its terms pass it
+  by_terms : IsLimitedInTerms text excess → IsLimitedOn text excess Solve
+
+-- a fault says why a command is not done on the text
+abbrev pub IsFaultOn : List ℕ → Command → Fault → Type 0
+IsFaultOn text command (fault.Text refusal) = IsRefusedOn text refusal command
+IsFaultOn text command (fault.Limit excess) = IsLimitedOn text excess command
+IsFaultOn text command fault.NoMemory = Unit {0}
+
+-- how a command ends on a text, where nothing fails and a search may finish so many nodes
+pub data Ends (text : List ℕ) (budget : ℕ) : Command → Status → Type 0 where
+  -- the text is accepted, has no form that is not solved yet, and its terms pass no limit
+  solved : (problem : Problem) → SolvedText text problem → Ends text budget Solve Done
+  -- the same, where a search may want more nodes
+  bounded_text : (problem : Problem) → SolvedText text problem → budget < most_nodes problem → Ends text budget Solve Bounded
+  -- the text is accepted
+  shown : (problem : Problem) → AcceptedText usual_limits text problem → Ends text budget Tree Done
+  -- the text is refused
+  refused_text : (command : Command) (refusal : Refusal) → IsRefusedOn text refusal command → Ends text budget command Refused
+  -- the text passes a limit
+  limited_text : (command : Command) (excess : Excess) → IsLimitedOn text excess command → Ends text budget command Limit
+
+-- how a run ends where its search is not cut short
+abbrev pub settled : Status → Status
+settled Bounded = Done
+settled Done = Done
+settled Failing = Failing
+settled Usage = Usage
+settled Refused = Refused
+settled Limit = Limit
+settled ReadFault = ReadFault
+settled WriteFault = WriteFault
+settled NoMemory = NoMemory
+settled Unreadable = Unreadable
+
+-- a reply to a command on a text, where a search may finish so many nodes: the log that goes with it, the status that it ends with, its line, and
+-- why it comes
+pub data IsTextReply (text : List ℕ) (budget : ℕ) : Command → Option (List ℕ) → Status → List ℕ → Type 0 where
+  -- the text states a problem, and this policy of it is optimal and has this value
+  optimal : (problem : Problem) (policy : Policy) (value : ℤ) (log : List ℕ) → SolvedText text problem → IsOptimal problem policy value
+      → IsLogOf problem budget (claim.Optimal value) log
+      → IsTextReply text budget Solve (Some log) Done (line_of (optimal_data problem policy value))
+  -- the text states a problem, and no policy of it satisfies
+  infeasible : (problem : Problem) (log : List ℕ) → SolvedText text problem → IsInfeasible problem → IsLogOf problem budget claim.Infeasible log
+      → IsTextReply text budget Solve (Some log) Done (line_of (word_data (codes "infeasible")))
+  -- the text states a problem, no policy of it is better than this bound, and this one satisfies where one was found; the log has as many finished
+  -- nodes as the budget allows, and the bound is the better end of a box that is open
+  bounded : (problem : Problem) (found : Option Valued) (bound : ℤ) (log : List ℕ) → SolvedText text problem → IsBounded problem found bound
+      → budget < most_nodes problem → IsLogOf problem budget (claim.Bounded (found_value found) bound) log
+      → IsTextReply text budget Solve (Some log) Bounded (line_of (bounded_data problem found bound))
+  -- the text states a problem with these scenarios
+  scenes : (problem : Problem) → AcceptedText usual_limits text problem
+      → IsTextReply text budget Tree None Done (line_of (tree_data problem.decisions problem.stochastics))
+  -- the text is refused by this code at this place
+  refused : (command : Command) (refusal : Refusal) → IsRefusedOn text refusal command
+      → IsTextReply text budget command None Refused (line_of (refused_data (pos refusal.at) (pos refusal.code)))
+  -- the text passes this limit
+  limited : (command : Command) (excess : Excess) → IsLimitedOn text excess command
+      → IsTextReply text budget command None Limit (line_of (limit_data excess))
+
+-- a sink was begun with a name and took the log, where there is one; else it was not used
+abbrev pub Logged : List ℕ → Option (List ℕ) → SinkState → SinkState → Type 0
+Logged name None old new = IsUnused old new
+Logged name (Some log) old new = Wrote name log old new
+
+-- a reply, and what the log's sink took
+pub record Replies (text : List ℕ) (budget : ℕ) (command : Command) (name : List ℕ) (old new : SinkState) (status : Status) (line : List ℕ) : Type 0 where
+  pub log : Option (List ℕ)
+  pub reply : IsTextReply text budget command log status line
+  pub logged : Logged name log old new
+
+-- the text is solved, and the log's sink was begun with a name and took a prefix of a log
+pub record IsCut (text : List ℕ) (budget : ℕ) (command : Command) (name : List ℕ) (old new : SinkState) : Type 0 where
+  pub commanded : command ≡ Solve
+  pub problem : Problem
+  pub is_solved : SolvedText text problem
+  pub wrote : WrotePrefix problem budget name old new
+
+-- why there is no reply: the log's sink failed, or memory ran out
+abbrev pub StopsByCause : List ℕ → ℕ → Command → List ℕ → SinkState → SinkState → SearchStop → Type 0
+StopsByCause text budget command name old new stop.Write = IsCut text budget command name old new
+StopsByCause text budget command name old new stop.NoMemory = IsUnused old new ⊎ IsCut text budget command name old new

@@ -1,0 +1,206 @@
+//! From a command and the text of a model to the reply.
+
+ghost use Rattle.std.specs.Prelude.{◌≡◌, ◌≤◌, ℕ, List, None, Err, string_bytes, pos, IfOk, IfErr};
+ghost use Rattle.sopl_io.specs.Causes.{Rose};
+ghost use Rattle.scen_accept.specs.Stated.{IsLaid, States, problem_in};
+ghost use Rattle.answer_lines.specs.Answer.{tree_data};
+ghost use Rattle.answer_lines.specs.AnswerData.{limit_data, line_of, refused_data};
+ghost use Rattle.sopl_search.specs.declared.outcome.SearchStop.TheVariants as search;
+ghost use Rattle.answer_texts.specs.Answering.{Stops};
+ghost use Rattle.answer_texts.specs.Logs.{SinkState, told};
+ghost use Rattle.answer_texts.specs.declared.solve_answer.SolveStop.TheVariants.{Write};
+ghost use Rattle.scen_accept.specs.declared.accepted.AcceptedProblem.{AcceptedProblem};
+ghost use Rattle.answer_texts.specs.Replies.{IsFaultOn, IsTextReply, Replies, StopsByCause};
+ghost use Rattle.answer_texts.specs.Unlogged.{IsTold, reply_of as replied, without_log as unlogged};
+ghost use Rattle.answer_texts.specs.declared.command.Command.TheVariants.{Solve, Tree as ShowTree};
+
+use crate::command::Command;
+use crate::reply::Reply;
+use crate::solve_answer::{Answer, SolveStop};
+use crate::solved::solved_answer;
+use crate::status::Status;
+use answer_lines::{limit_line, refused_line, tree_text};
+use scen_accept::{AcceptedProblem, stated_in};
+use sopl_base::{Excess, Fault, Refusal};
+use sopl_io::Sink;
+use sopl_search::SearchStop;
+use std::alloc::{AllocError, Global};
+
+/// The reply to a text that is refused so.
+fn refused_reply(alloc: Global, refusal: Refusal) -> Result<Reply, AllocError>
+    ensures status { IfOk result (λ reply. reply.status ≡ Status.Refused) }
+    ensures line { IfOk result (λ reply. string_bytes reply.line ≡ line_of (refused_data (pos refusal.at) (pos refusal.code))) }
+{
+    let line = refused_line(alloc, refusal)?;
+    Ok(Reply {
+        status: Status::Refused,
+        line,
+    })
+}
+
+/// The reply to a text that passes this limit.
+fn limit_reply(alloc: Global, excess: &Excess) -> Result<Reply, AllocError>
+    ensures status { IfOk result (λ reply. reply.status ≡ Status.Limit) }
+    ensures line { IfOk result (λ reply. string_bytes reply.line ≡ line_of (limit_data excess.now)) }
+{
+    let line = limit_line(alloc, excess)?;
+    Ok(Reply {
+        status: Status::Limit,
+        line,
+    })
+}
+
+/// The reply to a command that is not done on a text for this fault.
+#[tactic(auto, using(crate::proofs::Answered::refused_so, crate::proofs::Answered::limited_so))]
+fn fault_reply(alloc: Global, fault: Fault) -> Result<Reply, AllocError>
+    ensures reply { (command : Command) (text : List ℕ) (budget : ℕ) → IsFaultOn text command fault
+        → IfOk result (λ reply. IsTextReply text budget command None reply.status (string_bytes reply.line)) }
+    ensures told { IfOk result (λ reply. IsTold fault) }
+{
+    match fault {
+        Fault::Text(refusal) => refused_reply(alloc, refusal),
+        Fault::Limit(excess) => limit_reply(alloc, &excess),
+        Fault::NoMemory => Err(AllocError),
+    }
+}
+
+/// A reply with no log, where there is memory for it.
+fn without_log(reply: Result<Reply, AllocError>) -> Result<Reply, SearchStop>
+    ensures reply { result ≡ unlogged reply }
+{
+    match reply {
+        Ok(reply) => Ok(reply),
+        Err(AllocError) => Err(SearchStop::NoMemory),
+    }
+}
+
+/// The line of the answer `tree` of what a text states.
+fn tree_line(alloc: Global, stated: &AcceptedProblem) -> Result<String, AllocError>
+    requires laid_out { IsLaid stated.now }
+    ensures text { IfOk result (λ line. string_bytes line
+        ≡ line_of (tree_data (problem_in stated.now).decisions (problem_in stated.now).stochastics)) }
+{
+    let ground = &stated.ground;
+    let mut text = tree_text(alloc, ground.decisions(), ground.stochs(), &stated.tree)?;
+    text.push('\n')?;
+    Ok(text)
+}
+
+/// The reply to `tree` on a text that states this.
+#[tactic(auto, using(crate::proofs::Answered::tree_so))]
+fn tree_reply(alloc: Global, stated: &AcceptedProblem) -> Result<Reply, AllocError>
+    requires laid_out { IsLaid stated.now }
+    ensures reply { (text : List ℕ) (budget : ℕ) → States text stated.now
+        → IfOk result (λ reply. IsTextReply text budget ShowTree None reply.status (string_bytes reply.line)) }
+{
+    let line = tree_line(alloc, stated)?;
+    Ok(Reply {
+        status: Status::Done,
+        line,
+    })
+}
+
+/// The reply of an answer.
+fn reply_of(answer: Answer) -> Reply
+    ensures reply { result ≡ replied answer }
+{
+    match answer {
+        Answer::Settled(line) => Reply {
+            status: Status::Done,
+            line,
+        },
+        Answer::Cut(line) => Reply {
+            status: Status::Bounded,
+            line,
+        },
+    }
+}
+
+/// The reply to `solve` on a text that has no answer, or that the sink of its log failed.
+fn stopped_reply(alloc: Global, stop: SolveStop) -> Result<Reply, SearchStop>
+    ensures reply { (text : List ℕ) (budget : ℕ) (stated : AcceptedProblem) (name : List ℕ) (old new : SinkState) → States text stated
+        → Stops stated budget name old new stop → IfOk result (λ reply. Replies text budget Solve name old new reply.status (string_bytes reply.line)) }
+    ensures stopped { (text : List ℕ) (budget : ℕ) (stated : AcceptedProblem) (name : List ℕ) (old new : SinkState) → States text stated
+        → Stops stated budget name old new stop → IfErr result (StopsByCause text budget Solve name old new) }
+    ensures write { result ≡ Err search.Write → stop ≡ Write }
+{
+    match stop {
+        SolveStop::Unsolved(fault) => without_log(fault_reply(alloc, fault)),
+        SolveStop::Write => Err(SearchStop::Write),
+    }
+}
+
+/// The reply to `solve` on a text that states this, by a search within a budget; the sink takes its log under a name.
+fn solved_reply<K: Sink>(
+    alloc: Global,
+    stated: &AcceptedProblem,
+    budget: u32,
+    name: &str,
+    sink: &mut K,
+) -> Result<Reply, SearchStop>
+    requires stated { (text : List ℕ) × States text stated.now }
+    requires laid_out { IsLaid stated.now }
+    requires budget { 1 ≤ budget }
+    ensures reply { (text : List ℕ) → States text stated.now → IfOk result (λ reply. Replies text budget Solve name.now
+        (told (K.taken sink.old) (K.names sink.old)) (told (K.taken sink.new) (K.names sink.new)) reply.status (string_bytes reply.line)) }
+    ensures stopped { (text : List ℕ) → States text stated.now → IfErr result (StopsByCause text budget Solve name.now
+        (told (K.taken sink.old) (K.names sink.old)) (told (K.taken sink.new) (K.names sink.new))) }
+    ensures faults_grow { K.faults sink.old ≤ K.faults sink.new }
+    ensures write { result ≡ Err search.Write → Rose (K.faults sink.old) (K.faults sink.new) }
+{
+    match solved_answer(alloc, stated, budget, name, sink) {
+        Ok(answer) => Ok(reply_of(answer)),
+        Err(stop) => stopped_reply(alloc, stop),
+    }
+}
+
+/// The reply to a command on a text that is accepted and states this.
+fn stated_reply<K: Sink>(
+    alloc: Global,
+    command: Command,
+    stated: &AcceptedProblem,
+    budget: u32,
+    name: &str,
+    sink: &mut K,
+) -> Result<Reply, SearchStop>
+    requires stated { (text : List ℕ) × States text stated.now }
+    requires laid_out { IsLaid stated.now }
+    requires budget { 1 ≤ budget }
+    ensures reply { (text : List ℕ) → States text stated.now → IfOk result (λ reply. Replies text budget command name.now
+        (told (K.taken sink.old) (K.names sink.old)) (told (K.taken sink.new) (K.names sink.new)) reply.status (string_bytes reply.line)) }
+    ensures stopped { (text : List ℕ) → States text stated.now → IfErr result (StopsByCause text budget command name.now
+        (told (K.taken sink.old) (K.names sink.old)) (told (K.taken sink.new) (K.names sink.new))) }
+    ensures faults_grow { K.faults sink.old ≤ K.faults sink.new }
+    ensures write { result ≡ Err search.Write → Rose (K.faults sink.old) (K.faults sink.new) }
+{
+    match command {
+        Command::Solve => solved_reply(alloc, stated, budget, name, sink),
+        Command::Tree => without_log(tree_reply(alloc, stated)),
+    }
+}
+
+/// The reply to a command on the bytes of a text: `solve` prints the best policy with its value, `infeasible`, or a bound where its search ends
+/// with as many nodes as the budget allows before it is done, and `tree` the scenarios; both tell the first rule that the text breaks, or the limit
+/// that it passes, and `solve` besides the first form that is not solved yet, or the limit that the text's terms pass. The sink is begun with the name
+/// and takes the log, where the text is solved, and is not used else. There is no reply where memory runs out, and where the sink failed.
+pub fn reply_to<K: Sink>(
+    alloc: Global,
+    command: Command,
+    text: &[u8],
+    budget: u32,
+    name: &str,
+    sink: &mut K,
+) -> Result<Reply, SearchStop>
+    requires budget { 1 ≤ budget }
+    ensures reply { IfOk result (λ reply. Replies text.now budget command name.now
+        (told (K.taken sink.old) (K.names sink.old)) (told (K.taken sink.new) (K.names sink.new)) reply.status (string_bytes reply.line)) }
+    ensures stopped { IfErr result (StopsByCause text.now budget command name.now
+        (told (K.taken sink.old) (K.names sink.old)) (told (K.taken sink.new) (K.names sink.new))) }
+    ensures faults_grow { K.faults sink.old ≤ K.faults sink.new }
+    ensures write { result ≡ Err search.Write → Rose (K.faults sink.old) (K.faults sink.new) }
+{
+    match stated_in(alloc, text) {
+        Ok(stated) => stated_reply(alloc, command, &stated, budget, name, sink),
+        Err(fault) => without_log(fault_reply(alloc, fault)),
+    }
+}

@@ -1,0 +1,23 @@
+//! What a command on a text is answered: a status and a line of JSON. `reply_to` takes the command and the bytes of the text; `solve` is
+//! answered by the best policy, that none satisfies, or a bound, with the log of the search, or why the text is not solved; each accepted
+//! text is solved, or not yet, or passes a limit on its terms.
+//! Its tests stand in `sopl`.
+#![tactic(auto)]
+
+mod answer;
+mod command;
+mod lines;
+mod program;
+mod reply;
+mod solve_answer;
+mod solved;
+mod solved_laws;
+mod status;
+
+pub use answer::reply_to;
+pub use command::Command;
+pub use reply::Reply;
+pub use solve_answer::{Answer, SolveStop};
+pub use solved::solved_answer;
+pub use solved_laws::accepted_end_once;
+pub use status::Status;

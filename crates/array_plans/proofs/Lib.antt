@@ -1,5 +1,0 @@
-pub mod Planned
-mod Noting
-mod Ordering
-mod Singles
-mod Columns

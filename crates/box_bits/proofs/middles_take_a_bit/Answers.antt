@@ -1,5 +1,0 @@
-use Rattle.box_bits.proofs.Bits as lemmas
-use Rattle.box_bits.proofs.middles_take_a_bit.Goals as goal
-
-pub returns : goal.returns
-returns c = record { law = lemmas.middles_take_a_bit }

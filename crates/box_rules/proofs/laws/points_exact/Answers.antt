@@ -1,5 +1,0 @@
-use Rattle.box_rules.proofs.OnPoints as lemmas
-use Rattle.box_rules.proofs.laws.points_exact.Goals as goal
-
-pub returns : goal.returns
-returns c = record { law = lemmas.points_exact }

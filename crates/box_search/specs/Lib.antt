@@ -1,6 +1,0 @@
-pub mod Ends
-pub mod Lines
-pub mod Outcomes
-pub mod Logged
-pub mod Crews
-pub mod Climbing

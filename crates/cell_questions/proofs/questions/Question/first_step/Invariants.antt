@@ -1,7 +1,0 @@
-use Rattle.std.proofs.Common.{take}
-use Rattle.std.specs.List.{All}
-use Rattle.cell_questions.specs.Opened.{IsOpen}
-use Rattle.cell_questions.proofs.questions.Question.first_step.Given as goal
-
-abbrev pub invariant-cells : goal.invariant-cells
-invariant-cells l = All (IsOpen l.self) (take l.cell-index l.cells)

@@ -1,0 +1,104 @@
+use Rattle.std.proofs.Common.{rules, arith, ◌≡◌, ap, sym, subst, ◌∙◌}
+use Rattle.sopl_ast.proofs.Lighter.{weight-trees, weight-terms, weight-factors}
+use Rattle.sopl_ast.specs.Lists.{binders}
+use Rattle.sopl_ast.specs.Sight.{shape_of_kind}
+use Rattle.sopl_ast.specs.TermNodes.{nodes}
+use Rattle.sopl_ast.specs.Tree as t
+use Rattle.sopl_ast.specs.Tree.{Node}
+use Rattle.sopl_ast.specs.Weight.{weight}
+use Rattle.unfold_constants.specs.Here.{known_in}
+use Rattle.compile_counts.specs.Walked.{IsWalked}
+use Rattle.compile_counts.specs.Counted.{capped}
+use Rattle.compile_counts.proofs.Counting.{all_sum, term_sum, factor_sum, all_walked, terms_walked, factors_walked, either, left_first, left_holds, left_more, left_none}
+use Rattle.compile_counts.proofs.Loops.{next_is, next_seen, none_is}
+use Rattle.compile_counts.proofs.expressions.+count.Goals as goal
+
+pub nodes_of-returns-in_ok-inside-in-Cumulative : goal.nodes_of-returns-in_ok-inside-in-Cumulative
+nodes_of-returns-in_ok-inside-in-Cumulative s c =
+    let same : Node c.e.inside.at (t.Cumulative (binders c.in-Cumulative.over) c.deref.result.now c.deref-in-Cumulative.result.now c.deref-in-Cumulative-2.result.now
+    c.deref-in-Cumulative-3.result.now) ≡ c.args.e.now = search rules in
+    record { nodes = c.with_operator-in-Cumulative.ensures.both _ c.in_ok-inside-in-Cumulative.ensures.nodes ∙ ap (λ e. capped (nodes (known_in c.args.known.now) e)) same }
+
+pub nodes_of-returns-in_ok-nodes_behind-in-Sum : goal.nodes_of-returns-in_ok-nodes_behind-in-Sum
+nodes_of-returns-in_ok-nodes_behind-in-Sum s c =
+    let part : c.deref-in-Sum.result.now ≡ c.in-Sum.part.value = search rules in
+    let counted = c.with_operator-in-Sum.ensures.both _ c.in_ok-nodes_behind-in-Sum.ensures.nodes in
+    let view = ap (λ e. capped (nodes (known_in c.args.known.now) e)) c.e.view_is in
+    record {
+      nodes = either
+          (λ is. counted
+          ∙ ap (λ p. capped (nodes (known_in c.args.known.now) (Node c.e.inside.at (t.Sum (binders c.in-Sum.over) p)))) part
+          ∙ ap (λ k. capped (nodes (known_in c.args.known.now) (Node c.e.inside.at (shape_of_kind k)))) (sym is)
+          ∙ view)
+          (λ is. counted
+          ∙ ap (λ p. capped (nodes (known_in c.args.known.now) (Node c.e.inside.at (t.AllDifferent (binders c.in-Sum.over) p)))) part
+          ∙ ap (λ k. capped (nodes (known_in c.args.known.now) (Node c.e.inside.at (shape_of_kind k)))) (sym is)
+          ∙ view) c.in-Sum.is;
+    }
+
+pub nodes_of_all-parts-init : goal.nodes_of_all-parts-init
+nodes_of_all-parts-init s c =
+    left_first _ _ c.args.parts.now _ (all_walked c.args.whole (known_in c.args.known.now) c.args.parts.now c.requires.walked) c.none-sum.ensures.none
+
+pub nodes_of_all-nodes_of-requires : goal.nodes_of_all-nodes_of-requires
+nodes_of_all-nodes_of-requires s c = (
+  omega (arith, weight-trees c.args.parts.now c.parts.part-index c.part-item.result c.parts-test.true, ap weight c.part-item.is),
+  left_holds _ _ _ _ _ c.part-item.result _ (next_is c.args.parts.now c.parts.part-index c.part-item.result c.parts-test.true c.part-item.is) c.parts.invariant,
+)
+
+pub nodes_of_all-parts-preserved : goal.nodes_of_all-parts-preserved
+nodes_of_all-parts-preserved s c =
+    left_more _ _ _ _ _ c.part-item.result _ _ _ (next_is c.args.parts.now c.parts.part-index c.part-item.result c.parts-test.true c.part-item.is)
+    c.in_ok-inside.ensures.nodes c.plus-sum.ensures.both c.parts.invariant
+
+pub nodes_of_all-returns : goal.nodes_of_all-returns
+nodes_of_all-returns s c =
+    record {
+      nodes = left_none _ _ _ _ _ (none_is c.args.parts.now c.parts.part-index c.parts-test.false) c.parts.invariant
+          ∙ ap capped (sym (all_sum (known_in c.args.known.now) c.args.parts.now));
+    }
+
+pub nodes_of_terms-parts-init : goal.nodes_of_terms-parts-init
+nodes_of_terms-parts-init s c =
+    left_first _ _ c.args.parts.now _ (terms_walked c.args.whole (known_in c.args.known.now) c.args.parts.now c.requires.walked) c.none-sum.ensures.none
+
+pub nodes_of_terms-nodes_of-requires : goal.nodes_of_terms-nodes_of-requires
+nodes_of_terms-nodes_of-requires s c = (
+  omega (arith, weight-terms c.args.parts.now c.parts.part-index c.part-item.result c.parts-test.true, ap (λ p. weight p.1) c.part-item.is),
+  left_holds _ _ _ _ _ c.part-item.result _ (next_is c.args.parts.now c.parts.part-index c.part-item.result c.parts-test.true c.part-item.is) c.parts.invariant,
+)
+
+pub nodes_of_terms-returns : goal.nodes_of_terms-returns
+nodes_of_terms-returns s c =
+    record {
+      nodes = left_none _ _ _ _ _ (none_is c.args.parts.now c.parts.part-index c.parts-test.false) c.parts.invariant
+          ∙ ap capped (sym (term_sum (known_in c.args.known.now) c.args.parts.now));
+    }
+
+pub nodes_of_factors-parts-init : goal.nodes_of_factors-parts-init
+nodes_of_factors-parts-init s c =
+    left_first _ _ c.args.parts.now _ (factors_walked c.args.whole (known_in c.args.known.now) c.args.parts.now c.requires.walked) c.none-sum.ensures.none
+
+pub nodes_of_factors-nodes_of-requires : goal.nodes_of_factors-nodes_of-requires
+nodes_of_factors-nodes_of-requires s c = (
+  omega (arith, weight-factors c.args.parts.now c.parts.part-index c.part-item.result c.parts-test.true, ap (λ p. weight p.1) c.part-item.is),
+  subst (λ w. IsWalked w (known_in c.args.known.now) c.part-item.result.1) (sym c.whole_at.ensures.whole)
+      (left_holds _ _ _ _ _ c.part-item.result _ (next_is c.args.parts.now c.parts.part-index c.part-item.result c.parts-test.true c.part-item.is) c.parts.invariant),
+)
+
+pub nodes_of_factors-returns : goal.nodes_of_factors-returns
+nodes_of_factors-returns s c =
+    record {
+      nodes = left_none _ _ _ _ _ (none_is c.args.parts.now c.parts.part-index c.parts-test.false) c.parts.invariant
+          ∙ ap capped (sym (factor_sum (known_in c.args.known.now) c.args.parts.now));
+    }
+
+pub nodes_at_each-places-preserved : goal.nodes_at_each-places-preserved
+nodes_at_each-places-preserved s c =
+    left_more _ _ _ _ _ (known_in c.place-item.result) _ _ _ (next_seen known_in c.args.places.now c.places.place-index c.place-item.result c.places-test.true c.place-item.is)
+    c.in_ok-inside.ensures.nodes c.plus-sum.ensures.both c.places.invariant
+
+pub nodes_of_each_task-places-preserved : goal.nodes_of_each_task-places-preserved
+nodes_of_each_task-places-preserved s c =
+    left_more _ _ _ _ _ (known_in c.place-item.result) _ _ _ (next_seen known_in c.args.places.now c.places.place-index c.place-item.result c.places-test.true c.place-item.is)
+    c.in_ok-inside.ensures.nodes c.plus-sum.ensures.both c.places.invariant

@@ -1,0 +1,3 @@
+pub mod Walked
+pub mod Entering
+pub mod Counted

@@ -1,0 +1,31 @@
+use Rattle.std.proofs.Common.{rules, ◌≡◌, refl, ap, sym, subst, true, [], ◌∷◌, ◌++◌, Err}
+use Rattle.term_language.specs.Terms as rule
+use Rattle.compile_laws.specs.Subterms.{subterms}
+use Rattle.compile_laws.proofs.Measuring.{faults_end}
+use Rattle.compile_scene.specs.Scenes.{root_in}
+use Rattle.compile_scene.specs.Works.{things_of}
+use Rattle.compile_exprs.specs.Made.{MakesTerm}
+use Rattle.compile_exprs.proofs.Sizes.{both_small}
+use Rattle.compile_exprs.proofs.Steps.{term_is, term_made}
+use Rattle.compile_exprs.proofs.numbers.negated.Goals as goal
+
+pub returns-in_err-id : goal.returns-in_err-id
+returns-in_err-id c =
+    let same : c.from_residual.result ≡ Err c.in_err-id.field-0.0 = search rules in
+    record {
+      made = λ setting before t made.
+          subst (MakesTerm setting before c.args.work.now (rule.Sum (rule.part true t rule.no_part))) (sym same)
+          (faults_end (root_in setting) (subterms t ++ []) (rule.Sum (rule.part true t rule.no_part) ∷ []) c.in_err-id.field-0.0
+          (faults_end (root_in setting) (subterms t) [] c.in_err-id.field-0.0 (subst (MakesTerm setting before c.args.work.now t) c.in_err-id.was made)));
+    }
+
+pub returns : goal.returns
+returns c =
+    record {
+      made = λ setting before t made.
+          let here = subst (MakesTerm setting before c.args.work.now t) c.in_ok-id.was made in
+          term_made setting before c.args.work.now c.sum.new.self (subterms t ++ []) _ (rule.Sum (rule.part true t rule.no_part)) c.sum.result here.extends
+          (both_small (root_in setting) (subterms t) [] here.small refl)
+          (ap (λ x. rule.Sum (rule.part true x rule.no_part)) (term_is (things_of c.args.work.now) c.in_ok-id.id.0 t here.stands)) refl c.sum.ensures.extends c.sum.ensures.stands
+          c.sum.ensures.measured;
+    }

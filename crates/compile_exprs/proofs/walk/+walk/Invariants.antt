@@ -1,0 +1,81 @@
+-- Each loop has added what stands before; and each call goes down in weight.
+use Rattle.std.proofs.Common.{◌+◌, ◌*◌, Bool, drop, map}
+use Rattle.compile_laws.specs.Instances.{instance}
+use Rattle.compile_scene.specs.Scenes.{place_of}
+use Rattle.sopl_ast.specs.Known.{Known}
+use Rattle.sopl_ast.specs.Lists.{factors}
+use Rattle.sopl_ast.specs.Tree.{Tree}
+use Rattle.sopl_ast.specs.Weight.{weight, weight_of_trees, weight_of_terms, weight_factors, weight_of_binders}
+use Rattle.unfold_constants.specs.Here.{known_in}
+use Rattle.compile_exprs.specs.Buildable.{IsBuildable}
+use Rattle.compile_exprs.specs.Made.{IsBody}
+use Rattle.compile_exprs.proofs.Loops.{IsLeft, of_conds, of_parts, of_terms}
+use Rattle.compile_exprs.proofs.Parts.{as_part}
+use Rattle.compile_exprs.proofs.Products.{IsFactored}
+use Rattle.compile_exprs.proofs.walk.+walk.Given as goal
+
+abbrev pub decreases-term : goal.decreases-term
+decreases-term l = 4 * weight l.e.now + 1
+
+abbrev pub decreases-condition : goal.decreases-condition
+decreases-condition l = 4 * weight l.e.now
+
+abbrev pub decreases-negation : goal.decreases-negation
+decreases-negation l = 4 * weight l.part.now + 1
+
+abbrev pub decreases-comparison : goal.decreases-comparison
+decreases-comparison l = 4 * weight l.a.now + 4 * weight l.b.now + 2
+
+abbrev pub decreases-implication : goal.decreases-implication
+decreases-implication l = 4 * weight l.a.now + 4 * weight l.b.now + 2
+
+abbrev pub decreases-indexed : goal.decreases-indexed
+decreases-indexed l = 4 * weight_of_trees l.at.now + 1
+
+abbrev pub decreases-terms : goal.decreases-terms
+decreases-terms l = 4 * weight_of_trees l.parts.now
+
+abbrev pub decreases-conditions : goal.decreases-conditions
+decreases-conditions l = 4 * weight_of_trees l.parts.now
+
+abbrev pub decreases-chain : goal.decreases-chain
+decreases-chain l = 4 * weight_of_terms l.parts.now
+
+abbrev pub decreases-product : goal.decreases-product
+decreases-product l = 4 * (weight l.parts.now.first + weight_factors (factors l.parts.now.others)) + 2
+
+abbrev pub decreases-multiply : goal.decreases-multiply
+decreases-multiply l = 4 * weight_factors (factors l.parts.now)
+
+abbrev pub decreases-factor : goal.decreases-factor
+decreases-factor l = 4 * weight l.part.now.1 + 2
+
+abbrev pub decreases-behind : goal.decreases-behind
+decreases-behind l = 4 * weight_of_binders l.over.now + 4 * weight l.e.now + 3
+
+abbrev pub decreases-each : goal.decreases-each
+decreases-each l = 4 * weight l.e.now + 2
+
+abbrev pub invariant-terms-parts : goal.invariant-terms-parts
+invariant-terms-parts l =
+    IsLeft of_terms (λ e. IsBuildable (known_in l.known) e) (λ e. (instance (place_of l.scene (known_in l.known)) e).term) l.scene.setting.now l.fn.work l.work l.ids.items
+    (drop l.part-index l.parts) l.parts
+
+abbrev pub invariant-conditions-parts : goal.invariant-conditions-parts
+invariant-conditions-parts l =
+    IsLeft of_conds (λ e. IsBuildable (known_in l.known) e) (λ e. (instance (place_of l.scene (known_in l.known)) e).cond) l.scene.setting.now l.fn.work l.work l.ids.items
+    (drop l.part-index l.parts) l.parts
+
+abbrev pub invariant-chain-parts : goal.invariant-chain-parts
+invariant-chain-parts l =
+    IsLeft of_parts (λ (p : Bool × Tree). IsBuildable (known_in l.known) p.1) (λ (p : Bool × Tree). (p.0, (instance (place_of l.scene (known_in l.known)) p.1).term)) l.scene.setting.now l.fn.work
+    l.work l.ids.items (drop l.part-index l.parts) l.parts
+
+abbrev pub invariant-multiply-parts : goal.invariant-multiply-parts
+invariant-multiply-parts l =
+    IsFactored (place_of l.scene (known_in l.known)) l.scene.setting.now l.fn.work l.work l.fn.first.0 l.before.0 (drop l.part-index l.parts) l.parts
+
+abbrev pub invariant-each-here : goal.invariant-each-here
+invariant-each-here l =
+    IsLeft of_parts (IsBody l.scene.setting.now l.e) (as_part (λ (known : Known). (instance (place_of l.scene known) l.e).term)) l.scene.setting.now l.fn.work l.work l.ids.items
+    (map known_in (drop l.known-index l.here)) (map known_in l.here)

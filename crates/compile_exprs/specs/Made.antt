@@ -1,0 +1,104 @@
+-- What the steps of a walk over an expression say of a work. For proofs alone.
+use Rattle.std.specs.Prelude.{◌≡◌, ◌<◌, ℕ, Bool, List, None, length, Result, Ok, Err}
+use Rattle.std.specs.declared.alloc.Global.{Global}
+use Rattle.std.specs.declared.vec.Vec.{Vec}
+use Rattle.sopl_base.specs.declared.fault.Fault.{Fault}
+use Rattle.term_language.specs.Terms.{Term, Terms, Parts, Cond, Conds}
+use Rattle.compile_names.specs.declared.setting.Scenarios.{Scenarios}
+use Rattle.compile_laws.specs.Measured.{IsSizeFault, first_large}
+use Rattle.compile_laws.specs.Subterms.{subterms, all_subterms, part_subterms, condition_subterms, all_condition_subterms}
+use Rattle.sopl_scen.specs.Layout.{count_in}
+use Rattle.compile_scene.specs.Scenes.{root_in}
+use Rattle.compile_scene.specs.Works.{Extends, IsReady, Stands, things_of}
+use Rattle.compile_scene.specs.declared.scene.NumberedScenario.{NumberedScenario}
+use Rattle.compile_scene.specs.declared.work.Lowering.{Lowering}
+use Rattle.sopl_ast.specs.Known as place
+use Rattle.sopl_ast.specs.Tree.{Tree}
+use Rattle.sopl_term.specs.Built.{IsBuilding, cond_ids, signed_of, term_ids}
+use Rattle.term_nodes.specs.Built.{AllBelow, PartsBelow}
+use Rattle.term_nodes.specs.Things.{Thing, a_cond, a_term, conds_at, parts_at, term_at, terms_at}
+use Rattle.term_program.specs.declared.ids.CondId.{CondId}
+use Rattle.term_program.specs.declared.ids.TermId.{TermId}
+use Rattle.unfold_constants.specs.declared.constant_scope.ConstantScope.{ConstantScope}
+use Rattle.unfold_tables.specs.Tables.{table_known}
+use Rattle.compile_exprs.specs.Buildable.{IsBuildable}
+use Rattle.compile_exprs.specs.Over.{IsOver}
+
+-- a scenario that there is, and a place in its text
+pub record IsPlaced (scene : NumberedScenario) (known : ConstantScope) : Type 0 where
+  pub exists : scene.scenario < count_in scene.setting.now.tree.now
+  pub table : IsOver scene.setting.now known
+
+-- there is a thing of this number in a work that is being built
+pub record IsUsable (work : Lowering) (id : ℕ) : Type 0 where
+  pub building : IsBuilding work.builder
+  pub exists : id < length (things_of work)
+
+-- there are things of these numbers in a work that is being built, or that is ready
+pub record AreReady (setting : Scenarios) (work : Lowering) (ids : List TermId) : Type 0 where
+  pub ready : IsReady setting work
+  pub exist : AllBelow (length (things_of work)) (term_ids ids)
+
+pub record CondsAreThere (work : Lowering) (ids : List CondId) : Type 0 where
+  pub building : IsBuilding work.builder
+  pub exist : AllBelow (length (things_of work)) (cond_ids ids)
+
+pub record PartsAreThere (work : Lowering) (ids : List (Bool × TermId)) : Type 0 where
+  pub building : IsBuilding work.builder
+  pub exist : PartsBelow (length (things_of work)) (signed_of ids)
+
+-- a place in a text where an expression may be built
+abbrev pub IsBody : Scenarios → Tree → place.Known → Type 0
+IsBody setting e here = (here.constants ≡ (table_known setting.table.now).constants) × IsBuildable here e
+
+-- a thing was added, and none of these terms is too large
+pub record IsMade (setting : Scenarios) (before after : Lowering) (id : ℕ) (thing : Thing) (sizes : List Term) : Type 0 where
+  pub extends : Extends setting before after
+  pub stands : Stands (things_of after) id thing
+  pub small : first_large (root_in setting) sizes ≡ None
+
+-- a term was added, or one in it is too large
+abbrev pub MakesTerm : Scenarios → Lowering → Lowering → Term → Result TermId Fault → Type 0
+MakesTerm setting before after t (Ok id) = IsMade setting before after id.0 (a_term t) (subterms t)
+MakesTerm setting before after t (Err fault) = IsSizeFault (root_in setting) (subterms t) fault
+
+abbrev pub MakesCond : Scenarios → Lowering → Lowering → Cond → Result CondId Fault → Type 0
+MakesCond setting before after t (Ok id) = IsMade setting before after id.0 (a_cond t) (condition_subterms t)
+MakesCond setting before after t (Err fault) = IsSizeFault (root_in setting) (condition_subterms t) fault
+
+-- terms were added
+pub record AreTerms (setting : Scenarios) (before after : Lowering) (ids : List TermId) (ts : Terms) : Type 0 where
+  pub extends : Extends setting before after
+  pub exist : AllBelow (length (things_of after)) (term_ids ids)
+  pub are : terms_at (things_of after) (term_ids ids) ≡ ts
+  pub small : first_large (root_in setting) (all_subterms ts) ≡ None
+
+pub record AreConds (setting : Scenarios) (before after : Lowering) (ids : List CondId) (ts : Conds) : Type 0 where
+  pub extends : Extends setting before after
+  pub exist : AllBelow (length (things_of after)) (cond_ids ids)
+  pub are : conds_at (things_of after) (cond_ids ids) ≡ ts
+  pub small : first_large (root_in setting) (all_condition_subterms ts) ≡ None
+
+pub record AreParts (setting : Scenarios) (before after : Lowering) (ids : List (Bool × TermId)) (ts : Parts) : Type 0 where
+  pub extends : Extends setting before after
+  pub exist : PartsBelow (length (things_of after)) (signed_of ids)
+  pub are : parts_at (things_of after) (signed_of ids) ≡ ts
+  pub small : first_large (root_in setting) (part_subterms ts) ≡ None
+
+-- or a term in them is too large
+abbrev pub MakesTerms : Scenarios → Lowering → Lowering → Terms → Result (Vec TermId Global) Fault → Type 0
+MakesTerms setting before after ts (Ok ids) = AreTerms setting before after ids.items ts
+MakesTerms setting before after ts (Err fault) = IsSizeFault (root_in setting) (all_subterms ts) fault
+
+abbrev pub MakesConds : Scenarios → Lowering → Lowering → Conds → Result (Vec CondId Global) Fault → Type 0
+MakesConds setting before after ts (Ok ids) = AreConds setting before after ids.items ts
+MakesConds setting before after ts (Err fault) = IsSizeFault (root_in setting) (all_condition_subterms ts) fault
+
+abbrev pub MakesParts : Scenarios → Lowering → Lowering → Parts → Result (Vec (Bool × TermId) Global) Fault → Type 0
+MakesParts setting before after ts (Ok ids) = AreParts setting before after ids.items ts
+MakesParts setting before after ts (Err fault) = IsSizeFault (root_in setting) (part_subterms ts) fault
+
+-- a term by its number, which is not too large, nor is one in it
+pub record IsOperand (setting : Scenarios) (work : Lowering) (id : ℕ) : Type 0 where
+  pub stands : Stands (things_of work) id (a_term (term_at (things_of work) id))
+  pub small : first_large (root_in setting) (subterms (term_at (things_of work) id)) ≡ None

@@ -1,0 +1,96 @@
+//! Names and elements of arrays as terms.
+
+ghost use Rattle.std.specs.Prelude.{◌≡◌, [], length, option_map, IfOk, IfSome};
+ghost use Rattle.term_language.specs.Terms as c;
+ghost use Rattle.compile_exprs.specs.Made.{AreReady, IsPlaced, MakesTerm, MakesTerms};
+ghost use Rattle.compile_laws.specs.Instances.{elements, item_term, named_term, table_of, undefined};
+ghost use Rattle.sopl_scen.specs.Layout.{cells_for};
+ghost use Rattle.compile_scene.specs.Scenes.{HasCell, place_of};
+ghost use Rattle.compile_scene.specs.Works.{IsReady, things_of};
+ghost use Rattle.compile_scene.specs.declared.work.Lowering.{Lowering};
+ghost use Rattle.term_math.specs.Kept as kept;
+ghost use Rattle.unfold_constants.specs.Here.{known_in};
+
+use compile_scene::{Lowering, NumberedScenario};
+use sopl_ast::Name;
+use sopl_base::Fault;
+use sopl_term::TermId;
+use std::alloc::{AllocError, Global};
+use term_math::{Element, Table};
+use unfold_constants::ConstantScope;
+
+/// An array of no element.
+fn empty_array(alloc: Global) -> Result<Table, AllocError>
+    ensures empty { IfOk result (λ table. kept.table_of table ≡ table_of []) }
+{
+    let mut sets = Vec::new(alloc);
+    sets.push(Vec::new(alloc))?;
+    Ok(Table {
+        sets,
+        elements: Vec::new(alloc),
+    })
+}
+
+/// Adds what is never defined: an element of an array that has none.
+pub(crate) fn undefined(
+    scene: &NumberedScenario<'_, '_>,
+    work: &mut Lowering,
+) -> Result<TermId, Fault>
+    requires ready { IsReady scene.now.setting.now work.old }
+    ensures made { MakesTerm scene.now.setting.now work.old work.new undefined result }
+{
+    let table = empty_array(work.alloc)?;
+    let id = work.array(table)?;
+    work.element(id, &[])
+}
+
+/// Adds a number or what is never defined, or finds the term of a cell.
+#[tactic(auto, using(compile_scene::proofs::Growing::extends_not))]
+fn item_term(
+    scene: &NumberedScenario<'_, '_>,
+    work: &mut Lowering,
+    item: Option<Element>,
+) -> Result<TermId, Fault>
+    requires ready { IsReady scene.now.setting.now work.old }
+    requires cell { IfSome item (HasCell (length (cells_for scene.now.setting.now.decisions.now scene.now.setting.now.stochs.now))) }
+    ensures made { MakesTerm scene.now.setting.now work.old work.new (item_term (option_map kept.item_of item)) result }
+{
+    match item {
+        Some(Element::Fixed(value)) => work.constant(value),
+        Some(Element::Free(cell)) => Ok(work.cell(cell)),
+        None => undefined(scene, work),
+    }
+}
+
+/// Adds what a name without an index stands for.
+pub(crate) fn named(
+    scene: &NumberedScenario<'_, '_>,
+    known: &ConstantScope<'_>,
+    work: &mut Lowering,
+    name: &Name,
+) -> Result<TermId, Fault>
+    requires ready { IsReady scene.now.setting.now work.old }
+    requires placed { IsPlaced scene.now known.now }
+    ensures made { MakesTerm scene.now.setting.now work.old work.new (named_term (place_of scene.now (known_in known.now)) name.now) result }
+{
+    let item = scene.item(known, name);
+    item_term(scene, work, item)
+}
+
+/// Adds the element of the array of a name at indices.
+pub(crate) fn element(
+    scene: &NumberedScenario<'_, '_>,
+    known: &ConstantScope<'_>,
+    work: &mut Lowering,
+    name: &Name,
+    at: Result<Vec<TermId>, Fault>,
+) -> Result<TermId, Fault>
+    requires placed { IsPlaced scene.now known.now }
+    requires parts_exist { IfOk at (λ ids. AreReady scene.now.setting.now work.old ids.items) }
+    ensures made { (before : Lowering) (ts : c.Terms) → MakesTerms scene.now.setting.now before work.old ts at
+        → MakesTerm scene.now.setting.now before work.new (c.Element (table_of (elements (place_of scene.now (known_in known.now)) name.now)) ts) result }
+{
+    let ids = at?;
+    let table = scene.table(work, name)?;
+    work.element(table, ids.as_slice())
+}

@@ -1,0 +1,379 @@
+//! The walk over an expression.
+
+ghost use Rattle.std.specs.Prelude.{◌≡◌, ◌<◌, None, map};
+ghost use Rattle.std.specs.List.{AllByRecursion};
+ghost use Rattle.compile_counts.specs.Walked.{AreMet};
+ghost use Rattle.term_language.specs.Terms as c;
+ghost use Rattle.compile_exprs.specs.Buildable.{AreBuildable, FactorIsBuildable, FactorsAreBuildable, IsBuildable, TermsAreBuildable};
+ghost use Rattle.compile_exprs.specs.Made.{IsBody, IsOperand, IsPlaced, MakesCond, MakesConds, MakesParts, MakesTerm, MakesTerms};
+ghost use Rattle.compile_laws.specs.Instances.{chain_instance, conditions, instance, instances, places, product_instance, shape_instance, sum_of};
+ghost use Rattle.sopl_scen.specs.Layout.{count_in};
+ghost use Rattle.compile_scene.specs.Scenes.{place_of};
+ghost use Rattle.compile_scene.specs.Works.{IsReady, things_of};
+ghost use Rattle.sopl_ast.specs.Constants.{all_bindings};
+ghost use Rattle.sopl_ast.specs.Known as place;
+ghost use Rattle.sopl_ast.specs.Lists.{binders, factors, terms, trees};
+ghost use Rattle.sopl_ast.specs.Tree as t;
+ghost use Rattle.term_nodes.specs.Things.{term_at};
+ghost use Rattle.unfold_constants.specs.Here.{known_in};
+
+use crate::chains::{extreme, summed};
+use crate::conditions::{all_of, any_of, compared, denied, implied, no_condition};
+use crate::elements::{element, named};
+use crate::lists::{listed, listed_part};
+use crate::numbers::{literal, multiplied, negated, number, quotient, remainder, sized};
+use compile_counts::all_places;
+use compile_scene::{Lowering, NumberedScenario};
+use sopl_ast::{Binders, Expr, Factors, Kind, MulOp, Name};
+use sopl_base::{CmpOp, Fault};
+use sopl_term::{CondId, TermId};
+use term_math::Extreme;
+use unfold_constants::ConstantScope;
+
+/// Adds the term of an expression; a condition is a number.
+#[cycle(walk)]
+pub(crate) fn term<'a>(
+    scene: &NumberedScenario<'_, '_>,
+    known: &ConstantScope<'a>,
+    work: &mut Lowering,
+    e: &'a Expr,
+) -> Result<TermId, Fault>
+    requires ready { IsReady scene.now.setting.now work.old }
+    requires placed { IsPlaced scene.now known.now }
+    requires buildable { IsBuildable (known_in known.now) e.now }
+    ensures made { MakesTerm scene.now.setting.now work.old work.new (instance (place_of scene.now (known_in known.now)) e.now).term result }
+{
+    match &e.kind {
+        Kind::Lit(value) => literal(work, value),
+        Kind::Name(name) => named(scene, known, work, name),
+        Kind::Index(name, at) => indexed(scene, known, work, name, at.as_slice()),
+        Kind::Neg(part) => {
+            let id = term(scene, known, work, part);
+            negated(work, id)
+        }
+        Kind::Add(parts) => {
+            let ids = chain(scene, known, work, parts.as_slice());
+            summed(work, ids)
+        }
+        Kind::Mul(parts) => product(scene, known, work, parts),
+        Kind::Sum(over, part) => {
+            let ids = behind(scene, known, work, over, part);
+            summed(work, ids)
+        }
+        Kind::Least(parts) => {
+            let ids = terms(scene, known, work, parts.as_slice());
+            extreme(scene, work, Extreme::Least, ids)
+        }
+        Kind::Greatest(parts) => {
+            let ids = terms(scene, known, work, parts.as_slice());
+            extreme(scene, work, Extreme::Greatest, ids)
+        }
+        Kind::Abs(part) => {
+            let id = term(scene, known, work, part);
+            sized(work, id)
+        }
+        Kind::Cmp(_, _, _)
+        | Kind::Not(_)
+        | Kind::And(_)
+        | Kind::Or(_)
+        | Kind::Implies(_, _)
+        | Kind::AllDifferent(_, _)
+        | Kind::Cumulative(_, _, _, _, _) => {
+            let id = condition(scene, known, work, e);
+            number(work, id)
+        }
+    }
+}
+
+/// Adds the condition of an expression; a number is none that holds.
+#[cycle(walk)]
+pub(crate) fn condition<'a>(
+    scene: &NumberedScenario<'_, '_>,
+    known: &ConstantScope<'a>,
+    work: &mut Lowering,
+    e: &'a Expr,
+) -> Result<CondId, Fault>
+    requires ready { IsReady scene.now.setting.now work.old }
+    requires placed { IsPlaced scene.now known.now }
+    requires buildable { IsBuildable (known_in known.now) e.now }
+    ensures made { MakesCond scene.now.setting.now work.old work.new (instance (place_of scene.now (known_in known.now)) e.now).cond result }
+{
+    match &e.kind {
+        Kind::Cmp(op, a, b) => comparison(scene, known, work, *op, a, b),
+        Kind::Not(part) => negation(scene, known, work, part),
+        Kind::And(parts) => {
+            let ids = conditions(scene, known, work, parts.as_slice());
+            all_of(work, ids)
+        }
+        Kind::Or(parts) => {
+            let ids = conditions(scene, known, work, parts.as_slice());
+            any_of(work, ids)
+        }
+        Kind::Implies(a, b) => implication(scene, known, work, a, b),
+        Kind::AllDifferent(_, _) | Kind::Cumulative(_, _, _, _, _) => unreachable!(),
+        Kind::Lit(_)
+        | Kind::Name(_)
+        | Kind::Index(_, _)
+        | Kind::Neg(_)
+        | Kind::Add(_)
+        | Kind::Mul(_)
+        | Kind::Sum(_, _)
+        | Kind::Least(_)
+        | Kind::Greatest(_)
+        | Kind::Abs(_) => no_condition(work),
+    }
+}
+
+/// Adds `!` of a condition.
+#[cycle(walk)]
+fn negation<'a>(
+    scene: &NumberedScenario<'_, '_>,
+    known: &ConstantScope<'a>,
+    work: &mut Lowering,
+    part: &'a Expr,
+) -> Result<CondId, Fault>
+    requires ready { IsReady scene.now.setting.now work.old }
+    requires placed { IsPlaced scene.now known.now }
+    requires buildable { IsBuildable (known_in known.now) part.now }
+    ensures made { MakesCond scene.now.setting.now work.old work.new (c.Not (instance (place_of scene.now (known_in known.now)) part.now).cond) result }
+{
+    let id = condition(scene, known, work, part);
+    denied(work, id)
+}
+
+/// Adds a comparison, its left side first.
+#[cycle(walk)]
+fn comparison<'a>(
+    scene: &NumberedScenario<'_, '_>,
+    known: &ConstantScope<'a>,
+    work: &mut Lowering,
+    op: CmpOp,
+    a: &'a Expr,
+    b: &'a Expr,
+) -> Result<CondId, Fault>
+    requires ready { IsReady scene.now.setting.now work.old }
+    requires placed { IsPlaced scene.now known.now }
+    requires left { IsBuildable (known_in known.now) a.now }
+    requires right { IsBuildable (known_in known.now) b.now }
+    ensures made { MakesCond scene.now.setting.now work.old work.new
+        (c.Compare op (instance (place_of scene.now (known_in known.now)) a.now).term (instance (place_of scene.now (known_in known.now)) b.now).term) result }
+{
+    let left = term(scene, known, work, a)?;
+    let right = term(scene, known, work, b);
+    compared(work, op, left, right)
+}
+
+/// Adds an implication, its condition first.
+#[cycle(walk)]
+fn implication<'a>(
+    scene: &NumberedScenario<'_, '_>,
+    known: &ConstantScope<'a>,
+    work: &mut Lowering,
+    a: &'a Expr,
+    b: &'a Expr,
+) -> Result<CondId, Fault>
+    requires ready { IsReady scene.now.setting.now work.old }
+    requires placed { IsPlaced scene.now known.now }
+    requires left { IsBuildable (known_in known.now) a.now }
+    requires right { IsBuildable (known_in known.now) b.now }
+    ensures made { MakesCond scene.now.setting.now work.old work.new
+        (c.Implies (instance (place_of scene.now (known_in known.now)) a.now).cond (instance (place_of scene.now (known_in known.now)) b.now).cond) result }
+{
+    let left = condition(scene, known, work, a)?;
+    let right = condition(scene, known, work, b);
+    implied(work, left, right)
+}
+
+/// Adds the element of a name at indices; without an index it is what the name stands for.
+#[cycle(walk)]
+fn indexed<'a>(
+    scene: &NumberedScenario<'_, '_>,
+    known: &ConstantScope<'a>,
+    work: &mut Lowering,
+    name: &Name,
+    at: &'a [Expr],
+) -> Result<TermId, Fault>
+    requires ready { IsReady scene.now.setting.now work.old }
+    requires placed { IsPlaced scene.now known.now }
+    requires buildable { AreBuildable (known_in known.now) (trees at.now) }
+    ensures made { MakesTerm scene.now.setting.now work.old work.new (shape_instance (place_of scene.now (known_in known.now)) (t.Index name.now (trees at.now))).term result }
+{
+    if at.is_empty() {
+        return named(scene, known, work, name);
+    }
+    let ids = terms(scene, known, work, at);
+    element(scene, known, work, name, ids)
+}
+
+/// Adds terms, in order.
+#[cycle(walk)]
+fn terms<'a>(
+    scene: &NumberedScenario<'_, '_>,
+    known: &ConstantScope<'a>,
+    work: &mut Lowering,
+    parts: &'a [Expr],
+) -> Result<Vec<TermId>, Fault>
+    requires ready { IsReady scene.now.setting.now work.old }
+    requires placed { IsPlaced scene.now known.now }
+    requires buildable { AreBuildable (known_in known.now) (trees parts.now) }
+    ensures made { MakesTerms scene.now.setting.now work.old work.new (instances (place_of scene.now (known_in known.now)) (trees parts.now)) result }
+{
+    let mut ids = Vec::new(work.alloc);
+    'parts: for part in parts {
+        let id = term(scene, known, work, part)?;
+        listed(&mut ids, id)?;
+    }
+    Ok(ids)
+}
+
+/// Adds conditions, in order.
+#[cycle(walk)]
+fn conditions<'a>(
+    scene: &NumberedScenario<'_, '_>,
+    known: &ConstantScope<'a>,
+    work: &mut Lowering,
+    parts: &'a [Expr],
+) -> Result<Vec<CondId>, Fault>
+    requires ready { IsReady scene.now.setting.now work.old }
+    requires placed { IsPlaced scene.now known.now }
+    requires buildable { AreBuildable (known_in known.now) (trees parts.now) }
+    ensures made { MakesConds scene.now.setting.now work.old work.new (conditions (place_of scene.now (known_in known.now)) (trees parts.now)) result }
+{
+    let mut ids = Vec::new(work.alloc);
+    'parts: for part in parts {
+        let id = condition(scene, known, work, part)?;
+        listed(&mut ids, id)?;
+    }
+    Ok(ids)
+}
+
+/// Adds the parts of a chain of `+` and `-`.
+#[cycle(walk)]
+fn chain<'a>(
+    scene: &NumberedScenario<'_, '_>,
+    known: &ConstantScope<'a>,
+    work: &mut Lowering,
+    parts: &'a [(bool, Expr)],
+) -> Result<Vec<(bool, TermId)>, Fault>
+    requires ready { IsReady scene.now.setting.now work.old }
+    requires placed { IsPlaced scene.now known.now }
+    requires buildable { TermsAreBuildable (known_in known.now) (terms parts.now) }
+    ensures made { MakesParts scene.now.setting.now work.old work.new (chain_instance (place_of scene.now (known_in known.now)) (terms parts.now)) result }
+{
+    let mut ids = Vec::new(work.alloc);
+    'parts: for part in parts {
+        let id = term(scene, known, work, &part.1)?;
+        listed_part(&mut ids, part.0, id)?;
+    }
+    Ok(ids)
+}
+
+/// Adds a product, its factors from left to right.
+#[cycle(walk)]
+fn product<'a>(
+    scene: &NumberedScenario<'_, '_>,
+    known: &ConstantScope<'a>,
+    work: &mut Lowering,
+    parts: &'a Factors,
+) -> Result<TermId, Fault>
+    requires ready { IsReady scene.now.setting.now work.old }
+    requires placed { IsPlaced scene.now known.now }
+    requires first { IsBuildable (known_in known.now) parts.now.first }
+    requires others { FactorsAreBuildable (known_in known.now) (factors parts.now.others) }
+    ensures made { MakesTerm scene.now.setting.now work.old work.new
+        (product_instance (place_of scene.now (known_in known.now)) (instance (place_of scene.now (known_in known.now)) parts.now.first).term (factors parts.now.others)) result }
+{
+    let first = term(scene, known, work, parts.first())?;
+    multiply(scene, known, work, first, parts.as_slice())
+}
+
+/// Adds the product of a term and the factors behind it.
+#[cycle(walk)]
+fn multiply<'a>(
+    scene: &NumberedScenario<'_, '_>,
+    known: &ConstantScope<'a>,
+    work: &mut Lowering,
+    first: TermId,
+    parts: &'a [(MulOp, Expr)],
+) -> Result<TermId, Fault>
+    requires ready { IsReady scene.now.setting.now work.old }
+    requires placed { IsPlaced scene.now known.now }
+    requires operand { IsOperand scene.now.setting.now work.old first.0 }
+    requires buildable { FactorsAreBuildable (known_in known.now) (factors parts.now) }
+    ensures made { MakesTerm scene.now.setting.now work.old work.new
+        (product_instance (place_of scene.now (known_in known.now)) (term_at (things_of work.old) first.0) (factors parts.now)) result }
+{
+    let mut before = first;
+    'parts: for part in parts {
+        before = factor(scene, known, work, before, part)?;
+    }
+    Ok(before)
+}
+
+/// Adds the product of a term and a factor, or its quotient or remainder by a divisor.
+#[cycle(walk)]
+fn factor<'a>(
+    scene: &NumberedScenario<'_, '_>,
+    known: &ConstantScope<'a>,
+    work: &mut Lowering,
+    before: TermId,
+    part: &'a (MulOp, Expr),
+) -> Result<TermId, Fault>
+    requires ready { IsReady scene.now.setting.now work.old }
+    requires placed { IsPlaced scene.now known.now }
+    requires operand { IsOperand scene.now.setting.now work.old before.0 }
+    requires buildable { FactorIsBuildable (known_in known.now) part.now.0 part.now.1 }
+    ensures made { MakesTerm scene.now.setting.now work.old work.new
+        (product_instance (place_of scene.now (known_in known.now)) (term_at (things_of work.old) before.0) (t.factor part.now.0 part.now.1 t.no_factor)) result }
+{
+    match part.0 {
+        MulOp::Times => {
+            let second = term(scene, known, work, &part.1);
+            multiplied(work, before, second)
+        }
+        MulOp::Div => quotient(known, work, before, &part.1),
+        MulOp::Mod => remainder(known, work, before, &part.1),
+    }
+}
+
+/// Adds the terms of what stands behind binders, one for each way in which they take their values.
+#[cycle(walk)]
+fn behind<'a>(
+    scene: &NumberedScenario<'_, '_>,
+    known: &ConstantScope<'a>,
+    work: &mut Lowering,
+    over: &'a Binders,
+    e: &'a Expr,
+) -> Result<Vec<(bool, TermId)>, Fault>
+    requires ready { IsReady scene.now.setting.now work.old }
+    requires placed { IsPlaced scene.now known.now }
+    requires met { AreMet (known_in known.now) None (binders over.now) }
+    requires bodies { AllByRecursion (λ (here : place.Known). (here.constants ≡ (known_in known.now).constants) × IsBuildable here e.now) (all_bindings (known_in known.now) (binders over.now)) }
+    ensures made { MakesParts scene.now.setting.now work.old work.new
+        (sum_of (map (λ here. (instance here e.now).term) (places (place_of scene.now (known_in known.now)) (binders over.now)))) result }
+{
+    let here = all_places(work.alloc, known, None, over.as_slice())?;
+    each(scene, work, here.as_slice(), e)
+}
+
+/// Adds the terms of an expression at each of some places.
+#[cycle(walk)]
+fn each<'a>(
+    scene: &NumberedScenario<'_, '_>,
+    work: &mut Lowering,
+    here: &[ConstantScope<'a>],
+    e: &'a Expr,
+) -> Result<Vec<(bool, TermId)>, Fault>
+    requires ready { IsReady scene.now.setting.now work.old }
+    requires exists { scene.now.scenario < count_in scene.now.setting.now.tree.now }
+    requires bodies { AllByRecursion (IsBody scene.now.setting.now e.now) (map known_in here.now) }
+    ensures made { MakesParts scene.now.setting.now work.old work.new
+        (sum_of (map (λ known. (instance (place_of scene.now known) e.now).term) (map known_in here.now))) result }
+{
+    let mut ids = Vec::new(work.alloc);
+    'here: for known in here {
+        let id = term(scene, known, work, e)?;
+        listed_part(&mut ids, false, id)?;
+    }
+    Ok(ids)
+}

@@ -1,0 +1,17 @@
+pub mod Instances
+pub mod Laws
+pub mod Root
+pub mod Stands
+pub mod Tables
+pub mod WellMade
+pub mod Whole
+pub mod WholeLaws
+pub mod WorkedInstances
+pub mod Bounds
+pub mod BoundLaws
+pub mod RootLaws
+pub mod SizeLaws
+pub mod Measured
+pub mod Subterms
+pub mod Texts
+pub mod WorkedSizes

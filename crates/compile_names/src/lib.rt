@@ -1,0 +1,26 @@
+//! The names of a problem in a scenario: which constants, stochastic variables and decisions have a name, where its array takes its items
+//! from, the index sets of an array, and which element stands at each index.
+#![tactic(auto)]
+
+mod arrays;
+mod first_places;
+mod laws;
+mod names;
+mod origins;
+mod plan;
+mod plan_laws;
+#[cfg(test)]
+mod plan_tests;
+mod scalars;
+mod sets;
+mod setting;
+#[cfg(test)]
+mod tests;
+
+pub use arrays::Array;
+pub use laws::places_of_tree;
+pub use names::Names;
+pub use origins::{Origin, Source};
+pub use plan::Plan;
+pub use plan_laws::tables_are_planned;
+pub use setting::Scenarios;

@@ -1,7 +1,0 @@
-use Rattle.std.proofs.Common.{◌≡◌, map, take}
-use Rattle.serde_json.specs.View.{view}
-use Rattle.entry_json.specs.Entries.{whole_number}
-use Rattle.entry_json.proofs.entries.index_value.Given as goal
-
-abbrev pub invariant-index : goal.invariant-index
-invariant-index l = map view l.list.items ≡ map whole_number (take l.item-index l.item-items)

@@ -1,3 +1,0 @@
-mod Going
-pub mod Fronts
-pub mod Once

@@ -1,8 +1,0 @@
-//! The law, as the contract of an empty function.
-
-ghost use Rattle.front_laws.specs.Laws.{FrontsGoOn};
-
-/// Tokens that go along the productions up to where they end are the beginning of some model's tokens. It does nothing when it runs.
-pub fn fronts_go_on()
-    ensures law { FrontsGoOn }
-{}

@@ -1,4 +1,0 @@
-pub mod Rows
-pub mod Fronts
-pub mod Blocks
-pub mod Histories

@@ -1,5 +1,0 @@
-use Rattle.instantiation.proofs.Best.{best_is_optimal, none_is_infeasible}
-use Rattle.instantiation.proofs.laws.best_is_optimal.Goals as goal
-
-pub returns : goal.returns
-returns c = record { optimal = best_is_optimal; infeasible = none_is_infeasible }

@@ -1,5 +1,0 @@
-use Rattle.instantiation.proofs.Root.{points_of_box, root_is_box}
-use Rattle.instantiation.proofs.laws.points_of_box.Goals as goal
-
-pub returns : goal.returns
-returns c = record { law = points_of_box; root = root_is_box }

@@ -1,6 +1,0 @@
-use Rattle.instantiation.proofs.Whole.{problems_mean}
-use Rattle.instantiation.proofs.Best.{satisfying_has_value, values_are_same}
-use Rattle.instantiation.proofs.laws.problems_mean.Goals as goal
-
-pub returns : goal.returns
-returns c = record { law = problems_mean; values = values_are_same; worth = satisfying_has_value }

@@ -1,9 +1,0 @@
-pub mod Instances
-pub mod Laws
-pub mod Root
-pub mod Stands
-pub mod Tables
-pub mod WellMade
-pub mod Whole
-pub mod WholeLaws
-pub mod WorkedInstances

@@ -1,0 +1,124 @@
+-- No two scenarios have the same values.
+use Rattle.std.proofs.Common.{◌≡◌, sym, subst, true≢false, ℕ, suc, ◌+◌, ℤ, Bool, true, false, not, ◌&&◌, ◌||◌, List, [], ◌∷◌, ◌++◌, map, All, arith}
+use Rattle.std.proofs.lemmas.List.{map-append}
+use Rattle.std.specs.List.{AllByRecursion, IsDistinct, flat_map, enumerate_from, list_any}
+use Rattle.std.specs.Ordering.{int_eq}
+use Rattle.sopl_ast.specs.Numbers.{all_distinct}
+use Rattle.sopl_ast.specs.Known.{same_values}
+use Rattle.sopl_ast.specs.Instances.{Outcome, Stochastic}
+use Rattle.sopl_ast.specs.PlacedScenarios.{Scenario, preceded_by, scenarios_after}
+use Rattle.lang_laws.specs.Laws.{HasDistinctOutcomes, ScenariosDistinct}
+
+-- the values of a scenario, and of an outcome
+abbrev values_of : Scenario → List ℤ
+values_of s = s.values
+
+abbrev value_of : Outcome → ℤ
+value_of o = o.value
+
+-- none of these is the same
+abbrev Differs : List ℤ → List (List ℤ) → Type 0
+Differs xs list = AllByRecursion (λ ys. same_values xs ys ≡ false) list
+
+-- the scenarios after each outcome
+abbrev after_each : List ℕ → List Stochastic → ℕ → List Outcome → List Scenario
+after_each places later n os =
+    flat_map (λ (drawn : ℕ × Outcome). map (preceded_by drawn) (scenarios_after (places ++ drawn.0 ∷ []) later)) (enumerate_from n os)
+
+behind_false : (a b : Bool) → b ≡ false → (a && b) ≡ false
+behind_false true b is = is
+behind_false false b is = λ i. false
+
+before_false : (a b : Bool) → a ≡ false → (a && b) ≡ false
+before_false true b is = absurd (true≢false is)
+before_false false b is = λ i. false
+
+both_true : (a b : Bool) → (a && b) ≡ true → (a ≡ true) × (b ≡ true)
+both_true true b is = (λ i. true, is)
+both_true false b is = absurd (true≢false (sym is))
+
+not_true : (a : Bool) → not a ≡ true → a ≡ false
+not_true true is = is'
+  where
+    is' : true ≡ false
+    is' = sym is
+not_true false is = λ i. false
+
+both_false : (a b : Bool) → (a || b) ≡ false → (a ≡ false) × (b ≡ false)
+both_false true b is = absurd (true≢false is)
+both_false false b is = (λ i. false, is)
+
+all_append : (P : List ℤ → Type 0) (xs ys : List (List ℤ)) → AllByRecursion P xs → AllByRecursion P ys → AllByRecursion P (xs ++ ys)
+all_append P [] ys one two = two
+all_append P (x ∷ xs) ys one two = (one.0, all_append P xs ys one.1 two)
+
+distinct_append : (xs ys : List (List ℤ)) → IsDistinct same_values xs → IsDistinct same_values ys → AllByRecursion (λ x. Differs x ys) xs
+    → IsDistinct same_values (xs ++ ys)
+unfolding IsDistinct
+distinct_append [] ys one two apart = two
+distinct_append (x ∷ xs) ys one two apart =
+    (all_append (λ y. same_values x y ≡ false) xs ys one.0 apart.0, distinct_append xs ys one.1 two apart.1)
+
+-- an outcome before lists that differ
+differ_behind : (o : ℕ × Outcome) (xs : List ℤ) (ss : List Scenario) → Differs xs (map values_of ss)
+    → Differs (o.1.value ∷ xs) (map values_of (map (preceded_by o) ss))
+differ_behind o xs [] differ = tt
+differ_behind o xs (s ∷ ss) differ =
+    (behind_false (int_eq o.1.value o.1.value) (same_values xs s.values) differ.0, differ_behind o xs ss differ.1)
+
+distinct_behind : (o : ℕ × Outcome) (ss : List Scenario) → IsDistinct same_values (map values_of ss)
+    → IsDistinct same_values (map values_of (map (preceded_by o) ss))
+unfolding IsDistinct
+distinct_behind o [] distinct = tt
+distinct_behind o (s ∷ ss) distinct = (differ_behind o s.values ss distinct.0, distinct_behind o ss distinct.1)
+
+-- another outcome's scenarios differ
+differ_here : (x : ℤ) (xs : List ℤ) (o : ℕ × Outcome) (ss : List Scenario) → int_eq x o.1.value ≡ false
+    → Differs (x ∷ xs) (map values_of (map (preceded_by o) ss))
+differ_here x xs o [] other = tt
+differ_here x xs o (s ∷ ss) other =
+    (before_false (int_eq x o.1.value) (same_values xs s.values) other, differ_here x xs o ss other)
+
+differ_each : (x : ℤ) (xs : List ℤ) (places : List ℕ) (later : List Stochastic) (n : ℕ) (os : List Outcome)
+    → list_any (int_eq x) (map value_of os) ≡ false → Differs (x ∷ xs) (map values_of (after_each places later n os))
+differ_each x xs places later n [] other = tt
+differ_each x xs places later n (o ∷ os) other =
+    let here : List Scenario = map (preceded_by (n, o)) (scenarios_after (places ++ n ∷ []) later) in
+    let rest : List Scenario = after_each places later (n + 1) os in
+    let parts : (int_eq x o.value ≡ false) × (list_any (int_eq x) (map value_of os) ≡ false) =
+    both_false (int_eq x o.value) (list_any (int_eq x) (map value_of os)) other in
+    subst (Differs (x ∷ xs)) (sym (map-append values_of here rest))
+    (all_append (λ ys. same_values (x ∷ xs) ys ≡ false) (map values_of here) (map values_of rest)
+    (differ_here x xs (n, o) (scenarios_after (places ++ n ∷ []) later) parts.0) (differ_each x xs places later (n + 1) os parts.1))
+
+apart_each : (o : ℕ × Outcome) (ss : List Scenario) (places : List ℕ) (later : List Stochastic) (n : ℕ) (os : List Outcome)
+    → list_any (int_eq o.1.value) (map value_of os) ≡ false
+    → AllByRecursion (λ x. Differs x (map values_of (after_each places later n os))) (map values_of (map (preceded_by o) ss))
+apart_each o [] places later n os other = tt
+apart_each o (s ∷ ss) places later n os other =
+    (differ_each o.1.value s.values places later n os other, apart_each o ss places later n os other)
+
+distinct_each : (places : List ℕ) (later : List Stochastic) (n : ℕ) (os : List Outcome) → all_distinct (map value_of os) ≡ true
+    → ((ps : List ℕ) → IsDistinct same_values (map values_of (scenarios_after ps later)))
+    → IsDistinct same_values (map values_of (after_each places later n os))
+unfolding IsDistinct
+distinct_each places later n [] outcomes each = tt
+distinct_each places later n (o ∷ os) outcomes each =
+    let after : List Scenario = scenarios_after (places ++ n ∷ []) later in
+    let here : List Scenario = map (preceded_by (n, o)) after in
+    let rest : List Scenario = after_each places later (n + 1) os in
+    let parts : (not (list_any (int_eq o.value) (map value_of os)) ≡ true) × (all_distinct (map value_of os) ≡ true) =
+    both_true (not (list_any (int_eq o.value) (map value_of os))) (all_distinct (map value_of os)) outcomes in
+    subst (IsDistinct same_values) (sym (map-append values_of here rest))
+    (distinct_append (map values_of here) (map values_of rest) (distinct_behind (n, o) after (each (places ++ n ∷ [])))
+    (distinct_each places later (n + 1) os parts.1 each)
+    (apart_each (n, o) after places later (n + 1) os (not_true (list_any (int_eq o.value) (map value_of os)) parts.0)))
+
+distinct : (ss : List Stochastic) → All HasDistinctOutcomes ss → (places : List ℕ) → IsDistinct same_values (map values_of (scenarios_after places ss))
+unfolding IsDistinct
+distinct [] all places = (tt, tt)
+distinct (s ∷ ss) all places =
+    distinct_each places ss 0 s.outcomes (all 0 s (omega arith)) (distinct ss (λ k d below. all (suc k) d (omega arith)))
+
+pub scenarios_distinct : ScenariosDistinct
+scenarios_distinct places ss all = distinct ss all places

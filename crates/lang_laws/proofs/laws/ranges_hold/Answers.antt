@@ -1,0 +1,5 @@
+use Rattle.lang_laws.proofs.Holding as lemmas
+use Rattle.lang_laws.proofs.laws.ranges_hold.Goals as goal
+
+pub returns : goal.returns
+returns c = record { law = lemmas.ranges_hold }

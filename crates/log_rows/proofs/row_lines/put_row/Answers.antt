@@ -1,0 +1,13 @@
+use Rattle.log_rows.proofs.Written.{on_err}
+use Rattle.log_rows.proofs.Texts.{row_fails_second, row_ends}
+use Rattle.log_rows.proofs.row_lines.put_row.Goals as goal
+
+pub returns-in_err-put_steps-clause-prefix : goal.returns-in_err-put_steps-clause-prefix
+returns-in_err-put_steps-clause-prefix g c =
+    on_err _ (row_fails_second _ _ _ c.args.number c.args.row.now c.as_slice.result.now c.as_slice.ensures.items c.in_ok-put_node.ensures.all c.in_err-put_steps.ensures.prefix)
+
+pub returns-clause-prefix : goal.returns-clause-prefix
+returns-clause-prefix g c =
+    row_ends (g.K.Sink.taken c.args.sink.now) (g.K.Sink.taken c.put_node.new.sink) (g.K.Sink.taken c.put_steps.new.sink) (g.K.Sink.taken c.put_end.new.sink) c.args.number c.args.row.now
+    c.as_slice.result.now c.put_end.result
+    c.as_slice.ensures.items c.in_ok-put_node.ensures.all c.in_ok-put_steps.ensures.all c.put_end.ensures.prefix

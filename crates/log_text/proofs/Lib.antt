@@ -1,4 +1,0 @@
-pub mod Texts
-pub mod Ordered
-pub mod Growth
-pub mod Fitting

@@ -1,5 +1,0 @@
-use Rattle.log_tree.proofs.LogTexts as lemmas
-use Rattle.log_tree.proofs.text_laws.texts_are_logs.Goals as goal
-
-pub returns : goal.returns
-returns c = record { law = lemmas.texts_are_logs }

@@ -1,8 +1,0 @@
-//! What is written is the text of a log.
-
-ghost use Rattle.log_tree.specs.LogText.{TextsAreLogs};
-
-/// The text that is written of rows in order is the text of a log.
-pub fn texts_are_logs()
-    ensures law { TextsAreLogs }
-{}

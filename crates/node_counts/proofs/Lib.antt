@@ -1,3 +1,0 @@
-mod Capped
-mod Counting
-mod Placed

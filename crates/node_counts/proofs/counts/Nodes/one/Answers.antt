@@ -1,5 +1,0 @@
-use Rattle.node_counts.proofs.Capped.{capped_one}
-use Rattle.node_counts.proofs.counts.Nodes.one.Goals as goal
-
-pub returns : goal.returns
-returns c = record { one = capped_one }

@@ -1,5 +1,0 @@
-use Rattle.open_boxes.proofs.Nodes as lemmas
-use Rattle.open_boxes.proofs.open_laws.best_at_last.Goals as goal
-
-pub returns : goal.returns
-returns c = record { law = lemmas.best_at_last }

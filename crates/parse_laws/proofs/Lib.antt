@@ -1,0 +1,4 @@
+mod Going
+pub mod Prefixes
+pub mod PrefixOnce
+pub mod RefusalOnce

@@ -1,5 +1,0 @@
-pub mod Grouped
-pub mod Places
-pub mod Variables
-pub mod Listing
-pub mod Tables

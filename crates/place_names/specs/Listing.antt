@@ -1,8 +1,0 @@
--- The elements of constants as entries.
-use Rattle.std.specs.Prelude.{ℤ, List}
-use Rattle.box_rules.specs.Terms.{Fixed}
-use Rattle.box_rules.specs.Arrays.{Entry}
-
--- an index and the value there
-abbrev pub constant_entry : List ℤ × ℤ → Entry
-constant_entry e = record { index = e.0; item = Fixed e.1 }

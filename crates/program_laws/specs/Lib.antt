@@ -1,2 +1,0 @@
-pub mod Stated
-pub mod Laws

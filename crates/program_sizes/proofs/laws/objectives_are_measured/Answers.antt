@@ -1,5 +1,0 @@
-use Rattle.program_sizes.proofs.Measuring as m
-use Rattle.program_sizes.proofs.laws.objectives_are_measured.Goals as goal
-
-pub returns : goal.returns
-returns c = record { allowed = m.goal_is_allowed; refused = m.goal_is_refused }

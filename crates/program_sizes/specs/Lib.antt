@@ -1,5 +1,0 @@
-pub mod Laws
-pub mod Measured
-pub mod Subterms
-pub mod Texts
-pub mod WorkedSizes

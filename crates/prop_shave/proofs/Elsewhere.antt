@@ -1,0 +1,45 @@
+-- Cells that a list does not have.
+use Rattle.std.proofs.Common.{◌≡◌, ◌⊎◌, inl, inr, ℕ, ℤ, pos, List, [], ◌∷◌, get_or, arith, ap, sym, subst, ◌∙◌}
+use Rattle.std.specs.List.{Contains}
+use Rattle.std.proofs.lemmas.Bool.{cases_eq}
+use Rattle.std.proofs.lemmas.List.{get_or-set_other}
+use Rattle.std.proofs.lemmas.List.Elements.{Contains-append_cases, Contains-append_right}
+use Rattle.box_problem.specs.Box.{Box, high, low, with_high, with_low}
+use Rattle.term_language.specs.Ends.{cell_ends, ends}
+use Rattle.term_language.specs.MentionLaws.{BoxesAgree}
+use Rattle.term_problem.proofs.Reasons.{all_of}
+
+-- what a list of one number has
+pub only_one : (x cell : ℕ) → Contains (x ∷ []) cell → x ≡ cell
+only_one x cell here =
+    let first : here.0 ≡ 0 = omega (arith, here.1) in
+    sym (ap (λ n. get_or (x ∷ []) n cell) first) ∙ here.2
+
+-- whether a list has a cell
+pub has_or_not : (cells : List ℕ) (cell : ℕ) → Contains cells cell ⊎ (¬ Contains cells cell)
+has_or_not [] cell = inr (λ own. absurd (omega (arith, own.1)))
+has_or_not (x ∷ cells) cell =
+    elim (cases_eq x cell) [
+      | inl same ↦ inl (0, omega arith, same)
+      | inr other ↦
+          elim (has_or_not cells cell) [
+            | inl there ↦ inl (Contains-append_right (x ∷ []) cells cell there)
+            | inr nowhere ↦
+                inr
+                (λ own. elim (Contains-append_cases (x ∷ []) cells cell own) [ inl here ↦ other (only_one x cell here) | inr there ↦ nowhere there ])
+          ]
+    ]
+
+-- another end of a cell that is not there
+other_cell : (cells : List ℕ) (cell n : ℕ) → ¬ Contains cells cell → Contains cells n → ¬ n ≡ cell
+other_cell cells cell n nowhere there same = nowhere (subst (Contains cells) same there)
+
+pub agree_low : (cells : List ℕ) (b : Box) (cell : ℕ) (k : ℤ) → ¬ Contains cells cell → BoxesAgree cells (with_low b cell k) b
+agree_low cells b cell k nowhere =
+    all_of (λ n. cell_ends (with_low b cell k) n ≡ cell_ends b n) cells
+    (λ n there. ap (λ (z : ℤ). ends z (high b n)) (get_or-set_other b.lows cell n k (pos 0) (other_cell cells cell n nowhere there)))
+
+pub agree_high : (cells : List ℕ) (b : Box) (cell : ℕ) (k : ℤ) → ¬ Contains cells cell → BoxesAgree cells (with_high b cell k) b
+agree_high cells b cell k nowhere =
+    all_of (λ n. cell_ends (with_high b cell k) n ≡ cell_ends b n) cells
+    (λ n there. ap (λ (z : ℤ). ends (low b n) z) (get_or-set_other b.highs cell n k (pos 0) (other_cell cells cell n nowhere there)))

@@ -1,0 +1,12 @@
+pub mod Parts
+pub mod Removing
+pub mod Adding
+pub mod Mentioned
+pub mod Fractions
+pub mod ChanceMentioned
+pub mod Leaving
+pub mod GoalMentioned
+pub mod Ending
+pub mod Opening
+pub mod Elsewhere
+pub mod Finding

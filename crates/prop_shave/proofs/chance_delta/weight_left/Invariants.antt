@@ -1,0 +1,10 @@
+use Rattle.std.proofs.Common.{◌≡◌}
+use Rattle.std.specs.List.{range_with_len}
+use Rattle.term_program.specs.Programs.{problem_in, root_in}
+use Rattle.prop_shave.specs.Sums.{sum_over}
+use Rattle.prop_shave.specs.ChanceSums.{weight_over}
+use Rattle.prop_shave.proofs.chance_delta.weight_left.Given as goal
+
+abbrev pub invariant-scenarios : goal.invariant-scenarios
+invariant-scenarios l =
+    l.left.sum ≡ sum_over (weight_over (root_in l.program) (problem_in l.program) l.instance l.store.box) (range_with_len 0 l.scenario)

@@ -1,0 +1,42 @@
+-- The better end of an expected objective over a box, part by part.
+use Rattle.std.specs.Prelude.{◌≡◌, ℕ, ℤ, int_le, Bool, true, List, length}
+use Rattle.std.specs.List.{AllByRecursion, filter}
+use Rattle.sopl_base.specs.declared.direction.Direction.{Direction}
+use Rattle.sopl_base.specs.declared.direction.Direction.TheVariants.{Minimize, Maximize, Nothing}
+use Rattle.box_problem.specs.Box.{Box, Inside}
+use Rattle.term_language.specs.Ends.{exactly, plus, scaled}
+use Rattle.term_language.specs.Rules.{Near, interval}
+use Rattle.term_language.specs.Mentions.{mentions}
+use Rattle.term_problem.specs.Objective.{better_end, goal_ends}
+use Rattle.term_goals.specs.Goals.{AtomsExist, listed_ends}
+use Rattle.term_goals.specs.declared.sums.Atom.{Atom}
+use Rattle.term_nodes.specs.Things.{Thing, term_at}
+use Rattle.term_program.specs.declared.program.Program.{Program}
+use Rattle.term_program.specs.Mentions.{atom_ids}
+use Rattle.term_program.specs.Programs.{IsListedTerm, problem_in, root_in, summed_form, things_in}
+use Rattle.prop_shave.specs.Sums.{has_cell}
+
+-- the better end of a multiple of a term over a box
+abbrev pub part_over : Direction → Box → List Thing → Box → Atom → ℤ
+part_over direction root all b a = better_end direction (scaled a.k (interval Near root b (term_at all a.term)))
+
+-- the better end of an interval is not better than a value
+abbrev pub no_better : Direction → ℤ → ℤ → Bool
+no_better Minimize end v = int_le v end
+no_better Maximize end v = int_le end v
+no_better Nothing end v = true
+
+-- whether a part mentions a cell, and the parts that do
+abbrev pub is_touched : Box → List Thing → ℕ → Atom → Bool
+is_touched root all cell a = has_cell cell (mentions root (term_at all a.term))
+
+abbrev pub touched_by : Box → List Thing → List Atom → ℕ → List Atom
+touched_by root all atoms cell = filter (is_touched root all cell) atoms
+
+-- parts of an expected objective, which exist and whose cells are kept: their intervals and a constant sum up to that of the objective over each box
+-- inside the root
+pub record AreParts (program : Program) (atoms : List Atom) : Type 0 where
+  pub sum : (b : Box) → Inside b (root_in program)
+      → plus (exactly (summed_form (root_in program) (problem_in program)).constant) (listed_ends (root_in program) b (things_in program) atoms) ≡ goal_ends (root_in program) b (problem_in program)
+  pub exist : AtomsExist (length (things_in program)) atoms
+  pub listed : AllByRecursion (IsListedTerm program) (atom_ids atoms)

@@ -1,0 +1,9 @@
+pub mod Ends
+pub mod Removals
+pub mod Sums
+pub mod ChanceSums
+pub mod ChanceKnown
+pub mod GoalSums
+pub mod GoalKnown
+pub mod Probes
+pub mod Opened

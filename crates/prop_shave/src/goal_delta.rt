@@ -1,0 +1,119 @@
+//! The better end of an objective over a box, and over a part in which one cell has another interval.
+
+ghost use Rattle.std.specs.Prelude.{◌≡◌, ◌<◌, ◌≤ℤ◌, length, IfSome, Some};
+ghost use Rattle.sopl_base.specs.declared.reason.Reason.TheVariants.{Bound};
+ghost use Rattle.box_problem.specs.Box.{Inside, high, low};
+ghost use Rattle.term_language.specs.Ends.{ends};
+ghost use Rattle.term_problem.specs.Objective as objective;
+ghost use Rattle.term_problem.specs.Problems.{direction_in};
+ghost use Rattle.term_problem.specs.Refuted.{refutes};
+ghost use Rattle.term_program.specs.Programs.{IsMade, problem_in, root_in, things_in, with_interval};
+ghost use Rattle.prop_shave.specs.GoalSums.{part_over};
+ghost use Rattle.prop_shave.specs.GoalKnown.{IsCounted};
+
+use crate::goal_bounds::{GoalBound, end_of_part, is_no_better};
+use box_store::BoxStore;
+use sopl_base::{Direction, Interval};
+use term_goals::Atom;
+use term_program::{Program, TermId, goal_ends, range_in, range_of};
+
+/// The better end of a part over the box of a store, or none where it has no room.
+fn part_in(program: &Program, atom: &Atom, store: &BoxStore) -> Option<GoalBound>
+    requires made { IsMade program.now }
+    requires inside { Inside store.now.box (root_in program.now) }
+    requires exists { atom.now.term < length (things_in program.now) }
+    ensures { IfSome result (λ end. end.number ≡ part_over (direction_in (problem_in program.now)) (root_in program.now) (things_in program.now) store.now.box atom.now) }
+{
+    let range = range_of(program, TermId(atom.term), store);
+    end_of_part(program.direction(), atom, &range.interval)
+}
+
+/// The same with another interval for one cell.
+fn part_with(
+    program: &Program,
+    atom: &Atom,
+    store: &BoxStore,
+    cell: u32,
+    part: Interval,
+) -> Option<GoalBound>
+    requires made { IsMade program.now }
+    requires inside { Inside store.now.box (root_in program.now) }
+    requires exists { atom.now.term < length (things_in program.now) }
+    requires from_low { low (root_in program.now) cell ≤ℤ part.lo }
+    requires to_high { part.hi ≤ℤ high (root_in program.now) cell }
+    ensures { IfSome result (λ end. end.number ≡ part_over (direction_in (problem_in program.now)) (root_in program.now) (things_in program.now)
+        (with_interval store.now.box cell part.lo part.hi) atom.now) }
+{
+    let range = range_in(program, TermId(atom.term), store, cell, part);
+    end_of_part(program.direction(), atom, &range.interval)
+}
+
+/// The better end of an interval.
+fn end_of(direction: Direction, interval: &(i128, i128)) -> GoalBound
+    ensures { result.number ≡ objective.better_end direction (ends interval.now.0 interval.now.1) }
+{
+    match direction {
+        Direction::Minimize => GoalBound { number: interval.0 },
+        Direction::Maximize => GoalBound { number: interval.1 },
+        Direction::Nothing => GoalBound { number: 0 },
+    }
+}
+
+/// The better end of the objective's interval over the box of a store.
+pub fn end_over(program: &Program, store: &BoxStore) -> GoalBound
+    requires made { IsMade program.now }
+    requires inside { Inside store.now.box (root_in program.now) }
+    ensures end { result.number ≡ objective.better_end (direction_in (problem_in program.now)) (objective.goal_ends (root_in program.now) store.now.box (problem_in program.now)) }
+{
+    let interval = goal_ends(program, store);
+    end_of(program.direction(), &interval)
+}
+
+/// The better end of an expected objective over a box, a cell, and the parts of the objective's sum that mention the cell.
+#[derive(Clone, Copy)]
+pub struct GoalDelta<'a> {
+    pub cell: u32,
+    pub end: GoalBound,
+    pub parts: &'a [Atom],
+}
+
+impl GoalDelta<'_> {
+    /// The better end with another interval for the cell, or none where it has no room.
+    fn end_with(&self, program: &Program, store: &BoxStore, part: Interval) -> Option<GoalBound>
+        requires made { IsMade program.now }
+        requires inside { Inside store.now.box (root_in program.now) }
+        requires known { IsCounted program.now store.now.box self.now }
+        requires from_low { low (root_in program.now) self.now.cell ≤ℤ part.lo }
+        requires to_high { part.hi ≤ℤ high (root_in program.now) self.now.cell }
+        ensures { IfSome result (λ end. end.number ≡ objective.better_end (direction_in (problem_in program.now))
+            (objective.goal_ends (root_in program.now) (with_interval store.now.box self.now.cell part.lo part.hi) (problem_in program.now))) }
+    {
+        let mut end = self.end;
+        'parts: for atom in self.parts {
+            let before = part_in(program, atom, store)?;
+            let after = part_with(program, atom, store, self.cell, part)?;
+            end = end.turned(&before, &after)?;
+        }
+        Some(end)
+    }
+
+    /// Whether the bound closes the box with another interval for the cell, against this value; none where the end has no room.
+    pub fn closes_with(
+        &self,
+        program: &Program,
+        store: &BoxStore,
+        best: &GoalBound,
+        part: Interval,
+    ) -> Option<bool>
+        requires made { IsMade program.now }
+        requires inside { Inside store.now.box (root_in program.now) }
+        requires known { IsCounted program.now store.now.box self.now }
+        requires from_low { low (root_in program.now) self.now.cell ≤ℤ part.lo }
+        requires to_high { part.hi ≤ℤ high (root_in program.now) self.now.cell }
+        ensures closed { IfSome result (λ closed. closed ≡ refutes (root_in program.now) (problem_in program.now) Bound (with_interval store.now.box self.now.cell part.lo part.hi)
+            (Some best.now.number)) }
+    {
+        let end = self.end_with(program, store, part)?;
+        Some(is_no_better(program.direction(), &end, best))
+    }
+}

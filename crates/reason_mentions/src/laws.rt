@@ -1,8 +1,0 @@
-//! What holds of the cells that reasons mention.
-
-ghost use Rattle.reason_mentions.specs.Laws.{ReasonsAgree};
-
-/// Boxes that agree on the cells that a reason mentions are closed by it alike.
-pub fn reasons_agree()
-    ensures law { ReasonsAgree }
-{}

@@ -1,5 +1,0 @@
-use Rattle.root_bits.proofs.Counted as lemmas
-use Rattle.root_bits.proofs.digits_are_the_same.Goals as goal
-
-pub returns : goal.returns
-returns c = record { law = lemmas.digits_are_the_same }

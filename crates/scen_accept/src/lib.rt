@@ -1,0 +1,12 @@
+//! From the bytes of a text to what it states, or to the first refusal or limit.
+#![tactic(auto)]
+
+mod accepted;
+mod laws;
+mod read;
+#[cfg(test)]
+mod tree_tests;
+
+pub use accepted::AcceptedProblem;
+pub use laws::texts_end_once;
+pub use read::{stated_in, typed_in};

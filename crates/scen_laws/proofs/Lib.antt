@@ -1,0 +1,11 @@
+pub mod Splits
+pub mod Products
+pub mod Counts
+pub mod Weights
+pub mod Rows
+pub mod Stages
+pub mod Seen
+pub mod BlockRows
+pub mod Prefixes
+pub mod Blocks
+pub mod Histories

@@ -1,0 +1,5 @@
+use Rattle.scen_laws.proofs.Seen.{histories_are_prefixes}
+use Rattle.scen_laws.proofs.laws.histories_are_prefixes.Goals as goal
+
+pub returns : goal.returns
+returns c = record { law = histories_are_prefixes }

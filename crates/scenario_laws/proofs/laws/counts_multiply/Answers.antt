@@ -1,5 +1,0 @@
-use Rattle.scenario_laws.proofs.Counts.{counts_multiply}
-use Rattle.scenario_laws.proofs.laws.counts_multiply.Goals as goal
-
-pub returns : goal.returns
-returns c = record { law = counts_multiply }

@@ -1,5 +1,0 @@
-use Rattle.scenario_laws.proofs.Products.{products_run}
-use Rattle.scenario_laws.proofs.laws.products_run.Goals as goal
-
-pub returns : goal.returns
-returns c = record { law = products_run }

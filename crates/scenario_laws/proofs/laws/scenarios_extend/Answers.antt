@@ -1,5 +1,0 @@
-use Rattle.scenario_laws.proofs.Splits.{scenarios_extend}
-use Rattle.scenario_laws.proofs.laws.scenarios_extend.Goals as goal
-
-pub returns : goal.returns
-returns c = record { law = scenarios_extend }

@@ -1,5 +1,0 @@
-use Rattle.scenario_laws.proofs.Splits.{scenarios_split}
-use Rattle.scenario_laws.proofs.laws.scenarios_split.Goals as goal
-
-pub returns : goal.returns
-returns c = record { law = scenarios_split }

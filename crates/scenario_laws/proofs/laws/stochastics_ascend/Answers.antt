@@ -1,5 +1,0 @@
-use Rattle.scenario_laws.proofs.Stages.{stochastics_ascend}
-use Rattle.scenario_laws.proofs.laws.stochastics_ascend.Goals as goal
-
-pub returns : goal.returns
-returns c = record { law = stochastics_ascend }

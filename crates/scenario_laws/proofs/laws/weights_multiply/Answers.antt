@@ -1,5 +1,0 @@
-use Rattle.scenario_laws.proofs.Weights.{weights_multiply}
-use Rattle.scenario_laws.proofs.laws.weights_multiply.Goals as goal
-
-pub returns : goal.returns
-returns c = record { law = weights_multiply }

@@ -1,7 +1,0 @@
-use Rattle.std.proofs.Common.{◌≡◌, ◌+◌, map}
-use Rattle.std.specs.List.{range_with_len}
-use Rattle.scenario_tree.specs.Levels.{level_at}
-use Rattle.scenario_tree.proofs.levels.levels.Given as goal
-
-abbrev pub invariant-stochs : goal.invariant-stochs
-invariant-stochs l = l.found.items ≡ map (level_at l.stochs) (range_with_len 0 (l.i + 1))

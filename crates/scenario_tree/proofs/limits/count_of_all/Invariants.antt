@@ -1,7 +1,0 @@
-use Rattle.std.proofs.Common.{drop}
-use Rattle.scenario_laws.specs.Laws.{count_factor}
-use Rattle.scenario_tree.proofs.Runs.{IsRun}
-use Rattle.scenario_tree.proofs.limits.count_of_all.Given as goal
-
-abbrev pub invariant-stochs : goal.invariant-stochs
-invariant-stochs l = IsRun 202 16384 count_factor l.stochs l.product.value (drop l.stoch-index l.stochs)

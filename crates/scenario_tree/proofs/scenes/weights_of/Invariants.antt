@@ -1,6 +1,0 @@
-use Rattle.std.proofs.Common.{◌≡◌, map, take}
-use Rattle.scenario_tree.specs.Levels.{weight_in}
-use Rattle.scenario_tree.proofs.scenes.weights_of.Given as goal
-
-abbrev pub invariant-level : goal.invariant-level
-invariant-level l = l.weights.items ≡ map weight_in (take l.node-index l.level)

@@ -1,6 +1,0 @@
-use Rattle.std.proofs.Common.{◌≡◌, ◌+◌, drop}
-use Rattle.scenario_laws.specs.Laws.{seen_before}
-use Rattle.scenario_tree.proofs.stages.seen_before.Given as goal
-
-abbrev pub invariant-stochs : goal.invariant-stochs
-invariant-stochs l = seen_before l.stage l.stochs ≡ l.i + seen_before l.stage (drop l.i l.stochs)

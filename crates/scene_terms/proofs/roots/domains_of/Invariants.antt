@@ -1,6 +1,0 @@
-use Rattle.std.proofs.Common.{◌≡◌, ◌++◌, map, drop}
-use Rattle.scene_terms.specs.Domains.{domains_in, ends_of}
-use Rattle.scene_terms.proofs.roots.domains_of.Given as goal
-
-abbrev pub invariant-decisions : goal.invariant-decisions
-invariant-decisions l = map ends_of l.domains.items ++ domains_in l.tree (drop l.decision-index l.decisions) ≡ domains_in l.tree l.decisions

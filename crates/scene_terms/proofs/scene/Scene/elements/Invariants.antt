@@ -1,8 +1,0 @@
-use Rattle.std.proofs.Common.{◌≡◌, ◌++◌, map, drop}
-use Rattle.place_names.specs.Variables.{item_from}
-use Rattle.term_tables.specs.Kept.{items_of}
-use Rattle.scene_terms.proofs.scene.Scene.elements.Given as goal
-
-abbrev pub invariant-origins : goal.invariant-origins
-invariant-origins l =
-    items_of l.list.items ++ map (item_from l.self.setting.now.tree.now l.self.scenario) (drop l.origin-index l.origins) ≡ map (item_from l.self.setting.now.tree.now l.self.scenario) l.origins

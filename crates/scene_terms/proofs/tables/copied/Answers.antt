@@ -1,7 +1,0 @@
-use Rattle.std.proofs.Common.{ℤ, Vec, Global}
-use Rattle.scene_terms.proofs.Copies.{all_copied}
-use Rattle.scene_terms.proofs.tables.copied.Goals as goal
-
-pub returns : goal.returns
-returns c =
-    all_copied (λ (set : Vec ℤ Global). set.items) (λ (set : Vec ℤ Global). set.items) c.args.sets.now c.sets.set-index c.sets.list.items c.sets-test.false c.sets.invariant

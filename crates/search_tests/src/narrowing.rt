@@ -1,0 +1,96 @@
+//! The boxes in which all propagators of a text's program come to rest.
+//!
+//! Each box was computed by hand.
+
+ghost use Rattle.term_program.specs.Programs.{IsMade};
+
+use crate::programs::program_in;
+use box_store::BoxStore;
+use prop_core::{Calm, fixpoint};
+use prop_set::{AnyProp, props_of};
+use sopl_base::{Fault, Steps};
+use sopl_search::SearchProblem;
+use sopl_term::Program;
+use std::alloc::{AllocError, Global};
+use std::process::Abort;
+use std::test::Fail;
+
+/// The lower ends of all cells, and then the upper ones, of the box of a store where propagators came to rest; none where a reason closed it.
+fn ends_of(alloc: Global, store: &BoxStore, calm: Calm) -> Result<Vec<i64>, AllocError> {
+    let mut ends = Vec::new(alloc);
+    if calm == Calm::Quiet {
+        ends.extend_from_slice(store.lows())?;
+        ends.extend_from_slice(store.highs())?;
+    }
+    Ok(ends)
+}
+
+/// The ends of the cells where all propagators of a program come to rest, against the best value where there is one.
+fn rest_of(alloc: Global, program: &Program, best: Option<i128>) -> Result<Vec<i64>, AllocError>
+    requires made { IsMade program.now }
+{
+    let roots = AnyProp::roots(alloc, program)?;
+    let mut store = BoxStore::new(alloc, roots.as_slice())?;
+    let mut list = props_of(alloc, program)?;
+    let mut steps = Steps::new(alloc);
+    let calm = fixpoint(list.as_mut_slice(), program, &mut store, best, &mut steps)?;
+    ends_of(alloc, &store, calm)
+}
+
+/// The same of the program of a text.
+fn rest_in(alloc: Global, text: &str, best: Option<i128>) -> Result<Vec<i64>, Fault> {
+    match program_in(alloc, text)? {
+        None => Ok(Vec::new(alloc)),
+        Some(program) => Ok(rest_of(alloc, &program, best)?),
+    }
+}
+
+/// Texts, each with the best value that is known or none, and with the lower and then the upper ends of the cells; none where a reason closes the box. A chance constraint asks for enough weight;
+/// the expected value, and the worst one, is to be better than the best that is known, and nothing is better where there is no objective; and a bound and hard constraints narrow in turn.
+const RESTS: &str = "\
+dvar int x in 0..9; stoch int d in {2:1, 6:3}; maximize expected(x); subject to { prob(x >= d) >= 1/4; } -> none : 2 9
+dvar int x in 0..9; stoch int d in {2:1, 6:3}; maximize expected(x); subject to { prob(x >= d) >= 3/4; } -> none : 6 9
+dvar int x in 0..9; stoch int d in {2:1, 6:3}; maximize expected(x); subject to { prob(x >= d) >= 1/4; prob(x <= d) >= 3/4; } -> none : 2 6
+dvar int x in 0..9; stoch int d in {2:1, 6:3}; maximize expected(x); subject to { prob(x < d) >= 1/2; prob(x > d) >= 1/2; } -> none :
+dvar int x in 0..9; stoch int d in {2:1, 6:3}; maximize expected(x); subject to { prob(x >= d) >= 1/4; } -> 20 : 6 9
+dvar int x in 0..9; stoch int d in {2:1, 6:3}; maximize expected(x); subject to { prob(x >= d) >= 1/4; } -> 35 : 9 9
+dvar int x in 0..9; stoch int d in {2:1, 6:3}; maximize expected(x); subject to { prob(x >= d) >= 1/4; } -> 36 :
+dvar int x in 0..9; stoch int d in {2:1, 6:3}; minimize expected(x); subject to { prob(x >= d) >= 1/4; } -> 20 : 2 4
+dvar int x in 0..9; stoch int d in {2:1, 6:3}; minimize expected(x); subject to { prob(x >= d) >= 3/4; } -> 24 :
+dvar int x in 0..9; stoch int d in {1:1, 3:1}; maximize worst(x - d); subject to { } -> 2 : 6 9
+dvar int x in 0..9; stoch int d in {1:1, 3:1}; minimize worst(x - d); subject to { } -> 2 : 0 2
+dvar int x in 0..9; subject to { x >= 3; } -> none : 3 9
+dvar int x in 0..9; subject to { x >= 3; } -> 0 :
+dvar int x in 0..5 stage 1; stoch int d in {1:1, 3:1} stage 1; dvar int y in 0..3 stage 2; maximize expected(4*y - 3*x); subject to { y <= d; y <= x; } -> none : 0 0 0 5 1 3
+dvar int x in 0..5 stage 1; stoch int d in {1:1, 3:1} stage 1; dvar int y in 0..3 stage 2; maximize expected(4*y - 3*x); subject to { y <= d; y <= x; } -> 1 : 0 0 0 1 1 1
+dvar int x in 0..5 stage 1; stoch int d in {1:1, 3:1} stage 1; dvar int y in 0..3 stage 2; maximize expected(4*y - 3*x); subject to { y <= d; y <= x; } -> 8 :
+";
+
+/// The numbers of a text, between blanks.
+fn numbers_in(alloc: Global, text: &str) -> Result<Vec<i64>, AllocError> {
+    let mut numbers = Vec::new(alloc);
+    for word in text.split_whitespace() {
+        if let Ok(number) = word.parse::<i64>() {
+            numbers.push(number)?;
+        }
+    }
+    Ok(numbers)
+}
+
+/// The propagators of a text's program come to rest there, against a value or none.
+fn rests(alloc: Global, rt: &impl Abort, text: &str, case: &str) -> Result<(), Fail> {
+    let (best, want) = case.split_once(" :").unwrap_or((case, ""));
+    let left = rest_in(alloc, text, best.parse::<i128>().ok())?;
+    let wanted = numbers_in(alloc, want)?;
+    assert_eq!(rt; left.as_slice(), wanted.as_slice(), "{text}");
+    Ok(())
+}
+
+#[test]
+fn propagators_come_to_rest(rt: HostRuntime) -> Result<(), Fail> {
+    for row in RESTS.lines() {
+        let (text, case) = row.split_once(" -> ").unwrap_or((row, ""));
+        rests(rt.alloc(), &rt, text, case)?;
+    }
+    Ok(())
+}

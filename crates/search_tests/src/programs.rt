@@ -1,0 +1,232 @@
+//! Programs of texts.
+//!
+//! The sizes and the programs were computed by hand.
+
+ghost use Rattle.std.specs.Prelude.{◌≡◌, ◌<◌, false, length, IfOk, IfSome};
+ghost use Rattle.std.specs.Option.{option_map_or};
+ghost use Rattle.term_program.specs.Programs.{IsMade, problem_in};
+
+use compile_unsupported::unsupported_place;
+use scen_accept::stated_in;
+use sopl_base::{CmpOp, Fault};
+use sopl_compile::compile;
+use sopl_term::{CondId, Form, Program};
+use std::alloc::{AllocError, Global};
+use std::process::Abort;
+use std::test::Fail;
+
+/// The program of a text; none where it has a form that is not solved yet.
+pub(crate) fn program_in(alloc: Global, text: &str) -> Result<Option<Program>, Fault>
+    ensures made { IfOk result (λ found. IfSome found IsMade) }
+{
+    let stated = stated_in(alloc, text.as_bytes())?;
+    match unsupported_place(stated.ground.typed().model()) {
+        Some(_) => Ok(None),
+        None => {
+            let program = compile(alloc, &stated.ground, &stated.tree)?;
+            Ok(Some(program))
+        }
+    }
+}
+
+/// The code and the number of the limit that a text's terms pass.
+fn excess_in(alloc: Global, text: &str) -> Result<Option<(u16, i128)>, Fault> {
+    match program_in(alloc, text) {
+        Ok(_) => Ok(None),
+        Err(Fault::Limit(excess)) => Ok(Some((excess.code, excess.counted))),
+        Err(fault) => Err(fault),
+    }
+}
+
+/// Texts, and the limits that their terms pass: too many nodes, before a term that is too large and with nothing built; a hard constraint's term and not the objective's; the objective's alone; a hard
+/// constraint's and not that of a chance constraint before it; of one constraint the first scenario's; an objective whose size is one too great, and one that is at the limit.
+const LIMITS: &str = "\
+range C = 1..14; stoch int c[C] in {0:1, 1:1}; subject to { sum(i in 1..254) i >= 0; } -> 206 4210688
+range C = 1..14; stoch int c[C] in {0:1, 1:1}; dvar int x in 0..65535; subject to { x * 1099511627776 >= sum(i in 1..254) i; } -> 206 4243456
+dvar int x in 0..65535; maximize expected(x * x * 1099511627776); subject to { x * 1099511627776 >= 0; } -> 207 72056494526300160
+dvar int x in 0..65535; maximize expected(x * 1099511627776); subject to { x >= 0; } -> 207 72056494526300160
+dvar int x in 0..65535; subject to { prob(x * x * 1099511627776 >= 0) >= 1/2; x * 1099511627776 >= 0; } -> 207 72056494526300160
+dvar int x in 0..65535; stoch int d in {1:1, 2:1}; subject to { x * d * 1099511627776 >= 0; } -> 207 72056494526300160
+dvar int x in 0..65535; stoch int d in {2:1, 1:1}; subject to { x * d * 1099511627776 >= 0; } -> 207 144112989052600320
+dvar int x in 0..65535; stoch int a in {0:1073741824}; stoch int b in {0:1073741824}; stoch int c in {0:1073741824}; maximize expected(x * 1048593); subject to { } -> 207 85070672840065989843959263248561209344
+dvar int x in 0..65535; stoch int a in {0:1073741824}; stoch int b in {0:1073741824}; stoch int c in {0:1073741824}; maximize expected(x * 1048592); subject to { } -> none
+dvar int x in 0..65535; stoch int a in {0:1073741824}; stoch int b in {0:1073741824}; stoch int c in {0:1073741824}; maximize worst(x * 1048593); subject to { } -> none
+";
+
+/// Two numbers that are written behind one another.
+fn pair_in(text: &str) -> Option<(u16, i128)> {
+    let (code, counted) = text.split_once(" ")?;
+    match (code.parse::<u16>(), counted.parse::<i128>()) {
+        (Ok(code), Ok(counted)) => Some((code, counted)),
+        _ => None,
+    }
+}
+
+/// A text passes this limit.
+fn passes(alloc: Global, rt: &impl Abort, text: &str, want: &str) -> Result<(), Fail> {
+    let found = excess_in(alloc, text)?;
+    assert_eq!(rt; found, pair_in(want), "{text}");
+    Ok(())
+}
+
+#[test]
+fn limits_of_programs(rt: HostRuntime) -> Result<(), Fail> {
+    for row in LIMITS.lines() {
+        let (text, want) = row.split_once(" -> ").unwrap_or((row, ""));
+        passes(rt.alloc(), &rt, text, want)?;
+    }
+    Ok(())
+}
+
+/// A number for each operator.
+fn number_of(op: CmpOp) -> i128 {
+    match op {
+        CmpOp::Lt => -2,
+        CmpOp::Le => -1,
+        CmpOp::Eq => 0,
+        CmpOp::Ge => 1,
+        CmpOp::Gt => 2,
+        CmpOp::Ne => 3,
+    }
+}
+
+/// Adds what a condition is: of a linear comparison the operator, the constant, and each cell with how many times it stands there; nothing of another one.
+fn add_condition(found: &mut Vec<i128>, program: &Program, cond: CondId) -> Result<(), AllocError>
+    requires made { IsMade program.now }
+{
+    match program.form(cond) {
+        Form::Linear => {
+            found.push(number_of(program.compared(cond)))?;
+            found.push(i128::from(program.constant(cond)))?;
+            for part in program.parts(cond) {
+                found.push(i128::from(part.cell))?;
+                found.push(i128::from(part.k))?;
+            }
+            Ok(())
+        }
+        _ => Ok(()),
+    }
+}
+
+/// Adds the condition of a hard constraint in each scenario.
+fn add_hard(found: &mut Vec<i128>, program: &Program, instance: u32) -> Result<(), AllocError>
+    requires made { IsMade program.now }
+    requires exists { instance < length (problem_in program.now).hards }
+{
+    for scenario in 0..program.scenarios() {
+        add_condition(found, program, program.hard(instance, scenario))?;
+    }
+    Ok(())
+}
+
+/// Adds the threshold of a chance constraint and its condition in each scenario.
+fn add_chance(found: &mut Vec<i128>, program: &Program, instance: u32) -> Result<(), AllocError>
+    requires made { IsMade program.now }
+    requires exists { instance < length (problem_in program.now).chances }
+{
+    let (p, q) = program.threshold(instance);
+    found.push(i128::from(p))?;
+    found.push(i128::from(q))?;
+    for scenario in 0..program.scenarios() {
+        add_condition(found, program, program.chance(instance, scenario))?;
+    }
+    Ok(())
+}
+
+/// Adds the constraints of a program.
+fn add_constraints(found: &mut Vec<i128>, program: &Program) -> Result<(), AllocError>
+    requires made { IsMade program.now }
+{
+    for instance in 0..program.hards() {
+        add_hard(found, program, instance)?;
+    }
+    Ok(())
+}
+
+/// Adds the chance constraints of a program.
+fn add_chances(found: &mut Vec<i128>, program: &Program) -> Result<(), AllocError>
+    requires made { IsMade program.now }
+{
+    for instance in 0..program.chances() {
+        add_chance(found, program, instance)?;
+    }
+    Ok(())
+}
+
+/// Adds the constant and the parts of the sum of an expected objective.
+fn add_sum(found: &mut Vec<i128>, program: &Program) -> Result<(), AllocError>
+    requires made { IsMade program.now }
+    requires expected { option_map_or (λ goal. goal.worst) (problem_in program.now).goal false ≡ false }
+{
+    found.push(program.goal_constant())?;
+    for atom in program.goal_atoms() {
+        found.push(i128::from(atom.term))?;
+        found.push(atom.k)?;
+    }
+    Ok(())
+}
+
+/// Adds the denominator, and of an expected objective its sum.
+fn add_goal(found: &mut Vec<i128>, program: &Program) -> Result<(), AllocError>
+    requires made { IsMade program.now }
+{
+    found.push(program.denominator())?;
+    if program.worst() {
+        return Ok(());
+    }
+    add_sum(found, program)
+}
+
+/// What a program tells of itself: how many cells and scenarios it has, its constraints and its objective.
+fn shown(alloc: Global, program: &Program) -> Result<Vec<i128>, AllocError>
+    requires made { IsMade program.now }
+{
+    let mut found = Vec::new(alloc);
+    found.push(i128::from(program.cells()))?;
+    found.push(i128::from(program.scenarios()))?;
+    add_constraints(&mut found, program)?;
+    add_chances(&mut found, program)?;
+    add_goal(&mut found, program)?;
+    Ok(found)
+}
+
+/// What the program of a text tells; nothing where it has a form that is not solved yet.
+fn shown_in(alloc: Global, text: &str) -> Result<Vec<i128>, Fault> {
+    match program_in(alloc, text)? {
+        Some(program) => Ok(shown(alloc, &program)?),
+        None => Ok(Vec::new(alloc)),
+    }
+}
+
+/// An order before the demand is seen, and sales behind it: x is cell 0, and y has the cells 1 and 2. The constraints `y <= d` are `y - 1 <= 0` and `y - 3 <= 0`.
+const ORDER: &str =
+    "dvar int x in 0..5 stage 1; stoch int d in {1:1, 3:1} stage 1; dvar int y in 0..3 stage 2; \
+maximize expected(4*y - 3*x); subject to { y <= d; y <= x; }";
+
+/// A chance constraint before a hard one, in scenarios that weigh 2 and 3.
+const STOCK: &str =
+    "dvar int x in 0..5; stoch int d in {1:2, 4:3}; minimize expected(x * d + 7); subject to { prob(x >= d) >= 2/3; forall(i in 1..2) x <= i + d; }";
+
+#[test]
+fn programs_by_hand(rt: HostRuntime) -> Result<(), Fail> {
+    let alloc = rt.alloc();
+    let order = shown_in(alloc, ORDER)?;
+    assert_eq!(rt;
+        order.as_slice(),
+        [
+            3, 2, -1, -1, 1, 1, -1, -3, 2, 1, -1, 0, 0, -1, 1, 1, -1, 0, 0, -1, 2, 1, 2, 0, 0, -6,
+            1, 4, 2, 4
+        ]
+        .as_slice()
+    );
+    let stock = shown_in(alloc, STOCK)?;
+    assert_eq!(rt;
+        stock.as_slice(),
+        [
+            1, 2, -1, -2, 0, 1, -1, -5, 0, 1, -1, -3, 0, 1, -1, -6, 0, 1, 2, 3, 1, -1, 0, 1, 1, -4,
+            0, 1, 5, 35, 0, 14
+        ]
+        .as_slice()
+    );
+    Ok(())
+}

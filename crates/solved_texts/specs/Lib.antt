@@ -1,3 +1,0 @@
-pub mod Models
-pub mod Solved
-pub mod Laws

@@ -1,5 +1,0 @@
-use Rattle.sopl_meaning.proofs.ScenarioLaws as lemmas
-use Rattle.sopl_meaning.proofs.laws.scenarios_split.Goals as goal
-
-pub returns : goal.returns
-returns c = record { law = lemmas.scenarios_split }

@@ -1,0 +1,13 @@
+-- What follows is read as the chain of its items is.
+use Rattle.std.proofs.Common.{false, arith, rules}
+use Rattle.parse_grammar.specs.Phrases as phrase
+use Rattle.parse_grammar.specs.Phrases.{way}
+use Rattle.parse_exprs.proofs.Plain.{plain}
+use Rattle.sopl_parse.proofs.lists.more_elements.Goals as goal
+
+pub returns : goal.returns
+unfolding phrase.more_elements
+returns c =
+    let next = phrase.next_element (way false c.args.reader.now.depth) in
+    let all = c.chain.ensures next (λ ts r p. plain r (next ts.now) (search rules)) in
+    first_of (search rules, grind arith)

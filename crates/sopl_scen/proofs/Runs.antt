@@ -1,0 +1,89 @@
+-- Running products, one variable after the other.
+use Rattle.std.proofs.Common.{◌≡◌, ◌+◌, ◌-◌, ◌≤◌, ◌<◌, ◌^◌, ℕ, ℤ, pos, ◌*ℤ◌, ◌≤ℤ◌, ◌<ℤ◌, true, false, cond, List, [], ◌∷◌, length, drop, get_or, Some, None, arith, refl, sym, ap, subst, ◌∙◌}
+use Rattle.std.proofs.lemmas.Int.{ints}
+use Rattle.std.proofs.lemmas.List.{at_drop_all}
+use Rattle.std.specs.Prelude.{int_le}
+use Rattle.std.specs.Int.{int_min}
+use Rattle.sopl_base.specs.declared.fault.Excess.{Excess}
+use Rattle.sopl_ast.specs.Instances.{Stochastic}
+use Rattle.sopl_ast.specs.UnfoldEvents.{excess}
+use Rattle.sopl_ast.specs.Limits.{first_above}
+use Rattle.lang_laws.proofs.Integers.{*ℤ_assoc, one-*ℤ}
+use Rattle.scen_laws.specs.Laws.{first_passed, product_of}
+use Rattle.scen_laws.proofs.Weights.{products_within}
+use Rattle.scen_laws.proofs.Splits.{times_one}
+use Rattle.sopl_scen.proofs.Parts.{left_next}
+
+-- tests of orders
+tested : (a b : ℤ) → a ≤ℤ b → int_le a b ≡ true
+tested a b is = grind (arith, ints)
+
+passed : (a b : ℤ) → b <ℤ a → int_le a b ≡ false
+passed a b is = grind (arith, ints)
+
+-- how far a product has run
+pub record IsRun (code limit : ℕ) (f : Stochastic → ℤ) (ss : List Stochastic) (so_far : ℤ) (left : List Stochastic) : Type 0 where
+  pub run : first_passed code limit f so_far left ≡ first_passed code limit f (pos 1) ss
+  pub product : so_far *ℤ product_of f left ≡ product_of f ss
+  pub least : pos 1 ≤ℤ so_far
+  pub few : so_far ≤ℤ pos limit
+
+pub run_start : (code limit : ℕ) (f : Stochastic → ℤ) (ss : List Stochastic) → 1 ≤ limit → IsRun code limit f ss (pos 1) ss
+run_start code limit f ss some =
+    record { run = refl; product = one-*ℤ (product_of f ss); least = omega (arith, ints); few = omega (arith, ints, some) }
+
+-- a product of numbers from 1 on
+positive : (a b : ℤ) → pos 1 ≤ℤ a → pos 1 ≤ℤ b → pos 1 ≤ℤ (a *ℤ b)
+positive a b one two = (products_within a a b b (one, omega (arith, ints)) (two, omega (arith, ints))).0
+
+run_more : (code limit : ℕ) (f : Stochastic → ℤ) (ss : List Stochastic) (so_far : ℤ) (s : Stochastic) (later : List Stochastic)
+    → pos 1 ≤ℤ f s → (so_far *ℤ f s) ≤ℤ pos limit → IsRun code limit f ss so_far (s ∷ later) → IsRun code limit f ss (so_far *ℤ f s) later
+run_more code limit f ss so_far s later least few r =
+    record {
+      run =
+          sym (λ i. cond (tested (so_far *ℤ f s) (pos limit) few i)
+          (first_passed code limit f (so_far *ℤ f s) later) (Some (excess code (int_min (so_far *ℤ f s) (pos (2 ^ 127 - 1))) (pos limit))))
+          ∙ r.run;
+      product = *ℤ_assoc so_far (f s) (product_of f later) ∙ r.product;
+      least = positive so_far (f s) r.least least;
+      few = few;
+    }
+
+pub run_next : (code limit : ℕ) (f : Stochastic → ℤ) (ss : List Stochastic) (i : ℕ) (s : Stochastic) (so_far factor now : ℤ)
+    → i < length ss → s ≡ get_or ss i s → factor ≡ f s → pos 1 ≤ℤ f s → now ≡ so_far *ℤ factor → now ≤ℤ pos limit
+    → IsRun code limit f ss so_far (drop i ss) → IsRun code limit f ss now (drop (i + 1) ss)
+run_next code limit f ss i s so_far factor now within is by least made few r =
+    let same : now ≡ so_far *ℤ f s = made ∙ ap (λ z. so_far *ℤ z) by in
+    let left : drop i ss ≡ s ∷ drop (i + 1) ss = left_next ss i s within is in
+    subst (λ z. IsRun code limit f ss z (drop (i + 1) ss)) (sym same)
+    (run_more code limit f ss so_far s (drop (i + 1) ss) least (subst (λ z. z ≤ℤ pos limit) same few)
+    (subst (IsRun code limit f ss so_far) left r))
+
+pub run_stop : (code limit : ℕ) (f : Stochastic → ℤ) (ss : List Stochastic) (i : ℕ) (s : Stochastic) (so_far factor : ℤ) (e : Excess)
+    → i < length ss → s ≡ get_or ss i s → factor ≡ f s → pos limit <ℤ (so_far *ℤ factor)
+    → e ≡ excess code (int_min (so_far *ℤ factor) (pos (2 ^ 127 - 1))) (pos limit)
+    → IsRun code limit f ss so_far (drop i ss) → first_passed code limit f (pos 1) ss ≡ Some e
+run_stop code limit f ss i s so_far factor e within is by more made r =
+    let left : drop i ss ≡ s ∷ drop (i + 1) ss = left_next ss i s within is in
+    sym r.run
+    ∙ (ap (first_passed code limit f so_far) left
+    ∙ ((λ j. cond (passed (so_far *ℤ f s) (pos limit) (subst (λ z. pos limit <ℤ (so_far *ℤ z)) by more) j)
+    (first_passed code limit f (so_far *ℤ f s) (drop (i + 1) ss)) (Some (excess code (int_min (so_far *ℤ f s) (pos (2 ^ 127 - 1))) (pos limit))))
+    ∙ ((λ j. Some (excess code (int_min (so_far *ℤ sym by j) (pos (2 ^ 127 - 1))) (pos limit))) ∙ ap Some (sym made))))
+
+pub run_end : (code limit : ℕ) (f : Stochastic → ℤ) (ss : List Stochastic) (i : ℕ) (so_far : ℤ) → length ss ≤ i
+    → IsRun code limit f ss so_far (drop i ss) → (first_passed code limit f (pos 1) ss ≡ None) × (so_far ≡ product_of f ss)
+run_end code limit f ss i so_far past r = (
+  sym r.run ∙ at_drop_all (first_passed code limit f so_far) ss i past,
+  sym (ap (λ z. so_far *ℤ z) (at_drop_all (product_of f) ss i past) ∙ times_one so_far) ∙ r.product,
+)
+
+-- One number.
+
+pub one_within : (code limit : ℕ) (n : ℤ) → n ≤ℤ pos limit → first_above code limit (n ∷ []) ≡ None
+one_within code limit n few = λ i. cond (tested n (pos limit) few i) None (Some (excess code (int_min n (pos (2 ^ 127 - 1))) (pos limit)))
+
+pub one_above : (code limit : ℕ) (n : ℤ) (e : Excess) → pos limit <ℤ n → e ≡ excess code (int_min n (pos (2 ^ 127 - 1))) (pos limit)
+    → first_above code limit (n ∷ []) ≡ Some e
+one_above code limit n e more made =
+    (λ i. cond (passed n (pos limit) more i) None (Some (excess code (int_min n (pos (2 ^ 127 - 1))) (pos limit)))) ∙ ap Some (sym made)

@@ -1,0 +1,7 @@
+use Rattle.std.proofs.Common.{drop}
+use Rattle.scen_laws.specs.Laws.{count_factor}
+use Rattle.sopl_scen.proofs.Runs.{IsRun}
+use Rattle.sopl_scen.proofs.limits.count_of_all.Given as goal
+
+abbrev pub invariant-stochs : goal.invariant-stochs
+invariant-stochs l = IsRun 202 16384 count_factor l.stochs l.product.value (drop l.stoch-index l.stochs)

@@ -1,0 +1,105 @@
+//! The limits on the scenarios of stochastic variables, before anything is built.
+
+ghost use Rattle.std.specs.Prelude.{◌≡◌, ◌≤◌, ◌*◌, ◌+◌, ◌^◌, ◌≤ℤ◌, pos, ◌*ℤ◌, length, [], ◌∷◌, Some, None, IfOk, IfErr};
+ghost use Rattle.std.specs.List.{AllByRecursion};
+ghost use Rattle.sopl_ast.specs.Limits.{first_above};
+ghost use Rattle.sopl_ast.specs.Scenarios.{scenarios, total_weight};
+ghost use Rattle.scen_laws.specs.Laws.{HasOutcome, count_factor, first_passed, product_of, weight_factor};
+ghost use Rattle.unfold_laws.specs.Bounds.{IsBoundedStochastic};
+ghost use Rattle.sopl_scen.specs.Sizes.{early_excess};
+
+use crate::products::{Number, number_of_outcomes, total_of_outcomes};
+use sopl_base::{Excess, codes, limits};
+use unfold_variables::StochItem;
+
+/// The total of a variable's weights.
+fn weight_of(stoch: &StochItem) -> Number
+    requires has_outcomes { HasOutcome stoch.now }
+    requires bounded { IsBoundedStochastic stoch.now }
+    ensures value { result.value ≡ weight_factor stoch.now }
+    ensures least { pos 1 ≤ℤ result.value }
+{
+    total_of_outcomes(stoch.values.as_slice())
+}
+
+/// How many outcomes a variable has.
+fn count_of(stoch: &StochItem) -> Number
+    requires has_outcomes { HasOutcome stoch.now }
+    ensures value { result.value ≡ count_factor stoch.now }
+    ensures least { pos 1 ≤ℤ result.value }
+{
+    number_of_outcomes(stoch.values.as_slice())
+}
+
+/// The weight of all scenarios, or the first running product of totals that passes its limit.
+pub(crate) fn weight_of_all(stochs: &[StochItem]) -> Result<Number, Excess>
+    requires has_outcomes { AllByRecursion HasOutcome stochs.now }
+    requires bounded { AllByRecursion IsBoundedStochastic stochs.now }
+    ensures ok { IfOk result (λ total. first_passed 201 (2 ^ 100) weight_factor (pos 1) stochs.now ≡ None) }
+    ensures total { IfOk result (λ total. total.value ≡ product_of weight_factor stochs.now) }
+    ensures few { IfOk result (λ total. total.value ≤ℤ pos (2 ^ 100)) }
+    ensures err { IfErr result (λ e. first_passed 201 (2 ^ 100) weight_factor (pos 1) stochs.now ≡ Some e) }
+{
+    let mut product = Number { value: 1 };
+    'stochs: for stoch in stochs {
+        let total = weight_of(stoch);
+        product = product.times(total, codes::WEIGHT, limits::WEIGHT)?;
+    }
+    Ok(product)
+}
+
+/// How many scenarios there are, or the first running product of numbers of outcomes that passes its limit.
+pub(crate) fn count_of_all(stochs: &[StochItem]) -> Result<Number, Excess>
+    requires has_outcomes { AllByRecursion HasOutcome stochs.now }
+    ensures ok { IfOk result (λ count. first_passed 202 16384 count_factor (pos 1) stochs.now ≡ None) }
+    ensures count { IfOk result (λ count. count.value ≡ product_of count_factor stochs.now) }
+    ensures few { IfOk result (λ count. count.value ≤ℤ pos 16384) }
+    ensures err { IfErr result (λ e. first_passed 202 16384 count_factor (pos 1) stochs.now ≡ Some e) }
+{
+    let mut product = Number { value: 1 };
+    'stochs: for stoch in stochs {
+        let outcomes = count_of(stoch);
+        product = product.times(outcomes, codes::SCENARIOS, limits::SCENARIOS)?;
+    }
+    Ok(product)
+}
+
+/// Instances times scenarios, or the limit that they pass.
+pub(crate) fn copies(instances: usize, scenarios: Number) -> Result<Number, Excess>
+    requires some { pos 0 ≤ℤ scenarios.value }
+    ensures ok { IfOk result (λ n. first_above 209 1048576 ((pos instances *ℤ scenarios.value) ∷ []) ≡ None) }
+    ensures few { IfOk result (λ n. (pos instances *ℤ scenarios.value) ≤ℤ pos 1048576) }
+    ensures err { IfErr result (λ e. first_above 209 1048576 ((pos instances *ℤ scenarios.value) ∷ []) ≡ Some e) }
+{
+    let instances = Number {
+        value: instances as i128,
+    };
+    instances.times(scenarios, codes::COPIES, limits::COPIES)
+}
+
+/// What was measured before anything is built.
+#[derive(Clone, Copy)]
+pub(crate) struct Sizes {
+    pub total: Number,
+    pub count: Number,
+}
+
+impl Sizes {
+    /// The weight of all scenarios and their number; or the first limit that they pass, or that so many instances pass with them.
+    pub(crate) fn of(instances: usize, stochs: &[StochItem]) -> Result<Self, Excess>
+        requires has_outcomes { AllByRecursion HasOutcome stochs.now }
+        requires bounded { AllByRecursion IsBoundedStochastic stochs.now }
+        ensures ok { IfOk result (λ sizes. early_excess instances stochs.now ≡ None) }
+        ensures total { IfOk result (λ sizes. sizes.total.value ≡ total_weight stochs.now) }
+        ensures light { IfOk result (λ sizes. sizes.total.value ≤ℤ pos (2 ^ 100)) }
+        ensures count { IfOk result (λ sizes. sizes.count.value ≡ pos (length (scenarios stochs.now))) }
+        ensures few { IfOk result (λ sizes. length (scenarios stochs.now) ≤ 16384) }
+        ensures copies { IfOk result (λ sizes. instances * length (scenarios stochs.now) ≤ 1048576) }
+        ensures err { IfErr result (λ e. early_excess instances stochs.now ≡ Some e) }
+    {
+        let total = weight_of_all(stochs)?;
+        let count = count_of_all(stochs)?;
+        copies(instances, count)?;
+        Ok(Sizes { total, count })
+    }
+}

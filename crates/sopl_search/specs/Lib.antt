@@ -1,0 +1,6 @@
+pub mod Ends
+pub mod Lines
+pub mod Outcomes
+pub mod Logged
+pub mod Frontiers
+pub mod Climbing

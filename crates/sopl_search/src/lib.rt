@@ -1,0 +1,23 @@
+//! The search for the best point of a problem by branch and bound, over any propagators.
+#![tactic(auto)]
+
+mod bounding;
+mod cut;
+mod ending;
+mod fitting;
+mod frontier;
+mod high;
+mod listing;
+mod outcome;
+mod posed;
+mod searching;
+mod tree;
+mod values;
+
+pub use outcome::{Found, Outcome, SearchStop};
+pub use posed::SearchProblem;
+pub use searching::search;
+pub use values::Values;
+
+#[cfg(test)]
+mod tests;

@@ -1,0 +1,203 @@
+ghost use Rattle.std.specs.Prelude.{◌≡◌, ◌≤◌};
+ghost use Rattle.sopl_search.specs.Climbing.{both_reasons, climbing, pair_of, reached};
+
+use super::*;
+use crate::tests::pairs::{Pair, near_pair};
+use box_store::BoxStore;
+use prop_core::{Finding, Propagator};
+use sopl_base::{Direction, Interval, Reason, Side, Step};
+use sopl_io::MemSink;
+use std::alloc::{AllocError, Global};
+
+mod pairs;
+
+/// Narrows a pair of cells so that the first one is at most the second one, and better than the best value.
+#[derive(Clone, Copy)]
+struct Climb;
+
+/// The reason for which the first cell may not be above the second one.
+const CROSSED: Reason = Reason::Hard {
+    instance: 0,
+    scenario: 0,
+};
+
+/// Whether a value is at most the best one.
+fn is_reached(value: i64, best: Option<i128>) -> bool
+    ensures { result ≡ reached value best }
+{
+    match best {
+        Some(best) => i128::from(value) <= best,
+        None => false,
+    }
+}
+
+impl Propagator for Climb {
+    type Program = Pair;
+
+    ghost problem = { λ pair. climbing (pair_of pair.first pair.second) };
+
+    ghost reasons = { λ _. both_reasons };
+
+    ghost fits = { λ _ _. Unit {0} };
+
+    #[tactic(auto, using(crate::proofs::Climbing::both_cells, crate::proofs::Climbing::climb_crossed))]
+    fn revise(&mut self, _program: &Pair, store: &BoxStore, best: Option<i128>) -> Finding {
+        if store.hi(1) < store.lo(0) {
+            return Finding::Dead(CROSSED);
+        }
+        if is_reached(store.hi(0), best) {
+            return Finding::Dead(Reason::Bound);
+        }
+        if store.hi(1) < store.hi(0) {
+            return Finding::Cut(Step {
+                reason: CROSSED,
+                cell: 0,
+                side: Side::Le,
+                k: store.hi(1),
+            });
+        }
+        if store.lo(1) < store.lo(0) {
+            return Finding::Cut(Step {
+                reason: CROSSED,
+                cell: 1,
+                side: Side::Ge,
+                k: store.lo(0),
+            });
+        }
+        if is_reached(store.lo(0), best) {
+            return Finding::Cut(Step {
+                reason: Reason::Bound,
+                cell: 0,
+                side: Side::Ge,
+                k: store.lo(0) + 1,
+            });
+        }
+        Finding::Quiet
+    }
+}
+
+impl SearchProblem for Climb {
+    ghost valid = { λ _. Unit {0} };
+
+    fn roots(alloc: Global, program: &Pair) -> Result<Vec<Interval>, AllocError> {
+        Vec::from_slice(alloc, &[program.first, program.second])
+    }
+
+    fn direction(_program: &Pair) -> Direction {
+        Direction::Maximize
+    }
+
+    fn end(_program: &Pair, store: &BoxStore) -> i128 {
+        i128::from(store.hi(0))
+    }
+}
+
+/// What a search over a pair of cells answers; a sink takes its log.
+#[tactic(auto, using(crate::proofs::Climbing::climb_all, crate::proofs::Climbing::pair_bits))]
+fn outcome_of(
+    alloc: Global,
+    pair: &Pair,
+    budget: u32,
+    sink: &mut MemSink,
+) -> Result<Outcome, SearchStop>
+    requires { 1 ≤ budget }
+{
+    let props = Vec::from_slice(alloc, &[Climb])?;
+    search(alloc, pair, props, budget, sink)
+}
+
+/// Whether a point and its value are these.
+fn is_point(value: i128, cells: &Values, want: (i128, [i64; 2])) -> bool {
+    value == want.0 && cells.as_slice() == want.1.as_slice()
+}
+
+/// Whether this was found, and this bound told, or none.
+fn is_told(outcome: &Outcome, want: Option<(i128, [i64; 2])>, bound: Option<i128>) -> bool {
+    match outcome {
+        Outcome::Optimal { value, cells } => {
+            bound.is_none() && want.is_some_and(|want| is_point(*value, cells, want))
+        }
+        Outcome::Infeasible => want.is_none() && bound.is_none(),
+        Outcome::Bounded { found, bound: told } => { bound == Some(*told) && is_found(found, want) }
+    }
+}
+
+/// Whether this was found, or nothing.
+fn is_found(found: &Option<Found>, want: Option<(i128, [i64; 2])>) -> bool {
+    match (found, want) {
+        (Some(found), Some(want)) => is_point(found.value, &found.cells, want),
+        (None, None) => true,
+        _ => false,
+    }
+}
+
+/// A sink without bytes; the calls with these numbers fail.
+fn empty_sink(alloc: Global, failing: &[u64]) -> Result<MemSink, AllocError> {
+    MemSink::new(alloc, 1000, Vec::from_slice(alloc, failing)?)
+}
+
+#[test]
+fn outcomes(rt: HostRuntime) {
+    for (first, second, budget, want, bound) in [
+        ((0, 7), (0, 5), 100, Some((5, [5, 5])), None),
+        ((3, 3), (4, 4), 1, Some((3, [3, 4])), None),
+        ((5, 6), (0, 4), 100, None, None),
+        ((0, 7), (0, 5), 1, None, Some(5)),
+        ((0, 7), (0, 5), 7, Some((0, [0, 0])), Some(5)),
+    ] {
+        if let Some(pair) = near_pair(first, second) {
+            let mut sink = empty_sink(rt.alloc(), &[]).expect(&rt, "memory");
+            let outcome = outcome_of(rt.alloc(), &pair, budget, &mut sink).expect(&rt, "outcome");
+            assert!(rt; is_told(&outcome, want, bound), "another outcome");
+        }
+    }
+}
+
+#[test]
+fn logs(rt: HostRuntime) {
+    for (first, second, budget, log) in [
+        ((3, 3), (4, 4), 1, "sopl-log 1\nn 0 r\nv\nend optimal 3\n"),
+        (
+            (5, 6),
+            (0, 4),
+            100,
+            "sopl-log 1\nn 0 r\nf h 0 0\nend infeasible\n",
+        ),
+        (
+            (0, 2),
+            (0, 1),
+            100,
+            "sopl-log 1\nn 0 r\ns h 0 0 0 le 1\nx 0 0\nn 1 0 l\nx 1 0\nn 2 1 l\nv\nn 3 1 h\nf b\nn 4 0 h\ns h 0 0 1 ge 1\nv\nend optimal 1\n",
+        ),
+        (
+            (0, 7),
+            (0, 5),
+            3,
+            "sopl-log 1\nn 0 r\ns h 0 0 0 le 5\nx 0 2\nn 1 0 l\nx 0 1\nn 2 1 l\nx 0 0\nn 3 0 h\no\nn 4 1 h\no\nn 5 2 l\no\nn 6 2 h\no\nend bounded none 5\n",
+        ),
+        (
+            (0, 7),
+            (0, 5),
+            7,
+            "sopl-log 1\nn 0 r\ns h 0 0 0 le 5\nx 0 2\nn 1 0 l\nx 0 1\nn 2 1 l\nx 0 0\nn 3 2 l\nx 1 2\nn 4 3 l\nx 1 1\nn 5 4 l\nx 1 0\nn 6 5 l\nv\nn 7 0 h\no\nn 8 1 h\no\nn 9 2 h\no\nn 10 3 h\no\nn 11 4 h\no\nn 12 5 h\no\nend bounded 0 5\n",
+        ),
+    ] {
+        if let Some(pair) = near_pair(first, second) {
+            let mut sink = empty_sink(rt.alloc(), &[]).expect(&rt, "memory");
+            outcome_of(rt.alloc(), &pair, budget, &mut sink).expect(&rt, "outcome");
+            assert!(rt; sink.bytes() == log.as_bytes(), "another log");
+        }
+    }
+}
+
+#[test]
+fn faults(rt: HostRuntime) {
+    for (failing, log) in [(0, ""), (2, "sopl-log 1\nn 0 r\n")] {
+        if let Some(pair) = near_pair((3, 3), (4, 4)) {
+            let mut sink = empty_sink(rt.alloc(), &[failing]).expect(&rt, "memory");
+            let stopped = outcome_of(rt.alloc(), &pair, 1, &mut sink);
+            assert!(rt; matches!(stopped, Err(SearchStop::Write)), "no fault");
+            assert!(rt; sink.bytes() == log.as_bytes(), "another front");
+        }
+    }
+}

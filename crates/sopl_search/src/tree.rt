@@ -1,0 +1,40 @@
+//! The tree of a search.
+
+ghost use Rattle.std.specs.Prelude.{◌≡◌, IfOk, OnOk, OnErr, Err};
+ghost use Rattle.std.specs.Io.KnownBytes.{Appends};
+ghost use Rattle.sopl_io.specs.Causes.{HasCause};
+ghost use Rattle.sopl_io.specs.Transfer.{AppendsPrefix};
+ghost use Rattle.log_rows.specs.Lines.{log_lines, text_of};
+ghost use Rattle.log_rows.specs.Ranges.{FooterFits};
+ghost use Rattle.sopl_search.specs.declared.outcome.SearchStop.TheVariants.{Write};
+ghost use Rattle.sopl_search.specs.Logged.{footer_of};
+
+use crate::outcome::{Outcome, SearchStop};
+use log_rows::{Row, put_log};
+use sopl_io::Sink;
+
+/// What a search answers, and the rows of its nodes.
+#[derive(Drop)]
+pub(crate) struct Tree {
+    pub(crate) outcome: Outcome,
+    pub(crate) rows: Vec<Row>,
+}
+
+impl Tree {
+    /// Writes the tree as a log, and gives the outcome.
+    pub(crate) fn written<K: Sink>(self, sink: &mut K) -> Result<Outcome, SearchStop>
+        ensures outcome { IfOk result (λ outcome. outcome ≡ self.outcome) }
+        ensures fits { FooterFits (footer_of self.outcome) }
+        ensures all { OnOk result (Appends (K.taken sink.old) (K.taken sink.new) (text_of (log_lines self.rows.items (footer_of self.outcome)))) }
+        ensures prefix { OnErr result (AppendsPrefix (K.taken sink.old) (K.taken sink.new) (text_of (log_lines self.rows.items (footer_of self.outcome)))) }
+        ensures write { OnErr result (result ≡ Err Write) }
+        ensures names { K.names sink.new ≡ K.names sink.old }
+        ensures cause { HasCause (K.faults sink.old) (K.faults sink.new) result }
+    {
+        let footer = self.outcome.footer();
+        match put_log(sink, self.rows.as_slice(), &footer) {
+            Ok(()) => Ok(self.outcome),
+            Err(_) => Err(SearchStop::Write),
+        }
+    }
+}

@@ -1,0 +1,13 @@
+pub mod Arrays
+pub mod Ends
+pub mod Forms
+pub mod Globals
+pub mod Laws
+pub mod Marks
+pub mod Rules
+pub mod Sizes
+pub mod Terms
+pub mod Values
+pub mod WorkedIntervals
+pub mod Mentions
+pub mod MentionLaws

@@ -1,0 +1,11 @@
+use Rattle.std.proofs.Common.{ℕ, ◌<◌, length, ap, arith, rules, ◌∙◌}
+use Rattle.term_math.specs.Kept.{block}
+use Rattle.term_math.proofs.Blocks.{is_divided}
+use Rattle.term_math.proofs.lookups.part.Goals as goal
+
+pub returns : goal.returns
+returns c =
+    λ width complete.
+    let some : 0 < length c.args.set.now = first_of (search rules, grind arith) in
+    c.halved.ensures
+    ∙ ap (λ (n : ℕ). block c.args.number.now c.args.set.now n c.args.elements.now) (is_divided (length c.args.elements.now) (length c.args.set.now) width some complete)

@@ -1,0 +1,5 @@
+pub mod Shown
+pub mod Sums
+pub mod Made
+pub mod Kept
+pub mod Within

@@ -1,0 +1,35 @@
+//! Intervals, marks, truths and linear forms as they are computed, each as its definition says: of sums and products, of quotients,
+//! remainders and sizes, of the least and the greatest of several, and of the elements of an array.
+//! Its tests stand in `term_tests`.
+#![tactic(auto)]
+
+mod absolute;
+mod combinations;
+mod divisions;
+mod elements;
+mod ends;
+mod extremes;
+mod forms;
+mod lookups;
+mod marks;
+mod measures;
+mod operations;
+mod ranges;
+mod tables;
+mod views;
+
+pub use absolute::sizes;
+pub use combinations::{Combination, WideCoefficient, WideForm, scaled};
+pub use divisions::{Divisor, quotients, remainders};
+pub use elements::Element;
+pub use ends::{Ends, Factor, WideFactor};
+pub use extremes::Extreme;
+pub use forms::{Coefficient, Form};
+pub use marks::{
+    all_compare, and_truth, both, compared, none_compares, opposite, or_truth, truth_ends,
+};
+pub use measures::{times_weight, weight_of, weight_of_times};
+pub use operations::Operation;
+pub use ranges::{ElementHull, Indices, Ranges, covered};
+pub use tables::Table;
+pub use views::{BoxView, Part};

@@ -1,7 +1,0 @@
-use Rattle.std.proofs.Common.{◌≡◌, drop}
-use Rattle.box_rules.specs.Forms as rule
-use Rattle.term_rules.specs.Shown.{box_in, cells_of, ends_of}
-use Rattle.term_rules.proofs.views.BoxView.cells.Given as goal
-
-abbrev pub invariant-loop-i : goal.invariant-loop-i
-invariant-loop-i l = ends_of l.sum ≡ rule.cells_ends (box_in l.self) (cells_of (drop l.i l.cells))

@@ -1,5 +1,0 @@
-use Rattle.term_shaving.proofs.Shrinking as lemmas
-use Rattle.term_shaving.proofs.low_end_stays_open.Goals as goal
-
-pub returns : goal.returns
-returns c = record { law = lemmas.low_open }

@@ -1,8 +1,0 @@
-pub mod Blocks
-pub mod Covering
-pub mod Reaching
-pub mod Hulls
-pub mod Distinct
-pub mod Apart
-pub mod Narrow
-pub mod Indexed

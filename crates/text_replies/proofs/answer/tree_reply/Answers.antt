@@ -1,6 +1,0 @@
-use Rattle.std.proofs.Common.{string_bytes}
-use Rattle.text_replies.proofs.Answered.{tree_so}
-use Rattle.text_replies.proofs.answer.tree_reply.Goals as goal
-
-pub returns : goal.returns
-returns c = record { reply = λ text budget states. tree_so text budget c.args.stated.now (string_bytes c.in_ok-line.line) states c.in_ok-line.ensures.text }

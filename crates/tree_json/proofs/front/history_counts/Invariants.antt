@@ -1,7 +1,0 @@
-use Rattle.std.proofs.Common.{◌≡◌, map}
-use Rattle.serde_json.specs.View.{view}
-use Rattle.tree_json.specs.Shown.{counts_shown}
-use Rattle.tree_json.proofs.front.history_counts.Given as goal
-
-abbrev pub invariant-stages : goal.invariant-stages
-invariant-stages l = map view l.counts.items ≡ counts_shown l.tree l.before
