@@ -1,5 +1,5 @@
 -- Sets of one number each, whose numbers stand in each index.
-use Rattle.std.proofs.Common.{◌≡◌, refl, sym, ap, ◌∙◌, ◌+◌, ◌≤◌, arith, ℤ, List, [], ◌∷◌, ◌++◌, length, map, take}
+use Rattle.std.proofs.Common.{◌≡◌, ◌≢◌, ℕ, refl, sym, ap, ◌∙◌, ◌+◌, ◌≤◌, arith, ℤ, List, [], ◌∷◌, ◌++◌, length, map, take}
 use Rattle.std.proofs.Math.Seq.{take-length}
 use Rattle.std.proofs.lemmas.List.{take-append-le, append-nil, length-append}
 use Rattle.std.specs.declared.alloc.Global.{Global}
@@ -44,3 +44,16 @@ pub ruleset singles = (no_singles, one_more)
 -- the first set has one number alone
 pub one_number : (sets later : List (Vec ℤ Global)) (set : Vec ℤ Global) (n : ℤ) → sets ≡ set ∷ later → set.items ≡ n ∷ [] → sets_in sets ≡ (n ∷ []) ∷ sets_in later
 one_number sets later set n split is = ap sets_in split ∙ ap (λ numbers. numbers ∷ sets_in later) is
+
+-- there is no first set, or it has no number or more than one
+abbrev first_length : List (List ℤ) → ℕ
+first_length [] = 0
+first_length (set ∷ later) = length set
+
+pub no_set : (sets : List (Vec ℤ Global)) → length sets ≡ 0 → (number : ℤ) (others : List (List ℤ)) → sets_in sets ≢ (number ∷ []) ∷ others
+no_set [] none number others is = cc
+no_set (set ∷ sets) none number others is = absurd (omega (arith, none))
+
+pub other_numbers : (sets later : List (Vec ℤ Global)) (set : Vec ℤ Global) → sets ≡ set ∷ later → length set.items ≢ 1 → (number : ℤ) (others : List (List ℤ))
+    → sets_in sets ≢ (number ∷ []) ∷ others
+other_numbers sets later set split more number others is = more (ap first_length (sym (ap sets_in split) ∙ is))

@@ -1,6 +1,6 @@
 //! Which of some indices is the first that is the same as another.
 
-ghost use Rattle.std.specs.Prelude.{◌≡◌, ◌≤◌, ◌+◌, ◌++◌, ◌∷◌, [], List, ℤ, Some, None, length, map, take, IfOk, IfSome, OnOk, if◌then◌else◌};
+ghost use Rattle.std.specs.Prelude.{◌≡◌, ◌≢◌, ◌≤◌, ◌+◌, ◌++◌, ◌∷◌, [], List, ℤ, Some, None, length, map, take, IfNone, IfOk, IfSome, OnOk, if◌then◌else◌};
 ghost use Rattle.sopl_ast.specs.Numbers.{or_else};
 ghost use Rattle.sopl_ast.specs.References.{now_of};
 ghost use Rattle.term_language.specs.Arrays.{same_index};
@@ -117,6 +117,7 @@ fn put_singles<'a>(index: &mut Vec<i64>, sets: &'a [Vec<i64>]) -> Result<&'a [Ve
     ensures kept { IfOk result (λ left. take (length index.old.items) index.new.items ≡ index.old.items) }
     ensures fewer { IfOk result (λ left. length left.now ≤ length sets.now) }
     ensures places { IfOk result (λ left. (places : Places) → places_behind places index.new.items left.now ≡ places_behind places index.old.items sets.now) }
+    ensures all { IfOk result (λ left. (number : ℤ) (others : List (List ℤ)) → sets_in left.now ≢ (number ∷ []) ∷ others) }
 {
     let mut left = sets;
     'singles: while let Some((number, later)) = single(left) {
@@ -127,10 +128,11 @@ fn put_singles<'a>(index: &mut Vec<i64>, sets: &'a [Vec<i64>]) -> Result<&'a [Ve
 }
 
 /// The number of the first set, where it has one alone, and the other sets.
-#[tactic(auto, using(crate::proofs::Singles::one_number))]
+#[tactic(auto, using(crate::proofs::Singles::one_number, crate::proofs::Singles::no_set, crate::proofs::Singles::other_numbers))]
 fn single(sets: &[Vec<i64>]) -> Option<(i64, &[Vec<i64>])>
     ensures number { IfSome result (λ first. sets_in sets.now ≡ (first.0 ∷ []) ∷ sets_in first.1.now) }
     ensures fewer { IfSome result (λ first. length first.1.now + 1 ≡ length sets.now) }
+    ensures none { IfNone result ((number : ℤ) (others : List (List ℤ)) → sets_in sets.now ≢ (number ∷ []) ∷ others) }
 {
     let (set, later) = sets.split_first()?;
     match set.as_slice() {

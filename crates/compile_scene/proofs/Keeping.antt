@@ -1,5 +1,6 @@
 -- The arrays that are kept of a name.
 use Rattle.std.proofs.Common.{◌≡◌, ◌∙◌, refl, ap, sym, subst, ℕ, Bool, true, false, cond, nat_eq, List, [], ◌∷◌, Some, None}
+use Rattle.std.proofs.lemmas.Slice.Eq.{bytes_eq-Decides}
 use Rattle.std.specs.Cmp.Lexicographic.{pointwise}
 use Rattle.std.specs.Map.{lookup}
 use Rattle.std.specs.Option.{unwrap_or}
@@ -52,6 +53,34 @@ module _ (setting : Scenarios) (things : List Thing) where
           → AreKept setting things (cond b ((e.0, arrays) ∷ entries) (e ∷ insert_entry (λ (a : Vec ℕ Global) (b : Vec ℕ Global). pointwise nat_eq a.items b.items) entries key arrays))
       by true same later = (subst (λ (n : List ℕ). AreOf n arrays) (sym is ∙ same_name key.items e.0.items same) are, kept.1)
       by false apart later = (kept.0, later)
+
+-- the arrays that are looked up behind an entry
+key_is : (name : List ℕ) (key : Vec ℕ Global) → key.items ≡ name → is_key name key ≡ true
+key_is name key is = (bytes_eq-Decides name key.items).1 (sym is)
+
+abbrev with_entry : List Entry → Vec ℕ Global → Arrays → List Entry
+with_entry entries key arrays = insert_entry (λ (a : Vec ℕ Global) (b : Vec ℕ Global). pointwise nat_eq a.items b.items) entries key arrays
+
+pub found_inserted : (name : List ℕ) (entries : List Entry) (key : Vec ℕ Global) (arrays : Arrays) → key.items ≡ name → lookup (is_key name) (with_entry entries key arrays) ≡ Some arrays
+found_inserted name [] key arrays is = ap (λ b. cond b (Some arrays) None) (key_is name key is)
+found_inserted name (e ∷ entries) key arrays is = by (is_key key.items e.0) refl (found_inserted name entries key arrays is)
+  where
+    by : (b : Bool) → is_key key.items e.0 ≡ b → lookup (is_key name) (with_entry entries key arrays) ≡ Some arrays
+        → lookup (is_key name) (cond b ((e.0, arrays) ∷ entries) (e ∷ with_entry entries key arrays)) ≡ Some arrays
+    by true same later = ap (λ b. cond b (Some arrays) (lookup (is_key name) entries)) (ap (λ n. is_key n e.0) (sym is) ∙ same)
+    by false apart later = ap (λ b. cond b (Some e.1) (lookup (is_key name) (with_entry entries key arrays))) (ap (λ n. is_key n e.0) (sym is) ∙ apart) ∙ later
+
+pub others_stay : (name : List ℕ) (entries : List Entry) (key : Vec ℕ Global) (arrays : Arrays) → key.items ≡ name → (other : List ℕ) → pointwise nat_eq other name ≡ false
+    → lookup (is_key other) (with_entry entries key arrays) ≡ lookup (is_key other) entries
+others_stay name [] key arrays is other differs = ap (λ b. cond b (Some arrays) None) (ap (pointwise nat_eq other) is ∙ differs)
+others_stay name (e ∷ entries) key arrays is other differs = by (is_key key.items e.0) refl (others_stay name entries key arrays is other differs)
+  where
+    by : (b : Bool) → is_key key.items e.0 ≡ b → lookup (is_key other) (with_entry entries key arrays) ≡ lookup (is_key other) entries
+        → lookup (is_key other) (cond b ((e.0, arrays) ∷ entries) (e ∷ with_entry entries key arrays)) ≡ lookup (is_key other) (e ∷ entries)
+    by true same later =
+        let apart : is_key other e.0 ≡ false = ap (pointwise nat_eq other) (sym (same_name key.items e.0.items same) ∙ is) ∙ differs in
+        ap (λ b. cond b (Some arrays) (lookup (is_key other) entries)) apart ∙ sym (ap (λ b. cond b (Some e.1) (lookup (is_key other) entries)) apart)
+    by false apart later = ap (cond (is_key other e.0) (Some e.1)) later
 
 -- other arrays are kept over the same builder
 pub kept_extends : (setting : Scenarios) (first second third : Lowering) → Extends setting first second → third.builder ≡ second.builder → AreKept setting (things_of second) (entries_in third)

@@ -1,7 +1,9 @@
 //! The arrays of names are added.
 
-ghost use Rattle.std.specs.Prelude.{◌≡◌, ◌<◌, ◌∷◌, ℕ, length, map, IfOk, IfSome, OnOk, true};
+ghost use Rattle.std.specs.Prelude.{◌≡◌, ◌<◌, ◌∷◌, ℕ, None, length, map, nat_eq, IfNone, IfOk, IfSome, OnOk, true};
+ghost use Rattle.std.specs.Cmp.Lexicographic.{pointwise};
 ghost use Rattle.std.specs.List.{AllByRecursion, list_all};
+ghost use Rattle.std.specs.Map.{lookup};
 ghost use Rattle.term_language.specs.Laws.{IsTable};
 ghost use Rattle.compile_names.specs.Tables.{table_in};
 ghost use Rattle.compile_names.specs.Variables.{OriginExists, item_from};
@@ -10,7 +12,7 @@ ghost use Rattle.term_nodes.specs.Things.{a_table};
 ghost use Rattle.term_math.specs.Kept as kept;
 ghost use Rattle.compile_scene.specs.Fixed.{is_fixed};
 ghost use Rattle.compile_scene.specs.Scenes.{IsLaid, array_in};
-ghost use Rattle.compile_scene.specs.Works.{AreArrays, Extends, IsReady, Stands, things_of};
+ghost use Rattle.compile_scene.specs.Works.{AreArrays, Extends, IsReady, Stands, entries_in, things_of};
 
 use crate::scene::NumberedScenario;
 use crate::work::{Arrays, Lowering};
@@ -70,7 +72,8 @@ impl NumberedScenario<'_, '_> {
     fn kept(&self, work: &Lowering, name: &Name) -> Option<TableId>
         requires ready { IsReady self.now.setting.now work.now }
         requires exists { self.now.scenario < count_in self.now.setting.now.tree.now }
-        ensures { IfSome result (λ id. Stands (things_of work.now) id.0 (a_table (array_in self.now.setting.now name.now self.now.scenario))) }
+        ensures stands { IfSome result (λ id. Stands (things_of work.now) id.0 (a_table (array_in self.now.setting.now name.now self.now.scenario))) }
+        ensures none { IfNone result (lookup (λ key. pointwise nat_eq name.now key.items) (entries_in work.now) ≡ None) }
     {
         match work.arrays.get(name.as_slice()) {
             Some(arrays) => Some(arrays.id(self.scenario)),

@@ -1,6 +1,8 @@
 //! A program that is being built, and the arrays of names in it.
 
-ghost use Rattle.std.specs.Prelude.{◌≡◌, [], ℕ, IfOk, OnOk};
+ghost use Rattle.std.specs.Prelude.{◌≡◌, [], ℕ, List, Some, nat_eq, IfOk, OnOk, false};
+ghost use Rattle.std.specs.Cmp.Lexicographic.{pointwise};
+ghost use Rattle.std.specs.Map.{lookup};
 ghost use Rattle.compile_names.specs.declared.setting.Scenarios.{Scenarios};
 ghost use Rattle.sopl_scen.specs.Layout.{count_in};
 ghost use Rattle.compile_scene.specs.Scenes.{IsLaid, array_in, root_in};
@@ -61,6 +63,9 @@ impl Lowering {
         ensures kept { OnOk result ((setting : Scenarios) → AreKept setting (things_of self.old) (entries_in self.old)
             → AreArrays (things_of self.old) (count_in setting.tree.now) (array_in setting name.now) arrays
             → AreKept setting (things_of self.old) (entries_in self.new)) }
+        ensures found { OnOk result (lookup (λ key. pointwise nat_eq name.now key.items) (entries_in self.new) ≡ Some arrays) }
+        ensures others { OnOk result ((other : List ℕ) → pointwise nat_eq other name.now ≡ false
+            → lookup (λ key. pointwise nat_eq other key.items) (entries_in self.new) ≡ lookup (λ key. pointwise nat_eq other key.items) (entries_in self.old)) }
     {
         let key = Vec::from_slice(self.alloc, name.as_slice())?;
         self.arrays.insert(key, arrays)?;

@@ -22,7 +22,7 @@ AreChosen (s ∷ ss) [] = ⊥
 AreChosen (s ∷ ss) (v ∷ vs) = ((o : Outcome) × In o s.outcomes × (o.value ≡ v)) × AreChosen ss vs
 
 -- the values of a scenario are chosen
-chosen_in : (ss : List Stochastic) (x : Scenario) → In x (scenarios ss) → AreChosen ss x.values
+pub chosen_in : (ss : List Stochastic) (x : Scenario) → In x (scenarios ss) → AreChosen ss x.values
 chosen_in [] x (inl e) = let C : Scenario → Type 0 = λ y. AreChosen [] y.values in subst C e tt
 chosen_in [] x (inr h) = absurd h
 chosen_in (s ∷ ss) x h =
@@ -132,3 +132,53 @@ next_chosen stage from (s ∷ ss) (v ∷ vs) ws a c d =
       history_unseen (stage + 1) s ss v n.0 (not_below s.stage (stage + 1) (omega arith))
           ∙ (n.2 ∙ sym (ap (λ xs. xs ++ ws) (history_unseen stage s ss v vs (not_below s.stage stage (omega arith))))),
     )
+
+-- of the values that vs shows, those that are seen after a stage, which the history of the next stage has behind that of the stage
+abbrev pub Now : ℕ → List Stochastic → List ℤ → Type 0
+Now stage ss vs = (ws : List ℤ) × AreChosen (seen_after stage ss) ws × (history (stage + 1) ss vs ≡ history stage ss vs ++ ws)
+
+pub now_chosen : (stage from : ℕ) (ss : List Stochastic) (vs : List ℤ) → Ascend from ss → AreChosen ss vs → Now stage ss vs
+now_chosen stage from [] [] a c = ([], tt, refl)
+now_chosen stage from [] (v ∷ vs) a c = absurd c
+now_chosen stage from (s ∷ ss) [] a c = absurd c
+now_chosen stage from (s ∷ ss) (v ∷ vs) a c =
+    elim (cases_order s.stage stage) [
+      | inl here ↦ seen_here here (now_chosen stage s.stage ss vs a.1 c.1)
+      | inr (inl earlier) ↦ seen_before earlier (now_chosen stage s.stage ss vs a.1 c.1)
+      | inr (inr later) ↦ seen_later later (now_chosen stage s.stage ss vs a.1 c.1)
+    ]
+  where
+    kept : (ws : List ℤ) → (s.stage < stage) ⊎ (stage < s.stage) → AreChosen (seen_after stage ss) ws → AreChosen (seen_after stage (s ∷ ss)) ws
+    kept ws apart d = subst (λ b. AreChosen (cond b (s ∷ seen_after stage ss) (seen_after stage ss)) ws) (sym (differ s.stage stage apart)) d
+
+    seen_here : s.stage ≡ stage → Now stage ss vs → Now stage (s ∷ ss) (v ∷ vs)
+    seen_here here n =
+        let none : history stage ss vs ≡ [] = none_seen stage s.stage ss vs a.1 (omega arith) in (
+          v ∷ n.0,
+          subst (λ b. AreChosen (cond b (s ∷ seen_after stage ss) (seen_after stage ss)) (v ∷ n.0)) (sym (same s.stage stage here)) (c.0, n.1),
+          history_seen (stage + 1) s ss v vs (below s.stage (stage + 1) (omega arith))
+              ∙ (ap (λ xs. v ∷ xs) (n.2 ∙ ap (λ xs. xs ++ n.0) none)
+              ∙ sym (ap (λ xs. xs ++ v ∷ n.0) (history_unseen stage s ss v vs (not_below s.stage stage (omega arith)) ∙ none))),
+        )
+
+    seen_before : s.stage < stage → Now stage ss vs → Now stage (s ∷ ss) (v ∷ vs)
+    seen_before earlier n = (
+      n.0,
+      kept n.0 (inl earlier) n.1,
+      history_seen (stage + 1) s ss v vs (below s.stage (stage + 1) (omega arith))
+          ∙ (ap (λ xs. v ∷ xs) n.2 ∙ sym (ap (λ xs. xs ++ n.0) (history_seen stage s ss v vs (below s.stage stage earlier)))),
+    )
+
+    seen_later : stage < s.stage → Now stage ss vs → Now stage (s ∷ ss) (v ∷ vs)
+    seen_later later n = (
+      n.0,
+      kept n.0 (inr later) n.1,
+      history_unseen (stage + 1) s ss v vs (not_below s.stage (stage + 1) (omega arith))
+          ∙ (n.2 ∙ sym (ap (λ xs. xs ++ n.0) (history_unseen stage s ss v vs (not_below s.stage stage (omega arith))))),
+    )
+
+-- what is chosen for the variables of a stage can be seen after it
+pub chosen_outcome : (stage : ℕ) (ss : List Stochastic) (ws : List ℤ) → AreChosen (seen_after stage ss) ws → In ws (outcomes_after stage ss)
+chosen_outcome stage ss ws c =
+    let from : (x : Scenario) × In x (scenarios (seen_after stage ss)) × (x.values ≡ ws) = scenario_of (seen_after stage ss) ws c in
+    subst (λ (vs : List ℤ). In vs (outcomes_after stage ss)) from.2 (In-map values_in (scenarios (seen_after stage ss)) from.0 from.1)

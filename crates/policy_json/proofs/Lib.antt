@@ -14,3 +14,5 @@ pub mod Chosen
 pub mod Held
 pub mod Staged
 pub mod Samples
+pub mod Printed
+pub mod Texts

@@ -1,11 +1,12 @@
 -- The problem of a text that was read and is unfolded whole comes stage by stage.
-use Rattle.std.proofs.Common.{◌≡◌, ◌≤◌, ℕ, List, [], ◌∷◌, length, All}
+use Rattle.std.proofs.Common.{◌≤◌, ℕ, List, [], ◌∷◌, length, All}
 use Rattle.std.specs.List.{AllByRecursion}
 use Rattle.std.proofs.lemmas.List.Elements.{All-nil, All-cons}
 use Rattle.sopl_ast.specs.Instances.{Stochastic}
-use Rattle.sopl_ast.specs.Unfolding.{problem_of}
+use Rattle.sopl_ast.specs.Unfolding.{problem_of, text_events}
 use Rattle.sopl_ast.specs.Whole.{ModelTree}
 use Rattle.unfold_laws.specs.Bounds.{IsBoundedStochastic}
+use Rattle.unfold_laws.specs.Passing.{NothingFails}
 use Rattle.unfold_laws.proofs.Outcomes.{stochastics_have_outcomes}
 use Rattle.unfold_laws.proofs.Whole.{stochastics_are_bounded}
 use Rattle.scen_laws.specs.Laws.{HasOutcome, IsByStage}
@@ -26,9 +27,14 @@ outcomes_there : (ss : List Stochastic) → AllByRecursion HasOutcome ss → All
 outcomes_there [] all = All-nil (λ (s : Stochastic). 1 ≤ length s.outcomes)
 outcomes_there (s ∷ ss) all = All-cons (λ (s : Stochastic). 1 ≤ length s.outcomes) s ss all.0 (outcomes_there ss all.1)
 
+-- the stages of the stochastic variables ascend from 1 on
+pub texts_ascend : (model : ModelTree) → NothingFails (text_events model) → Ascend 1 (problem_of model).stochastics
+texts_ascend model passes =
+    ascend_from 1 (problem_of model).stochastics (from_one (problem_of model).stochastics (stochastics_are_bounded model passes)) (stochastics_ascend model)
+
 pub texts_are_staged : TextsAreStaged
 texts_are_staged model from passes =
     record {
-      ascending = ascend_from 1 (problem_of model).stochastics (from_one (problem_of model).stochastics (stochastics_are_bounded model passes)) (stochastics_ascend model);
+      ascending = texts_ascend model passes;
       outcomes = outcomes_there (problem_of model).stochastics (stochastics_have_outcomes model from);
     }

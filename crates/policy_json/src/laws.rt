@@ -1,9 +1,12 @@
 //! What holds of the JSON of any policy.
 
-ghost use Rattle.std.specs.Prelude.{◌≡◌, Some, false};
-ghost use Rattle.serde_json.specs.Written.{has_float};
+ghost use Rattle.std.specs.Prelude.{◌≡◌, ◌++◌, ℕ, List, Some, false};
+ghost use Rattle.serde_json.specs.Written.{compact_text, has_float};
+ghost use Rattle.sopl_ast.specs.Accepted.{AcceptedModel};
 ghost use Rattle.sopl_ast.specs.Instances.{Problem};
+ghost use Rattle.sopl_ast.specs.Limits.{Limits};
 ghost use Rattle.sopl_ast.specs.Policies.{Policy, IsPolicy};
+ghost use Rattle.sopl_ast.specs.Whole.{ModelTree};
 ghost use Rattle.policy_json.specs.Held.{held_data};
 ghost use Rattle.policy_json.specs.Nodes.{policy_data};
 ghost use Rattle.policy_json.specs.Staged.{IsStaged, TextsAreStaged};
@@ -21,4 +24,15 @@ pub fn held_throughout()
     ensures held { (problem : Problem) (policy : Policy) → IsStaged problem → IsPolicy problem policy
         → held_data problem policy ≡ Some (policy_data problem policy) }
     ensures staged { TextsAreStaged }
+{}
+
+/// Different policies of an accepted problem have different JSON, and its text, which ends by itself, is one
+/// policy's, whatever stands behind it: from an answer's bytes there is one way back to the policy.
+pub fn texts_differ()
+    ensures json { (limits : Limits) (model : ModelTree) (problem : Problem) → AcceptedModel limits model problem
+        → (p q : Policy) → IsPolicy problem p → IsPolicy problem q
+        → policy_data problem p ≡ policy_data problem q → p ≡ q }
+    ensures text { (limits : Limits) (model : ModelTree) (problem : Problem) → AcceptedModel limits model problem
+        → (p q : Policy) → IsPolicy problem p → IsPolicy problem q → (r s : List ℕ)
+        → compact_text (policy_data problem p) ++ r ≡ compact_text (policy_data problem q) ++ s → p ≡ q }
 {}

@@ -17,5 +17,5 @@ mod tests;
 
 pub use entries::entry_value;
 pub use last_stage::greatest_stage;
-pub use laws::{held_throughout, no_float};
+pub use laws::{held_throughout, no_float, texts_differ};
 pub use policy::policy_value;

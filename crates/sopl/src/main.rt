@@ -11,17 +11,14 @@ use answer_run::{Status, Word, Words, run};
 use sopl_io::{FileSink, FileSource};
 use std::alloc::{AllocError, Global};
 use std::env;
-use std::io::ErrorKind;
 use std::process::ExitCode;
 use std::rt::{Env, Files};
 
-/// The words after the program's name. Where one of them is no text there are none, which are out of form as well.
+/// The words after the program's name. A word that is no text cannot be made, and ends the program as want of memory does.
 fn words_given<R: Env + AllocGlobal>(rt: &R) -> Result<Words, AllocError> {
     let mut words = Words::new(rt.alloc());
-    let texts = match env::args(rt) {
-        Ok(texts) => texts,
-        Err(error) if error.kind() == ErrorKind::OutOfMemory => return Err(AllocError),
-        Err(_) => return Ok(words),
+    let Ok(texts) = env::args(rt) else {
+        return Err(AllocError);
     };
     for text in texts.skip(1) {
         words.push(Word::new(text))?;

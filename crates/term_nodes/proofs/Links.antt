@@ -1,6 +1,8 @@
 -- Which term a node's left operand is, and what is reached by several steps to the left operand.
-use Rattle.std.proofs.Common.{◌≡◌, ℕ, ◌+◌, ◌-◌, ◌<◌, ◌≤◌, zero, suc, List, Option, Some, None, IfSome, arith, refl, ap, subst, sym, ◌∙◌}
+use Rattle.std.proofs.Common.{◌≡◌, ◌≢◌, ℕ, ◌+◌, ◌-◌, ◌<◌, ◌≤◌, zero, suc, Bool, true, ◌&&◌, List, Option, Some, None, IfNone, IfSome, arith, refl, ap, subst, sym, ◌∙◌}
 use Rattle.box_problem.specs.Box.{Box}
+use Rattle.term_language.specs.Marks.{is_always}
+use Rattle.term_language.specs.Rules.{Wide, form, mark}
 use Rattle.term_language.specs.Terms as rule
 use Rattle.term_math.specs.declared.operations.Operation.{Operation}
 use Rattle.term_math.specs.declared.operations.Operation.TheVariants.{Quotient, Remainder, Size}
@@ -11,7 +13,7 @@ use Rattle.term_nodes.specs.declared.nodes.Node.{Node}
 use Rattle.term_nodes.specs.declared.nodes.Node.TheVariants as node
 use Rattle.term_nodes.specs.declared.items.Item.{Item}
 use Rattle.term_nodes.specs.Things.{Thing, nothing, term_in, term_at, thing_at, thing_of}
-use Rattle.term_nodes.specs.Built.{IsAt, IsBelow}
+use Rattle.term_nodes.specs.Built.{Facts, IsAt, IsBelow}
 use Rattle.term_nodes.specs.Operands.{left_in, left_operand, steps_down}
 use Rattle.term_nodes.specs.Seen.{Sight, sight}
 
@@ -110,6 +112,22 @@ if_below root all id item (Some a) at is = left_below root all id item a at (sym
 pub if_left : (root : Box) (all : List Thing) (id : ℕ) (item : Item) (o : Option ℕ) → IsAt root all id item → o ≡ left_in item.node → IfSome o (λ a. term_at all a ≡ left_operand (term_at all id))
 if_left root all id item None at is = tt
 if_left root all id item (Some a) at is = left_is root all id item a at (sym is)
+
+-- where a chain ends: at a term that has no left operand, or that is plain
+pub nothing_ends : (all : List Thing) (id : ℕ) (plain : Bool) → thing_at all id ≡ nothing → left_operand (term_at all id) ≢ term_at all id → plain ≡ true
+nothing_ends all id plain none goes = absurd (goes (sym (left_nothing all id none)))
+
+pub plain_ends : (root : Box) (all : List Thing) (id : ℕ) (item : Item) → IsAt root all id item → (item.facts.form.plain && is_always item.facts.wide_mark) ≡ true
+    → left_operand (term_at all id) ≢ term_at all id → ((form root (term_at all id)).plain && is_always (mark Wide root root (term_at all id))) ≡ true
+plain_ends root all id item at plain goes =
+    ap (λ (thing : Thing). (form root (term_in thing)).plain && is_always (mark Wide root root (term_in thing))) at.thing
+    ∙ ap (λ (f : Facts). f.form.plain && is_always f.wide_mark) (sym at.kept)
+    ∙ plain
+
+pub if_ends : (root : Box) (all : List Thing) (id : ℕ) (item : Item) (o : Option ℕ) (plain : Bool) → IsAt root all id item → o ≡ left_in item.node
+    → IfNone o (left_operand (term_at all id) ≢ term_at all id → plain ≡ true)
+if_ends root all id item None plain at is = λ goes. absurd (goes (sym (left_none root all id item at (sym is))))
+if_ends root all id item (Some a) plain at is = tt
 
 -- one step more
 pub one_step : (all : List Thing) (top id left n : ℕ) → term_at all id ≡ steps_down n (term_at all top) → term_at all left ≡ left_operand (term_at all id) → term_at all left

@@ -1,7 +1,10 @@
 //! Chains of left operands: a product of many factors, and what is divided again and again, are as deep as their text is long, so they
 //! are walked by loops.
 
-ghost use Rattle.std.specs.Prelude.{◌≡◌, ◌+◌, ◌<◌, ◌≤◌, IfSome};
+ghost use Rattle.std.specs.Prelude.{◌≡◌, ◌≢◌, ◌+◌, ◌<◌, ◌≤◌, ◌&&◌, true, IfNone, IfSome};
+ghost use Rattle.term_language.specs.Marks.{is_always};
+ghost use Rattle.term_language.specs.Rules.{Wide, form, mark};
+ghost use Rattle.term_math.specs.Shown.{box_in};
 ghost use Rattle.term_nodes.specs.Things.{term_at, things};
 ghost use Rattle.term_nodes.specs.Operands.{left_operand, steps_down};
 ghost use Rattle.term_nodes.specs.Seen.{IsReady};
@@ -34,11 +37,14 @@ impl<'a> Evaluator<'a> {
     }
 
     /// The left operand of the node of this number, where the node is not plain.
-    #[tactic(auto, using(crate::proofs::Links::if_below, crate::proofs::Links::if_left))]
+    #[tactic(auto, using(crate::proofs::Links::if_below, crate::proofs::Links::if_left, crate::proofs::Links::if_ends, crate::proofs::Links::nothing_ends, crate::proofs::Links::plain_ends))]
     fn link(&self, id: u32) -> Option<u32>
         requires ready { IsReady self.now }
         ensures below { IfSome result (λ left. left < id) }
         ensures left { IfSome result (λ left. term_at (things self.now.items.now) left ≡ left_operand (term_at (things self.now.items.now) id)) }
+        ensures none { IfNone result (left_operand (term_at (things self.now.items.now) id) ≢ term_at (things self.now.items.now) id
+            → ((form (box_in self.now.root) (term_at (things self.now.items.now) id)).plain
+            && is_always (mark Wide (box_in self.now.root) (box_in self.now.root) (term_at (things self.now.items.now) id))) ≡ true) }
     {
         let item = item_at(self.items, id)?;
         if item.facts.is_plain() {
@@ -53,6 +59,9 @@ impl<'a> Evaluator<'a> {
         requires ready { IsReady self.now }
         ensures below { result.id + result.steps ≤ top }
         ensures reached { term_at (things self.now.items.now) result.id ≡ steps_down result.steps (term_at (things self.now.items.now) top) }
+        ensures end { left_operand (term_at (things self.now.items.now) result.id) ≢ term_at (things self.now.items.now) result.id
+            → ((form (box_in self.now.root) (term_at (things self.now.items.now) result.id)).plain
+            && is_always (mark Wide (box_in self.now.root) (box_in self.now.root) (term_at (things self.now.items.now) result.id))) ≡ true }
     {
         let mut id = top;
         let mut steps = 0;

@@ -16,10 +16,14 @@ id-requires c = record {
       c.args.self.now.scenario c.requires.exists;
 }
 
-pub returns-in-Some : goal.returns-in-Some
-returns-in-Some c =
+pub returns-in-Some-clause-stands : goal.returns-in-Some-clause-stands
+returns-in-Some-clause-stands c =
     let kept : AreArrays (things_of c.args.work.now) (count_in c.args.self.now.setting.now.tree.now) (array_in c.args.self.now.setting.now c.args.name.now) c.in-Some.arrays.now =
     kept_found c.args.self.now.setting.now (things_of c.args.work.now) c.args.name.now (entries_in c.args.work.now) c.in-Some.arrays.now c.requires.ready.arrays
     (ap (λ name. lookup (is_key name) (entries_in c.args.work.now)) (sym c.as_slice.ensures.bytes) ∙ sym c.get.ensures.value ∙ ap option_copied c.in-Some.is) in
     subst (λ n. Stands (things_of c.args.work.now) n (a_table (array_in c.args.self.now.setting.now c.args.name.now c.args.self.now.scenario))) (sym c.id.ensures)
     (kept.stand c.args.self.now.scenario c.requires.exists)
+
+pub returns-in-None-clause-none : goal.returns-in-None-clause-none
+returns-in-None-clause-none c =
+    ap (λ name. lookup (is_key name) (entries_in c.args.work.now)) (sym c.as_slice.ensures.bytes) ∙ sym c.get.ensures.value ∙ ap option_copied c.in-None.is
