@@ -16,7 +16,7 @@ use Rattle.sopl_search.specs.declared.outcome.Found.{Found}
 use Rattle.policy_json.specs.Nodes.{outermost_node, policy_data}
 use Rattle.answer_lines.specs.AnswerData.{bound_object, bounded_data, found_object, fraction, line_of, optimal_data, optimal_object}
 use Rattle.answer_texts.specs.Solving.{IsProgramOf}
-use Rattle.answer_texts.specs.Answering.{valued_at}
+use Rattle.answer_texts.specs.Logs.{valued_at}
 
 -- the policy of a point, by the variables that a text states
 pub printed_policy : (problem : Problem) (ds : List Decision) (ss : List Stochastic) (values point : List ℤ) (result : Result Value AllocError)

@@ -20,7 +20,7 @@ use Rattle.box_problem.specs.Opens.{IsUnsettled}
 use Rattle.box_problem.proofs.Bounds.{unsettled_within}
 use Rattle.log_rows.specs.declared.rows.Footer.{Footer}
 use Rattle.log_rows.specs.declared.rows.Footer.TheVariants as claim
-use Rattle.sopl_search.specs.Logged.{IsPrefixLogged, IsLogged, IsSearchLog, footer_of}
+use Rattle.sopl_search.specs.Logged.{IsPrefixLogged, IsLogged, IsSearchLog, footer_of, told_point}
 use Rattle.sopl_search.specs.Outcomes.{HasCause, IsTrueOf, value_of}
 use Rattle.sopl_search.specs.declared.outcome.Found.{Found}
 use Rattle.sopl_search.specs.declared.outcome.Outcome.{Outcome}
@@ -41,8 +41,8 @@ use Rattle.scen_accept.specs.Stated.{States, model_in, problem_in}
 use Rattle.scen_accept.specs.declared.accepted.AcceptedProblem.{AcceptedProblem}
 use Rattle.answer_texts.specs.Bounds.{IsBounded}
 use Rattle.answer_texts.specs.Solving.{IsProgramOf}
-use Rattle.answer_texts.specs.Logs.{IsLogOf, most_nodes, searched_problem, TookPrefix, nothing, prefix}
-use Rattle.answer_texts.specs.Answering.{FindsPoint, IsAnswerOf, IsAnsweredBy, IsBoundedBy, IsSettledBy, Searched, bounded, found_value, infeasible, is_settled, optimal, outcome_data, valued_at}
+use Rattle.answer_texts.specs.Logs.{IsLogOf, most_nodes, searched_problem, valued_at, TookPrefix, nothing, prefix}
+use Rattle.answer_texts.specs.Answering.{FindsPoint, IsAnswerOf, IsAnsweredBy, IsBoundedBy, IsSettledBy, Searched, bounded, found_value, infeasible, is_settled, optimal, outcome_data}
 use Rattle.answer_texts.specs.Stops.{made_of}
 use Rattle.answer_texts.specs.declared.solve_answer.Answer.{Answer}
 use Rattle.answer_texts.specs.declared.solve_answer.Answer.TheVariants.{Settled, Cut}
@@ -150,11 +150,11 @@ module _ (text : List ℕ) (stated : AcceptedProblem) (states : States text stat
       let all = moved (outcome.Optimal value point) true_of in
       subst (IsSettledBy own budget log) (sym is)
       (optimal (policy_at (cells own) point) value (unbeaten_is_best (model_in stated) value point unfolded all.0 all.1)
-      (record { outcome = outcome.Optimal value point; claimed = refl; is_log = is_log }))
+      (record { outcome = outcome.Optimal value point; claimed = refl; found_is = refl; is_log = is_log }))
   settled budget outcome.Infeasible log line true_of is_log is_one is =
       subst (IsSettledBy own budget log) (sym is)
       (infeasible (unreached_is_none (model_in stated) unfolded (moved outcome.Infeasible true_of))
-      (record { outcome = outcome.Infeasible; claimed = refl; is_log = is_log }))
+      (record { outcome = outcome.Infeasible; claimed = refl; found_is = refl; is_log = is_log }))
   settled budget (outcome.Bounded found bound) log line true_of is_log is_one is = cc
 
   cut : (budget : ℕ) (o : Outcome) (log line : List ℕ) → IsTrueOf (searched_problem own) o → HasCause (searched_problem own) budget o
@@ -164,7 +164,7 @@ module _ (text : List ℕ) (stated : AcceptedProblem) (states : States text stat
   cut budget (outcome.Bounded found bound) log line true_of cause is_log is_none is =
       subst (IsBoundedBy own budget log) (sym is)
       (bounded (option_map (valued_at own) found) bound (bound_is found budget bound true_of cause) (within_most own (value_of found) budget bound cause)
-      (record { outcome = outcome.Bounded found bound; claimed = same_claim own found bound; is_log = is_log }))
+      (record { outcome = outcome.Bounded found bound; claimed = same_claim own found bound; found_is = refl; is_log = is_log }))
 
   answered : (budget : ℕ) (o : Outcome) (log : List ℕ) (answer : Answer) → IsTrueOf (searched_problem own) o → HasCause (searched_problem own) budget o
       → IsSearchLog (searched_problem own) budget o log → IsAnswerOf own o answer → IsAnsweredBy own budget log answer
@@ -190,7 +190,7 @@ module _ (text : List ℕ) (stated : AcceptedProblem) (states : States text stat
     log_taken : (o : Outcome) → IsLogged (box_problem_of program) budget o old new → TookPrefix own budget old new
     log_taken o logged =
         let log : IsLogged (searched_problem own) budget o old new = subst (λ (p : BoxProblem). IsLogged p budget o old new) (searched_is own program is) logged in
-        prefix (footer_of o) log.bytes (record { outcome = o; claimed = refl; is_log = log.is_log })
+        prefix (footer_of o) (option_map (valued_at own) (told_point o)) log.bytes (record { outcome = o; claimed = refl; found_is = refl; is_log = log.is_log })
         (length log.bytes, subst (λ b. Appends old new b) (sym (take_all (length log.bytes) log.bytes (omega arith))) log.took)
 
     -- so where memory runs out behind the search
@@ -204,7 +204,8 @@ module _ (text : List ℕ) (stated : AcceptedProblem) (states : States text stat
         → (r ≡ Err search.Write → IsPrefixLogged (box_problem_of program) budget old new) → (r ≡ Err search.NoMemory → Keeps old new) → TookPrefix own budget old new
     search_stopped r search.Write stops wrote kept =
         let log : IsPrefixLogged (searched_problem own) budget old new = subst (λ (p : BoxProblem). IsPrefixLogged p budget old new) (searched_is own program is) (wrote stops) in
-        prefix (footer_of log.outcome) log.bytes (record { outcome = log.outcome; claimed = refl; is_log = log.is_log }) log.took
+        prefix (footer_of log.outcome) (option_map (valued_at own) (told_point log.outcome)) log.bytes
+        (record { outcome = log.outcome; claimed = refl; found_is = refl; is_log = log.is_log }) log.took
     search_stopped r search.NoMemory stops wrote kept = nothing (kept stops)
 
 -- out of memory behind a search is no fault of a sink

@@ -17,7 +17,7 @@ use Rattle.answer_lines.specs.AnswerData.{Valued, word_data, optimal_data, bound
 use Rattle.scen_accept.specs.Stated.{model_in, problem_in}
 use Rattle.scen_accept.specs.declared.accepted.AcceptedProblem.{AcceptedProblem}
 use Rattle.answer_texts.specs.Bounds.{IsBounded}
-use Rattle.answer_texts.specs.Logs.{IsLogOf, most_nodes, IsUnused, SinkState, Wrote, WrotePrefix}
+use Rattle.answer_texts.specs.Logs.{IsLogOf, most_nodes, valued_at, with_value, IsUnused, SinkState, Wrote, WrotePrefix}
 use Rattle.answer_texts.specs.Solving.{IsSolveFault}
 use Rattle.answer_texts.specs.declared.solve_answer.Answer.{Answer}
 use Rattle.answer_texts.specs.declared.solve_answer.Answer.TheVariants.{Settled, Cut}
@@ -27,10 +27,10 @@ use Rattle.answer_texts.specs.declared.solve_answer.SolveStop.TheVariants.{Unsol
 -- a line settles a problem, and this is the log of the search
 pub data IsSettledBy (problem : Problem) (budget : ℕ) (log : List ℕ) : List ℕ → Type 0 where
   -- this policy of it is optimal and has this value
-  optimal : (policy : Policy) (value : ℤ) → IsOptimal problem policy value → IsLogOf problem budget (claim.Optimal value) log
+  optimal : (policy : Policy) (value : ℤ) → IsOptimal problem policy value → IsLogOf problem budget (claim.Optimal value) (Some (with_value policy value)) log
       → IsSettledBy problem budget log (line_of (optimal_data problem policy value))
   -- no policy of it satisfies
-  infeasible : IsInfeasible problem → IsLogOf problem budget claim.Infeasible log
+  infeasible : IsInfeasible problem → IsLogOf problem budget claim.Infeasible None log
       → IsSettledBy problem budget log (line_of (word_data (codes "infeasible")))
 
 -- the value of what was found, if anything was
@@ -40,7 +40,7 @@ found_value found = option_map (λ (f : Valued). f.value) found
 -- a line tells a bound, and this is the log of the search, which ended with as many nodes as the budget allows, and fewer than it may have
 pub data IsBoundedBy (problem : Problem) (budget : ℕ) (log : List ℕ) : List ℕ → Type 0 where
   bounded : (found : Option Valued) (bound : ℤ) → IsBounded problem found bound → budget < most_nodes problem
-      → IsLogOf problem budget (claim.Bounded (found_value found) bound) log
+      → IsLogOf problem budget (claim.Bounded (found_value found) bound) found log
       → IsBoundedBy problem budget log (line_of (bounded_data problem found bound))
 
 abbrev pub IsAnsweredBy : Problem → ℕ → List ℕ → Answer → Type 0
@@ -76,10 +76,6 @@ Stops stated budget name old new (Unsolved f) = IsSolveFault (model_in stated) f
 Stops stated budget name old new Write = IsCutOff stated budget name old new
 
 -- The answer of an outcome.
-
--- the policy of a point, with its value
-abbrev pub valued_at : Problem → Found → Valued
-valued_at problem found = record { policy = policy_at (cells problem) found.cells; value = found.value }
 
 abbrev pub outcome_data : Problem → Outcome → Data
 outcome_data problem (outcome.Optimal value point) = optimal_data problem (policy_at (cells problem) point) value

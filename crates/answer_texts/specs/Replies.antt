@@ -17,7 +17,7 @@ use Rattle.answer_texts.specs.Solved.{SolvedText, IsNotYet, IsLimitedInTerms}
 use Rattle.answer_lines.specs.AnswerData.{Valued, word_data, refused_data, limit_data, optimal_data, bounded_data, line_of}
 use Rattle.answer_texts.specs.Answering.{found_value}
 use Rattle.answer_texts.specs.Bounds.{IsBounded}
-use Rattle.answer_texts.specs.Logs.{IsLogOf, most_nodes, IsUnused, SinkState, Wrote, WrotePrefix}
+use Rattle.answer_texts.specs.Logs.{IsLogOf, most_nodes, with_value, IsUnused, SinkState, Wrote, WrotePrefix}
 use Rattle.answer_texts.specs.declared.command.Command.{Command}
 use Rattle.answer_texts.specs.declared.command.Command.TheVariants.{Solve, Tree}
 use Rattle.answer_texts.specs.declared.status.Status.{Status}
@@ -72,17 +72,17 @@ settled Unreadable = Unreadable
 -- a reply to a command on a text, where a search may finish so many nodes: the log that goes with it, the status that it ends with, its line, and
 -- why it comes
 pub data IsTextReply (text : List ℕ) (budget : ℕ) : Command → Option (List ℕ) → Status → List ℕ → Type 0 where
-  -- the text states a problem, and this policy of it is optimal and has this value
+  -- the text states a problem, and this policy of it is optimal and has this value; it is that of the point of a row of the log
   optimal : (problem : Problem) (policy : Policy) (value : ℤ) (log : List ℕ) → SolvedText text problem → IsOptimal problem policy value
-      → IsLogOf problem budget (claim.Optimal value) log
+      → IsLogOf problem budget (claim.Optimal value) (Some (with_value policy value)) log
       → IsTextReply text budget Solve (Some log) Done (line_of (optimal_data problem policy value))
   -- the text states a problem, and no policy of it satisfies
-  infeasible : (problem : Problem) (log : List ℕ) → SolvedText text problem → IsInfeasible problem → IsLogOf problem budget claim.Infeasible log
+  infeasible : (problem : Problem) (log : List ℕ) → SolvedText text problem → IsInfeasible problem → IsLogOf problem budget claim.Infeasible None log
       → IsTextReply text budget Solve (Some log) Done (line_of (word_data (codes "infeasible")))
-  -- the text states a problem, no policy of it is better than this bound, and this one satisfies where one was found; the log has as many finished
-  -- nodes as the budget allows, and the bound is the better end of a box that is open
+  -- the text states a problem, no policy of it is better than this bound, and this one satisfies where one was found, that of the point of a row of the
+  -- log; the log has as many finished nodes as the budget allows, and the bound is the better end of a box that is open
   bounded : (problem : Problem) (found : Option Valued) (bound : ℤ) (log : List ℕ) → SolvedText text problem → IsBounded problem found bound
-      → budget < most_nodes problem → IsLogOf problem budget (claim.Bounded (found_value found) bound) log
+      → budget < most_nodes problem → IsLogOf problem budget (claim.Bounded (found_value found) bound) found log
       → IsTextReply text budget Solve (Some log) Bounded (line_of (bounded_data problem found bound))
   -- the text states a problem with these scenarios
   scenes : (problem : Problem) → AcceptedText usual_limits text problem

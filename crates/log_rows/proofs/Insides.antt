@@ -15,7 +15,7 @@ use Rattle.box_problem.proofs.Boxes.{part_of_itself, parts_of_parts}
 use Rattle.box_problem.proofs.Cuts.{cuts_make_parts}
 use Rattle.box_problem.proofs.Steps.{steps_lead_inside}
 use Rattle.log_rows.specs.Rows.{row_at, handed, final_of, start_of, box_at, Hangs, AreOrdered}
-use Rattle.log_rows.specs.Accepted.{claimed, RightEnd, Accepted}
+use Rattle.log_rows.specs.Accepted.{claimed, RightEnd, Accepted, AreRight}
 use Rattle.log_rows.proofs.Places.{IsWithin, hangs_within, final_is}
 
 -- a split cuts its box
@@ -74,17 +74,23 @@ pub begins_inside : (problem : BoxProblem) (value_at : ℕ → Option ℤ) (rows
 begins_inside problem value_at rows n parent sound hangs fits =
     place_inside problem value_at rows n parent sound (hangs_within rows n parent hangs) fits (λ k before. is_inside problem value_at rows k sound (omega arith))
 
--- the rows of an accepted log
+-- the rows of a tree of right lines, and of an accepted log
 right_cuts : (problem : BoxProblem) (rows : List Row) (i : ℕ) (b : Box) (end : EndLine) (footer : Footer) → RightEnd problem footer b rows i end → Cuts b end
 right_cuts problem rows i b (Refuted reason) footer right = tt
 right_cuts problem rows i b (Split cut) footer right = right.cut
 right_cuts problem rows i b Point footer right = tt
 right_cuts problem rows i b Unfinished footer right = tt
 
-pub accepted_sound : (problem : BoxProblem) (rows : List Row) (footer : Footer) → Lawful problem → Accepted problem rows footer → AreSound problem (λ i. claimed footer) rows
-accepted_sound problem rows footer lawful accepted = record {
+pub right_sound : (problem : BoxProblem) (rows : List Row) (footer : Footer) → Lawful problem → AreRight problem rows footer → AreSound problem (λ i. claimed footer) rows
+right_sound problem rows footer lawful are = record {
   root = lawful.root;
-  ordered = accepted.ordered;
-  steps = λ i exists. (accepted.right i exists).steps;
-  cuts = λ i exists. right_cuts problem rows i (final_of problem.root rows i) (row_at rows i).end footer (accepted.right i exists).end;
+  ordered = are.ordered;
+  steps = λ i exists. (are.right i exists).steps;
+  cuts = λ i exists. right_cuts problem rows i (final_of problem.root rows i) (row_at rows i).end footer (are.right i exists).end;
 }
+
+pub accepted_right : (problem : BoxProblem) (rows : List Row) (footer : Footer) → Accepted problem rows footer → AreRight problem rows footer
+accepted_right problem rows footer accepted = record { ordered = accepted.ordered; right = accepted.right }
+
+pub accepted_sound : (problem : BoxProblem) (rows : List Row) (footer : Footer) → Lawful problem → Accepted problem rows footer → AreSound problem (λ i. claimed footer) rows
+accepted_sound problem rows footer lawful accepted = right_sound problem rows footer lawful (accepted_right problem rows footer accepted)

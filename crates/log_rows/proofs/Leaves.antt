@@ -14,9 +14,9 @@ use Rattle.box_problem.proofs.Boxes.{points_of_parts, parts_of_parts}
 use Rattle.box_problem.proofs.Cuts.{cuts_separate}
 use Rattle.box_problem.proofs.Steps.{steps_lead_inside}
 use Rattle.log_rows.specs.Rows.{row_at, handed, final_of, start_of, box_at, IsSplit, Hangs}
-use Rattle.log_rows.specs.Accepted.{claimed, Accepted}
+use Rattle.log_rows.specs.Accepted.{claimed, AreRight}
 use Rattle.log_rows.proofs.Places.{final_is}
-use Rattle.log_rows.proofs.Insides.{Cuts, handed_inside, AreSound, begins_inside, accepted_sound}
+use Rattle.log_rows.proofs.Insides.{Cuts, handed_inside, AreSound, begins_inside, right_sound}
 use Rattle.log_rows.proofs.Growing.{some_side, IsNewSide, hung}
 
 -- two boxes without a point in common
@@ -154,8 +154,8 @@ parted problem value_at rows (suc n) sound fits =
       sides = λ p q first second differs. sides_more problem rows n p q before row first second differs;
     }
 
-pub leaves_are_apart : (problem : BoxProblem) (rows : List Row) (footer : Footer) (i j : ℕ) (point : List ℤ) → Lawful problem → Accepted problem rows footer
+pub leaves_are_apart : (problem : BoxProblem) (rows : List Row) (footer : Footer) (i j : ℕ) (point : List ℤ) → Lawful problem → AreRight problem rows footer
     → i < length rows → j < length rows → ¬ i ≡ j → ¬ IsSplit (row_at rows i).end → ¬ IsSplit (row_at rows j).end
     → InBox (final_of problem.root rows i) point → ¬ InBox (final_of problem.root rows j) point
-leaves_are_apart problem rows footer i j point lawful accepted first second differs leaf other q =
-    (parted problem (λ k. claimed footer) rows (length rows) (accepted_sound problem rows footer lawful accepted) (omega arith)).leaves i j first second differs leaf other point q
+leaves_are_apart problem rows footer i j point lawful right first second differs leaf other q =
+    (parted problem (λ k. claimed footer) rows (length rows) (right_sound problem rows footer lawful right) (omega arith)).leaves i j first second differs leaf other point q

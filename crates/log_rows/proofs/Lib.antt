@@ -5,6 +5,7 @@ pub mod Lists
 pub mod Insides
 pub mod Truth
 pub mod Growing
+pub mod Room
 pub mod Small
 pub mod Logging
 pub mod Closing

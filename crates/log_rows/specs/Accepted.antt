@@ -67,6 +67,12 @@ pub record RightRow (problem : BoxProblem) (footer : Footer) (rows : List Row) (
   pub steps : AllRight problem (claimed footer) (start_of problem.root rows i) (row_at rows i).steps
   pub end : RightEnd problem footer (final_of problem.root rows i) rows i (row_at rows i).end
 
+-- a tree of right lines: the rows are in order, and each line of them is right against the value that is claimed, whether or not the claim itself is
+-- right
+pub record AreRight (problem : BoxProblem) (rows : List Row) (footer : Footer) : Type 0 where
+  pub ordered : AreOrdered rows
+  pub right : (i : ℕ) → i < length rows → RightRow problem footer rows i
+
 -- some row is a point of this value
 pub record IsFound (problem : BoxProblem) (rows : List Row) (v : ℤ) : Type 0 where
   pub row : ℕ

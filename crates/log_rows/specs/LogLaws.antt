@@ -13,9 +13,9 @@ use Rattle.box_problem.specs.Steps.{after_steps}
 use Rattle.box_problem.specs.BoxProblem.{BoxProblem, Lawful}
 use Rattle.box_problem.specs.Rightness.{AllRight}
 use Rattle.box_problem.specs.Covers.{nodes_for}
-use Rattle.log_rows.specs.Rows.{row_at, final_of, handed, IsSplit}
+use Rattle.log_rows.specs.Rows.{row_at, final_of, handed, leaves, IsSplit}
 use Rattle.log_rows.specs.Made.{MadeEnd, MadeSplit, best_after, Pending, Logs, AreFinished, AreShallow, with_open}
-use Rattle.log_rows.specs.Accepted.{Accepted, Holds, Closes, greatest_depth}
+use Rattle.log_rows.specs.Accepted.{Accepted, AreRight, Holds, Closes, greatest_depth}
 
 -- the row of an open node that is finished by these steps and this end
 abbrev pub row_of : Pending → List Step → EndLine → Row
@@ -101,21 +101,31 @@ LogsAreAccepted =
 abbrev pub LogsAreTrue : Type 0
 LogsAreTrue = (problem : BoxProblem) (rows : List Row) (footer : Footer) → Lawful problem → Accepted problem rows footer → Holds problem footer
 
--- an accepted log has at most so many nodes as the points of the root allow
+-- the lines of an accepted log are a tree of right lines
+abbrev pub AcceptedLogsAreRight : Type 0
+AcceptedLogsAreRight = (problem : BoxProblem) (rows : List Row) (footer : Footer) → Accepted problem rows footer → AreRight problem rows footer
+
+-- a tree of right lines has at most so many nodes as the points of the root allow
 abbrev pub LogsAreSmall : Type 0
 LogsAreSmall =
-    (problem : BoxProblem) (rows : List Row) (footer : Footer) → Lawful problem → Accepted problem rows footer
+    (problem : BoxProblem) (rows : List Row) (footer : Footer) → Lawful problem → AreRight problem rows footer
     → length rows ≤ nodes_for (points problem.root)
+
+-- and no more leaves than the root has points
+abbrev pub LeavesAreFew : Type 0
+LeavesAreFew =
+    (problem : BoxProblem) (rows : List Row) (footer : Footer) → Lawful problem → AreRight problem rows footer
+    → length (leaves rows) ≤ points problem.root
 
 -- the boxes of two nodes that are not split have no point in common
 abbrev pub LeavesAreApart : Type 0
 LeavesAreApart =
-    (problem : BoxProblem) (rows : List Row) (footer : Footer) (i j : ℕ) (point : List ℤ) → Lawful problem → Accepted problem rows footer
+    (problem : BoxProblem) (rows : List Row) (footer : Footer) (i j : ℕ) (point : List ℤ) → Lawful problem → AreRight problem rows footer
     → i < length rows → j < length rows → ¬ i ≡ j → ¬ IsSplit (row_at rows i).end → ¬ IsSplit (row_at rows j).end
     → InBox (final_of problem.root rows i) point → ¬ InBox (final_of problem.root rows j) point
 
 -- and none of them is empty
 abbrev pub LeavesHavePoints : Type 0
 LeavesHavePoints =
-    (problem : BoxProblem) (rows : List Row) (footer : Footer) (i : ℕ) → Lawful problem → Accepted problem rows footer
-    → i < length rows → 0 < points (final_of problem.root rows i)
+    (problem : BoxProblem) (rows : List Row) (footer : Footer) (i : ℕ) → Lawful problem → AreRight problem rows footer
+    → i < length rows → (0 < points (final_of problem.root rows i)) × ((point : List ℤ) × InBox (final_of problem.root rows i) point)

@@ -1,5 +1,5 @@
 -- The rows of a log as a table: the box with which each node begins and ends, and its depth.
-use Rattle.std.specs.Prelude.{◌≡◌, ℕ, ◌+◌, ◌<◌, List, [], ◌∷◌, ◌++◌, length, Option, None, Some, slice_index_or}
+use Rattle.std.specs.Prelude.{◌≡◌, ℕ, ◌+◌, ◌<◌, Bool, true, false, List, [], ◌∷◌, ◌++◌, length, filter, Option, None, Some, slice_index_or}
 use Rattle.sopl_base.specs.declared.reason.Side.{Side}
 use Rattle.sopl_base.specs.declared.reason.Side.TheVariants.{Le, Ge}
 use Rattle.log_rows.specs.declared.rows.Parent.{Parent}
@@ -69,6 +69,16 @@ IsSplit (Refuted reason) = ⊥
 IsSplit (Split cut) = Unit {0}
 IsSplit Point = ⊥
 IsSplit Unfinished = ⊥
+
+-- the rows whose nodes are not split, be they finished or not
+abbrev pub is_leaf_end : EndLine → Bool
+is_leaf_end (Refuted reason) = true
+is_leaf_end (Split cut) = false
+is_leaf_end Point = true
+is_leaf_end Unfinished = true
+
+abbrev pub leaves : List Row → List Row
+leaves rows = filter (λ (row : Row). is_leaf_end row.end) rows
 
 -- the parent is an earlier split, and no earlier row is on this side of it
 pub record IsFree (rows : List Row) (i : ℕ) (parent : Parent) : Type 0 where

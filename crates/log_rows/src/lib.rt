@@ -14,9 +14,10 @@ mod text_laws;
 pub use line::Line;
 pub use lines::{put_end, put_footer, put_head, put_node, put_step};
 pub use log_laws::{
-    depths_after_end, depths_after_split, depths_at_first, depths_in_any_order, leaves_are_apart,
-    leaves_have_points, logs_after_end, logs_after_split, logs_are_accepted, logs_are_small,
-    logs_are_true, logs_at_first, logs_in_any_order, logs_with_open,
+    accepted_logs_are_right, depths_after_end, depths_after_split, depths_at_first,
+    depths_in_any_order, leaves_are_apart, leaves_are_few, leaves_have_points, logs_after_end,
+    logs_after_split, logs_are_accepted, logs_are_small, logs_are_true, logs_at_first,
+    logs_in_any_order, logs_with_open,
 };
 pub use row_lines::{put_log, put_row, put_rows, put_steps};
 pub use rows::{Cut, EndLine, Footer, Parent, Row};

@@ -1,4 +1,5 @@
-ghost use Rattle.log_rows.specs.LogLaws.{DepthsAfterEnd, DepthsAfterSplit, DepthsAtFirst, DepthsInAnyOrder, LeavesAreApart, LeavesHavePoints, LogsAfterEnd, LogsAfterSplit};
+ghost use Rattle.log_rows.specs.LogLaws.{AcceptedLogsAreRight, DepthsAfterEnd, DepthsAfterSplit, DepthsAtFirst, DepthsInAnyOrder, LeavesAreApart, LeavesAreFew, LeavesHavePoints};
+ghost use Rattle.log_rows.specs.LogLaws.{LogsAfterEnd, LogsAfterSplit};
 ghost use Rattle.log_rows.specs.LogLaws.{LogsAreAccepted, LogsAreSmall, LogsAreTrue, LogsAtFirst, LogsInAnyOrder, LogsWithOpen};
 
 /// A search begins with no row, and the root open.
@@ -56,9 +57,19 @@ pub fn logs_are_true()
     ensures law { LogsAreTrue }
 {}
 
-/// An accepted log has at most so many nodes as the points of the root allow.
+/// The lines of an accepted log are a tree of right lines.
+pub fn accepted_logs_are_right()
+    ensures law { AcceptedLogsAreRight }
+{}
+
+/// A tree of right lines has at most so many nodes as the points of the root allow.
 pub fn logs_are_small()
     ensures law { LogsAreSmall }
+{}
+
+/// And no more leaves than the root has points.
+pub fn leaves_are_few()
+    ensures law { LeavesAreFew }
 {}
 
 /// The boxes of two nodes that are not split have no point in common.

@@ -32,12 +32,12 @@ same_sound problem best now finished count nodes others found counted same sound
     (subst (λ (xs : List Pending). IsSound problem best finished (boxes xs)) (sym same) sound))
 
 same_kept : (problem : BoxProblem) (rows after : List Row) (finished count : ℕ) (nodes others : List Pending) (best now : Option Found) → after ≡ rows → count ≡ finished → others ≡ nodes
-    → now ≡ best → AreKept problem rows finished nodes (value_of best) → AreKept problem after count others (value_of now)
+    → now ≡ best → AreKept problem rows finished nodes best → AreKept problem after count others now
 same_kept problem rows after finished count nodes others best now same_rows counted same found kept =
-    subst (λ (xs : List Row). AreKept problem xs count others (value_of now)) (sym same_rows)
-    (subst (λ (n : ℕ). AreKept problem rows n others (value_of now)) (sym counted)
-    (subst (λ (xs : List Pending). AreKept problem rows finished xs (value_of now)) (sym same)
-    (subst (λ (v : Option Found). AreKept problem rows finished nodes (value_of v)) (sym found) kept)))
+    subst (λ (xs : List Row). AreKept problem xs count others now) (sym same_rows)
+    (subst (λ (n : ℕ). AreKept problem rows n others now) (sym counted)
+    (subst (λ (xs : List Pending). AreKept problem rows finished xs now) (sym same)
+    (subst (λ (v : Option Found). AreKept problem rows finished nodes v) (sym found) kept)))
 
 -- where a reason closes its box
 pub stands_refuted : (problem : BoxProblem) (old added new : Frontier) (steps : List Step) (reason : Reason) (result : Result Bool AllocError) → IsPosed problem
@@ -57,7 +57,7 @@ pub keeps_refuted : (problem : BoxProblem) (start : Box) (old added new : Fronti
 keeps_refuted problem start old added new steps reason result small known is refuted rows best finished next appended keeps =
     next_keeps problem added new result
     (same_kept problem added.rows.items added.rows.items (old.finished + 1) added.finished (waiting old) (waiting added) old.best added.best refl is.counted is.same_waiting is.same_best
-    (kept_after_refuted problem old.rows.items added.rows.items old.finished old.parent start old.store.box (waiting old) (value_of old.best) steps reason small known appended refuted is.row keeps))
+    (kept_after_refuted problem old.rows.items added.rows.items old.finished old.parent start old.store.box (waiting old) old.best steps reason small known appended refuted is.row keeps))
     rows best finished next
 
 -- where its box is a point
@@ -112,15 +112,15 @@ pub keeps_split : (problem : BoxProblem) (start : Box) (old added new : Frontier
 keeps_split problem start old added new n steps cut small known posed is split number nodes rows best finished appended keeps =
     same_kept problem added.rows.items new.rows.items (old.finished + 1) new.finished (opens true new) (opens true new) old.best new.best (ap (λ rows_of. rows_of.items) rows) (finished
     ∙ is.counted) refl (best ∙ is.same_best)
-    (kept_after_split problem old.rows.items added.rows.items old.finished old.parent start old.store.box (waiting old) (opens true new) (value_of old.best) steps cut small known posed appended split
+    (kept_after_split problem old.rows.items added.rows.items old.finished old.parent start old.store.box (waiting old) (opens true new) old.best steps cut small known posed appended split
     (same_halves old added n cut (opens true new) number is.same_store is.same_waiting nodes) is.row keeps)
 
 -- the box of the store is narrowed by steps
 pub keeps_from : (problem : BoxProblem) (old : Frontier) (highs : List PendingHalf) (marks now : List Mark) → now ≡ marks
-    → AreKept problem old.rows.items old.finished (begun_at old.store.box old ∷ high_halves highs marks) (value_of old.best)
-    → AreKept problem old.rows.items old.finished (begun_at old.store.box old ∷ high_halves highs now) (value_of old.best)
+    → AreKept problem old.rows.items old.finished (begun_at old.store.box old ∷ high_halves highs marks) old.best
+    → AreKept problem old.rows.items old.finished (begun_at old.store.box old ∷ high_halves highs now) old.best
 keeps_from problem old highs marks now same keeps =
-    subst (λ (ms : List Mark). AreKept problem old.rows.items old.finished (begun_at old.store.box old ∷ high_halves highs ms) (value_of old.best)) (sym same) keeps
+    subst (λ (ms : List Mark). AreKept problem old.rows.items old.finished (begun_at old.store.box old ∷ high_halves highs ms) old.best) (sym same) keeps
 
 -- the steps of a node are those that were added to none
 pub appended_from : (problem : BoxProblem) (v w : Option ℤ) (start stop : Box) (before after : List Step) → v ≡ w → before ≡ [] → Appended problem v start before after stop

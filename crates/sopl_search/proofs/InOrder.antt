@@ -1,18 +1,16 @@
 -- The open nodes in the order in which a log lists them.
 use Rattle.std.proofs.Common.{◌≡◌, ◌↔◌, inl, inr, Bool, true, false, List, [], ◌∷◌, ◌++◌, reverse, get_or, Option, Some, None, AllPairs, Contains, refl, arith, sym, ap, subst, ◌∙◌, append_assoc}
 use Rattle.std.specs.List.{AllByRecursion}
-use Rattle.std.proofs.lemmas.List.{reverse-reverse}
 use Rattle.std.proofs.lemmas.List.Elements.{Contains-get_or}
 use Rattle.std.proofs.lemmas.List.Quantifiers.{all_pairs_push}
-use Rattle.std.proofs.lemmas.List.Sorted.{Contains-permutation, IsPermutation-reverse}
 use Rattle.sopl_base.specs.declared.reason.Side.{Side}
 use Rattle.sopl_base.specs.declared.reason.Side.TheVariants.{Le, Ge}
 use Rattle.log_rows.specs.declared.rows.Parent.{Parent}
 use Rattle.log_rows.specs.Made.{Pending}
-use Rattle.log_rows.proofs.Lists.{AreApart, first_or_later, middle_apart, middle_is, middle_or_others, none_has, others_apart, others_have, put_apart}
+use Rattle.log_rows.proofs.Lists.{AreApart, middle_apart, middle_is, middle_or_others, others_apart, others_have, put_apart}
 use Rattle.sopl_search.specs.Frontiers.{AreStacked, IsOlder}
 use Rattle.sopl_search.specs.Logged.{StandsBefore}
-use Rattle.sopl_search.proofs.Keeping.{reverse_first}
+use Rattle.sopl_search.proofs.Reversed.{from_reversed, of_all, reverse_first}
 
 -- parents of nodes that are stacked
 not_both : (side : Side) → side ≡ Le → side ≡ Ge → ⊥
@@ -102,20 +100,8 @@ hand_second x h nodes stacked same = (
 )
 
 -- a list that descends, from its end on
-of_all : (P : Pending → Type 0) (nodes : List Pending) (y : Pending) → AllByRecursion P nodes → Contains nodes y → P y
-of_all P [] y all has = absurd (none_has y has)
-of_all P (x ∷ nodes) y all has =
-    elim (first_or_later x nodes y has) [
-      | inl here ↦ subst P here all.0
-      | inr later ↦ of_all P nodes y all.1 later
-    ]
-
 abbrev pub AreInOrder : List Pending → Type 0
 AreInOrder nodes = AllPairs (λ (x y : Pending). StandsBefore x.parent y.parent) nodes
-
-pub from_reversed : (nodes : List Pending) (y : Pending) → Contains (reverse nodes) y → Contains nodes y
-from_reversed nodes y has = subst (λ (xs : List Pending). Contains xs y) (reverse-reverse nodes)
-    (Contains-permutation (reverse nodes) (reverse (reverse nodes)) y (IsPermutation-reverse (reverse nodes)) has)
 
 pub reversed_in_order : (nodes : List Pending) → AreDescending nodes → AreInOrder (reverse nodes)
 reversed_in_order [] descending = λ i j d before exists. absurd (omega arith)

@@ -10,10 +10,12 @@ use Rattle.log_rows.specs.declared.rows.Row.{Row}
 use Rattle.log_rows.specs.Made.{AreShallow, Logs, Pending, open_row, with_open}
 use Rattle.log_rows.proofs.Logging.{depths_in_any_order, logs_in_any_order}
 use Rattle.sopl_search.specs.declared.high.PendingHalf.{PendingHalf}
+use Rattle.sopl_search.specs.declared.outcome.Found.{Found}
 use Rattle.sopl_search.specs.Frontiers.{AreCuts, AreKept, high_half, high_halves}
 use Rattle.sopl_search.specs.Lines.{high_parent, is_sibling, last_first, open_line, put_hand}
+use Rattle.sopl_search.specs.Outcomes.{value_of}
 use Rattle.sopl_search.proofs.InOrder.{AreInOrder, HasNode, put_apart_too, put_has, put_in_order, put_node, reversed_in_order}
-use Rattle.sopl_search.proofs.Keeping.{reverse_first}
+use Rattle.sopl_search.proofs.Reversed.{reverse_first}
 
 abbrev parents : List Pending → List (Option Parent)
 parents nodes = map (λ (x : Pending). x.parent) nodes
@@ -50,7 +52,7 @@ put_parents false x h nodes = refl
 pub record IsListing (problem : BoxProblem) (rows all : List Row) (nodes opens : List Pending) (best : Option ℤ) : Type 0 where
   pub rows_are : all ≡ with_open rows opens
   pub logs : Logs problem rows opens best
-  pub shallow : AreShallow bits_in 1024 rows opens
+  pub shallow : AreShallow bits_in (bits_in problem.root) rows opens
   pub in_order : AreInOrder opens
   pub same : (y : Pending) → Contains (reverse nodes) y ↔ Contains opens y
 
@@ -62,8 +64,8 @@ has_other : (parent : Option Parent) (high : PendingHalf) → is_sibling parent 
 has_other None high is has = has
 has_other (Some p) high is has = eqb-false p.node high.node is has
 
-listed_one : (problem : BoxProblem) (rows all : List Row) (finished : ℕ) (x : Pending) (best : Option ℤ) → AreKept problem rows finished (x ∷ []) best → all ≡ rows ++ open_line x.parent ∷ []
-    → IsListing problem rows all (x ∷ []) (x ∷ []) best
+listed_one : (problem : BoxProblem) (rows all : List Row) (finished : ℕ) (x : Pending) (best : Option Found) → AreKept problem rows finished (x ∷ []) best → all ≡ rows ++ open_line x.parent ∷ []
+    → IsListing problem rows all (x ∷ []) (x ∷ []) (value_of best)
 listed_one problem rows all finished x best kept is = record {
   rows_are = is;
   logs = kept.logs;
@@ -73,9 +75,9 @@ listed_one problem rows all finished x best kept is = record {
 }
 
 listed_more : (problem : BoxProblem) (rows all : List Row) (finished : ℕ) (x : Pending) (high : PendingHalf) (highs : List PendingHalf) (mark : Mark) (marks : List Mark)
-    (best : Option ℤ) → AreCuts highs marks
+    (best : Option Found) → AreCuts highs marks
     → AreKept problem rows finished (x ∷ high_half high mark ∷ high_halves highs marks) best → all ≡ rows ++ map open_line (reverse (last_first x.parent (high ∷ highs)))
-    → IsListing problem rows all (x ∷ high_half high mark ∷ high_halves highs marks) (reverse (put_node (is_sibling x.parent high) x (high_half high mark) (high_halves highs marks))) best
+    → IsListing problem rows all (x ∷ high_half high mark ∷ high_halves highs marks) (reverse (put_node (is_sibling x.parent high) x (high_half high mark) (high_halves highs marks))) (value_of best)
 listed_more problem rows all finished x high highs mark marks best cuts kept is =
     let sibling = is_sibling x.parent high in
     let h = high_half high mark in
@@ -86,9 +88,9 @@ listed_more problem rows all finished x high highs mark marks best cuts kept is 
     ∙ ap reverse (put_parents sibling x h older ∙ ap (λ (ps : List (Option Parent)). put_hand sibling x.parent (high_parent high) ps) (waiting_parents highs marks cuts))) in
     record {
       rows_are = is ∙ ap (λ (more : List Row). rows ++ more) (sym lines);
-      logs = logs_in_any_order problem rows (reverse (x ∷ h ∷ older)) (reverse (put_node sibling x h older)) best kept.logs (put_has sibling x h older)
+      logs = logs_in_any_order problem rows (reverse (x ∷ h ∷ older)) (reverse (put_node sibling x h older)) (value_of best) kept.logs (put_has sibling x h older)
           (put_apart_too sibling x h older kept.logs.distinct);
-      shallow = depths_in_any_order bits_in 1024 rows (reverse (x ∷ h ∷ older)) (reverse (put_node sibling x h older)) kept.shallow (λ y has. (put_has sibling x h older y).1 has);
+      shallow = depths_in_any_order bits_in (bits_in problem.root) rows (reverse (x ∷ h ∷ older)) (reverse (put_node sibling x h older)) kept.shallow (λ y has. (put_has sibling x h older y).1 has);
       in_order = put_in_order sibling x h older kept.stacked (λ yes. has_node x.parent high yes) (λ isnt. has_other x.parent high isnt);
       same = put_has sibling x h older;
     }
@@ -98,9 +100,9 @@ pub record AreListed (problem : BoxProblem) (rows all : List Row) (nodes : List 
   pub opens : List Pending
   pub listing : IsListing problem rows all nodes opens best
 
-pub nodes_listed : (problem : BoxProblem) (rows all : List Row) (finished : ℕ) (x : Pending) (highs : List PendingHalf) (marks : List Mark) (best : Option ℤ) → AreCuts highs marks
+pub nodes_listed : (problem : BoxProblem) (rows all : List Row) (finished : ℕ) (x : Pending) (highs : List PendingHalf) (marks : List Mark) (best : Option Found) → AreCuts highs marks
     → AreKept problem rows finished (x ∷ high_halves highs marks) best → all ≡ rows ++ map open_line (reverse (last_first x.parent highs))
-    → AreListed problem rows all (x ∷ high_halves highs marks) best
+    → AreListed problem rows all (x ∷ high_halves highs marks) (value_of best)
 nodes_listed problem rows all finished x [] marks best cuts kept is = record { opens = x ∷ []; listing = listed_one problem rows all finished x best kept is }
 nodes_listed problem rows all finished x (high ∷ highs) [] best cuts kept is = absurd cuts
 nodes_listed problem rows all finished x (high ∷ highs) (mark ∷ marks) best cuts kept is = record {

@@ -1,5 +1,5 @@
 -- The tree of a search in the end.
-use Rattle.std.proofs.Common.{◌≡◌, ℕ, ◌^◌, ◌<◌, ◌≤◌, ℤ, List, [], ◌∷◌, ◌++◌, length, map, reverse, Option, All, Contains, arith, sym, subst}
+use Rattle.std.proofs.Common.{◌≡◌, ℕ, ◌^◌, ◌<◌, ◌≤◌, ℤ, List, [], ◌∷◌, ◌++◌, length, map, reverse, Option, IfSome, All, Contains, arith, sym, subst}
 use Rattle.std.proofs.lemmas.List.{append-nil}
 use Rattle.std.proofs.lemmas.List.Elements.{All-append, All-cons, All-nil}
 use Rattle.sopl_base.specs.declared.direction.Direction.{Direction}
@@ -8,9 +8,11 @@ use Rattle.box_problem.specs.BoxProblem.{BoxProblem}
 use Rattle.box_store.specs.Store.{Mark}
 use Rattle.log_rows.specs.declared.rows.Row.{Row}
 use Rattle.log_rows.specs.Accepted.{Accepted, greatest_depth}
-use Rattle.log_rows.specs.Made.{AreShallow, Pending, open_row}
+use Rattle.log_rows.specs.Made.{AreShallow, Logs, Pending, open_row, with_open}
+use Rattle.log_rows.specs.Rows.{depth_of}
 use Rattle.log_rows.proofs.Closing.{logs_are_accepted}
 use Rattle.log_rows.proofs.Lists.{middle_is, others_have}
+use Rattle.log_rows.proofs.Logging.{depths_with_open}
 use Rattle.log_rows.proofs.Places.{IsWithin, hangs_within}
 use Rattle.log_rows.specs.Ranges.{RowFits, StepFits}
 use Rattle.box_problem.specs.Opens.{IsBound}
@@ -21,12 +23,14 @@ use Rattle.sopl_search.specs.declared.outcome.Outcome.TheVariants.{Optimal, Infe
 use Rattle.sopl_search.specs.Frontiers.{AreCuts, AreKept, boxes, high_halves}
 use Rattle.sopl_search.specs.Ends.{IsPosed}
 use Rattle.sopl_search.specs.Lines.{last_first, open_line}
-use Rattle.sopl_search.specs.Logged.{IsTree, SpendsAll, footer_of}
+use Rattle.sopl_search.specs.Logged.{IsPointRow, IsTree, LowStandsFirst, SpendsAll, footer_of}
 use Rattle.sopl_search.specs.Outcomes.{Closes, Settles, value_of}
 use Rattle.sopl_search.proofs.Footers.{closed_footer, settled_footer}
-use Rattle.sopl_search.proofs.InOrder.{from_reversed}
-use Rattle.sopl_search.proofs.Keeping.{has_reversed, parent_fits}
+use Rattle.sopl_search.proofs.Keeping.{parent_fits}
+use Rattle.sopl_search.proofs.LowFirst.{low_first_with_open}
 use Rattle.sopl_search.proofs.OpenNodes.{nodes_listed}
+use Rattle.sopl_search.proofs.Points.{best_stays, closed_tells, settled_tells}
+use Rattle.sopl_search.proofs.Reversed.{from_reversed, has_reversed}
 
 -- the rows of open nodes fit
 open_fit : (n : ℕ) (opens : List Pending) → n < 2 ^ 32 → ((y : Pending) → Contains opens y → IsWithin n y.parent) → All RowFits (map open_row opens)
@@ -37,11 +41,17 @@ open_fit n (x ∷ opens) small within =
     (open_fit n opens small (λ y has. within y (others_have [] opens x y has)))
 
 -- what is not deep is not too deep for a log
-not_too_deep : (rows : List Row) (opens : List Pending) → AreShallow bits_in 1024 rows opens → AreShallow bits_in greatest_depth rows opens
-not_too_deep rows opens shallow = record {
-  rows_are = λ i exists. omega (arith, shallow.rows_are i exists);
-  opens_are = λ x has. omega (arith, shallow.opens_are x has);
+not_too_deep : (problem : BoxProblem) (rows : List Row) (opens : List Pending) → IsPosed problem → AreShallow bits_in (bits_in problem.root) rows opens
+    → AreShallow bits_in greatest_depth rows opens
+not_too_deep problem rows opens posed shallow = record {
+  rows_are = λ i exists. omega (arith, posed.few_bits, shallow.rows_are i exists);
+  opens_are = λ x has. omega (arith, posed.few_bits, shallow.opens_are x has);
 }
+
+-- nor are the rows of the open nodes
+by_bits_with_open : (problem : BoxProblem) (rows : List Row) (opens : List Pending) (best : Option ℤ) → Logs problem rows opens best → AreShallow bits_in (bits_in problem.root) rows opens
+    → (i : ℕ) → i < length (with_open rows opens) → depth_of (with_open rows opens) i ≤ bits_in problem.root
+by_bits_with_open problem rows opens best logs shallow = (depths_with_open problem bits_in (bits_in problem.root) rows opens best logs shallow).rows_are
 
 spends : (outcome : Outcome) (nodes budget : ℕ) → nodes ≡ budget → SpendsAll outcome nodes budget
 spends (Optimal value cells) nodes budget is = tt
@@ -50,13 +60,14 @@ spends (Bounded found bound) nodes budget is = is
 
 -- with nodes open
 pub partial_tree : (problem : BoxProblem) (rows all : List Row) (finished : ℕ) (x : Pending) (highs : List PendingHalf) (marks : List Mark) (best : Option Found) (bound : ℤ) (outcome : Outcome)
-    → IsPosed problem → 0 < finished → finished < 2 ^ 32 → AreCuts highs marks → AreKept problem rows finished (x ∷ high_halves highs marks) (value_of best)
+    → IsPosed problem → 0 < finished → finished < 2 ^ 32 → AreCuts highs marks → AreKept problem rows finished (x ∷ high_halves highs marks) best
     → all ≡ rows ++ map open_line (reverse (last_first x.parent highs))
     → IsBound problem (value_of best) (boxes (x ∷ high_halves highs marks)) bound → Settles problem.direction best bound outcome → IsTree problem finished outcome all
 partial_tree problem rows all finished x highs marks best bound outcome posed some small cuts kept added is settles =
     let nodes = x ∷ high_halves highs marks in
-    let listed = nodes_listed problem rows all finished x highs marks (value_of best) cuts kept added in
+    let listed = nodes_listed problem rows all finished x highs marks best cuts kept added in
     let l = listed.listing in
+    let deep = by_bits_with_open problem rows listed.opens (value_of best) l.logs l.shallow in
     let closes = settled_footer problem best nodes listed.opens bound outcome (λ y has. (l.same y).0 (has_reversed nodes y has)) (λ y has. from_reversed nodes y ((l.same y).1 has)) is settles in
     record {
       finished = rows;
@@ -74,7 +85,12 @@ partial_tree problem rows all finished x highs marks best bound outcome posed so
           (open_fit (length rows) listed.opens (omega (arith, kept.counted, small)) (λ y has. hangs_within rows (length rows) y.parent (l.logs.placed y has).0)));
       accepted = subst (λ (xs : List Row). Accepted problem xs (footer_of outcome)) (sym l.rows_are)
           (logs_are_accepted problem bits_in rows listed.opens (value_of best) (footer_of outcome) posed.lawful l.logs kept.are_finished (omega (arith, kept.counted, some))
-          (not_too_deep rows listed.opens l.shallow) closes);
+          (not_too_deep problem rows listed.opens posed l.shallow) closes);
+      low_first = subst LowStandsFirst (sym l.rows_are) (low_first_with_open problem rows listed.opens (value_of best) l.logs l.in_order kept.low_first);
+      by_bits = subst (λ (xs : List Row). (i : ℕ) → i < length xs → depth_of xs i ≤ bits_in problem.root) (sym l.rows_are) deep;
+      shallow = subst (λ (xs : List Row). (i : ℕ) → i < length xs → depth_of xs i ≤ 1536) (sym l.rows_are) (λ i exists. omega (arith, posed.few_bits, deep i exists));
+      found = settled_tells (IsPointRow problem all) problem.direction best bound outcome settles
+          (subst (λ (xs : List Row). IfSome best (IsPointRow problem xs)) (sym l.rows_are) (best_stays problem rows (map open_row listed.opens) best kept.found));
     }
 
 -- with no node open
@@ -84,7 +100,7 @@ never_spends best Infeasible nodes budget is = tt
 never_spends best (Bounded found bound) nodes budget is = absurd is
 
 pub whole_tree : (problem : BoxProblem) (rows : List Row) (finished budget : ℕ) (best : Option Found) (outcome : Outcome) → IsPosed problem → 0 < finished → finished ≤ budget
-    → AreKept problem rows finished [] (value_of best) → Closes best outcome → IsTree problem budget outcome rows
+    → AreKept problem rows finished [] best → Closes best outcome → IsTree problem budget outcome rows
 whole_tree problem rows finished budget best outcome posed some within kept is = record {
   finished = rows;
   opens = [];
@@ -98,8 +114,12 @@ whole_tree problem rows finished budget best outcome posed some within kept is =
   in_order = λ i j d before exists. absurd (omega arith);
   fit = kept.fit;
   accepted = subst (λ (xs : List Row). Accepted problem xs (footer_of outcome)) (append-nil rows)
-      (logs_are_accepted problem bits_in rows [] (value_of best) (footer_of outcome) posed.lawful kept.logs kept.are_finished (omega (arith, kept.counted, some)) (not_too_deep rows [] kept.shallow)
+      (logs_are_accepted problem bits_in rows [] (value_of best) (footer_of outcome) posed.lawful kept.logs kept.are_finished (omega (arith, kept.counted, some)) (not_too_deep problem rows [] posed kept.shallow)
       (closed_footer problem best outcome is));
+  low_first = kept.low_first;
+  by_bits = kept.shallow.rows_are;
+  shallow = λ i exists. omega (arith, posed.few_bits, kept.shallow.rows_are i exists);
+  found = closed_tells (IsPointRow problem rows) best outcome is kept.found;
 }
 
 -- the budget is what was finished

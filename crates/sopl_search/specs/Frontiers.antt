@@ -1,5 +1,5 @@
 -- What a search has found, and what it has left to do.
-use Rattle.std.specs.Prelude.{◌≡◌, ◌⊎◌, ℕ, ◌+◌, ℤ, ◌<◌, Bool, true, false, List, [], ◌∷◌, ◌++◌, length, map, reverse, Option, None, Some, IfSome, All}
+use Rattle.std.specs.Prelude.{◌≡◌, ◌⊎◌, ℕ, ◌+◌, ◌<◌, Bool, true, false, List, [], ◌∷◌, ◌++◌, length, map, reverse, Option, None, Some, IfSome, All}
 use Rattle.std.specs.List.{AllByRecursion}
 use Rattle.sopl_base.specs.declared.reason.Side.TheVariants.{Le, Ge}
 use Rattle.sopl_base.specs.declared.reason.Step.{Step}
@@ -19,7 +19,7 @@ use Rattle.sopl_search.specs.declared.frontier.Frontier.{Frontier}
 use Rattle.sopl_search.specs.declared.high.PendingHalf.{PendingHalf}
 use Rattle.sopl_search.specs.declared.outcome.Found.{Found}
 use Rattle.sopl_search.specs.Lines.{cut_of}
-use Rattle.sopl_search.specs.Logged.{AllSplitFirst}
+use Rattle.sopl_search.specs.Logged.{AllSplitFirst, IsPointRow, LowStandsFirst}
 use Rattle.sopl_search.specs.Outcomes.{IsGood, value_of}
 
 -- the high half of a box that was cut, as a node that is open
@@ -78,23 +78,25 @@ abbrev pub AreStacked : List Pending → Type 0
 AreStacked [] = Unit {0}
 AreStacked (x ∷ nodes) = AllByRecursion (λ (y : Pending). IsOlder x.parent y.parent) nodes × AreStacked nodes
 
--- the rows are those of a search that has finished so many nodes, leaves these open, and found this best value
-pub record AreKept (problem : BoxProblem) (rows : List Row) (finished : ℕ) (nodes : List Pending) (best : Option ℤ) : Type 0 where
-  pub logs : Logs problem rows (reverse nodes) best
+-- the rows are those of a search that has finished so many nodes, leaves these open, and found this best point
+pub record AreKept (problem : BoxProblem) (rows : List Row) (finished : ℕ) (nodes : List Pending) (best : Option Found) : Type 0 where
+  pub logs : Logs problem rows (reverse nodes) (value_of best)
   pub counted : length rows ≡ finished
   pub are_finished : AreFinished rows
   pub splits : AllSplitFirst problem.root rows
   pub fit : All RowFits rows
-  pub shallow : AreShallow bits_in 1024 rows (reverse nodes)
+  pub shallow : AreShallow bits_in (bits_in problem.root) rows (reverse nodes)
   pub stacked : AreStacked nodes
+  pub low_first : LowStandsFirst rows
+  pub found : IfSome best (IsPointRow problem rows)
 
 abbrev pub Keeps : BoxProblem → Bool → Frontier → Type 0
-Keeps problem more frontier = AreKept problem frontier.rows.items frontier.finished (opens more frontier) (value_of frontier.best)
+Keeps problem more frontier = AreKept problem frontier.rows.items frontier.finished (opens more frontier) frontier.best
 
 -- and the box of the node at hand began as this one
 abbrev pub KeepsFrom : BoxProblem → Box → Frontier → Type 0
 KeepsFrom problem start frontier =
-    AreKept problem frontier.rows.items frontier.finished (begun_at start frontier ∷ waiting frontier) (value_of frontier.best)
+    AreKept problem frontier.rows.items frontier.finished (begun_at start frontier ∷ waiting frontier) frontier.best
 
 -- the row of a node of this parent
 abbrev pub new_row : Option Parent → List Step → EndLine → Row

@@ -12,11 +12,13 @@ mod outcome;
 mod posed;
 mod searching;
 mod tree;
+mod tree_laws;
 mod values;
 
 pub use outcome::{Found, Outcome, SearchStop};
 pub use posed::SearchProblem;
 pub use searching::search;
+pub use tree_laws::{high_half_never_alone, sides_are_ordered};
 pub use values::Values;
 
 #[cfg(test)]

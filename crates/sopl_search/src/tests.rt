@@ -170,6 +170,12 @@ fn logs(rt: HostRuntime) {
             "sopl-log 1\nn 0 r\ns h 0 0 0 le 1\nx 0 0\nn 1 0 l\nx 1 0\nn 2 1 l\nv\nn 3 1 h\nf b\nn 4 0 h\ns h 0 0 1 ge 1\nv\nend optimal 1\n",
         ),
         (
+            (0, 3),
+            (3, 3),
+            3,
+            "sopl-log 1\nn 0 r\nx 0 1\nn 1 0 l\nx 0 0\nn 2 1 l\nv\nn 3 0 h\no\nn 4 1 h\no\nend bounded 0 3\n",
+        ),
+        (
             (0, 7),
             (0, 5),
             3,

@@ -1,0 +1,145 @@
+-- Of two sides of a split the low one stands first.
+use Rattle.std.proofs.Common.{◌≡◌, ◌⊎◌, inl, inr, ℕ, suc, ◌+◌, ◌-◌, ◌<◌, ◌≤◌, ℤ, List, [], ◌∷◌, ◌++◌, length, get_or, map, reverse, Option, Some, None, Contains, arith, refl, sym, ap, subst, ◌∙◌}
+use Rattle.std.proofs.lemmas.Bool.{cases_eq, cases_order}
+use Rattle.std.proofs.lemmas.List.{get_or-append-add, get_or-map, length-append, length-map}
+use Rattle.std.proofs.lemmas.List.Elements.{Contains-get_or}
+use Rattle.sopl_base.specs.declared.reason.Side.TheVariants.{Le, Ge}
+use Rattle.box_problem.specs.BoxProblem.{BoxProblem}
+use Rattle.log_rows.specs.declared.rows.Parent.{Parent}
+use Rattle.log_rows.specs.declared.rows.Row.{Row}
+use Rattle.log_rows.specs.Made.{Logs, Pending, open_row, pending_at, with_open}
+use Rattle.log_rows.specs.Rows.{Hangs, no_row, row_at}
+use Rattle.log_rows.proofs.Growing.{not_both_sides, side_in, side_of, some_side, taken_or_free}
+use Rattle.log_rows.proofs.Lists.{first_or_later, middle_is}
+use Rattle.log_rows.proofs.Places.{row_last, row_stays}
+use Rattle.sopl_search.specs.Frontiers.{AreStacked, IsOlder}
+use Rattle.sopl_search.specs.Logged.{HasLowBefore, LowStandsFirst, StandsBefore}
+use Rattle.sopl_search.proofs.InOrder.{AreInOrder}
+use Rattle.sopl_search.proofs.Reversed.{from_reversed, has_reversed, of_all}
+
+-- a low side that stands among the first rows
+low_stays : (xs ys : List Row) (m i n : ℕ) → m ≤ length xs → m ≤ i → HasLowBefore xs m n → HasLowBefore (xs ++ ys) i n
+low_stays xs ys m i n fits more low = record {
+  row = low.row;
+  before = omega (arith, low.before, more);
+  parent = ap (λ (r : Row). r.parent) (row_stays xs ys low.row (omega (arith, low.before, fits))) ∙ low.parent;
+}
+
+-- where a high side hangs and the low one was not taken, the low one hangs too
+low_hangs : (rows : List Row) (m n : ℕ) → Hangs rows m (some_side n Ge) → ((k : ℕ) → k < m → ¬ (row_at rows k).parent ≡ some_side n Le) → Hangs rows m (some_side n Le)
+low_hangs rows m n hangs free = record { earlier = hangs.earlier; split = hangs.split; untaken = free }
+
+-- where a high side is open, the low one is a row, or is open too
+beside : (problem : BoxProblem) (rows : List Row) (opens : List Pending) (best : Option ℤ) (n : ℕ) → Logs problem rows opens best → Hangs rows (length rows) (some_side n Ge)
+    → HasLowBefore rows (length rows) n ⊎ Contains opens (pending_at problem.root rows (some_side n Le))
+beside problem rows opens best n logs hangs =
+    elim (taken_or_free rows (length rows) (side_of n Le)) [
+      | inl taken ↦ inl (record { row = taken.row; before = taken.before; parent = taken.is })
+      | inr free ↦ inr (logs.listed (some_side n Le) (low_hangs rows (length rows) n hangs free))
+    ]
+
+-- no low side waits
+never_older : (p : Option Parent) (n : ℕ) → ¬ IsOlder p (some_side n Le)
+never_older None n older = older
+never_older (Some p) n older = not_both_sides (sym older.0)
+
+not_open : (problem : BoxProblem) (rows : List Row) (x : Pending) (later : List Pending) (n : ℕ) → AreStacked (x ∷ later) → x.parent ≡ some_side n Ge
+    → ¬ Contains (reverse (x ∷ later)) (pending_at problem.root rows (some_side n Le))
+not_open problem rows x later n stacked is has =
+    let low = pending_at problem.root rows (some_side n Le) in
+    elim (first_or_later x later low (from_reversed (x ∷ later) low has)) [
+      | inl same ↦ not_both_sides (ap side_in (sym is ∙ ap (λ (z : Pending). z.parent) same))
+      | inr behind ↦ never_older x.parent n (of_all (λ (z : Pending). IsOlder x.parent z.parent) later low stacked.0 behind)
+    ]
+
+-- so the low side of the split of a node at hand that is its high side is a row
+low_is_row : (problem : BoxProblem) (rows : List Row) (x : Pending) (later : List Pending) (best : Option ℤ) (n : ℕ) → Logs problem rows (reverse (x ∷ later)) best → AreStacked (x ∷ later)
+    → x.parent ≡ some_side n Ge → HasLowBefore rows (length rows) n
+low_is_row problem rows x later best n logs stacked is =
+    let there = logs.placed x (has_reversed (x ∷ later) x (middle_is [] later x)) in
+    elim (beside problem rows (reverse (x ∷ later)) best n logs (subst (λ (p : Option Parent). Hangs rows (length rows) p) is there.0)) [
+      | inl low ↦ low
+      | inr waits ↦ absurd (not_open problem rows x later n stacked is waits)
+    ]
+
+-- one row more
+pub still_low_first : (problem : BoxProblem) (rows : List Row) (x : Pending) (later : List Pending) (best : Option ℤ) (row : Row) → row.parent ≡ x.parent
+    → Logs problem rows (reverse (x ∷ later)) best → AreStacked (x ∷ later) → LowStandsFirst rows → LowStandsFirst (rows ++ row ∷ [])
+still_low_first problem rows x later best row same logs stacked first i n exists is =
+    let all = rows ++ row ∷ [] in
+    let longer : length all ≡ suc (length rows) = omega (arith, length-append rows (row ∷ [])) in
+    elim (cases_eq i (length rows)) [
+      | inl last ↦
+          let here : (row_at all (length rows)).parent ≡ some_side n Ge = subst (λ (k : ℕ). (row_at all k).parent ≡ some_side n Ge) last is in
+          low_stays rows (row ∷ []) (length rows) i n (omega arith) (omega (arith, last))
+          (low_is_row problem rows x later best n logs stacked (sym same ∙ (sym (ap (λ (r : Row). r.parent) (row_last rows row [])) ∙ here)))
+      | inr other ↦
+          let old : i < length rows = omega (arith, longer, exists, other) in
+          low_stays rows (row ∷ []) i i n (omega (arith, old)) (omega arith)
+          (first i n old (sym (ap (λ (r : Row). r.parent) (row_stays rows (row ∷ []) i old)) ∙ is))
+    ]
+
+-- the rows of open nodes
+open_parent : (rows : List Row) (opens : List Pending) (k : ℕ) (d : Pending) → k < length opens → (row_at (with_open rows opens) (length rows + k)).parent ≡ (get_or opens k d).parent
+open_parent rows opens k d exists = ap (λ (r : Row). r.parent) (get_or-append-add rows (map open_row opens) k no_row ∙ get_or-map open_row opens k d no_row exists)
+
+-- before a place, or from it on
+by_place : (i n : ℕ) → (i < n) ⊎ (n ≤ i)
+by_place i n =
+    elim (cases_order i n) [
+      | inl equal ↦ inr (omega (arith, equal))
+      | inr differs ↦ elim differs [
+        | inl before ↦ inl before
+        | inr behind ↦ inr (omega (arith, behind))
+      ]
+    ]
+
+-- of two open sides of one split the low one stands before the high one
+low_before : (n : ℕ) → ¬ StandsBefore (some_side n Ge) (some_side n Le)
+low_before n before =
+    elim before [
+      | inl less ↦ omega (arith, less)
+      | inr same ↦ not_both_sides same.1
+    ]
+
+-- a high side that is open stands behind its low side, where that is open too
+open_low : (rows : List Row) (opens : List Pending) (n k j : ℕ) (low : Pending) → AreInOrder opens → low.parent ≡ some_side n Le → k < length opens → (get_or opens k low).parent ≡ some_side n Ge
+    → j < length opens → get_or opens j low ≡ low → HasLowBefore (with_open rows opens) (length rows + k) n
+open_low rows opens n k j low order low_is exists is there same =
+    let side : (get_or opens j low).parent ≡ some_side n Le = ap (λ (z : Pending). z.parent) same ∙ low_is in
+    elim (cases_order j k) [
+      | inl equal ↦ absurd (not_both_sides (ap side_in (sym is ∙ (sym (ap (λ (m : ℕ). (get_or opens m low).parent) equal) ∙ side))))
+      | inr differs ↦ elim differs [
+        | inl before ↦ record { row = length rows + j; before = omega (arith, before); parent = open_parent rows opens j low there ∙ side }
+        | inr behind ↦ absurd (low_before n
+            (subst (λ (p : Option Parent). StandsBefore p (some_side n Le)) is
+            (subst (λ (p : Option Parent). StandsBefore (get_or opens k low).parent p) side (order k j low behind there))))
+      ]
+    ]
+
+-- a high side that is open, at its place behind the rows
+open_high : (problem : BoxProblem) (rows : List Row) (opens : List Pending) (best : Option ℤ) (n k : ℕ) → Logs problem rows opens best → AreInOrder opens → k < length opens
+    → (row_at (with_open rows opens) (length rows + k)).parent ≡ some_side n Ge → HasLowBefore (with_open rows opens) (length rows + k) n
+open_high problem rows opens best n k logs order exists is =
+    let low = pending_at problem.root rows (some_side n Le) in
+    let high : (get_or opens k low).parent ≡ some_side n Ge = sym (open_parent rows opens k low exists) ∙ is in
+    let there = logs.placed (get_or opens k low) (Contains-get_or opens k low exists) in
+    elim (beside problem rows opens best n logs (subst (λ (p : Option Parent). Hangs rows (length rows) p) high there.0)) [
+      | inl row ↦ low_stays rows (map open_row opens) (length rows) (length rows + k) n (omega arith) (omega arith) row
+      | inr waits ↦ open_low rows opens n k waits.0 low order refl exists high waits.1 waits.2
+    ]
+
+-- with the rows of the open nodes behind the others
+pub low_first_with_open : (problem : BoxProblem) (rows : List Row) (opens : List Pending) (best : Option ℤ) → Logs problem rows opens best → AreInOrder opens → LowStandsFirst rows
+    → LowStandsFirst (with_open rows opens)
+low_first_with_open problem rows opens best logs order first i n exists is =
+    let all = with_open rows opens in
+    let longer : length all ≡ length rows + length opens = omega (arith, length-append rows (map open_row opens), length-map opens open_row) in
+    elim (by_place i (length rows)) [
+      | inl old ↦ low_stays rows (map open_row opens) i i n (omega (arith, old)) (omega arith)
+          (first i n old (sym (ap (λ (r : Row). r.parent) (row_stays rows (map open_row opens) i old)) ∙ is))
+      | inr new ↦
+          let place : i ≡ length rows + (i - length rows) = omega (arith, new) in
+          subst (λ (m : ℕ). HasLowBefore all m n) (sym place)
+          (open_high problem rows opens best n (i - length rows) logs order (omega (arith, new, longer, exists)) (subst (λ (m : ℕ). (row_at all m).parent ≡ some_side n Ge) place is))
+    ]
