@@ -2,3 +2,4 @@ pub mod Pieces
 pub mod Shows
 pub mod Plain
 pub mod Steps
+pub mod Told

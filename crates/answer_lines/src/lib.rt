@@ -3,10 +3,12 @@
 //! Its tests stand in `sopl`.
 #![tactic(auto)]
 
+mod laws;
 mod lines;
 mod prefix;
 mod scenes;
 mod text;
 
+pub use laws::lines_differ;
 pub use lines::{bound_line, found_line, limit_line, optimal_line, refused_line, word_line};
 pub use text::tree_text;

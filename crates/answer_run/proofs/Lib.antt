@@ -2,3 +2,5 @@ mod Parts
 mod Numbers
 pub mod WholeText
 pub mod Statuses
+pub mod Reading
+pub mod Calls

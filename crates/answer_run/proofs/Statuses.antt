@@ -1,10 +1,9 @@
 -- What the outcome of a run says of the words and of the text, and what the sinks took.
 use Rattle.std.proofs.Common.{◌≡◌, ◌⊎◌, inl, inr, ℕ, ◌≤◌, List, Option, Some, None, Result, Err, IsSome, IfSome, option_map, string_bytes, refl, sym, subst, ap}
 use Rattle.std.specs.Option.{option_and_then}
-use Rattle.std.specs.Io.KnownBytes.{IsAtEnd, Keeps, Appends}
+use Rattle.std.specs.Io.KnownBytes.{IsAtEnd, Keeps}
 use Rattle.sopl_io.specs.Causes.{Rose}
 use Rattle.sopl_io.specs.Stock.{Stock, text_of}
-use Rattle.sopl_io.specs.Transfer.{AppendsPrefix}
 use Rattle.sopl_ast.specs.Instances.{Problem}
 use Rattle.answer_texts.specs.Solved.{SolvedText}
 use Rattle.sopl_search.specs.declared.outcome.SearchStop.{SearchStop}
@@ -19,7 +18,7 @@ use Rattle.answer_texts.specs.declared.status.Status.{Status}
 use Rattle.answer_texts.specs.declared.status.Status.TheVariants.{Done, Failing, Usage, Refused, Limit, Bounded, ReadFault, WriteFault, NoMemory, Unreadable}
 use Rattle.answer_texts.proofs.Ends.{end_status, ends_alike, ends_settled, one_limit_on, one_refusal_on, reply_ends as text_reply_ends}
 use Rattle.answer_run.specs.Words.{Request, request_of}
-use Rattle.answer_run.specs.Replies.{Asked, asked_by, asked_in, IsModelText, IsReply, replied, usage, read_fault, IsAnswered, IsCutOff, Answers, whole, prefix, log_prefix, nothing}
+use Rattle.answer_run.specs.Replies.{Asked, asked_by, asked_in, IsModelText, IsReply, replied, usage, read_fault, IsAnswered, Answers, whole, prefix, log_prefix, nothing}
 use Rattle.answer_run.specs.Replies.{EndedEarly, EndsSoundly, EndsCompletely, SettlesInBudget, RefusedOnce, LimitedOnce}
 use Rattle.answer_run.specs.Runs.{IsWritten, all, part, Replied, StopsWith, stop_status}
 
@@ -52,7 +51,7 @@ some_request (Some r) some none = cc
 one_request : (r : Request) (request : Option Request) → request ≡ Some r → request ≡ None → ⊥
 one_request r request some none = cc
 
-keeps_same : (taken : Option (List ℕ)) → Keeps taken taken
+pub keeps_same : (taken : Option (List ℕ)) → Keeps taken taken
 keeps_same None = tt
 keeps_same (Some bytes) = refl
 
@@ -151,26 +150,27 @@ module _ (words : List (List ℕ)) (stock : Option Stock) (before now : ℕ) whe
   reply_tells log status line (read_fault named rose) = fault_tells named rose
 
   -- and no reply is that a sink failed
-  not_written : (log : Option (List ℕ)) (status : Status) (line : List ℕ) → IsReply words stock before now log status line → ¬ (status ≡ WriteFault)
+  pub not_written : (log : Option (List ℕ)) (status : Status) (line : List ℕ) → IsReply words stock before now log status line → ¬ (status ≡ WriteFault)
   not_written log status line (replied request text l s m is reply) =
       (end_status text request.budget request.command s (text_reply_ends text request.budget request.command l s m reply)).no_write
   not_written log status line (usage none) = λ e. cc
   not_written log status line (read_fault named rose) = λ e. cc
 
-  module _ (old new : Option (List ℕ)) (log_old log_new : SinkState) where
+  module _ (old new : Option (List ℕ)) (answer_before answer_now : ℕ) (log_old log_new : SinkState) where
     -- a reply that was written, or a prefix of it
-    pub run_written : (reply : Reply) (status : Status) → Replied words stock before now log_old log_new reply → IsWritten old new reply status
-        → Answers words stock before now old new log_old log_new status
-    run_written reply status is (all taken) = whole is.log reply.status (string_bytes reply.line) is.is taken is.logged
-    run_written reply status is (part taken) = prefix is.log reply.status (string_bytes reply.line) is.is taken is.logged
+    pub run_written : (log_before log_now : ℕ) (reply : Reply) (status : Status) → Replied words stock before now log_old log_new reply
+        → IsWritten old new answer_before answer_now reply status
+        → Answers words stock before now old new answer_before answer_now log_old log_new log_before log_now status
+    run_written log_before log_now reply status is (all taken) = whole is.log reply.status (string_bytes reply.line) is.is taken is.logged
+    run_written log_before log_now reply status is (part rose taken) = prefix is.log reply.status (string_bytes reply.line) rose is.is taken is.logged
 
-    pub written_tells : (reply : Reply) (status : Status) → Replied words stock before now log_old log_new reply → IsWritten old new reply status → Tells words stock before now status
+    pub written_tells : (reply : Reply) (status : Status) → Replied words stock before now log_old log_new reply → IsWritten old new answer_before answer_now reply status → Tells words stock before now status
     written_tells reply status is (all taken) = reply_tells is.log reply.status (string_bytes reply.line) is.is
-    written_tells reply status is (part taken) = write_tells
+    written_tells reply status is (part rose taken) = write_tells
 
-    pub written_ends : (reply : Reply) (status : Status) (left : Option (List ℕ)) → IsWritten old new reply status → (IsAnswered reply.status → IsAtEnd left) → IsAnswered status → IsAtEnd left
+    pub written_ends : (reply : Reply) (status : Status) (left : Option (List ℕ)) → IsWritten old new answer_before answer_now reply status → (IsAnswered reply.status → IsAtEnd left) → IsAnswered status → IsAtEnd left
     written_ends reply status left (all taken) ended = ended
-    written_ends reply status left (part taken) ended = λ answered. absurd (no_answer answered)
+    written_ends reply status left (part rose taken) ended = λ answered. absurd (no_answer answered)
       where
         no_answer : ¬ IsAnswered WriteFault
         no_answer (inl done) = cc
@@ -185,12 +185,13 @@ module _ (words : List (List ℕ)) (stock : Option Stock) (before now : ℕ) whe
         by_cause (inr rose) = rose
 
   -- where there is no reply
-  pub stop_answers : (taken : Option (List ℕ)) (log_old log_new : SinkState) (stop : SearchStop) (status : Status) → status ≡ stop_status stop
-      → StopsWith words stock log_old log_new stop → Answers words stock before now taken taken log_old log_new status
-  stop_answers taken log_old log_new Write status is cut =
-      subst (Answers words stock before now taken taken log_old log_new) (sym is) (log_prefix (keeps_same taken) cut)
-  stop_answers taken log_old log_new search.NoMemory status is stops =
-      subst (Answers words stock before now taken taken log_old log_new) (sym is) (nothing (keeps_same taken) stops)
+  pub stop_answers : (taken : Option (List ℕ)) (faults : ℕ) (log_old log_new : SinkState) (log_before log_now : ℕ) (stop : SearchStop) (status : Status)
+      → status ≡ stop_status stop → (stop ≡ Write → Rose log_before log_now) → StopsWith words stock log_old log_new stop
+      → Answers words stock before now taken taken faults faults log_old log_new log_before log_now status
+  stop_answers taken faults log_old log_new log_before log_now Write status is rose cut =
+      subst (Answers words stock before now taken taken faults faults log_old log_new log_before log_now) (sym is) (log_prefix (rose refl) (keeps_same taken) cut)
+  stop_answers taken faults log_old log_new log_before log_now search.NoMemory status is rose stops =
+      subst (Answers words stock before now taken taken faults faults log_old log_new log_before log_now) (sym is) (nothing (keeps_same taken) stops)
 
   pub stop_tells : (stop : SearchStop) (status : Status) → status ≡ stop_status stop → Tells words stock before now status
   stop_tells Write status is = subst (Tells words stock before now) (sym is) write_tells

@@ -3,3 +3,5 @@ pub mod Shown
 pub mod Splits
 pub mod Replies
 pub mod Runs
+pub mod Reads
+pub mod Calls

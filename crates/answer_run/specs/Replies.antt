@@ -43,18 +43,23 @@ pub data IsCutOff (words : List (List ℕ)) (stock : Option Stock) (old new : Si
   cut_off : (request : Request) (text : List ℕ) → IsModelText request words stock text
       → IsCut text request.budget request.command request.log old new → IsCutOff words stock old new
 
--- what the answer's sink took, what the log's sink took and was begun with, and the status after it
-pub data Answers (words : List (List ℕ)) (stock : Option Stock) (before now : ℕ) (old new : Option (List ℕ)) (log_old log_new : SinkState) : Status → Type 0 where
+-- what the answer's sink took, what the log's sink took and was begun with, and the status after it; the counts of faults are the source's, the answer's sink's
+-- and the log's sink's
+pub data Answers (words : List (List ℕ)) (stock : Option Stock) (before now : ℕ) (old new : Option (List ℕ)) (answer_before answer_now : ℕ)
+    (log_old log_new : SinkState) (log_before log_now : ℕ) : Status → Type 0 where
   -- the whole line of a reply with this status, and the log that goes with it
   whole : (log : Option (List ℕ)) (status : Status) (line : List ℕ) → IsReply words stock before now log status line → Appends old new line
-      → Logged (log_name words) log log_old log_new → Answers words stock before now old new log_old log_new status
+      → Logged (log_name words) log log_old log_new → Answers words stock before now old new answer_before answer_now log_old log_new log_before log_now status
   -- a prefix of the line of some reply, where the answer's sink failed, and the log that goes with it
-  prefix : (log : Option (List ℕ)) (meant : Status) (line : List ℕ) → IsReply words stock before now log meant line → AppendsPrefix old new line
-      → Logged (log_name words) log log_old log_new → Answers words stock before now old new log_old log_new WriteFault
+  prefix : (log : Option (List ℕ)) (meant : Status) (line : List ℕ) → Rose answer_before answer_now → IsReply words stock before now log meant line
+      → AppendsPrefix old new line → Logged (log_name words) log log_old log_new
+      → Answers words stock before now old new answer_before answer_now log_old log_new log_before log_now WriteFault
   -- no answer, and a prefix of a log, where the log's sink failed
-  log_prefix : Keeps old new → IsCutOff words stock log_old log_new → Answers words stock before now old new log_old log_new WriteFault
+  log_prefix : Rose log_before log_now → Keeps old new → IsCutOff words stock log_old log_new
+      → Answers words stock before now old new answer_before answer_now log_old log_new log_before log_now WriteFault
   -- no answer, and no log or a prefix of one, where memory ran out
-  nothing : Keeps old new → IsUnused log_old log_new ⊎ IsCutOff words stock log_old log_new → Answers words stock before now old new log_old log_new NoMemory
+  nothing : Keeps old new → IsUnused log_old log_new ⊎ IsCutOff words stock log_old log_new
+      → Answers words stock before now old new answer_before answer_now log_old log_new log_before log_now NoMemory
 
 -- a command, the text that it works on, and how many nodes a search may finish
 pub record Asked : Type 0 where

@@ -1,6 +1,7 @@
 -- What a run knows on its way to a status.
-use Rattle.std.specs.Prelude.{◌≡◌, ◌⊎◌, ℕ, List, Option, string_bytes}
+use Rattle.std.specs.Prelude.{◌⊎◌, ℕ, List, Option, string_bytes}
 use Rattle.std.specs.Io.KnownBytes.{Appends}
+use Rattle.sopl_io.specs.Causes.{Rose}
 use Rattle.sopl_io.specs.Stock.{Stock}
 use Rattle.sopl_io.specs.Transfer.{AppendsPrefix}
 use Rattle.sopl_search.specs.declared.outcome.SearchStop.{SearchStop}
@@ -23,10 +24,10 @@ abbrev pub StopsWith : List (List ℕ) → Option Stock → SinkState → SinkSt
 StopsWith words stock old new Write = IsCutOff words stock old new
 StopsWith words stock old new NoMemory = IsUnused old new ⊎ IsCutOff words stock old new
 
--- the line of a reply was written, or a prefix of it where the sink failed
-pub data IsWritten (old new : Option (List ℕ)) (reply : Reply) : Status → Type 0 where
-  all : Appends old new (string_bytes reply.line) → IsWritten old new reply reply.status
-  part : AppendsPrefix old new (string_bytes reply.line) → IsWritten old new reply status.WriteFault
+-- the line of a reply was written, or a prefix of it where the sink failed; the counts are those of its faults
+pub data IsWritten (old new : Option (List ℕ)) (before now : ℕ) (reply : Reply) : Status → Type 0 where
+  all : Appends old new (string_bytes reply.line) → IsWritten old new before now reply reply.status
+  part : Rose before now → AppendsPrefix old new (string_bytes reply.line) → IsWritten old new before now reply status.WriteFault
 
 -- how a run ends that has no reply
 abbrev pub stop_status : SearchStop → Status

@@ -1,13 +1,15 @@
 //! The top call: words, a source and two sinks in, a status out.
 
-ghost use Rattle.std.specs.Prelude.{◌≡◌, ◌⊎◌, ◌≤◌, None, Some, Err, IfOk, IfErr, IfSome, IsSome, string_bytes, option_map};
+ghost use Rattle.std.specs.Prelude.{◌≡◌, ◌⊎◌, ◌≤◌, None, Some, Err, IfOk, IfErr, string_bytes};
 ghost use Rattle.std.specs.Io.KnownBytes.{IsAtEnd};
 ghost use Rattle.sopl_io.specs.Causes.{Rose};
 ghost use Rattle.sopl_search.specs.declared.outcome.SearchStop.TheVariants as search;
 ghost use Rattle.answer_lines.specs.AnswerData.{line_of, word_data};
 ghost use Rattle.answer_texts.specs.Logs.{told};
+ghost use Rattle.answer_run.specs.Calls.{calls_of, EndsAtFailure, LineCalls, ReplyCalls};
 ghost use Rattle.answer_run.specs.Words.{model_of, request_of};
 ghost use Rattle.answer_run.specs.Replies.{asked_in, Answers, SettlesInBudget, EndsSoundly, EndsCompletely, IsAnswered, LimitedOnce, RefusedOnce, begun_names, IsUntouched};
+ghost use Rattle.answer_run.specs.Reads.{TakesAtMost};
 ghost use Rattle.answer_run.specs.Runs.{IsWritten, Replied, StopsWith, stop_status};
 
 use crate::request::asked;
@@ -33,7 +35,8 @@ pub fn run<S: Source, K: Sink>(
     log: &mut K,
 ) -> Status
     ensures answered { Answers words.now (S.stock source.old) (S.faults source.old) (S.faults source.new)
-        (K.taken answer.old) (K.taken answer.new) (told (K.taken log.old) (K.names log.old)) (told (K.taken log.new) (K.names log.new)) result }
+        (K.taken answer.old) (K.taken answer.new) (K.faults answer.old) (K.faults answer.new)
+        (told (K.taken log.old) (K.names log.old)) (told (K.taken log.new) (K.names log.new)) (K.faults log.old) (K.faults log.new) result }
 
     // Words that are not of the form, and no others, are answered so.
     ensures usage { result ≡ Status.Usage → request_of words.now ≡ None }
@@ -54,12 +57,19 @@ pub fn run<S: Source, K: Sink>(
     // A text that is answered was read to its end.
     ensures ended { IsAnswered result → IsAtEnd (S.left source.new) }
 
+    // Of the model's text one byte more is taken than a text may have, at most.
+    ensures taken_at_most { TakesAtMost 1048577 (asked_in (S.stock source.old) words.now) (S.faults source.old) (S.faults source.new) (S.left source.new) }
+
     // Faults have their causes.
     ensures read { result ≡ Status.ReadFault → Rose (S.faults source.old) (S.faults source.new) }
     ensures write { result ≡ Status.WriteFault
         → Rose (K.faults answer.old) (K.faults answer.new) ⊎ Rose (K.faults log.old) (K.faults log.new) }
     ensures faults_grow { (S.faults source.old ≤ S.faults source.new) × (K.faults answer.old ≤ K.faults answer.new)
         × (K.faults log.old ≤ K.faults log.new) }
+
+    // No call of the source or of a sink follows one that failed, but those that tell of a read that failed.
+    ensures outcomes { EndsAtFailure (calls_of (S.outcomes source.old) (K.outcomes log.old) (K.outcomes answer.old))
+        (calls_of (S.outcomes source.new) (K.outcomes log.new) (K.outcomes answer.new)) (K.taken answer.old) (K.taken answer.new) result }
 
     // Where the words are not of the form the source stays as it was.
     ensures untouched { request_of words.now ≡ None → IsUntouched (S.left source.old) (S.stock source.old) (S.faults source.old)
@@ -87,8 +97,9 @@ fn status_of(stop: SearchStop) -> Status
 
 /// Writes the line of a reply, and answers how the run ends.
 fn written<K: Sink>(answer: &mut K, reply: &Reply) -> Status
-    ensures taken { IsWritten (K.taken answer.old) (K.taken answer.new) reply.now result }
+    ensures taken { IsWritten (K.taken answer.old) (K.taken answer.new) (K.faults answer.old) (K.faults answer.new) reply.now result }
     ensures write { result ≡ Status.WriteFault → (reply.now.status ≡ Status.WriteFault) ⊎ Rose (K.faults answer.old) (K.faults answer.new) }
+    ensures outcomes { LineCalls (K.outcomes answer.old) (K.outcomes answer.new) reply.now result }
     ensures faults_grow { K.faults answer.old ≤ K.faults answer.new }
     ensures names { K.names answer.new ≡ K.names answer.old }
 {
@@ -120,9 +131,11 @@ fn reply_for<S: Source, K: Sink>(
     ensures stopped { IfErr result (StopsWith words.now (S.stock source.old)
         (told (K.taken log.old) (K.names log.old)) (told (K.taken log.new) (K.names log.new))) }
     ensures ended { IfOk result (λ reply. IsAnswered reply.status → IsAtEnd (S.left source.new)) }
+    ensures taken_at_most { TakesAtMost 1048577 (asked_in (S.stock source.old) words.now) (S.faults source.old) (S.faults source.new) (S.left source.new) }
     ensures faults_grow { S.faults source.old ≤ S.faults source.new }
     ensures log_later { K.faults log.old ≤ K.faults log.new }
     ensures write { result ≡ Err search.Write → Rose (K.faults log.old) (K.faults log.new) }
+    ensures outcomes { ReplyCalls (S.outcomes source.old) (S.outcomes source.new) (K.outcomes log.old) (K.outcomes log.new) result }
     ensures untouched { request_of words.now ≡ None → IsUntouched (S.left source.old) (S.stock source.old) (S.faults source.old)
         (S.left source.new) (S.stock source.new) (S.faults source.new) }
     ensures names { S.names source.new ≡ begun_names (model_of words.now) (S.names source.old) }

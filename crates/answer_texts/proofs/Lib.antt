@@ -8,3 +8,4 @@ pub mod Stopped
 pub mod Answered
 pub mod Grounds
 pub mod Ends
+pub mod Calls

@@ -1,6 +1,7 @@
 //! From a command and the text of a model to the reply.
 
 ghost use Rattle.std.specs.Prelude.{◌≡◌, ◌≤◌, ℕ, List, None, Err, string_bytes, pos, IfOk, IfErr};
+ghost use Rattle.sopl_io.specs.Calls.{StopsWhere};
 ghost use Rattle.sopl_io.specs.Causes.{Rose};
 ghost use Rattle.scen_accept.specs.Stated.{IsLaid, States, problem_in};
 ghost use Rattle.answer_lines.specs.Answer.{tree_data};
@@ -123,6 +124,7 @@ fn stopped_reply(alloc: Global, stop: SolveStop) -> Result<Reply, SearchStop>
     ensures stopped { (text : List ℕ) (budget : ℕ) (stated : AcceptedProblem) (name : List ℕ) (old new : SinkState) → States text stated
         → Stops stated budget name old new stop → IfErr result (StopsByCause text budget Solve name old new) }
     ensures write { result ≡ Err search.Write → stop ≡ Write }
+    ensures write_when { stop ≡ Write → result ≡ Err search.Write }
 {
     match stop {
         SolveStop::Unsolved(fault) => without_log(fault_reply(alloc, fault)),
@@ -147,6 +149,7 @@ fn solved_reply<K: Sink>(
         (told (K.taken sink.old) (K.names sink.old)) (told (K.taken sink.new) (K.names sink.new))) }
     ensures faults_grow { K.faults sink.old ≤ K.faults sink.new }
     ensures write { result ≡ Err search.Write → Rose (K.faults sink.old) (K.faults sink.new) }
+    ensures outcomes { StopsWhere (result ≡ Err search.Write) (K.outcomes sink.old) (K.outcomes sink.new) }
 {
     match solved_answer(alloc, stated, budget, name, sink) {
         Ok(answer) => Ok(reply_of(answer)),
@@ -172,6 +175,7 @@ fn stated_reply<K: Sink>(
         (told (K.taken sink.old) (K.names sink.old)) (told (K.taken sink.new) (K.names sink.new))) }
     ensures faults_grow { K.faults sink.old ≤ K.faults sink.new }
     ensures write { result ≡ Err search.Write → Rose (K.faults sink.old) (K.faults sink.new) }
+    ensures outcomes { StopsWhere (result ≡ Err search.Write) (K.outcomes sink.old) (K.outcomes sink.new) }
 {
     match command {
         Command::Solve => solved_reply(alloc, stated, budget, name, sink),
@@ -198,6 +202,7 @@ pub fn reply_to<K: Sink>(
         (told (K.taken sink.old) (K.names sink.old)) (told (K.taken sink.new) (K.names sink.new))) }
     ensures faults_grow { K.faults sink.old ≤ K.faults sink.new }
     ensures write { result ≡ Err search.Write → Rose (K.faults sink.old) (K.faults sink.new) }
+    ensures outcomes { StopsWhere (result ≡ Err search.Write) (K.outcomes sink.old) (K.outcomes sink.new) }
 {
     match stated_in(alloc, text) {
         Ok(stated) => stated_reply(alloc, command, &stated, budget, name, sink),

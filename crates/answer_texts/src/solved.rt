@@ -1,6 +1,7 @@
 //! From what an accepted text states to the line that answers it, and the log of the search.
 
 ghost use Rattle.std.specs.Prelude.{◌≡◌, ◌≤◌, ℕ, List, Err, IfOk, IfErr};
+ghost use Rattle.sopl_io.specs.Calls.{StopsWhere};
 ghost use Rattle.sopl_io.specs.Causes.{Rose};
 ghost use Rattle.scen_accept.specs.Stated.{IsLaid, States, model_in, problem_in};
 ghost use Rattle.answer_texts.specs.Models.{IsSolvable};
@@ -37,6 +38,7 @@ fn searched_answer<K: Sink>(
     ensures names { K.names sink.new ≡ K.names sink.old }
     ensures faults_grow { K.faults sink.old ≤ K.faults sink.new }
     ensures write { result ≡ Err search.Write → Rose (K.faults sink.old) (K.faults sink.new) }
+    ensures outcomes { StopsWhere (result ≡ Err search.Write) (K.outcomes sink.old) (K.outcomes sink.new) }
 {
     match search_program(alloc, program, budget, sink) {
         Ok(outcome) => made(answer_of(alloc, stated, program, &outcome)),
@@ -63,6 +65,7 @@ fn logged_answer<K: Sink>(
         (told (K.taken sink.old) (K.names sink.old)) (told (K.taken sink.new) (K.names sink.new))) }
     ensures faults_grow { K.faults sink.old ≤ K.faults sink.new }
     ensures write { result ≡ Err search.Write → Rose (K.faults sink.old) (K.faults sink.new) }
+    ensures outcomes { StopsWhere (result ≡ Err search.Write) (K.outcomes sink.old) (K.outcomes sink.new) }
 {
     if sink.begin(name).is_err() {
         return Err(SearchStop::Write);
@@ -91,6 +94,7 @@ pub fn solved_answer<K: Sink>(
         (told (K.taken sink.old) (K.names sink.old)) (told (K.taken sink.new) (K.names sink.new))) }
     ensures faults_grow { K.faults sink.old ≤ K.faults sink.new }
     ensures write { result ≡ Err Write → Rose (K.faults sink.old) (K.faults sink.new) }
+    ensures outcomes { StopsWhere (result ≡ Err Write) (K.outcomes sink.old) (K.outcomes sink.new) }
 {
     match program_of(alloc, stated) {
         Ok(program) => solved(logged_answer(alloc, stated, &program, budget, name, sink)),

@@ -12,7 +12,9 @@ mod tests;
 mod text_laws;
 
 pub use line::Line;
-pub use lines::{put_end, put_footer, put_head, put_node, put_step};
+pub use lines::{
+    add_end, add_footer, add_parent, add_step, put_end, put_footer, put_head, put_node, put_step,
+};
 pub use log_laws::{
     accepted_logs_are_right, depths_after_end, depths_after_split, depths_at_first,
     depths_in_any_order, leaves_are_apart, leaves_are_few, leaves_have_points, logs_after_end,

@@ -2,6 +2,7 @@
 
 ghost use Rattle.std.specs.Prelude.{◌≡◌, ◌+◌, ◌≤◌, ◌<◌, ◌++◌, length, [], OnOk, OnErr};
 ghost use Rattle.std.specs.Io.KnownBytes.{Appends};
+ghost use Rattle.sopl_io.specs.Calls.{StopsAtFailure};
 ghost use Rattle.sopl_io.specs.Causes.{HasCause};
 ghost use Rattle.sopl_io.specs.Transfer.{AppendsPrefix};
 ghost use Rattle.log_rows.specs.Lines.{ended};
@@ -53,6 +54,13 @@ impl Line {
         self.text.push_str(buffer.format(value));
     }
 
+    /// Its bytes.
+    pub fn as_bytes(&self) -> &[u8]
+        ensures bytes { result.now ≡ self.now }
+    {
+        self.text.as_str().as_bytes()
+    }
+
     /// Writes the line and its end.
     #[tactic(auto, using(crate::proofs::Written::ended_all, crate::proofs::Written::ended_prefix))]
     pub fn put<K: Sink>(mut self, sink: &mut K) -> Result<(), Failed>
@@ -60,6 +68,7 @@ impl Line {
         ensures all { OnOk result (Appends (K.taken sink.old) (K.taken sink.new) (ended self)) }
         ensures prefix { OnErr result (AppendsPrefix (K.taken sink.old) (K.taken sink.new) (ended self)) }
         ensures names { K.names sink.new ≡ K.names sink.old }
+        ensures outcomes { StopsAtFailure (K.outcomes sink.old) (K.outcomes sink.new) result }
         ensures cause { HasCause (K.faults sink.old) (K.faults sink.new) result }
     {
         self.text("\n");

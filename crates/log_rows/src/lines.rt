@@ -3,6 +3,7 @@
 ghost use Rattle.std.specs.Prelude.{◌≡◌, ◌+◌, ◌≤◌, ◌++◌, length, codes, decimal, OnOk, OnErr};
 ghost use Rattle.std.specs.Io.KnownBytes.{Appends};
 ghost use Rattle.std.specs.Fmt.{signed_decimal};
+ghost use Rattle.sopl_io.specs.Calls.{StopsAtFailure};
 ghost use Rattle.sopl_io.specs.Causes.{HasCause};
 ghost use Rattle.sopl_io.specs.Transfer.{AppendsPrefix};
 ghost use Rattle.log_rows.specs.Lines.{head_line, side_letter, parent_text, node_line, reason_text, side_word, step_line, end_line, found_text, footer_line, ended};
@@ -18,6 +19,7 @@ pub fn put_head<K: Sink>(sink: &mut K) -> Result<(), Failed>
     ensures all { OnOk result (Appends (K.taken sink.old) (K.taken sink.new) (ended head_line)) }
     ensures prefix { OnErr result (AppendsPrefix (K.taken sink.old) (K.taken sink.new) (ended head_line)) }
     ensures names { K.names sink.new ≡ K.names sink.old }
+    ensures outcomes { StopsAtFailure (K.outcomes sink.old) (K.outcomes sink.new) result }
     ensures cause { HasCause (K.faults sink.old) (K.faults sink.new) result }
 {
     let mut line = Line::new();
@@ -31,6 +33,7 @@ pub fn put_node<K: Sink>(sink: &mut K, number: u64, parent: Option<Parent>) -> R
     ensures all { OnOk result (Appends (K.taken sink.old) (K.taken sink.new) (ended (node_line number parent))) }
     ensures prefix { OnErr result (AppendsPrefix (K.taken sink.old) (K.taken sink.new) (ended (node_line number parent))) }
     ensures names { K.names sink.new ≡ K.names sink.old }
+    ensures outcomes { StopsAtFailure (K.outcomes sink.old) (K.outcomes sink.new) result }
     ensures cause { HasCause (K.faults sink.old) (K.faults sink.new) result }
 {
     let mut line = Line::new();
@@ -46,6 +49,7 @@ pub fn put_step<K: Sink>(sink: &mut K, step: &Step) -> Result<(), Failed>
     ensures all { OnOk result (Appends (K.taken sink.old) (K.taken sink.new) (ended (step_line step.now))) }
     ensures prefix { OnErr result (AppendsPrefix (K.taken sink.old) (K.taken sink.new) (ended (step_line step.now))) }
     ensures names { K.names sink.new ≡ K.names sink.old }
+    ensures outcomes { StopsAtFailure (K.outcomes sink.old) (K.outcomes sink.new) result }
     ensures cause { HasCause (K.faults sink.old) (K.faults sink.new) result }
 {
     let mut line = Line::new();
@@ -59,6 +63,7 @@ pub fn put_end<K: Sink>(sink: &mut K, end: &EndLine) -> Result<(), Failed>
     ensures all { OnOk result (Appends (K.taken sink.old) (K.taken sink.new) (ended (end_line end.now))) }
     ensures prefix { OnErr result (AppendsPrefix (K.taken sink.old) (K.taken sink.new) (ended (end_line end.now))) }
     ensures names { K.names sink.new ≡ K.names sink.old }
+    ensures outcomes { StopsAtFailure (K.outcomes sink.old) (K.outcomes sink.new) result }
     ensures cause { HasCause (K.faults sink.old) (K.faults sink.new) result }
 {
     let mut line = Line::new();
@@ -72,6 +77,7 @@ pub fn put_footer<K: Sink>(sink: &mut K, footer: &Footer) -> Result<(), Failed>
     ensures all { OnOk result (Appends (K.taken sink.old) (K.taken sink.new) (ended (footer_line footer.now))) }
     ensures prefix { OnErr result (AppendsPrefix (K.taken sink.old) (K.taken sink.new) (ended (footer_line footer.now))) }
     ensures names { K.names sink.new ≡ K.names sink.old }
+    ensures outcomes { StopsAtFailure (K.outcomes sink.old) (K.outcomes sink.new) result }
     ensures cause { HasCause (K.faults sink.old) (K.faults sink.new) result }
 {
     let mut line = Line::new();
@@ -80,7 +86,7 @@ pub fn put_footer<K: Sink>(sink: &mut K, footer: &Footer) -> Result<(), Failed>
 }
 
 /// Adds what a node is: the root, or a side of a node.
-fn add_parent(line: &mut Line, parent: Option<Parent>)
+pub fn add_parent(line: &mut Line, parent: Option<Parent>)
     requires room { length line.old ≤ 50 }
     ensures added { line.new ≡ line.old ++ parent_text parent }
     ensures bounded_length { length line.new ≤ length line.old + 50 }
@@ -139,7 +145,7 @@ fn add_reason(line: &mut Line, reason: &Reason)
 }
 
 /// Adds a step to a line without bytes.
-fn add_step(line: &mut Line, step: &Step)
+pub fn add_step(line: &mut Line, step: &Step)
     requires empty { length line.old ≤ 0 }
     ensures added { line.new ≡ line.old ++ step_line step.now }
     ensures bounded_length { length line.new ≤ 190 }
@@ -164,7 +170,7 @@ fn word_of(side: Side) -> &'static str
 }
 
 /// Adds an end to a line without bytes.
-fn add_end(line: &mut Line, end: &EndLine)
+pub fn add_end(line: &mut Line, end: &EndLine)
     requires empty { length line.old ≤ 0 }
     ensures added { line.new ≡ line.old ++ end_line end.now }
     ensures bounded_length { length line.new ≤ 190 }
@@ -193,7 +199,7 @@ fn add_cut(line: &mut Line, cut: &Cut)
 }
 
 /// Adds a claim to a line without bytes.
-fn add_footer(line: &mut Line, footer: &Footer)
+pub fn add_footer(line: &mut Line, footer: &Footer)
     requires empty { length line.old ≤ 0 }
     ensures added { line.new ≡ line.old ++ footer_line footer.now }
     ensures bounded_length { length line.new ≤ 190 }

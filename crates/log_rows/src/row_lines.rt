@@ -2,6 +2,7 @@
 
 ghost use Rattle.std.specs.Prelude.{◌≡◌, map, OnOk, OnErr};
 ghost use Rattle.std.specs.Io.KnownBytes.{Appends};
+ghost use Rattle.sopl_io.specs.Calls.{StopsAtFailure};
 ghost use Rattle.sopl_io.specs.Causes.{HasCause};
 ghost use Rattle.sopl_io.specs.Transfer.{AppendsPrefix};
 ghost use Rattle.log_rows.specs.Lines.{step_line, row_lines, rows_lines, log_lines, text_of};
@@ -17,6 +18,7 @@ pub fn put_row<K: Sink>(sink: &mut K, number: u64, row: &Row) -> Result<(), Fail
     ensures all { OnOk result (Appends (K.taken sink.old) (K.taken sink.new) (text_of (row_lines number row.now))) }
     ensures prefix { OnErr result (AppendsPrefix (K.taken sink.old) (K.taken sink.new) (text_of (row_lines number row.now))) }
     ensures names { K.names sink.new ≡ K.names sink.old }
+    ensures outcomes { StopsAtFailure (K.outcomes sink.old) (K.outcomes sink.new) result }
     ensures cause { HasCause (K.faults sink.old) (K.faults sink.new) result }
 {
     put_node(sink, number, row.parent)?;
@@ -30,6 +32,7 @@ pub fn put_steps<K: Sink>(sink: &mut K, steps: &[Step]) -> Result<(), Failed>
     ensures all { OnOk result (Appends (K.taken sink.old) (K.taken sink.new) (text_of (map step_line steps.now))) }
     ensures prefix { OnErr result (AppendsPrefix (K.taken sink.old) (K.taken sink.new) (text_of (map step_line steps.now))) }
     ensures names { K.names sink.new ≡ K.names sink.old }
+    ensures outcomes { StopsAtFailure (K.outcomes sink.old) (K.outcomes sink.new) result }
     ensures cause { HasCause (K.faults sink.old) (K.faults sink.new) result }
 {
     'steps: for step in steps {
@@ -44,6 +47,7 @@ pub fn put_rows<K: Sink>(sink: &mut K, rows: &[Row]) -> Result<(), Failed>
     ensures all { OnOk result (Appends (K.taken sink.old) (K.taken sink.new) (text_of (rows_lines 0 rows.now))) }
     ensures prefix { OnErr result (AppendsPrefix (K.taken sink.old) (K.taken sink.new) (text_of (rows_lines 0 rows.now))) }
     ensures names { K.names sink.new ≡ K.names sink.old }
+    ensures outcomes { StopsAtFailure (K.outcomes sink.old) (K.outcomes sink.new) result }
     ensures cause { HasCause (K.faults sink.old) (K.faults sink.new) result }
 {
     'rows: for number in 0..rows.len() {
@@ -58,6 +62,7 @@ pub fn put_log<K: Sink>(sink: &mut K, rows: &[Row], footer: &Footer) -> Result<(
     ensures all { OnOk result (Appends (K.taken sink.old) (K.taken sink.new) (text_of (log_lines rows.now footer.now))) }
     ensures prefix { OnErr result (AppendsPrefix (K.taken sink.old) (K.taken sink.new) (text_of (log_lines rows.now footer.now))) }
     ensures names { K.names sink.new ≡ K.names sink.old }
+    ensures outcomes { StopsAtFailure (K.outcomes sink.old) (K.outcomes sink.new) result }
     ensures cause { HasCause (K.faults sink.old) (K.faults sink.new) result }
 {
     put_head(sink)?;

@@ -53,7 +53,7 @@ array_in (string s) = []
 array_in (array ds) = list_in ds
 array_in (object ms) = []
 
-abbrev members_in : Data → Members
+abbrev pub members_in : Data → Members
 members_in null = no_members
 members_in (boolean b) = no_members
 members_in (number n) = no_members
@@ -61,11 +61,11 @@ members_in (string s) = no_members
 members_in (array ds) = no_members
 members_in (object ms) = ms
 
-abbrev first_in : Members → Data
+abbrev pub first_in : Members → Data
 first_in no_members = null
 first_in (member k d ms) = d
 
-abbrev later_in : Members → Members
+abbrev pub later_in : Members → Members
 later_in no_members = no_members
 later_in (member k d ms) = ms
 

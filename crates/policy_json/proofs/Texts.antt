@@ -29,32 +29,32 @@ use Rattle.policy_json.proofs.Branches.{branch_after}
 use Rattle.policy_json.proofs.Printed.{accepted_json, first_of, later_of}
 
 -- where the texts of these, each with something behind it, are the same, the two are the same and so is what stands behind them
-abbrev AreTold : Data → Data → Type 0
+abbrev pub AreTold : Data → Data → Type 0
 AreTold d e = (r s : List ℕ) → compact_text d ++ r ≡ compact_text e ++ s → (d ≡ e) × (r ≡ s)
 
 abbrev ItemsAreTold : Bool → Items → Items → Type 0
 ItemsAreTold later ds es = (r s : List ℕ) → items_text later ds ++ r ≡ items_text later es ++ s → (ds ≡ es) × (r ≡ s)
 
-abbrev MembersAreTold : Bool → Members → Members → Type 0
+abbrev pub MembersAreTold : Bool → Members → Members → Type 0
 MembersAreTold later ms ns = (r s : List ℕ) → members_text later ms ++ r ≡ members_text later ns ++ s → (ms ≡ ns) × (r ≡ s)
 
 cancel : (x a b r s : List ℕ) → (x ++ a) ++ r ≡ (x ++ b) ++ s → a ++ r ≡ b ++ s
 cancel x a b r s is = append_cancel_left x (a ++ r) (b ++ s) (sym (append_assoc x a r) ∙ is ∙ append_assoc x b s)
 
 -- the same data, what is told by its items, and what is told by its members
-told_self : (d : Data) → AreTold d d
+pub told_self : (d : Data) → AreTold d d
 told_self d r s is = (refl, append_cancel_left (compact_text d) r s is)
 
 told_array : (ds es : Items) → ItemsAreTold false ds es → AreTold (array ds) (array es)
 told_array ds es items r s is = let told = items r s (ap later_of is) in (ap array told.0, told.1)
 
-told_object : (ms ns : Members) → MembersAreTold false ms ns → AreTold (object ms) (object ns)
+pub told_object : (ms ns : Members) → MembersAreTold false ms ns → AreTold (object ms) (object ns)
 told_object ms ns members r s is = let told = members r s (ap later_of is) in (ap object told.0, told.1)
 
 told_no_items : (later : Bool) → ItemsAreTold later no_items no_items
 told_no_items later r s is = (refl, ap later_of is)
 
-told_no_members : (later : Bool) → MembersAreTold later no_members no_members
+pub told_no_members : (later : Bool) → MembersAreTold later no_members no_members
 told_no_members later r s is = (refl, ap later_of is)
 
 told_item : (later : Bool) (d e : Data) (ds es : Items) → AreTold d e → ItemsAreTold true ds es → ItemsAreTold later (item d ds) (item e es)
@@ -67,7 +67,7 @@ told_item later d e ds es one more r s is =
     let rest : (ds ≡ es) × (r ≡ s) = more r s first.1 in
     ((λ i. item (first.0 i) (rest.0 i)), rest.1)
 
-told_member : (later : Bool) (k : List ℕ) (d e : Data) (ms ns : Members) → AreTold d e → MembersAreTold true ms ns → MembersAreTold later (member k d ms) (member k e ns)
+pub told_member : (later : Bool) (k : List ℕ) (d e : Data) (ms ns : Members) → AreTold d e → MembersAreTold true ms ns → MembersAreTold later (member k d ms) (member k e ns)
 told_member later k d e ms ns one more r s is =
     let first : (d ≡ e) × (members_text true ms ++ r ≡ members_text true ns ++ s) =
     one (members_text true ms ++ r) (members_text true ns ++ s)
@@ -183,11 +183,15 @@ decides_small problem policy bounded is place d within seen = by (get policy (pl
         let of : IsBoundedDecision d = bounded_at problem.decisions place d bounded decided in
         small_between d.lo v d.hi of.least of.greatest between.0 between.1
 
--- the text of a policy of an accepted problem is that policy's alone
+-- policies of an accepted model are told, and so the text of one is its alone
+pub policies_told : (limits : Limits) (model : ModelTree) (problem : Problem) → AcceptedModel limits model problem → (p q : Policy) → IsPolicy problem p → IsPolicy problem q
+    → AreTold (policy_data problem p) (policy_data problem q)
+policies_told limits model problem accepted p q is_p is_q =
+    let Bounded : Problem → Type 0 = λ (x : Problem). AllByRecursion IsBoundedDecision x.decisions in
+    let bounded : AllByRecursion IsBoundedDecision problem.decisions = subst Bounded accepted.stated (decisions_are_bounded model accepted.unfolded) in
+    told_nodes problem.decisions problem.stochastics p q (decides_small problem p bounded is_p) (decides_small problem q bounded is_q) (last_stage problem.decisions - 1) 1 []
+
 pub accepted_texts : (limits : Limits) (model : ModelTree) (problem : Problem) → AcceptedModel limits model problem → (p q : Policy) → IsPolicy problem p → IsPolicy problem q
     → (r s : List ℕ) → compact_text (policy_data problem p) ++ r ≡ compact_text (policy_data problem q) ++ s → p ≡ q
 accepted_texts limits model problem accepted p q is_p is_q r s is =
-    let Bounded : Problem → Type 0 = λ (x : Problem). AllByRecursion IsBoundedDecision x.decisions in
-    let bounded : AllByRecursion IsBoundedDecision problem.decisions = subst Bounded accepted.stated (decisions_are_bounded model accepted.unfolded) in
-    accepted_json limits model problem accepted p q is_p is_q
-    (told_nodes problem.decisions problem.stochastics p q (decides_small problem p bounded is_p) (decides_small problem q bounded is_q) (last_stage problem.decisions - 1) 1 [] r s is).0
+    accepted_json limits model problem accepted p q is_p is_q (policies_told limits model problem accepted p q is_p is_q r s is).0

@@ -14,7 +14,7 @@ use std::env;
 use std::process::ExitCode;
 use std::rt::{Env, Files};
 
-/// The words after the program's name. A word that is no text cannot be made, and ends the program as want of memory does.
+/// The words after the program's name. A word that is no text cannot be made, and ends the program as running out of memory does.
 fn words_given<R: Env + AllocGlobal>(rt: &R) -> Result<Words, AllocError> {
     let mut words = Words::new(rt.alloc());
     let Ok(texts) = env::args(rt) else {

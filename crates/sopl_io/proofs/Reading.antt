@@ -1,8 +1,10 @@
 -- What was read so far of what was left.
-use Rattle.std.proofs.Common.{◌≡◌, ℕ, ◌-◌, ◌^◌, ◌<◌, ◌≤◌, List, [], ◌++◌, length, take, drop, Option, Some, None, unwrap_or, IfSome, sym, ap, ◌∙◌, append_assoc, arith}
-use Rattle.std.proofs.lemmas.List.{append-nil, take_all, take_at}
+use Rattle.std.proofs.Common.{◌≡◌, ℕ, ◌-◌, ◌^◌, ◌<◌, ◌≤◌, List, [], ◌++◌, length, take, drop, Option, Some, None, unwrap_or, IfSome, subst, sym, ap, ◌∙◌, append_assoc, arith}
+use Rattle.std.proofs.lemmas.List.{append-nil, length-append, length-take, take_all, take_at, take-append-le}
 use Rattle.std.proofs.Math.Seq.{drop-append_seam}
-use Rattle.std.specs.Io.KnownBytes.{Consumes, IsAtEnd}
+use Rattle.std.specs.Io.KnownBytes.{Consumes, IsAtEnd, Keeps}
+use Rattle.sopl_io.specs.Causes.{Rose}
+use Rattle.sopl_io.specs.Rests.{LeavesRest, behind, closed}
 use Rattle.sopl_io.specs.Stock.{Stock, text_of}
 use Rattle.sopl_io.specs.Transfer.{cut_at}
 
@@ -59,3 +61,57 @@ rest_left (Some s) name (Some xs) None bytes given read = absurd read
 rest_left (Some s) name (Some xs) (Some ys) bytes given read =
     let same : text_of s name ≡ xs = cc in
     sym (ap (λ (l : List ℕ). Some (drop (length bytes) l)) (same ∙ read) ∙ ap Some (drop-append_seam bytes ys))
+
+within_most : (most : Option ℕ) (n : ℕ) → n ≤ unwrap_or most (2 ^ 64 - 1) → IfSome most (λ m. n ≤ m)
+within_most None n bound = tt
+within_most (Some m) n bound = bound
+
+-- the rest of the text is left where no more than the most was read
+pub rest_behind : (stock : Option Stock) (name : List ℕ) (first now : Option (List ℕ)) (most : Option ℕ) (bytes : List ℕ) (before later : ℕ)
+    → IfSome stock (λ s. first ≡ Some (text_of s name)) → Consumes first now bytes → length bytes ≤ unwrap_or most (2 ^ 64 - 1)
+    → IfSome stock (λ s. LeavesRest most (text_of s name) before later now)
+rest_behind None name first now most bytes before later given read bound = tt
+rest_behind (Some s) name first now most bytes before later given read bound =
+    behind (length bytes) (within_most most (length bytes) bound) (rest_left (Some s) name first now bytes given read)
+
+-- also behind a read that failed
+pub rest_kept : (stock : Option Stock) (name : List ℕ) (first now next : Option (List ℕ)) (most : Option ℕ) (bytes : List ℕ) (before later : ℕ)
+    → IfSome stock (λ s. first ≡ Some (text_of s name)) → Consumes first now bytes → length bytes ≤ unwrap_or most (2 ^ 64 - 1) → Keeps now next
+    → IfSome stock (λ s. LeavesRest most (text_of s name) before later next)
+rest_kept None name first now next most bytes before later given read bound kept = tt
+rest_kept (Some s) name None now next most bytes before later given read bound kept = absurd (cc)
+rest_kept (Some s) name (Some xs) None next most bytes before later given read bound kept = absurd read
+rest_kept (Some s) name (Some xs) (Some ys) None most bytes before later given read bound kept = absurd kept
+rest_kept (Some s) name (Some xs) (Some ys) (Some zs) most bytes before later given read bound kept =
+    behind (length bytes) (within_most most (length bytes) bound) (ap Some kept ∙ rest_left (Some s) name (Some xs) (Some ys) bytes given read)
+
+-- and a `begin` that failed leaves nothing
+pub rest_closed : (stock : Option Stock) (name : List ℕ) (left : Option (List ℕ)) (most : Option ℕ) (before later : ℕ) → Rose before later → IsAtEnd left
+    → IfSome stock (λ s. LeavesRest most (text_of s name) before later left)
+rest_closed None name left most before later rose end = tt
+rest_closed (Some s) name left most before later rose end = closed rose end
+
+piece_fits : (bytes buf : List ℕ) (count most : ℕ) → count ≤ most - length bytes → length bytes ≤ most → length (bytes ++ take count buf) ≤ most
+piece_fits bytes buf count most fits within = omega (arith, fits, within, length-append bytes (take count buf), length-take {A = ℕ} count buf)
+
+-- where one more piece was read that is not kept
+pub rest_more : (stock : Option Stock) (name : List ℕ) (first now next : Option (List ℕ)) (most : Option ℕ) (bytes buf : List ℕ) (count before later : ℕ)
+    → IfSome stock (λ s. first ≡ Some (text_of s name)) → Consumes first now bytes → Consumes now next (take count buf)
+    → length bytes ≤ unwrap_or most (2 ^ 64 - 1) → count ≤ unwrap_or most (2 ^ 64 - 1) - length bytes
+    → IfSome stock (λ s. LeavesRest most (text_of s name) before later next)
+rest_more stock name first now next most bytes buf count before later given read more within fits =
+    rest_behind stock name first next most (bytes ++ take count buf) before later given (read_more first now next bytes (take count buf) read more)
+    (piece_fits bytes buf count (unwrap_or most (2 ^ 64 - 1)) fits within)
+
+-- one more piece, which stands at the front of a buffer
+pub read_kept : (first now next : Option (List ℕ)) (bytes buf rest items : List ℕ) (count : ℕ) → count ≤ length buf → items ≡ bytes ++ take count (buf ++ rest)
+    → Consumes first now bytes → Consumes now next (take count buf) → Consumes first next items
+read_kept first now next bytes buf rest items count within is before more =
+    let piece : take count (buf ++ rest) ≡ take count buf = take-append-le count buf rest within in
+    subst (λ (l : List ℕ). Consumes first next l) (sym (is ∙ ap (λ (l : List ℕ). bytes ++ l) piece)) (read_more first now next bytes (take count buf) before more)
+
+pub kept_within : (bytes buf rest items : List ℕ) (count most : ℕ) → count ≤ length buf → items ≡ bytes ++ take count (buf ++ rest) → length bytes ≤ most
+    → count ≤ most - length bytes → length items ≤ most
+kept_within bytes buf rest items count most within is bound fits =
+    let piece : take count (buf ++ rest) ≡ take count buf = take-append-le count buf rest within in
+    subst (λ (l : List ℕ). length l ≤ most) (sym (is ∙ ap (λ (l : List ℕ). bytes ++ l) piece)) (piece_fits bytes buf count most fits bound)

@@ -1,7 +1,7 @@
 -- What was written so far.
-use Rattle.std.proofs.Common.{◌≡◌, ℕ, ◌+◌, ◌-◌, ◌≤◌, List, ◌++◌, length, take, drop, Option, Some, None, sym, ap, ◌∙◌, append_assoc, arith}
+use Rattle.std.proofs.Common.{◌≡◌, ℕ, ◌+◌, ◌-◌, ◌≤◌, List, [], ◌++◌, length, take, drop, Option, Some, None, sym, ap, ◌∙◌, append_assoc, arith}
 use Rattle.std.proofs.Math.Seq.{take-add}
-use Rattle.std.proofs.lemmas.List.{take_all, take-take}
+use Rattle.std.proofs.lemmas.List.{append-nil, take_all, take-take}
 use Rattle.std.specs.Io.KnownBytes.{Appends, Keeps}
 use Rattle.sopl_io.specs.Transfer.{AppendsPrefix}
 
@@ -11,6 +11,11 @@ appends_more (Some xs) None next bytes piece before more = absurd before
 appends_more (Some xs) (Some ys) None bytes piece before more = absurd more
 appends_more (Some xs) (Some ys) (Some zs) bytes piece before more =
     more ∙ ap (λ (l : List ℕ). l ++ piece) before ∙ append_assoc xs bytes piece
+
+-- no piece
+pub nothing_written : (taken : Option (List ℕ)) → Appends taken taken []
+nothing_written None = tt
+nothing_written (Some xs) = sym (append-nil xs)
 
 -- one more piece
 pub written_more : (first now next : Option (List ℕ)) (bytes : List ℕ) (at n : ℕ) → at + n ≤ length bytes → Appends first now (take at bytes)

@@ -2,6 +2,7 @@
 ghost use Rattle.std.specs.Prelude.{◌≡◌, ◌≢◌, ◌<◌, [], false, length, Some, None, Ok, IsOk, IsErr, IfOk, OnOk, OnErr, is_ok};
 ghost use Rattle.std.specs.Io.{ReadsAtMost, WritesAtMost};
 ghost use Rattle.std.specs.Io.KnownBytes.{ReadConsumes, WriteAppends, IsAtEnd};
+ghost use Rattle.sopl_io.specs.Calls.{counted, outcome_of, with_call};
 ghost use Rattle.sopl_io.specs.Causes.{HasCause};
 ghost use Rattle.sopl_io.specs.Stock.{GivesText};
 ghost use Rattle.sopl_io.specs.Files.{standard_output, not_begun, dropped, begun_destination};
@@ -58,6 +59,8 @@ impl<'a, R: Files> Source for FileSource<'a, R> {
 
     ghost faults = { λ s. s.faults };
 
+    ghost outcomes = { λ s. counted s.faults };
+
     ghost names = { λ _. None };
 
     fn begin(&mut self, name: &str) -> Result<(), Failed>
@@ -67,6 +70,7 @@ impl<'a, R: Files> Source for FileSource<'a, R> {
         ensures is_open { self.new.is_open ≡ is_ok result }
         ensures cause { HasCause self.old.faults self.new.faults result }
         ensures kept { OnOk result (self.new.faults ≡ self.old.faults) }
+        ensures outcomes { counted self.new.faults ≡ with_call (counted self.old.faults) (outcome_of result) }
     {
         self.file = None;
         match fs::open(self.rt, name) {
@@ -84,6 +88,7 @@ impl<'a, R: Files> Source for FileSource<'a, R> {
         ensures bytes { ReadConsumes self.old.left self.new.left result buf.new }
         ensures cause { HasCause self.old.faults self.new.faults result }
         ensures kept { OnOk result (self.new.faults ≡ self.old.faults) }
+        ensures outcomes { counted self.new.faults ≡ with_call (counted self.old.faults) (outcome_of result) }
 
         // After a `begin` that failed, and before any, it is at the end of input.
         ensures closed { self.old.is_open ≡ false → result ≡ Ok 0 }
@@ -160,11 +165,14 @@ impl<'a, R: Files + Print> Sink for FileSink<'a, R> {
 
     ghost faults = { λ s. s.faults };
 
+    ghost outcomes = { λ s. counted s.faults };
+
     ghost names = { λ _. None };
 
     fn begin(&mut self, name: &str) -> Result<(), Failed>
         ensures cause { HasCause self.old.faults self.new.faults result }
         ensures kept { OnOk result (self.new.faults ≡ self.old.faults) }
+        ensures outcomes { counted self.new.faults ≡ with_call (counted self.old.faults) (outcome_of result) }
         ensures output { self.old.destination ≡ standard_output → IsOk result }
         ensures stays_output { self.old.destination ≡ standard_output
             → self.new.destination ≡ standard_output }
@@ -196,6 +204,7 @@ impl<'a, R: Files + Print> Sink for FileSink<'a, R> {
         ensures some { IfOk result (λ n. 0 < length piece.now → 0 < n) }
         ensures cause { HasCause self.old.faults self.new.faults result }
         ensures kept { OnOk result (self.new.faults ≡ self.old.faults) }
+        ensures outcomes { counted self.new.faults ≡ with_call (counted self.old.faults) (outcome_of result) }
         ensures not_begun { self.old.destination ≡ not_begun → IsErr result }
         ensures dropped { self.old.destination ≡ dropped → result ≡ Ok (length piece.now) }
         ensures destination { self.new.destination ≡ self.old.destination }

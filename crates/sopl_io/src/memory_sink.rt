@@ -2,6 +2,7 @@
 ghost use Rattle.std.specs.Prelude.{◌≡◌, ◌↔◌, ◌⊎◌, ◌<◌, ◌-◌, [], length, min, Some, None, IsErr, IfOk, Contains};
 ghost use Rattle.std.specs.Io.{WritesAtMost};
 ghost use Rattle.std.specs.Io.KnownBytes.{WriteAppends};
+ghost use Rattle.sopl_io.specs.Calls.{counted, outcome_of, with_call};
 ghost use Rattle.sopl_io.specs.Causes.{HasCause, one_more, count_after};
 ghost use Rattle.sopl_io.specs.Memory.{IsRefused};
 
@@ -67,6 +68,8 @@ impl Sink for MemSink {
 
     ghost faults = { λ s. s.faults };
 
+    ghost outcomes = { λ s. counted s.faults };
+
     ghost names = { λ _. None };
 
     fn begin(&mut self, _name: &str) -> Result<(), Failed>
@@ -79,6 +82,7 @@ impl Sink for MemSink {
         ensures failing { self.new.failing ≡ self.old.failing }
         ensures calls { self.new.calls ≡ one_more self.old.calls }
         ensures counted { self.new.faults ≡ count_after result self.old.faults }
+        ensures outcomes { counted self.new.faults ≡ with_call (counted self.old.faults) (outcome_of result) }
     {
         self.bytes.clear();
         if self.plan.is_next_listed() {
@@ -103,6 +107,7 @@ impl Sink for MemSink {
         ensures failing { self.new.failing ≡ self.old.failing }
         ensures calls { self.new.calls ≡ one_more self.old.calls }
         ensures counted { self.new.faults ≡ count_after result self.old.faults }
+        ensures outcomes { counted self.new.faults ≡ with_call (counted self.old.faults) (outcome_of result) }
     {
         if self.plan.is_next_listed() {
             return Err(self.plan.fail());

@@ -2,6 +2,7 @@
 ghost use Rattle.std.specs.Prelude.{◌≡◌, ◌↔◌, ◌⊎◌, ◌<◌, [], length, min, drop, Some, None, IsErr, IsNone, IfOk, OnOk, OnErr, Contains, position};
 ghost use Rattle.std.specs.Io.{ReadsAtMost};
 ghost use Rattle.std.specs.Io.KnownBytes.{ReadConsumes};
+ghost use Rattle.sopl_io.specs.Calls.{counted, outcome_of, with_call};
 ghost use Rattle.sopl_io.specs.Causes.{HasCause, one_more, count_after};
 ghost use Rattle.sopl_io.specs.Stock.{named, named_text};
 ghost use Rattle.sopl_io.specs.Memory.{texts_of, text_at, has_name};
@@ -63,6 +64,8 @@ impl Source for MemSource {
 
     ghost faults = { λ s. s.faults };
 
+    ghost outcomes = { λ s. counted s.faults };
+
     ghost names = { λ _. None };
 
     #[tactic(auto, using(crate::proofs::Places::text_found, crate::proofs::Places::text_missing))]
@@ -78,6 +81,7 @@ impl Source for MemSource {
         ensures failing { self.new.failing ≡ self.old.failing }
         ensures calls { self.new.calls ≡ one_more self.old.calls }
         ensures counted { self.new.faults ≡ count_after result self.old.faults }
+        ensures outcomes { counted self.new.faults ≡ with_call (counted self.old.faults) (outcome_of result) }
     {
         self.current = None;
         self.position = 0;
@@ -106,6 +110,7 @@ impl Source for MemSource {
         ensures failing { self.new.failing ≡ self.old.failing }
         ensures calls { self.new.calls ≡ one_more self.old.calls }
         ensures counted { self.new.faults ≡ count_after result self.old.faults }
+        ensures outcomes { counted self.new.faults ≡ with_call (counted self.old.faults) (outcome_of result) }
     {
         if self.plan.is_next_listed() {
             return Err(self.plan.fail());

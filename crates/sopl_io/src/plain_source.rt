@@ -2,6 +2,7 @@
 ghost use Rattle.std.specs.Prelude.{◌≡◌, ◌<◌, [], length, min, drop, Some, None, IsOk, IfOk, unwrap_or, slice_get};
 ghost use Rattle.std.specs.Io.{ReadsAtMost};
 ghost use Rattle.std.specs.Io.KnownBytes.{ReadConsumes};
+ghost use Rattle.sopl_io.specs.Calls.{counted, outcome_of, with_call};
 ghost use Rattle.sopl_io.specs.Stock.{in_order};
 ghost use Rattle.sopl_io.specs.Memory.{contents_of, content_at};
 
@@ -55,11 +56,14 @@ impl Source for PlainSource {
 
     ghost faults = { λ _. 0 };
 
+    ghost outcomes = { λ _. counted 0 };
+
     ghost names = { λ _. None };
 
     #[tactic(auto, using(crate::proofs::Order::first_later, crate::proofs::Order::after_first))]
     fn begin(&mut self, _name: &str) -> Result<(), Failed>
         ensures succeeds { IsOk result }
+        ensures outcomes { counted 0 ≡ with_call (counted 0) (outcome_of result) }
         ensures text { self.new.left ≡ unwrap_or (slice_get self.old.later 0) [] }
         ensures later { self.new.later ≡ drop 1 self.old.later }
     {
@@ -74,6 +78,7 @@ impl Source for PlainSource {
     fn read(&mut self, buf: &mut [u8]) -> Result<usize, Failed>
         requires { 0 < length buf.old }
         ensures succeeds { IsOk result }
+        ensures outcomes { counted 0 ≡ with_call (counted 0) (outcome_of result) }
         ensures bound { ReadsAtMost result buf.new }
         ensures bytes { ReadConsumes (Some self.old.left) (Some self.new.left) result buf.new }
         ensures count { IfOk result (λ n. n ≡ min (length buf.old) (length self.old.left)) }

@@ -2,6 +2,7 @@
 ghost use Rattle.std.specs.Prelude.{◌≡◌, ◌<◌, List, ℕ, length, Option, option_map, [], IfOk};
 ghost use Rattle.std.specs.Io.{WritesAtMost};
 ghost use Rattle.std.specs.Io.KnownBytes.{WriteAppends};
+ghost use Rattle.sopl_io.specs.Calls.{Outcomes, outcome_of, with_call};
 ghost use Rattle.sopl_io.specs.Causes.{HasCause};
 ghost use Rattle.sopl_io.specs.Stock.{with_name};
 
@@ -12,8 +13,11 @@ pub trait Sink {
     /// The bytes that it took since it was begun last, or since it was made, where they are told.
     ghost taken: { Self → Option (List ℕ) };
 
-    /// How often it failed.
+    /// How many faults it counted.
     ghost faults: { Self → ℕ };
+
+    /// What came of its calls.
+    ghost outcomes: { Self → Outcomes };
 
     /// The names with which it was begun, where they are told.
     ghost names: { Self → Option (List (List ℕ)) };
@@ -23,6 +27,7 @@ pub trait Sink {
         // A `begin` that failed counts as one.
         ensures taken { taken self.new ≡ option_map (λ _. []) (taken self.old) }
         ensures names { names self.new ≡ with_name (names self.old) name.now }
+        ensures outcomes { outcomes self.new ≡ with_call (outcomes self.old) (outcome_of result) }
         ensures cause { HasCause (faults self.old) (faults self.new) result };
 
     /// Takes a prefix of the piece, and answers its length.
@@ -31,5 +36,6 @@ pub trait Sink {
         ensures bytes { WriteAppends (taken self.old) (taken self.new) result piece.now }
         ensures some { IfOk result (λ n. 0 < length piece.now → 0 < n) }
         ensures names { names self.new ≡ names self.old }
+        ensures outcomes { outcomes self.new ≡ with_call (outcomes self.old) (outcome_of result) }
         ensures cause { HasCause (faults self.old) (faults self.new) result };
 }

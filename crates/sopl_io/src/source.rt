@@ -2,6 +2,7 @@
 ghost use Rattle.std.specs.Prelude.{◌≡◌, ◌<◌, List, ℕ, length, Option, option_map, OnOk, OnErr};
 ghost use Rattle.std.specs.Io.{ReadsAtMost};
 ghost use Rattle.std.specs.Io.KnownBytes.{ReadConsumes, IsAtEnd};
+ghost use Rattle.sopl_io.specs.Calls.{Outcomes, outcome_of, with_call};
 ghost use Rattle.sopl_io.specs.Causes.{HasCause};
 ghost use Rattle.sopl_io.specs.Stock.{Stock, begun_stock, GivesText, with_name};
 
@@ -17,8 +18,11 @@ pub trait Source {
     /// The texts that it can give, where they are told.
     ghost stock: { Self → Option Stock };
 
-    /// How often it failed.
+    /// How many faults it counted.
     ghost faults: { Self → ℕ };
+
+    /// What came of its calls.
+    ghost outcomes: { Self → Outcomes };
 
     /// The names with which it was begun, where they are told.
     ghost names: { Self → Option (List (List ℕ)) };
@@ -29,6 +33,7 @@ pub trait Source {
         ensures nothing { OnErr result (IsAtEnd (left self.new)) }
         ensures stock { stock self.new ≡ option_map begun_stock (stock self.old) }
         ensures names { names self.new ≡ with_name (names self.old) name.now }
+        ensures outcomes { outcomes self.new ≡ with_call (outcomes self.old) (outcome_of result) }
         ensures cause { HasCause (faults self.old) (faults self.new) result };
 
     /// Places the next bytes at the front of the buffer, and answers how many: 0 only at the end.
@@ -38,5 +43,6 @@ pub trait Source {
         ensures bytes { ReadConsumes (left self.old) (left self.new) result buf.new }
         ensures stock { stock self.new ≡ stock self.old }
         ensures names { names self.new ≡ names self.old }
+        ensures outcomes { outcomes self.new ≡ with_call (outcomes self.old) (outcome_of result) }
         ensures cause { HasCause (faults self.old) (faults self.new) result };
 }

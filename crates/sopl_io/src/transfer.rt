@@ -1,7 +1,9 @@
 //! Transfers between sources, sinks and lists of bytes.
 ghost use Rattle.std.specs.Prelude.{◌≡◌, ◌⊎◌, ◌≤◌, drop, Some, option_map, IfOk, IfSome, OnOk, OnErr, vec_len};
 ghost use Rattle.std.specs.Io.KnownBytes.{Appends, IsAtEnd};
+ghost use Rattle.sopl_io.specs.Calls.{StopsAtFailure, StopsWhere};
 ghost use Rattle.sopl_io.specs.Causes.{Rose, HasCause};
+ghost use Rattle.sopl_io.specs.Rests.{LeavesRest};
 ghost use Rattle.sopl_io.specs.Stock.{text_of, begun_stock, with_name};
 ghost use Rattle.sopl_io.specs.declared.transfer.ReadStop.TheVariants.{Fault, NoMemory};
 ghost use Rattle.sopl_io.specs.Transfer.{cut_at, AppendsPrefix};
@@ -37,7 +39,7 @@ impl From<AllocError> for ReadStop {
 }
 
 /// Begins the name, and reads to the end of input, or until it holds `most` bytes.
-#[tactic(auto, using(crate::proofs::Reading::read_more, crate::proofs::Reading::read_to_end, crate::proofs::Reading::read_to_most, crate::proofs::Reading::is_full, crate::proofs::Reading::rest_left))]
+#[tactic(auto, using(crate::proofs::Reading::read_more, crate::proofs::Reading::read_to_end, crate::proofs::Reading::read_to_most, crate::proofs::Reading::is_full, crate::proofs::Reading::rest_left, crate::proofs::Reading::rest_behind, crate::proofs::Reading::rest_kept, crate::proofs::Reading::rest_closed, crate::proofs::Calling::call_made, crate::proofs::Calling::call_failed, crate::proofs::Calling::none_called))]
 pub fn read_all<S: Source>(
     alloc: Global,
     source: &mut S,
@@ -53,12 +55,19 @@ pub fn read_all<S: Source>(
     ensures left { IfOk result (λ bytes. IfSome (S.stock source.old)
         (λ s. S.left source.new ≡ Some (drop (vec_len bytes) (text_of s name.now)))) }
 
+    // Also where it failed, no more than `most` bytes of the text were taken.
+    ensures rest { IfSome (S.stock source.old)
+        (λ s. LeavesRest most (text_of s name.now) (S.faults source.old) (S.faults source.new) (S.left source.new)) }
+
     // It begins the source once, with this name.
     ensures stock { S.stock source.new ≡ option_map begun_stock (S.stock source.old) }
     ensures names { S.names source.new ≡ with_name (S.names source.old) name.now }
 
     ensures faults_grow { S.faults source.old ≤ S.faults source.new }
     ensures fault { result ≡ Err ReadStop.Fault → Rose (S.faults source.old) (S.faults source.new) }
+
+    // No call follows one that failed.
+    ensures outcomes { StopsWhere (result ≡ Err ReadStop.Fault) (S.outcomes source.old) (S.outcomes source.new) }
 {
     source.begin(name)?;
     let most = most.unwrap_or(usize::MAX);
@@ -76,11 +85,12 @@ pub fn read_all<S: Source>(
 }
 
 /// Writes all the bytes, or a prefix of them where the sink fails.
-#[tactic(auto, using(crate::proofs::Writing::written_more, crate::proofs::Writing::written_whole, crate::proofs::Writing::written_prefix))]
+#[tactic(auto, using(crate::proofs::Writing::written_more, crate::proofs::Writing::written_whole, crate::proofs::Writing::written_prefix, crate::proofs::Calling::call_made, crate::proofs::Calling::call_failed, crate::proofs::Calling::none_called))]
 pub fn write_all<K: Sink>(sink: &mut K, bytes: &[u8]) -> Result<(), Failed>
     ensures all { OnOk result (Appends (K.taken sink.old) (K.taken sink.new) bytes.now) }
     ensures prefix { OnErr result (AppendsPrefix (K.taken sink.old) (K.taken sink.new) bytes.now) }
     ensures names { K.names sink.new ≡ K.names sink.old }
+    ensures outcomes { StopsAtFailure (K.outcomes sink.old) (K.outcomes sink.new) result }
     ensures cause { HasCause (K.faults sink.old) (K.faults sink.new) result }
 {
     let mut at = 0;

@@ -15,6 +15,7 @@ mod OpenNodes
 mod Footers
 mod Trees
 mod TreeLaws
+mod Calls
 mod Written
 mod Settling
 mod Climbing

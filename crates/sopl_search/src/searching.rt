@@ -2,6 +2,7 @@
 
 ghost use Rattle.std.specs.Prelude.{◌≡◌, ◌≤◌, ◌<◌, ℕ, true, false, map, IfOk, Err};
 ghost use Rattle.std.specs.Io.KnownBytes.{Keeps as KeepsBytes};
+ghost use Rattle.sopl_io.specs.Calls.{StopsWhere};
 ghost use Rattle.sopl_io.specs.Causes.{Rose};
 ghost use Rattle.box_problem.specs.Bits.{bits_in};
 ghost use Rattle.box_problem.specs.Box.{points};
@@ -148,6 +149,7 @@ pub fn search<P: SearchProblem + Drop, K: Sink>(
     ensures names { K.names sink.new ≡ K.names sink.old }
     ensures faults_grow { K.faults sink.old ≤ K.faults sink.new }
     ensures write { result ≡ Err Write → Rose (K.faults sink.old) (K.faults sink.new) }
+    ensures outcomes { StopsWhere (result ≡ Err Write) (K.outcomes sink.old) (K.outcomes sink.new) }
 {
     let mut props = props;
     let tree = searched(alloc, program, props.as_mut_slice(), budget)?;

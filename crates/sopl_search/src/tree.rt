@@ -2,6 +2,7 @@
 
 ghost use Rattle.std.specs.Prelude.{◌≡◌, IfOk, OnOk, OnErr, Err};
 ghost use Rattle.std.specs.Io.KnownBytes.{Appends};
+ghost use Rattle.sopl_io.specs.Calls.{StopsAtFailure};
 ghost use Rattle.sopl_io.specs.Causes.{HasCause};
 ghost use Rattle.sopl_io.specs.Transfer.{AppendsPrefix};
 ghost use Rattle.log_rows.specs.Lines.{log_lines, text_of};
@@ -29,6 +30,7 @@ impl Tree {
         ensures prefix { OnErr result (AppendsPrefix (K.taken sink.old) (K.taken sink.new) (text_of (log_lines self.rows.items (footer_of self.outcome)))) }
         ensures write { OnErr result (result ≡ Err Write) }
         ensures names { K.names sink.new ≡ K.names sink.old }
+        ensures outcomes { StopsAtFailure (K.outcomes sink.old) (K.outcomes sink.new) result }
         ensures cause { HasCause (K.faults sink.old) (K.faults sink.new) result }
     {
         let footer = self.outcome.footer();

@@ -1,6 +1,7 @@
 //! Sources and sinks that take a byte at a time, and files.
 
 ghost use Rattle.std.specs.Prelude.{None};
+ghost use Rattle.sopl_io.specs.Calls.{counted};
 
 use crate::tests::runs::{ORDER, ORDER_ANSWER, words_of};
 use answer_run::{Status, run};
@@ -21,6 +22,8 @@ impl Source for Drops {
     ghost stock = { λ _. None };
 
     ghost faults = { λ _. 0 };
+
+    ghost outcomes = { λ _. counted 0 };
 
     ghost names = { λ _. None };
 
@@ -50,6 +53,8 @@ impl Sink for Narrow {
     ghost taken = { λ _. None };
 
     ghost faults = { λ s. s.faults };
+
+    ghost outcomes = { λ s. counted s.faults };
 
     ghost names = { λ _. None };
 
@@ -97,10 +102,13 @@ fn one_byte_at_a_time(rt: HostRuntime) -> Result<(), Fail> {
 #[test]
 fn files_hold_what_was_written(rt: HostRuntime) -> Result<(), Fail> {
     let mut sink = FileSink::file(&rt);
-    sink.begin("written")?;
-    write_all(&mut sink, b"abc")?;
-    let mut source = FileSource::new(&rt);
-    let bytes = read_all(rt.alloc(), &mut source, "written", None)?;
-    assert_eq!(rt; bytes.as_slice(), b"abc".as_slice());
+    // The second text is shorter, and nothing of the first one stays.
+    for text in ["abcdef", "xyz"] {
+        sink.begin("written")?;
+        write_all(&mut sink, text.as_bytes())?;
+        let mut source = FileSource::new(&rt);
+        let bytes = read_all(rt.alloc(), &mut source, "written", None)?;
+        assert_eq!(rt; bytes.as_slice(), text.as_bytes());
+    }
     Ok(())
 }

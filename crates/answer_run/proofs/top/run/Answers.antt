@@ -1,43 +1,48 @@
 -- What is so where a reply was written, and where there is none.
-use Rattle.std.proofs.Common.{inl, inr}
+use Rattle.std.proofs.Common.{inl, inr, Err, ap, ◌∙◌}
 use Rattle.answer_texts.specs.Logs.{told}
-use Rattle.answer_run.proofs.Statuses.{run_written, stop_answers, stop_cause, stop_no_answer, stop_tells, written_cause, written_ends, written_tells}
+use Rattle.answer_run.proofs.Statuses.{not_written, run_written, stop_answers, stop_cause, stop_no_answer, stop_tells, written_cause, written_ends, written_tells}
+use Rattle.answer_run.proofs.Calls.{run_calls, stop_calls}
 use Rattle.answer_run.proofs.top.run.Goals as goal
 
 pub returns-in-Ok-clause-answered : goal.returns-in-Ok-clause-answered
-returns-in-Ok-clause-answered g c = run_written _ _ _ _ _ _ _ _ c.in-Ok.reply c.written.result c.in-Ok.ensures.reply c.written.ensures.taken
+returns-in-Ok-clause-answered g c = run_written _ _ _ _ _ _ _ _ _ _ _ _ c.in-Ok.reply c.written.result c.in-Ok.ensures.reply c.written.ensures.taken
 
 pub returns-in-Ok-clause-usage : goal.returns-in-Ok-clause-usage
-returns-in-Ok-clause-usage g c = (written_tells _ _ _ _ _ _ _ _ c.in-Ok.reply c.written.result c.in-Ok.ensures.reply c.written.ensures.taken).usage
+returns-in-Ok-clause-usage g c = (written_tells _ _ _ _ _ _ _ _ _ _ c.in-Ok.reply c.written.result c.in-Ok.ensures.reply c.written.ensures.taken).usage
 
 pub returns-in-Ok-clause-usage_when : goal.returns-in-Ok-clause-usage_when
-returns-in-Ok-clause-usage_when g c = (written_tells _ _ _ _ _ _ _ _ c.in-Ok.reply c.written.result c.in-Ok.ensures.reply c.written.ensures.taken).usage_when
+returns-in-Ok-clause-usage_when g c = (written_tells _ _ _ _ _ _ _ _ _ _ c.in-Ok.reply c.written.result c.in-Ok.ensures.reply c.written.ensures.taken).usage_when
 
 pub returns-in-Ok-clause-ends : goal.returns-in-Ok-clause-ends
-returns-in-Ok-clause-ends g c = (written_tells _ _ _ _ _ _ _ _ c.in-Ok.reply c.written.result c.in-Ok.ensures.reply c.written.ensures.taken).ends
+returns-in-Ok-clause-ends g c = (written_tells _ _ _ _ _ _ _ _ _ _ c.in-Ok.reply c.written.result c.in-Ok.ensures.reply c.written.ensures.taken).ends
 
 pub returns-in-Ok-clause-ends_when : goal.returns-in-Ok-clause-ends_when
-returns-in-Ok-clause-ends_when g c = (written_tells _ _ _ _ _ _ _ _ c.in-Ok.reply c.written.result c.in-Ok.ensures.reply c.written.ensures.taken).ends_when
+returns-in-Ok-clause-ends_when g c = (written_tells _ _ _ _ _ _ _ _ _ _ c.in-Ok.reply c.written.result c.in-Ok.ensures.reply c.written.ensures.taken).ends_when
 
 pub returns-in-Ok-clause-enough : goal.returns-in-Ok-clause-enough
-returns-in-Ok-clause-enough g c = (written_tells _ _ _ _ _ _ _ _ c.in-Ok.reply c.written.result c.in-Ok.ensures.reply c.written.ensures.taken).enough
+returns-in-Ok-clause-enough g c = (written_tells _ _ _ _ _ _ _ _ _ _ c.in-Ok.reply c.written.result c.in-Ok.ensures.reply c.written.ensures.taken).enough
 
 pub returns-in-Ok-clause-ended : goal.returns-in-Ok-clause-ended
 returns-in-Ok-clause-ended g c =
     written_ends c.args.words.now (g.S.Source.stock c.args.source.now) (g.S.Source.faults c.args.source.now) (g.S.Source.faults c.reply_for.new.source)
-    (g.K.Sink.taken c.args.answer.now) (g.K.Sink.taken c.written.new.answer) (told (g.K.Sink.taken c.args.log.now) (g.K.Sink.names c.args.log.now))
+    (g.K.Sink.taken c.args.answer.now) (g.K.Sink.taken c.written.new.answer) (g.K.Sink.faults c.args.answer.now) (g.K.Sink.faults c.written.new.answer)
+    (told (g.K.Sink.taken c.args.log.now) (g.K.Sink.names c.args.log.now))
     (told (g.K.Sink.taken c.reply_for.new.log) (g.K.Sink.names c.reply_for.new.log)) c.in-Ok.reply c.written.result _ c.written.ensures.taken c.in-Ok.ensures.ended
 
 pub returns-in-Ok-clause-read : goal.returns-in-Ok-clause-read
-returns-in-Ok-clause-read g c = (written_tells _ _ _ _ _ _ _ _ c.in-Ok.reply c.written.result c.in-Ok.ensures.reply c.written.ensures.taken).read
+returns-in-Ok-clause-read g c = (written_tells _ _ _ _ _ _ _ _ _ _ c.in-Ok.reply c.written.result c.in-Ok.ensures.reply c.written.ensures.taken).read
 
 pub returns-in-Ok-clause-write : goal.returns-in-Ok-clause-write
 returns-in-Ok-clause-write g c =
-    λ failed. inl (written_cause _ _ _ _ (g.K.Sink.taken c.args.answer.now) (g.K.Sink.taken c.written.new.answer) _ _ c.in-Ok.reply c.written.result _ _ c.in-Ok.ensures.reply
+    λ failed. inl (written_cause _ _ _ _ (g.K.Sink.taken c.args.answer.now) (g.K.Sink.taken c.written.new.answer) (g.K.Sink.faults c.args.answer.now)
+    (g.K.Sink.faults c.written.new.answer) _ _ c.in-Ok.reply c.written.result _ _ c.in-Ok.ensures.reply
     c.written.ensures.write failed)
 
 pub returns-in-Err-clause-answered : goal.returns-in-Err-clause-answered
-returns-in-Err-clause-answered g c = stop_answers _ _ _ _ _ _ _ c.in-Err.stop c.status_of.result c.status_of.ensures.status c.in-Err.ensures.stopped
+returns-in-Err-clause-answered g c =
+    stop_answers _ _ _ _ _ _ _ _ _ _ c.in-Err.stop c.status_of.result c.status_of.ensures.status (λ is. c.reply_for.ensures.write (c.in-Err.is ∙ ap Err is))
+    c.in-Err.ensures.stopped
 
 pub returns-in-Err-clause-usage : goal.returns-in-Err-clause-usage
 returns-in-Err-clause-usage g c =
@@ -75,3 +80,14 @@ returns-in-Err-clause-read g c =
 pub returns-in-Err-clause-write : goal.returns-in-Err-clause-write
 returns-in-Err-clause-write g c =
     λ failed. inr (stop_cause c.in-Err.stop c.status_of.result c.reply_for.result _ _ c.in-Err.is c.reply_for.ensures.write c.status_of.ensures.status failed)
+
+pub returns-in-Ok-clause-outcomes : goal.returns-in-Ok-clause-outcomes
+returns-in-Ok-clause-outcomes g c =
+    run_calls (g.S.Source.outcomes c.args.source.now) (g.S.Source.outcomes c.reply_for.new.source) (g.K.Sink.outcomes c.args.log.now) (g.K.Sink.outcomes c.reply_for.new.log) (g.K.Sink.outcomes c.args.answer.now) (g.K.Sink.outcomes c.written.new.answer)
+    (g.K.Sink.taken c.args.answer.now) (g.K.Sink.taken c.written.new.answer) c.in-Ok.reply c.written.result c.in-Ok.ensures.outcomes
+    (not_written _ _ _ _ _ c.in-Ok.reply.status _ c.in-Ok.ensures.reply.is) c.written.ensures.outcomes
+
+pub returns-in-Err-clause-outcomes : goal.returns-in-Err-clause-outcomes
+returns-in-Err-clause-outcomes g c =
+    stop_calls (g.S.Source.outcomes c.args.source.now) (g.S.Source.outcomes c.reply_for.new.source) (g.K.Sink.outcomes c.args.log.now) (g.K.Sink.outcomes c.reply_for.new.log) (g.K.Sink.outcomes c.args.answer.now) (g.K.Sink.taken c.args.answer.now)
+    c.in-Err.stop c.status_of.result c.status_of.ensures.status c.in-Err.ensures.outcomes

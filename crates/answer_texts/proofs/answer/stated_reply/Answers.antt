@@ -5,6 +5,8 @@ use Rattle.answer_texts.specs.Replies.{IsTextReply, Replies}
 use Rattle.answer_texts.specs.declared.command.Command.{Command}
 use Rattle.answer_texts.specs.declared.reply.Reply.{Reply}
 use Rattle.answer_texts.proofs.Answered.{plain_replies}
+use Rattle.sopl_io.specs.Calls.{no_call}
+use Rattle.answer_texts.proofs.Calls.{unlogged_calls}
 use Rattle.answer_texts.proofs.answer.stated_reply.Goals as goal
 
 pub returns-in-Tree-clause-reply : goal.returns-in-Tree-clause-reply
@@ -20,3 +22,6 @@ returns-in-Tree-clause-reply g c =
     (plain_replies text c.args.budget c.args.command c.args.name.now (told (g.K.Sink.taken c.args.sink.now) (g.K.Sink.names c.args.sink.now)) c.tree_reply.result
     (subst (λ (k : Command). IfOk c.tree_reply.result (λ reply. IsTextReply text c.args.budget k None reply.status (string_bytes reply.line))) (sym c.in-Tree.is)
     (c.tree_reply.ensures.reply text c.args.budget states)))
+
+pub returns-in-Tree-clause-outcomes : goal.returns-in-Tree-clause-outcomes
+returns-in-Tree-clause-outcomes g c = unlogged_calls (g.K.Sink.outcomes c.args.sink.now) _ c.tree_reply.result c.without_log.result c.without_log.ensures.reply no_call

@@ -6,6 +6,7 @@ use Rattle.answer_texts.specs.Logs.{TookPrefix}
 use Rattle.answer_texts.specs.declared.solve_answer.Answer.{Answer}
 use Rattle.answer_texts.proofs.SolveAnswered.{answer_made, made_stops, program_finds_point, search_stopped}
 use Rattle.answer_texts.proofs.Root.{root_few_bits, root_near}
+use Rattle.answer_texts.proofs.Calls.{made_calls}
 use Rattle.answer_texts.proofs.solved.searched_answer.Goals as goal
 
 pub search_program-requires-clause-near : goal.search_program-requires-clause-near
@@ -37,3 +38,7 @@ returns-in-Err-clause-stopped g c =
     search_stopped c.requires.stated.0 c.args.stated.now c.requires.stated.1 c.args.program.now c.requires.program c.args.budget
     (g.K.Sink.taken c.args.sink.now) (g.K.Sink.taken c.search_program.new.sink) c.search_program.result c.in-Err.stop c.in-Err.is
     c.search_program.ensures.prefix c.search_program.ensures.kept
+
+pub returns-in-Ok-clause-outcomes : goal.returns-in-Ok-clause-outcomes
+returns-in-Ok-clause-outcomes g c =
+    made_calls (g.K.Sink.outcomes c.args.sink.now) (g.K.Sink.outcomes c.search_program.new.sink) c.answer_of.result c.made.result c.made.ensures.answer (c.in-Ok.ensures.outcomes.all (λ e. cc))

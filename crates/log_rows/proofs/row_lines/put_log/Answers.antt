@@ -1,5 +1,7 @@
 use Rattle.log_rows.proofs.Written.{on_err}
 use Rattle.log_rows.proofs.Texts.{log_fails_first, log_fails_second, log_ends, log_ends_whole}
+use Rattle.std.proofs.Common.{rules}
+use Rattle.sopl_io.proofs.Calling.{calls_more, stops_later}
 use Rattle.log_rows.proofs.row_lines.put_log.Goals as goal
 
 pub returns-in_err-put_head-clause-prefix : goal.returns-in_err-put_head-clause-prefix
@@ -20,3 +22,12 @@ returns-clause-prefix g c =
     log_ends (g.K.Sink.taken c.args.sink.now) (g.K.Sink.taken c.put_head.new.sink) (g.K.Sink.taken c.put_rows.new.sink) (g.K.Sink.taken c.put_footer.new.sink) c.args.rows.now c.args.footer.now
     c.put_footer.result
     c.in_ok-put_head.ensures.all c.in_ok-put_rows.ensures.all c.put_footer.ensures.prefix
+
+pub returns-in_err-put_rows-clause-outcomes : goal.returns-in_err-put_rows-clause-outcomes
+returns-in_err-put_rows-clause-outcomes g c =
+    stops_later (g.K.Sink.outcomes c.args.sink.now) (g.K.Sink.outcomes c.put_head.new.sink) _ c.from_residual-in_err-put_rows.result c.in_ok-put_head.ensures.outcomes.all (search rules)
+
+pub returns-clause-outcomes : goal.returns-clause-outcomes
+returns-clause-outcomes g c =
+    stops_later (g.K.Sink.outcomes c.args.sink.now) (g.K.Sink.outcomes c.put_rows.new.sink) _ c.put_footer.result
+    (calls_more _ _ _ c.in_ok-put_head.ensures.outcomes.all c.in_ok-put_rows.ensures.outcomes.all) c.put_footer.ensures.outcomes

@@ -1,6 +1,8 @@
-use Rattle.std.proofs.Common.{rules, ◌<◌, length, arith, ◌∙◌}
-use Rattle.log_rows.proofs.Written.{on_err}
+use Rattle.std.proofs.Common.{rules, ◌<◌, length, arith, refl, ◌∙◌}
+use Rattle.sopl_io.proofs.Calling.{calls_more, stops_later}
+use Rattle.log_rows.proofs.Written.{none_written, on_err}
 use Rattle.log_rows.proofs.Texts.{steps_prefix, steps_more}
+use Rattle.sopl_io.specs.Calls.{no_call}
 use Rattle.log_rows.proofs.row_lines.put_steps.Goals as goal
 
 pub returns-in_err-put_step-clause-prefix : goal.returns-in_err-put_step-clause-prefix
@@ -13,6 +15,19 @@ steps-preserved g c =
     let exists : c.steps.step-index < length c.args.steps.now = search rules in
     record {
       written = steps_more _ _ _ c.args.steps.now c.steps.step-index _ exists c.steps.invariant.written c.in_ok-put_step.ensures.all;
+      calls = calls_more _ _ _ c.steps.invariant.calls c.in_ok-put_step.ensures.outcomes.all;
       names = c.put_step.ensures.names ∙ c.steps.invariant.names;
       later = omega (arith, c.steps.invariant.later, c.put_step.ensures.cause.later);
     }
+
+pub steps-init : goal.steps-init
+steps-init g c = record {
+  written = none_written (g.K.Sink.taken c.args.sink.now);
+  calls = no_call;
+  names = refl;
+  later = omega arith;
+}
+
+pub returns-in_err-put_step-clause-outcomes : goal.returns-in_err-put_step-clause-outcomes
+returns-in_err-put_step-clause-outcomes g c =
+    stops_later (g.K.Sink.outcomes c.args.sink.now) (g.K.Sink.outcomes c.steps.sink) _ c.from_residual.result c.steps.invariant.calls (search rules)

@@ -1,6 +1,10 @@
+use Rattle.std.proofs.Common.{rules}
+use Rattle.sopl_io.specs.Calls.{no_call}
+use Rattle.sopl_io.proofs.Calling.{where_all}
 use Rattle.sopl_search.specs.Outcomes.{HasCause, IsTrueOf}
 use Rattle.sopl_search.proofs.Settling.{settles_within}
 use Rattle.sopl_search.proofs.Written.{all_logged, prefix_logged, no_memory_wanted, rose_at_write, so_given}
+use Rattle.sopl_search.proofs.Calls.{stops_at_write}
 use Rattle.sopl_search.proofs.searching.search.Goals as goal
 
 pub returns-clause-truth : goal.returns-clause-truth
@@ -29,3 +33,9 @@ returns-clause-kept g c = no_memory_wanted c.written.result c.written.ensures.wr
 
 pub returns-clause-write : goal.returns-clause-write
 returns-clause-write g c = rose_at_write _ _ c.written.result c.written.ensures.cause.failed
+
+pub returns-clause-outcomes : goal.returns-clause-outcomes
+returns-clause-outcomes g c = stops_at_write _ _ c.written.result c.written.ensures.write c.written.ensures.outcomes
+
+pub returns-in_err-tree-clause-outcomes : goal.returns-in_err-tree-clause-outcomes
+returns-in_err-tree-clause-outcomes g c = where_all _ _ (search rules) no_call
