@@ -28,7 +28,7 @@ pub begun : {T E : Type 0} (before now : Outcomes) (result : Result T E) → is_
 begun before now (Ok value) failed is = call_made before before now no_call is
 begun before now (Err error) failed is = absurd (cc)
 
--- where an answer is made, or a reply without a log, an error is want of memory
+-- where an answer is made, or a reply without a log, an error is that memory ran out
 pub made_calls : (before now : Outcomes) (made : Result Answer AllocError) (result : Result Answer SearchStop) → result ≡ made_of made → AllSucceeded before now
     → StopsWhere (result ≡ Err search.Write) before now
 made_calls before now (Ok answer) result is all = where_all before now (λ e. cc) all

@@ -38,7 +38,7 @@ impl PlainSource {
         ensures stock { ⟦<PlainSource as Source>⟧.stock result ≡ Some (in_order (contents_of texts.items)) }
         ensures left { result.left ≡ [] }
         ensures names { ⟦<PlainSource as Source>⟧.names result ≡ None }
-        ensures faults_grow { result.later ≡ contents_of texts.items }
+        ensures later { result.later ≡ contents_of texts.items }
     {
         PlainSource {
             texts,

@@ -11,7 +11,7 @@ use Rattle.compile_counts.proofs.tests.places_of.Goals as goal
 pub all_places-requires : goal.all_places-requires
 all_places-requires c =
     record {
-      first_failure = subst (λ bs. AreMet (known_in c.args.known.now) None (binders bs)) (sym c.as_slice.ensures.items)
+      met = subst (λ bs. AreMet (known_in c.args.known.now) None (binders bs)) (sym c.as_slice.ensures.items)
           (sum_met (known_in c.args.known.now) c.args.e.now c.e.inside.at _ (binders c.in-Sum.over) _
           (sym c.e.view_is ∙ ap (λ k. Node c.e.inside.at (shape_of_kind k)) c.in-Sum.is)
           (ap (λ n. first_failure n (expression_events (known_in c.args.known.now) c.args.e.now)) (sym c.new-count.ensures) ∙ c.in_ok-expression.ensures.met));

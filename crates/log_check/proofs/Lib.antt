@@ -1,0 +1,17 @@
+pub mod Judging
+pub mod Stepping
+pub mod Counting
+pub mod Points
+pub mod Covering
+pub mod Lines
+pub mod Wronging
+pub mod Standing
+pub mod Ending
+pub mod Rowing
+pub mod Waiting
+pub mod Walking
+pub mod Siding
+pub mod Footers
+pub mod Roots
+pub mod Checking
+pub mod Rejecting

@@ -1,0 +1,10 @@
+pub mod Verdicts
+pub mod Judged
+pub mod Closing
+pub mod Sides
+pub mod Walks
+pub mod Footers
+pub mod Views
+pub mod Waiting
+pub mod Checkers
+pub mod VerdictLaws

@@ -1,0 +1,19 @@
+//! The verdict on a log: it is accepted exactly where each of its lines is right, or else its first wrong line is told. The search has no part in it.
+#![tactic(auto)]
+
+mod checker;
+mod ends;
+mod footer;
+mod judge;
+mod laws;
+mod rows;
+mod sides;
+mod steps;
+mod tally;
+mod verdict;
+mod view;
+mod walk;
+
+pub use checker::Checker;
+pub use laws::wrong_logs_are_rejected;
+pub use verdict::Verdict;

@@ -1,0 +1,21 @@
+//! A log, read from its bytes: its rows and what it claims, or the code and the line of the first mistake. A line is read freely, and then compared with the line
+//! that is written of what was read; so what is read is what would be written.
+#![tactic(auto)]
+
+pub mod codes;
+mod cutting;
+mod fitting;
+mod growing;
+mod laws;
+mod lines;
+mod numbers;
+mod reader;
+mod reading;
+mod slots;
+mod words;
+
+pub use laws::{readings_are_texts, readings_are_unique, texts_are_read};
+pub use reader::{Log, read_log};
+
+#[cfg(test)]
+mod tests;
