@@ -10,7 +10,7 @@ use Rattle.log_rows.specs.declared.rows.Footer.{Footer}
 use Rattle.log_rows.specs.declared.rows.Footer.TheVariants.{Optimal, Infeasible, Bounded}
 use Rattle.log_rows.specs.Rows.{row_at, final_of, AreOrdered}
 use Rattle.log_rows.specs.Accepted as log
-use Rattle.log_lines.specs.ReadingLaws.{NoneTooDeep}
+use Rattle.log_tree.specs.ReadingLaws.{NoneTooDeep}
 use Rattle.log_check.specs.declared.tally.Tally.{Tally}
 use Rattle.log_check.specs.declared.walk.WrongLine.{WrongLine}
 use Rattle.log_check.specs.Footers.{FooterHolds, HoldsFound, HoldsNone}

@@ -2,7 +2,7 @@
 
 ghost use Rattle.std.specs.Prelude.{◌≡◌, ◌+◌, ◌<◌, ◌^◌, [], length, IfOk, IfSome};
 ghost use Rattle.box_problem.specs.Box.{box_of};
-ghost use Rattle.log_lines.specs.ReadingLaws.{NoneTooDeep};
+ghost use Rattle.log_tree.specs.ReadingLaws.{NoneTooDeep};
 ghost use Rattle.log_rows.specs.Rows.{AreOrdered};
 ghost use Rattle.term_program.specs.Programs.{IsMade, root_in};
 ghost use Rattle.term_program.specs.Stated.{box_problem_of};
@@ -17,7 +17,7 @@ use crate::verdict::Verdict;
 use crate::view::LogView;
 use crate::walk::Walk;
 use box_store::BoxStore;
-use log_lines::Log;
+use log_tree::Log;
 use log_rows::Row;
 use sopl_base::Interval;
 use std::alloc::{AllocError, Global};

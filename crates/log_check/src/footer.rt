@@ -2,7 +2,7 @@
 
 ghost use Rattle.std.specs.Prelude.{◌≡◌, ◌<◌, [], length};
 ghost use Rattle.std.specs.Bool.{Decides};
-ghost use Rattle.log_lines.specs.ReadingLaws.{NoneTooDeep};
+ghost use Rattle.log_tree.specs.ReadingLaws.{NoneTooDeep};
 ghost use Rattle.log_check.specs.Footers.{FooterHolds, HoldsBound, HoldsFound, HoldsNone};
 ghost use Rattle.log_check.specs.Verdicts.{IsVerdict, first_line};
 ghost use Rattle.log_check.specs.Views.{IsReady, problem_in};

@@ -1,4 +1,18 @@
-pub mod Texts
-pub mod Ordered
-pub mod Growth
-pub mod Fitting
+mod Parting
+mod Sizes
+mod Solid
+mod Rereading
+mod Told
+mod Cuts
+mod FirstLines
+mod Bodies
+mod Keeping
+mod Nodes
+mod Claims
+mod Rows
+mod CleanLines
+mod TextsRead
+mod ReadTexts
+mod Texts
+mod OnlyReading
+mod Writing

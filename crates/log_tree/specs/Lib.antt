@@ -1,5 +1,9 @@
-pub mod Branch
-pub mod Sight
-pub mod Falls
-pub mod Grown
-pub mod Fitting
+pub mod Words
+pub mod Numbers
+pub mod Reading
+pub mod LineOf
+pub mod Cutting
+pub mod Reads
+pub mod Progress
+pub mod Slots
+pub mod ReadingLaws

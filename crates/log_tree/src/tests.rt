@@ -1,93 +1,136 @@
 use super::*;
-use crate::write::put_nodes;
-use log_rows::Footer;
-use sopl_base::{Reason, Steps};
+use sopl_base::Fault;
 use sopl_io::MemSink;
 use std::alloc::{AllocError, Global};
 use std::test::Fail;
 
-// A root that is closed.
-const CLOSED: &str = "sopl-log 1\nn 0 r\nf c 8\nend infeasible\n";
+// A text, with 0 and the number of its rows where it is read, or else the code and the line of its first mistake.
+const TEXTS: &[(&str, u16, usize)] = &[
+    ("sopl-log 1\nn 0 r\nf h 0 0\nend infeasible\n", 0, 1),
+    ("sopl-log 1\nn 0 r\nf h 0 0\nend infeasible", 0, 1),
+    ("sopl-log 1\r\nn 0 r\nf h 0 0\r\nend infeasible\r\n", 0, 1),
+    ("sopl-log 1\nn 0 r\nf h 0 0\nend infeasible\r", 301, 4),
+    ("sopl-log 1\nn 0 r\nf h 0", 301, 3),
+    ("sopl-log 1\nn 0 r\nf h 0 0\n", 301, 4),
+    ("", 301, 1),
+    ("sopl-log 1", 301, 2),
+    ("sopl-log 1\nend infeasible\n", 301, 2),
+    ("sopl-log 1\nn 1 r\nf h 0 0\nend infeasible\n", 302, 2),
+    (
+        "sopl-log 1\nn 0 r\nx 0 0\nn 1 0 h\nv\nn 2 0 l\nf b\nend optimal 1\n",
+        0,
+        3,
+    ),
+    (
+        "sopl-log 1\nn 0 r\nx 0 0\nn 1 0 h\nv\nn 2 0 h\nf b\nend optimal 1\n",
+        302,
+        6,
+    ),
+    ("sopl-log 1\nn 0 r\nv\nn 1 0 h\nv\nend optimal 1\n", 302, 4),
+    (
+        "sopl-log 1\nn 0 r\ns h 0 0 3 le -0\nv\nend optimal 1\n",
+        301,
+        3,
+    ),
+    (
+        "sopl-log 1\nn 0 r\ns h 0 0 3 le -9223372036854775808\nv\nend optimal 1\n",
+        0,
+        1,
+    ),
+    (
+        "sopl-log 1\nn 0 r\ns h 0 0 3 le -9223372036854775809\nv\nend optimal 1\n",
+        301,
+        3,
+    ),
+    (
+        "sopl-log 1\nn 0 r\ns h 0 0 4294967296 le 1\nv\nend optimal 1\n",
+        301,
+        3,
+    ),
+    ("sopl-log 1\nn 0 r\ns  b 4 le 1\nv\nend optimal 1\n", 301, 3),
+    ("sopl-log 1\nn 0 r\nv \nend optimal 1\n", 301, 3),
+    ("sopl-log 1\nn 0 r\nv\nend optimal 01\n", 301, 4),
+    (
+        "sopl-log 1\nn 0 r\nv\nend bounded none 170141183460469231731687303715884105727\n\n",
+        301,
+        5,
+    ),
+    ("sopl-log 1\nn 00 r\nv\nend optimal 1\n", 301, 2),
+    ("sopl-log 2\nn 0 r\nv\nend optimal 1\n", 301, 1),
+    (
+        "sopl-log 1\nn 0 r\nx 0 0\nn 1 18446744073709551616 h\nv\nend optimal 1\n",
+        301,
+        4,
+    ),
+    (
+        "sopl-log 1\nn 0 r\nx 0 0\nn 1 0 l\nx 1 0\nn 2 0 h\nx 1 0\nn 3 1 l\nv\nn 4 2 l\nv\nn 5 1 h\nv\nn 6 2 h\nv\nend optimal 1\n",
+        0,
+        7,
+    ),
+    (
+        "sopl-log 1\nn 0 r\nv\nend optimal 170141183460469231731687303715884105728\n",
+        301,
+        4,
+    ),
+    ("sopl-log 1\nn 0 r\nv\nn 0 r\nv\nend optimal 1\n", 302, 4),
+];
 
-// A root that is split: its high side was finished first, at a point; its low side is split too, and of that side neither side
-// is finished.
-const NODES: &str = "n 0 r\nx 0 -3\nn 1 0 h\nv\nn 2 0 l\nx 1 4\nn 3 2 l\no\nn 4 2 h\no\n";
+// A log that has each kind of line.
+const EACH_KIND: &str =
+    "sopl-log 1\nn 0 r\ns h 3 17 4 le -12\ns b 4294967295 ge 9223372036854775807\nx 0 -1\nn 1 0 l\nf c 2\nn 2 0 h\ns u 7 1 ge 0\nx 0 3\nn 3 2 h\nv\nn 4 2 l\no\nend bounded -7 170141183460469231731687303715884105727\n";
 
-fn node(alloc: Global, number: u64, end: End) -> Node {
-    Node {
-        number,
-        line: 0,
-        steps: Steps::new(alloc),
-        end,
+fn outcome(alloc: Global, text: &[u8]) -> (u16, usize) {
+    match read_log(alloc, text) {
+        Ok(log) => (0, log.rows.len()),
+        Err(Fault::Text(refusal)) => (refusal.code, refusal.at),
+        Err(_) => (1, 0),
     }
 }
 
-fn side(alloc: Global, number: u64, end: End) -> Result<Option<Box<Node>>, AllocError> {
-    let node = Box::new(alloc, node(alloc, number, end))?;
-    Ok(Some(node))
-}
-
-fn low_side(alloc: Global) -> Result<Option<Box<Node>>, AllocError> {
-    let low = side(alloc, 3, End::Unfinished)?;
-    let high = side(alloc, 4, End::Unfinished)?;
-    let end = End::Split {
-        cell: 1,
-        cut: 4,
-        low,
-        high,
-    };
-    side(alloc, 2, end)
-}
-
-fn sample(alloc: Global) -> Result<Node, AllocError> {
-    let low = low_side(alloc)?;
-    let high = side(alloc, 1, End::Point)?;
-    let end = End::Split {
-        cell: 0,
-        cut: -3,
-        low,
-        high,
-    };
-    Ok(node(alloc, 0, end))
+// A log of so many nodes, each the low side of the one before.
+fn chain(alloc: Global, nodes: usize) -> Result<Vec<u8>, AllocError> {
+    let mut text = Vec::new(alloc);
+    text.extend_from_slice(b"sopl-log 1\nn 0 r\n")?;
+    for number in 1..nodes {
+        let parent = number - 1;
+        let lines = format!(in alloc; "x 0 0\nn {number} {parent} l\n")?;
+        text.extend_from_slice(lines.as_bytes())?;
+    }
+    text.extend_from_slice(b"o\nend bounded none 0\n")?;
+    Ok(text)
 }
 
 #[test]
-fn a_closed_root_is_written(rt: HostRuntime) -> Result<(), Fail> {
+fn logs_are_read(rt: HostRuntime) -> Result<(), Fail> {
     let alloc = rt.alloc();
-    let log = Log {
-        root: Node {
-            number: 0,
-            line: 2,
-            steps: Steps::new(alloc),
-            end: End::Refuted(Reason::Chance { instance: 8 }),
-        },
-        nodes: 1,
-        footer: Footer::Infeasible,
+    for (text, code, at) in TEXTS {
+        let told = outcome(alloc, text.as_bytes());
+        println!(rt; "{text} -> {} {}, {code} {at}", told.0, told.1)?;
+        assert_eq!(rt; told.0, *code);
+        assert_eq!(rt; told.1, *at);
+    }
+    Ok(())
+}
+
+#[test]
+fn nodes_lie_at_a_limited_depth(rt: HostRuntime) -> Result<(), Fail> {
+    let alloc = rt.alloc();
+    let deepest = chain(alloc, 2049)?;
+    assert_eq!(rt; outcome(alloc, &deepest), (0, 2049));
+    let deeper = chain(alloc, 2050)?;
+    assert_eq!(rt; outcome(alloc, &deeper), (303, 4100));
+    Ok(())
+}
+
+#[test]
+fn what_is_read_is_written_again(rt: HostRuntime) -> Result<(), Fail> {
+    let alloc = rt.alloc();
+    let Ok(log) = read_log(alloc, EACH_KIND.as_bytes()) else {
+        panic!(rt; "not read")
     };
-    let mut sink = MemSink::new(alloc, 64, Vec::new(alloc))?;
+    let mut sink = MemSink::new(alloc, 512, Vec::new(alloc))?;
+    readings_are_texts();
     write_log(&log, &mut sink)?;
-    assert_eq!(rt; sink.bytes(), CLOSED.as_bytes());
-    Ok(())
-}
-
-#[test]
-fn nodes_are_written_in_their_order(rt: HostRuntime) -> Result<(), Fail> {
-    let alloc = rt.alloc();
-    let root = sample(alloc)?;
-    let mut sink = MemSink::new(alloc, 128, Vec::new(alloc))?;
-    put_nodes(&mut sink, &root)?;
-    assert_eq!(rt; sink.bytes(), NODES.as_bytes());
-    Ok(())
-}
-
-#[test]
-fn a_full_sink_has_a_prefix(rt: HostRuntime) -> Result<(), Fail> {
-    let alloc = rt.alloc();
-    let root = sample(alloc)?;
-    let mut sink = MemSink::new(alloc, 30, Vec::new(alloc))?;
-    let outcome = put_nodes(&mut sink, &root);
-    assert!(rt; outcome.is_err());
-    assert_eq!(rt; sink.bytes().len(), 30);
-    assert!(rt; NODES.as_bytes().starts_with(sink.bytes()));
+    assert_eq!(rt; sink.bytes(), EACH_KIND.as_bytes());
     Ok(())
 }

@@ -1,9 +1,0 @@
-pub mod Words
-pub mod Numbers
-pub mod Reading
-pub mod LineOf
-pub mod Cutting
-pub mod Reads
-pub mod Progress
-pub mod Slots
-pub mod ReadingLaws
