@@ -1,3 +1,4 @@
+mod FoundRows
 mod Parts
 mod Numbers
 pub mod WholeText

@@ -24,7 +24,7 @@ use Rattle.answer_texts.specs.declared.reply.Reply.{Reply}
 use Rattle.answer_texts.specs.declared.status.Status.{Status}
 use Rattle.answer_texts.specs.declared.status.Status.TheVariants.{Usage, ReadFault}
 use Rattle.answer_run.specs.Words.{Request, request_of}
-use Rattle.answer_run.specs.Replies.{IsAnswered, IsCutOff, cut_off, IsModelText, IsReply, replied, usage, read_fault, log_name}
+use Rattle.answer_run.specs.Replies.{IsAnswered, IsCutOff, cut_off, IsReply, replied, usage, read_fault, log_name}
 use Rattle.answer_run.specs.Runs.{Replied, StopsWith}
 
 -- a prefix of a text that is short enough is the whole text

@@ -5,3 +5,4 @@ pub mod Replies
 pub mod Runs
 pub mod Reads
 pub mod Calls
+pub mod WorkedWords

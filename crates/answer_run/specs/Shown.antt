@@ -1,12 +1,16 @@
--- What parts and requests of the program are.
+-- What rows, parts and requests of the program are.
 use Rattle.std.specs.Prelude.{ℕ, List}
 use Rattle.std.specs.Borrow.{Bor}
 use Rattle.answer_run.specs.Words as words
+use Rattle.answer_run.specs.declared.commands.CommandRow.{CommandRow}
 use Rattle.answer_run.specs.declared.options.Part.{Part}
 use Rattle.answer_run.specs.declared.request.Request.{Request}
 
 abbrev pub text_shown : Bor (List ℕ) → List ℕ
 text_shown text = text.now
+
+abbrev pub row_shown : CommandRow → words.CommandRow
+row_shown r = record { command = r.command; name = r.name.now; options = r.options.now; positional = r.positional }
 
 abbrev pub part_shown : Part → words.Part
 part_shown p = record { kind = p.kind; value = p.value.now }

@@ -4,11 +4,14 @@
 //! Its tests stand in `sopl`.
 #![tactic(auto)]
 
+mod commands;
 mod options;
 mod request;
 mod top;
 mod words;
+mod worked;
 
 pub use answer_texts::Status;
 pub use top::run;
 pub use words::{Word, Words};
+pub use worked::{worked_numbers, worked_positional_words, worked_requests};

@@ -4,8 +4,9 @@ ghost use Rattle.std.specs.Prelude.{◌≡◌, ◌≤◌, IfSome, option_map};
 ghost use Rattle.std.specs.Char.{is_ascii_digit};
 ghost use Rattle.std.specs.List.{list_all};
 ghost use Rattle.answer_run.specs.Words as spec;
-ghost use Rattle.answer_run.specs.Shown.{request_shown, text_shown};
+ghost use Rattle.answer_run.specs.Shown.{request_shown, row_shown, text_shown};
 
+use crate::commands::{CommandRow, row_named};
 use crate::options::{Kind, given};
 use crate::words::{Word, Words};
 use answer_texts::Command;
@@ -13,7 +14,7 @@ use answer_texts::Command;
 /// How many nodes a search may finish where the words give no budget.
 const USUAL_BUDGET: u32 = 1_000_000;
 
-/// The digits that a budget may have.
+/// The digits that a number may have.
 const MOST_DIGITS: usize = 10;
 
 /// What the words ask for: a command, the file of the model that it works on, how many nodes a search may finish, and the name
@@ -33,86 +34,84 @@ fn all_digits(word: &[u8]) -> bool
     word.iter().all(|byte| byte.is_ascii_digit())
 }
 
-/// Whether a word is decimal digits, and not too many.
+/// Whether a word is decimal digits, at least one and not too many.
 #[tactic(auto, using(crate::proofs::Numbers::few_digits))]
 fn is_digits(word: &[u8]) -> bool
     ensures { result ≡ spec.is_digits word.now }
 {
-    if word.len() > MOST_DIGITS {
+    if word.is_empty() || word.len() > MOST_DIGITS {
         return false;
     }
     all_digits(word)
 }
 
-/// A number of decimal digits, at least 1.
-fn number_of(word: &str) -> Option<u32>
-    ensures number { result ≡ spec.number_of word.now }
-    ensures least { IfSome result (λ number. 1 ≤ number) }
+/// A number where it lies between these two.
+fn between(least: u32, number: u32, most: u32) -> Option<u32>
+    ensures number { result ≡ spec.in_range least most number }
+    ensures from { IfSome result (λ n. least ≤ n) }
+{
+    if number < least || number > most {
+        return None;
+    }
+    Some(number)
+}
+
+/// The number that a word writes in decimal digits, where it lies between these two.
+fn number_of(word: &str, least: u32, most: u32) -> Option<u32>
+    ensures number { result ≡ spec.number_of least most word.now }
+    ensures from { IfSome result (λ number. least ≤ number) }
 {
     if !is_digits(word.as_bytes()) {
         return None;
     }
     match word.parse::<u32>() {
-        Ok(number) if number > 0 => Some(number),
-        _ => None,
+        Ok(number) => between(least, number, most),
+        Err(_) => None,
     }
 }
 
 /// The budget, which is the usual one where none is given.
-fn budget_in(command: Command, words: &[Word]) -> Option<u32>
-    ensures budget { result ≡ spec.budget_in command words.now }
+fn budget_in(row: CommandRow, words: &[Word]) -> Option<u32>
+    ensures budget { result ≡ spec.budget_in (row_shown row) words.now }
     ensures least { IfSome result (λ budget. 1 ≤ budget) }
 {
-    match given(command, Kind::Budget, words)? {
-        Some(value) => number_of(value),
+    match given(row, Kind::Budget, words)? {
+        Some(value) => number_of(value, 1, u32::MAX),
         None => Some(USUAL_BUDGET),
     }
 }
 
 /// The log's name, which is empty where none is given.
-fn log_in<'a>(command: Command, words: &'a [Word]) -> Option<&'a str>
-    ensures { option_map text_shown result ≡ spec.log_in command words.now }
+fn log_in<'a>(row: CommandRow, words: &'a [Word]) -> Option<&'a str>
+    ensures { option_map text_shown result ≡ spec.log_in (row_shown row) words.now }
 {
-    match given(command, Kind::Log, words)? {
+    match given(row, Kind::Log, words)? {
         Some(name) => Some(name),
         None => Some(""),
     }
 }
 
-/// The file of the model.
-fn model_in<'a>(command: Command, words: &'a [Word]) -> Option<&'a str>
-    ensures { option_map text_shown result ≡ spec.model_in command words.now }
+/// The positional word behind so many others.
+fn positional_in<'a>(row: CommandRow, place: usize, words: &'a [Word]) -> Option<&'a str>
+    ensures { option_map text_shown result ≡ spec.positional_in (row_shown row) place words.now }
 {
-    given(command, Kind::Plain, words)?
+    given(row, Kind::Plain(place), words)?
 }
 
 /// What is asked for by a command and the words behind it.
-fn requested<'a>(command: Command, words: &'a [Word]) -> Option<Request<'a>>
-    ensures request { option_map request_shown result ≡ spec.requested command words.now }
+fn requested<'a>(row: CommandRow, words: &'a [Word]) -> Option<Request<'a>>
+    ensures request { option_map request_shown result ≡ spec.requested (row_shown row) words.now }
     ensures least { IfSome result (λ request. 1 ≤ request.budget) }
 {
-    let budget = budget_in(command, words)?;
-    let log = log_in(command, words)?;
-    let model = model_in(command, words)?;
+    let budget = budget_in(row, words)?;
+    let log = log_in(row, words)?;
+    let model = positional_in(row, 0, words)?;
     Some(Request {
-        command,
+        command: row.command,
         model,
         budget,
         log,
     })
-}
-
-/// The command of this name.
-fn command_named(word: &str) -> Option<Command>
-    ensures { result ≡ spec.command_named word.now }
-{
-    if word == "solve" {
-        return Some(Command::Solve);
-    }
-    if word == "tree" {
-        return Some(Command::Tree);
-    }
-    None
 }
 
 /// What the words ask for: the name of a command, and behind it its options and the file of the model.
@@ -123,5 +122,5 @@ pub fn asked(words: &Words) -> Option<Request<'_>>
     let [name, later @ ..] = words.as_slice() else {
         return None;
     };
-    requested(command_named(name.as_str())?, later)
+    requested(row_named(name.as_str())?, later)
 }

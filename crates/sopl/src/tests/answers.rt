@@ -47,7 +47,28 @@ const CASES: &[Case] = &[
         ORDER_ANSWER,
         "end optimal 2",
     ),
+    (
+        &["solve", "m", "--budget=0000007000"],
+        ORDER,
+        Status::Done,
+        ORDER_ANSWER,
+        "end optimal 2",
+    ),
     (&[], ORDER, Status::Usage, "{\"answer\":\"usage\"}\n", ""),
+    (
+        &["solve", ""],
+        ORDER,
+        Status::Usage,
+        "{\"answer\":\"usage\"}\n",
+        "",
+    ),
+    (
+        &["", "m"],
+        ORDER,
+        Status::Usage,
+        "{\"answer\":\"usage\"}\n",
+        "",
+    ),
     (
         &["solve", "m"],
         "",
@@ -84,24 +105,32 @@ solve
 tree
 tree -m
 trees m
+Solve m
 solve --budget 0 m
 solve -- m
-solve --branch x m
+solve --branch nobody m
 solve --budget 3 --budget 3 m
 solve --budget 3 --budget=3 m
+solve --budget=3 m --budget 4
 solve --budget m
 solve --budget -3 m
 solve --budget= m
+solve m --budget=
 solve --budget 12345678901 m
 solve --budget 4294967296 m
 solve --budget 3x m
 solve --budget +3 m
+solve --budget=+3 m
 solve --log m
 solve --log= m
 solve --log -f m
 solve --log f --log f m
 solve m --log
+solve --log --budget 3 m
+solve m m
 solve m n
+solve m --budget 3 n
+tree m n
 solve =m -m
 solve --log f
 tree --budget 3 m

@@ -1,0 +1,59 @@
+//! Words whose meaning is known.
+
+ghost use Rattle.std.specs.Prelude.{◌≡◌, Some, None, [], ◌∷◌, codes, map};
+ghost use Rattle.answer_texts.specs.declared.command.Command.TheVariants.{Solve, Tree as ShowTree};
+ghost use Rattle.answer_run.specs.declared.options.Kind.TheVariants.{Budget};
+ghost use Rattle.answer_run.specs.Words.{given, model_of, number_of, parts_of, positional_in, request_of};
+ghost use Rattle.answer_run.specs.WorkedWords.{asks, two_or_budget, two_words};
+
+/// Two positional words, which a row of the table may ask for: each by its place, with an option before, between and behind them; one too few and
+/// one too many; a word that is empty or is no option of the row.
+pub fn worked_positional_words()
+    ensures first { positional_in two_words 0 (map codes ("m" ∷ "l" ∷ [])) ≡ Some (codes "m") }
+    ensures second { positional_in two_words 1 (map codes ("m" ∷ "l" ∷ [])) ≡ Some (codes "l") }
+    ensures alike { positional_in two_words 1 (map codes ("m" ∷ "m" ∷ [])) ≡ Some (codes "m") }
+    ensures no_third { positional_in two_words 2 (map codes ("m" ∷ "l" ∷ [])) ≡ None }
+    ensures none { parts_of two_words 0 [] ≡ None }
+    ensures too_few { parts_of two_words 0 (map codes ("m" ∷ [])) ≡ None }
+    ensures first_of_too_few { positional_in two_words 0 (map codes ("m" ∷ [])) ≡ None }
+    ensures too_many { parts_of two_words 0 (map codes ("m" ∷ "l" ∷ "k" ∷ [])) ≡ None }
+    ensures empty_one { parts_of two_words 0 (map codes ("m" ∷ "" ∷ [])) ≡ None }
+    ensures no_option { parts_of two_words 0 (map codes ("m" ∷ "--budget" ∷ "l" ∷ [])) ≡ None }
+    ensures option_before { positional_in two_or_budget 1 (map codes ("--budget" ∷ "3" ∷ "m" ∷ "l" ∷ [])) ≡ Some (codes "l") }
+    ensures option_between { positional_in two_or_budget 1 (map codes ("m" ∷ "--budget" ∷ "3" ∷ "l" ∷ [])) ≡ Some (codes "l") }
+    ensures option_behind { positional_in two_or_budget 1 (map codes ("m" ∷ "l" ∷ "--budget=3" ∷ [])) ≡ Some (codes "l") }
+    ensures value_of_option { given two_or_budget Budget (map codes ("m" ∷ "--budget" ∷ "3" ∷ "l" ∷ [])) ≡ Some (Some (codes "3")) }
+    ensures too_many_and_option { given two_or_budget Budget (map codes ("m" ∷ "--budget=3" ∷ "l" ∷ "k" ∷ [])) ≡ None }
+    ensures option_twice { given two_or_budget Budget (map codes ("m" ∷ "--budget=3" ∷ "l" ∷ "--budget" ∷ "4" ∷ [])) ≡ None }
+    ensures too_few_and_option { given two_or_budget Budget (map codes ("--budget=3" ∷ "m" ∷ [])) ≡ None }
+    ensures option_of_another { parts_of two_or_budget 0 (map codes ("m" ∷ "l" ∷ "--log=f" ∷ [])) ≡ None }
+{}
+
+/// Numbers: from 1 to 9, and from 0 to the greatest of 31 bits; zeros may stand in front, ten digits in all.
+pub fn worked_numbers()
+    ensures from_one { map (number_of 1 9) (map codes ("1" ∷ "9" ∷ "0009" ∷ "0000000009" ∷ [])) ≡ Some 1 ∷ Some 9 ∷ Some 9 ∷ Some 9 ∷ [] }
+    ensures out_of_range { map (number_of 1 9) (map codes ("0" ∷ "10" ∷ "99999999999" ∷ [])) ≡ None ∷ None ∷ None ∷ [] }
+    ensures from_zero { map (number_of 0 2147483647) (map codes ("0" ∷ "0000000000" ∷ "2147483647" ∷ [])) ≡ Some 0 ∷ Some 0 ∷ Some 2147483647 ∷ [] }
+    ensures too_large { map (number_of 0 2147483647) (map codes ("2147483648" ∷ "9999999999" ∷ [])) ≡ None ∷ None ∷ [] }
+    ensures no_digits { map (number_of 0 2147483647) (map codes ("" ∷ "+3" ∷ "3x" ∷ " 3" ∷ [])) ≡ None ∷ None ∷ None ∷ None ∷ [] }
+    ensures too_long { map (number_of 0 9) (map codes ("00000000009" ∷ [])) ≡ None ∷ [] }
+{}
+
+/// What the words of a command line ask for, and words that ask for nothing.
+pub fn worked_requests()
+    ensures usual { request_of (map codes ("solve" ∷ "m" ∷ [])) ≡ Some (asks Solve 1000000 []) }
+    ensures options_behind { request_of (map codes ("solve" ∷ "m" ∷ "--log" ∷ "f" ∷ "--budget" ∷ "7000" ∷ [])) ≡ Some (asks Solve 7000 (codes "f")) }
+    ensures options_before { request_of (map codes ("solve" ∷ "--log=a=b" ∷ "--budget=4294967295" ∷ "m" ∷ [])) ≡ Some (asks Solve 4294967295 (codes "a=b")) }
+    ensures tree { request_of (map codes ("tree" ∷ "m" ∷ [])) ≡ Some (asks ShowTree 1000000 []) }
+    ensures model { model_of (map codes ("solve" ∷ "--budget" ∷ "3" ∷ "m" ∷ [])) ≡ Some (codes "m") }
+    ensures no_command { map request_of ([] ∷ map codes ("" ∷ "m" ∷ []) ∷ map codes ("Solve" ∷ "m" ∷ []) ∷ map codes ("trees" ∷ "m" ∷ []) ∷ []) ≡ None ∷ None ∷ None ∷ None ∷ [] }
+    ensures no_model { map request_of (map codes ("solve" ∷ []) ∷ map codes ("solve" ∷ "" ∷ []) ∷ map codes ("solve" ∷ "--" ∷ "m" ∷ []) ∷ map codes ("tree" ∷ "-m" ∷ []) ∷ [])
+        ≡ None ∷ None ∷ None ∷ None ∷ [] }
+    ensures two_models { map request_of (map codes ("solve" ∷ "m" ∷ "m" ∷ []) ∷ map codes ("tree" ∷ "m" ∷ "n" ∷ []) ∷ []) ≡ None ∷ None ∷ [] }
+    ensures no_value { map request_of (map codes ("solve" ∷ "m" ∷ "--log" ∷ []) ∷ map codes ("solve" ∷ "m" ∷ "--budget=" ∷ []) ∷ map codes ("solve" ∷ "--log" ∷ "--budget" ∷ "3" ∷ "m" ∷ []) ∷ [])
+        ≡ None ∷ None ∷ None ∷ [] }
+    ensures no_budget { map request_of (map codes ("solve" ∷ "--budget" ∷ "0" ∷ "m" ∷ []) ∷ map codes ("solve" ∷ "m" ∷ "--budget=4294967296" ∷ []) ∷ map codes ("solve" ∷ "--budget=+3" ∷ "m" ∷ []) ∷ [])
+        ≡ None ∷ None ∷ None ∷ [] }
+    ensures twice { request_of (map codes ("solve" ∷ "--budget=3" ∷ "m" ∷ "--budget" ∷ "4" ∷ [])) ≡ None }
+    ensures option_of_another { map request_of (map codes ("tree" ∷ "--budget" ∷ "3" ∷ "m" ∷ []) ∷ map codes ("solve" ∷ "--branch" ∷ "lower" ∷ "m" ∷ []) ∷ []) ≡ None ∷ None ∷ [] }
+{}
