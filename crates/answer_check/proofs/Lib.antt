@@ -1,0 +1,4 @@
+pub mod Nodes
+pub mod Claiming
+pub mod Replying
+pub mod Ending

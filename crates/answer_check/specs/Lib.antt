@@ -1,0 +1,5 @@
+pub mod CheckData
+pub mod Claims
+pub mod CheckReplies
+pub mod Verdicts
+pub mod CheckLaws

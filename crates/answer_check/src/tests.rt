@@ -1,0 +1,210 @@
+use super::check_reply;
+use answer_texts::Status;
+use scen_accept::stated_in;
+use sopl_base::Fault;
+use std::alloc::{AllocError, Global};
+use std::test::Fail;
+
+const ONE: &str = "dvar int x in 0..1; maximize expected(x); subject to { }";
+
+const FOUR: &str = "dvar int x in 0..3; maximize expected(x); subject to { }";
+
+const NONE: &str = "dvar int x in 0..1; subject to { x >= 2; }";
+
+const ORDER: &str =
+    "dvar int x in 0..5 stage 1; stoch int d in {1:1, 3:1} stage 1; dvar int y in 0..3 stage 2; maximize expected(4*y - 3*x); subject to { y <= d; y <= x; }";
+
+const LARGE: &str = "dvar int x in 0..65535; subject to { x*1099511627776 >= 0; }";
+
+const UNSOLVED: &str =
+    "range R = 1..3; dvar int x[R] in 1..2; subject to { allDifferent(all(i in R) x[i]); }";
+
+// A text, and logs of it, each with the status and the line that must come; the lines of a log are parted by ` / `. Each log was worked out by hand.
+const LOGS: &[(&str, &str, Status, &str)] = &[
+    (
+        ONE,
+        "sopl-log 1 / n 0 r / x 0 0 / n 1 0 l / v / n 2 0 h / v / end optimal 1",
+        Status::Done,
+        r#"{"answer":"accepted","claim":"optimal","value":"1/1"}"#,
+    ),
+    // the first point is no better than 0, the second is
+    (
+        ONE,
+        "sopl-log 1 / n 0 r / x 0 0 / n 1 0 l / v / n 2 0 h / v / end optimal 0",
+        Status::Failing,
+        r#"{"answer":"rejected","line":7,"node":2}"#,
+    ),
+    // no point has the value 2, and the node of the last line is the number of nodes
+    (
+        ONE,
+        "sopl-log 1 / n 0 r / x 0 0 / n 1 0 l / v / n 2 0 h / v / end optimal 2",
+        Status::Failing,
+        r#"{"answer":"rejected","line":8,"node":3}"#,
+    ),
+    (
+        ONE,
+        "sopl-log 1 / n 0 r / x 0 0 / n 1 0 l / v / end optimal 0",
+        Status::Failing,
+        r#"{"answer":"rejected","line":3,"node":0}"#,
+    ),
+    (
+        ONE,
+        "sopl-log 1 / n 0 r / x 0 0 / n 1 0 l / o / n 2 0 h / o / end bounded none 1",
+        Status::Done,
+        r#"{"answer":"accepted","bound":"1/1","claim":"bounded"}"#,
+    ),
+    (
+        ONE,
+        "sopl-log 1 / n 0 r / x 0 0 / n 1 0 l / o / n 2 0 h / o / end bounded none 2",
+        Status::Failing,
+        r#"{"answer":"rejected","line":8,"node":3}"#,
+    ),
+    (
+        FOUR,
+        "sopl-log 1 / n 0 r / x 0 1 / n 1 0 l / x 0 0 / n 2 1 l / v / n 3 0 h / o / n 4 1 h / o / end bounded 0 3",
+        Status::Done,
+        r#"{"answer":"accepted","bound":"3/1","claim":"bounded","value":"0/1"}"#,
+    ),
+    (
+        FOUR,
+        "sopl-log 1 / n 0 r / x 0 1 / n 1 0 l / x 0 0 / n 2 1 l / v / n 3 0 h / o / n 4 1 h / o / end bounded 0 1",
+        Status::Failing,
+        r#"{"answer":"rejected","line":12,"node":5}"#,
+    ),
+    (
+        NONE,
+        "sopl-log 1 / n 0 r / f h 0 0 / end infeasible",
+        Status::Done,
+        r#"{"answer":"accepted","claim":"infeasible"}"#,
+    ),
+    (
+        NONE,
+        "sopl-log 1 / n 0 r / o / end infeasible",
+        Status::Failing,
+        r#"{"answer":"rejected","line":3,"node":0}"#,
+    ),
+    (
+        ORDER,
+        "sopl-log 1 / n 0 r / s h 0 0 1 le 1 / s b 0 le 2 / s h 1 1 2 le 2 / s b 0 le 1 / s h 1 1 2 le 1 / x 0 0 / n 1 0 l / s h 1 0 1 le 0 / s h 1 1 2 le 0 / v / n 2 0 h / x 1 0 / n 3 2 l / f b / n 4 2 h / x 2 0 / n 5 4 l / f b / n 6 4 h / v / end optimal 2",
+        Status::Done,
+        r#"{"answer":"accepted","claim":"optimal","value":"2/2"}"#,
+    ),
+    // a step that cuts off more than its reason refutes
+    (
+        ORDER,
+        "sopl-log 1 / n 0 r / s h 0 0 1 le 1 / s b 0 le 2 / s h 1 1 2 le 1 / s b 0 le 1 / x 0 0 / n 1 0 l / s h 1 0 1 le 0 / s h 1 1 2 le 0 / v / n 2 0 h / x 1 0 / n 3 2 l / f b / n 4 2 h / x 2 0 / n 5 4 l / f b / n 6 4 h / v / end optimal 2",
+        Status::Failing,
+        r#"{"answer":"rejected","line":5,"node":0}"#,
+    ),
+    // a node that is no point
+    (
+        ORDER,
+        "sopl-log 1 / n 0 r / s h 0 0 1 le 1 / s b 0 le 2 / s h 1 1 2 le 2 / s b 0 le 1 / s h 1 1 2 le 1 / x 0 0 / n 1 0 l / s h 1 0 1 le 0 / s h 1 1 2 le 0 / v / n 2 0 h / x 1 0 / n 3 2 l / v / n 4 2 h / x 2 0 / n 5 4 l / f b / n 6 4 h / v / end optimal 2",
+        Status::Failing,
+        r#"{"answer":"rejected","line":16,"node":3}"#,
+    ),
+    // a value that no point of the log has
+    (
+        FOUR,
+        "sopl-log 1 / n 0 r / x 0 1 / n 1 0 h / f b / n 2 0 l / f b / end bounded 3 3",
+        Status::Failing,
+        r#"{"answer":"rejected","line":8,"node":3}"#,
+    ),
+    // two wrong lines, of which a walk along the low sides meets the later one first
+    (
+        FOUR,
+        "sopl-log 1 / n 0 r / x 0 1 / n 1 0 h / f b / n 2 0 l / v / end optimal 2",
+        Status::Failing,
+        r#"{"answer":"rejected","line":5,"node":1}"#,
+    ),
+    (
+        ONE,
+        "",
+        Status::Unreadable,
+        r#"{"answer":"unreadable","at":1,"code":301}"#,
+    ),
+    (
+        ONE,
+        "sopl-log 1 / n 0 r / x 0 0 / n 1 0 l / v / n 2 0 h",
+        Status::Unreadable,
+        r#"{"answer":"unreadable","at":7,"code":301}"#,
+    ),
+    (
+        ONE,
+        "sopl-log 1 / n 0 r / v / n 0 r / v / end optimal 1",
+        Status::Unreadable,
+        r#"{"answer":"unreadable","at":4,"code":302}"#,
+    ),
+    // a text that is not solved yet is told before its log is looked at
+    (
+        UNSOLVED,
+        "",
+        Status::Refused,
+        r#"{"answer":"refused","at":52,"code":117}"#,
+    ),
+    // and so is the limit that the terms of a text pass
+    (
+        LARGE,
+        "",
+        Status::Limit,
+        r#"{"answer":"limit","code":207,"counted":"72056494526300160","limit":"1099511627776"}"#,
+    ),
+];
+
+// The bytes of a log.
+fn bytes_of(alloc: Global, log: &str) -> Result<String, AllocError> {
+    let mut text = String::new(alloc);
+    if log.is_empty() {
+        return Ok(text);
+    }
+    for line in log.split(" / ") {
+        text.push_str(line)?;
+        text.push('\n')?;
+    }
+    Ok(text)
+}
+
+// The status and the line of a check.
+fn answered(alloc: Global, text: &str, log: &[u8]) -> Result<(Status, String), Fault> {
+    let stated = stated_in(alloc, text.as_bytes())?;
+    let reply = check_reply(alloc, &stated, log)?;
+    Ok((reply.status, reply.line))
+}
+
+#[test]
+fn logs_are_checked(rt: HostRuntime) -> Result<(), Fail> {
+    let alloc = rt.alloc();
+    for (text, log, status, line) in LOGS {
+        let bytes = bytes_of(alloc, log)?;
+        let Ok((ended, told)) = answered(alloc, text, bytes.as_bytes()) else {
+            panic!(rt; "{text}: no answer")
+        };
+        println!(rt; "{log} -> {}", told.as_str())?;
+        assert_eq!(rt; ended, *status, "{log}");
+        assert_eq!(rt; told.as_str().strip_suffix("\n"), Some(*line), "{log}");
+    }
+    Ok(())
+}
+
+#[test]
+fn logs_that_are_cut_are_unreadable(rt: HostRuntime) -> Result<(), Fail> {
+    let alloc = rt.alloc();
+    let bytes = bytes_of(
+        alloc,
+        "sopl-log 1 / n 0 r / x 0 0 / n 1 0 l / v / n 2 0 h / v / end optimal 1",
+    )?;
+    let mut cut = Vec::new(alloc);
+    for byte in bytes.as_bytes() {
+        let Ok((ended, told)) = answered(alloc, ONE, cut.as_slice()) else {
+            panic!(rt; "no answer")
+        };
+        // the last line may lack its line feed
+        if cut.len() + 1 < bytes.len() {
+            assert_eq!(rt; ended, Status::Unreadable, "{}", told.as_str());
+        } else {
+            assert_eq!(rt; ended, Status::Done, "{}", told.as_str());
+        }
+        cut.push(*byte)?;
+    }
+    Ok(())
+}
