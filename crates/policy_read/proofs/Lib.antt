@@ -1,0 +1,12 @@
+mod Texts
+mod Alike
+mod Pairs
+mod Firsts
+mod Domained
+mod Placing
+mod Nodes
+mod Printing
+mod Small
+mod Visited
+mod Putting
+mod RoundTrip

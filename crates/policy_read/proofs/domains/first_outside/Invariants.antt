@@ -1,0 +1,6 @@
+use Rattle.std.proofs.Common.{◌≡◌, drop}
+use Rattle.policy_read.specs.Domains as spec
+use Rattle.policy_read.proofs.domains.first_outside.Given as goal
+
+abbrev pub invariant-values : goal.invariant-values
+invariant-values l = spec.first_outside l.domains (drop l.i l.told) ≡ spec.first_outside l.domains l.told

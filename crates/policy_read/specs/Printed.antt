@@ -1,0 +1,44 @@
+-- Policies whose JSON is of whole numbers of 64 signed bits.
+use Rattle.std.specs.Prelude.{◌≡◌, ◌-◌, ◌^◌, ℕ, ℤ, pos, ◌<ℤ◌, List, Some, None, codes, length}
+use Rattle.std.specs.List.{AllByRecursion}
+use Rattle.serde_json.specs.Data.{Data}
+use Rattle.serde_json.specs.Find.{get}
+use Rattle.sopl_ast.specs.Cells.{IsPoint, cells, policy_at}
+use Rattle.sopl_ast.specs.Instances.{Decision, Outcome, Problem, Stochastic}
+use Rattle.unfold_laws.specs.Bounds.{IsBoundedDecision}
+use Rattle.policy_json.specs.LastStage.{last_stage}
+use Rattle.policy_json.specs.Nodes.{policy_data}
+use Rattle.policy_json.specs.Staged.{IsStaged}
+use Rattle.policy_read.specs.Listed.{data_in}
+use Rattle.policy_read.specs.Forms.{facing, first_difference, nodes_of}
+use Rattle.policy_read.specs.Policies.{Point, form_for, node_read, policy_in}
+
+-- a number below 2^63: JSON that shows it is read as one of 64 signed bits
+abbrev pub IsReadable : ℤ → Type 0
+IsReadable z = z <ℤ pos (2 ^ 63)
+
+-- all indices of a problem, all values of its stochastic variables and those of a point are so
+pub record AreReadable (problem : Problem) (values : List ℤ) : Type 0 where
+  pub decided : AllByRecursion (λ (d : Decision). AllByRecursion IsReadable d.index) problem.decisions
+  pub drawn : AllByRecursion (λ (s : Stochastic). AllByRecursion IsReadable s.index × AllByRecursion (λ (o : Outcome). IsReadable o.value) s.outcomes) problem.stochastics
+  pub valued : AllByRecursion IsReadable values
+
+-- no node of what is printed of a point's policy differs from the form's
+abbrev pub PrintsInForm : Type 0
+PrintsInForm =
+    (problem : Problem) (values : List ℤ) → length values ≡ length (cells problem) → AreReadable problem values
+    → first_difference (nodes_of (last_stage problem.decisions - 1)
+    (facing (form_for problem.decisions problem.stochastics) (policy_data problem (policy_at (cells problem) values)))) ≡ None
+
+-- what is printed of a point's policy is read as the point
+abbrev pub PrintedIsRead : Type 0
+PrintedIsRead =
+    (problem : Problem) (values : List ℤ) → IsStaged problem → AllByRecursion IsBoundedDecision problem.decisions → IsPoint (cells problem) values → AreReadable problem values
+    → node_read problem.decisions problem.stochastics (policy_data problem (policy_at (cells problem) values)) ≡ Point values
+
+-- and so is each text whose data has it as its member `policy`
+abbrev pub TextsAreRead : Type 0
+TextsAreRead =
+    (problem : Problem) (values : List ℤ) → IsStaged problem → AllByRecursion IsBoundedDecision problem.decisions → IsPoint (cells problem) values → AreReadable problem values
+    → (text : List ℕ) (d : Data) → data_in text ≡ Some d → get (codes "policy") d ≡ Some (policy_data problem (policy_at (cells problem) values))
+    → policy_in problem.decisions problem.stochastics text ≡ Point values
