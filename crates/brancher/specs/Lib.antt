@@ -1,0 +1,5 @@
+pub mod Rules
+pub mod Choices
+pub mod Finding
+pub mod Counters
+pub mod Picks

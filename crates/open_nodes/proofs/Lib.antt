@@ -1,0 +1,7 @@
+pub mod Places
+mod Numbers
+mod Parts
+pub mod Walking
+pub mod Going
+pub mod Arriving
+pub mod Joining

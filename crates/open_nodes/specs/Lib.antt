@@ -1,0 +1,5 @@
+pub mod Ways
+pub mod WayLaws
+pub mod Walks
+pub mod Takes
+pub mod SeatLaws

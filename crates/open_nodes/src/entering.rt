@@ -1,0 +1,38 @@
+//! A box that goes to an open node.
+
+ghost use Rattle.std.specs.Prelude.{ℕ, [], map, OnOk};
+ghost use Rattle.box_problem.specs.Box.{Box};
+ghost use Rattle.open_nodes.specs.Walks.{IsEntered, IsGoing, IsKnownWay};
+
+use crate::descending::take_side;
+use crate::split::SplitNode;
+use crate::walk::BoxWalk;
+use sopl_base::Side;
+use std::alloc::{AllocError, Global};
+
+impl BoxWalk {
+    /// Goes down these splits, the last one first.
+    #[tactic(auto, using(crate::proofs::Arriving::is_above, crate::proofs::Arriving::gone_on))]
+    fn go_down(&mut self, split: &SplitNode, downs: &mut Vec<&SplitNode>) -> Result<(), AllocError>
+        requires going { (root : Box) × (f : ℕ → Box) × IsGoing root f self.old (map (λ r. r.now) downs.old.items) split.now }
+        ensures gone { (root : Box) (f : ℕ → Box) → IsGoing root f self.old (map (λ r. r.now) downs.old.items) split.now → OnOk result (IsGoing root f self.new [] split.now) }
+    {
+        'splits: while let Some(next) = downs.pop() {
+            self.descend(next)?;
+        }
+        Ok(())
+    }
+
+    /// Goes to the box with which a side of a split begins.
+    #[tactic(auto, using(crate::proofs::Arriving::as_many, crate::proofs::Arriving::met_above, crate::proofs::Arriving::there))]
+    pub fn enter(&mut self, alloc: Global, split: &SplitNode, side: Side) -> Result<(), AllocError>
+        requires known { (root : Box) × (f : ℕ → Box) × IsKnownWay root f self.old split.now }
+        ensures entered { (root : Box) (f : ℕ → Box) → IsKnownWay root f self.old split.now → OnOk result (IsEntered root f self.new split.now side) }
+    {
+        let mut downs = Vec::new(alloc);
+        self.meet(split, &mut downs)?;
+        self.settle()?;
+        self.go_down(split, &mut downs)?;
+        take_side(&mut self.store, &split.cut, side)
+    }
+}

@@ -1,0 +1,21 @@
+//! The open nodes of a search that several seats share, and a box that goes from one of them to another. An open node keeps no box: it keeps the split of
+//! which it is a side, and that split the one above it, so that nodes share their ways up to the root. Each seat has a list of open nodes.
+#![tactic(auto)]
+
+mod descending;
+mod entering;
+mod halving;
+mod laws;
+mod rising;
+mod seats;
+mod split;
+mod walk;
+
+pub use halving::Halving;
+pub use laws::{gives_are_even, takes_are_even, ways_are_known, ways_are_rows};
+pub use seats::{OpenNode, Seat, Seats};
+pub use split::{SplitNode, made, release};
+pub use walk::BoxWalk;
+
+#[cfg(test)]
+mod tests;

@@ -1,0 +1,58 @@
+//! A node that was split.
+
+ghost use Rattle.std.specs.Prelude.{◌≡◌, Some, IfOk};
+ghost use Rattle.sopl_base.specs.declared.reason.Side.TheVariants.{Le};
+ghost use Rattle.box_problem.specs.Box.{Box};
+ghost use Rattle.open_nodes.specs.Ways.{side_box, above_box, node_number};
+
+use crate::halving::Halving;
+use sopl_base::{Side, Steps};
+use std::alloc::{AllocError, Global};
+use std::rc::Rc;
+
+/// A node that was split, as long as a node below it is open: the split above it and the side of that one which it is, its number, how many splits
+/// are above it, its steps, and its cut.
+#[derive(Drop)]
+pub struct SplitNode {
+    pub above: Option<Rc<SplitNode>>,
+    pub side: Side,
+    pub node: u64,
+    pub depth: u64,
+    pub steps: Steps,
+    pub cut: Halving,
+}
+
+/// A node below a split.
+pub fn made(
+    alloc: Global,
+    above: Option<Rc<SplitNode>>,
+    side: Side,
+    node: u64,
+    depth: u64,
+    steps: Steps,
+    cut: Halving,
+) -> Result<Rc<SplitNode>, AllocError>
+    ensures node { IfOk result (λ made. node_number made.value ≡ node) }
+{
+    let split = SplitNode {
+        above,
+        side,
+        node,
+        depth,
+        steps,
+        cut,
+    };
+    let made = Rc::new(alloc, split)?;
+    Ok(made)
+}
+
+/// Lets go of the way to a node that is done with, split by split, as far as no other node shares it.
+pub fn release(way: Option<Rc<SplitNode>>) {
+    let mut way = way;
+    'splits: while let Some(split) = way {
+        way = match Rc::into_inner(split) {
+            Some(last) => last.above,
+            None => None,
+        };
+    }
+}
