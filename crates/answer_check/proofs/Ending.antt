@@ -16,13 +16,17 @@ use Rattle.compile_laws.specs.WellMade.{IsUnfolded}
 use Rattle.answer_texts.specs.Logs.{searched_problem}
 use Rattle.answer_texts.specs.Solved.{SolvedText}
 use Rattle.answer_texts.specs.declared.status.Status.{Status}
-use Rattle.answer_texts.specs.declared.status.Status.TheVariants.{Done}
+use Rattle.answer_texts.specs.declared.status.Status.TheVariants.{Done, Refused, Limit}
+use Rattle.answer_texts.specs.Replies.{IsLimitedOn, IsRefusedOn}
+use Rattle.answer_texts.specs.Replies as ends
+use Rattle.answer_texts.specs.declared.command.Command.TheVariants.{Solve}
 use Rattle.answer_texts.proofs.Ended.{accepted_end_once}
+use Rattle.answer_texts.proofs.Ends.{ends_alike, one_limit_on, one_refusal_on}
 use Rattle.answer_lines.specs.AnswerData.{limit_data, line_of, refused_data}
 use Rattle.answer_check.specs.CheckData.{accepted_data, rejected_data, unreadable_data}
 use Rattle.answer_check.specs.Claims.{HoldsOfPolicies}
 use Rattle.answer_check.specs.CheckLaws.{ChecksEndOnce, IsSameReply, AcceptedLogsAreAnswered}
-use Rattle.answer_check.specs.CheckReplies.{IsLogReply, accepted, rejected, unreadable, checked, not_yet, limited}
+use Rattle.answer_check.specs.CheckReplies.{IsLogReply, accepted, rejected, unreadable, checked, refused_text, limited_text}
 use Rattle.answer_check.proofs.Claiming.{claims_are_true}
 use Rattle.answer_check.proofs.Nodes.{one_node}
 
@@ -58,6 +62,28 @@ claim_of_text text problem rows claim solved right =
     subst (λ (p : Problem). HoldsOfPolicies p claim) solved.accepted.stated
     (claims_are_true solved.model rows claim (text_unfolded text problem solved)
     (subst (λ (p : Problem). Accepted (searched_problem p) rows claim) (sym solved.accepted.stated) right))
+
+-- a text that `solve` refuses, or that passes a limit, is not solved, and not both
+done_refused : Done ≡ Refused → ⊥
+done_refused e = cc
+
+done_limit : Done ≡ Limit → ⊥
+done_limit e = cc
+
+refused_limit : Refused ≡ Limit → ⊥
+refused_limit e = cc
+
+not_refused : (text : List ℕ) (problem : Problem) (refusal : Refusal) → SolvedText text problem → IsRefusedOn text refusal Solve → ⊥
+not_refused text problem refusal solved broken =
+    done_refused (ends_alike text 0 Solve Done Refused (ends.solved problem solved) (ends.refused_text Solve refusal broken))
+
+not_limited : (text : List ℕ) (problem : Problem) (excess : Excess) → SolvedText text problem → IsLimitedOn text excess Solve → ⊥
+not_limited text problem excess solved over =
+    done_limit (ends_alike text 0 Solve Done Limit (ends.solved problem solved) (ends.limited_text Solve excess over))
+
+not_both_told : (text : List ℕ) (refusal : Refusal) (excess : Excess) → IsRefusedOn text refusal Solve → IsLimitedOn text excess Solve → ⊥
+not_both_told text refusal excess broken over =
+    refused_limit (ends_alike text 0 Solve Refused Limit (ends.refused_text Solve refusal broken) (ends.limited_text Solve excess over))
 
 -- the same bytes are read in one way
 module _ (readings_are_unique : ReadingsAreUnique) where
@@ -145,16 +171,16 @@ module _ (readings_are_unique : ReadingsAreUnique) where
   pub checks_end_once : ChecksEndOnce
   checks_end_once text log _ _ _ _ (checked p s l solved reply) (checked q t m solves replies) =
       log_ends_once p log s t l m reply (subst (λ (r : Problem). IsLogReply r log t m) (accepted_end_once.one_problem text q p solves solved) replies)
-  checks_end_once text log _ _ _ _ (checked p s l solved reply) (not_yet refusal unsolved) = absurd (accepted_end_once.not_both text p refusal solved unsolved)
-  checks_end_once text log _ _ _ _ (checked p s l solved reply) (limited excess over) = absurd (accepted_end_once.not_limited text p excess solved over)
-  checks_end_once text log _ _ _ _ (not_yet refusal unsolved) (checked p s l solved reply) = absurd (accepted_end_once.not_both text p refusal solved unsolved)
-  checks_end_once text log _ _ _ _ (not_yet refusal unsolved) (not_yet other unsolves) =
-      record { status = refl; line = ap (λ (r : Refusal). line_of (refused_data (pos r.at) (pos r.code))) (accepted_end_once.one_place text refusal other unsolved unsolves) }
-  checks_end_once text log _ _ _ _ (not_yet refusal unsolved) (limited excess over) = absurd (accepted_end_once.refused_alone text refusal excess unsolved over)
-  checks_end_once text log _ _ _ _ (limited excess over) (checked p s l solved reply) = absurd (accepted_end_once.not_limited text p excess solved over)
-  checks_end_once text log _ _ _ _ (limited excess over) (not_yet refusal unsolved) = absurd (accepted_end_once.refused_alone text refusal excess unsolved over)
-  checks_end_once text log _ _ _ _ (limited excess over) (limited other overly) =
-      record { status = refl; line = ap (λ (e : Excess). line_of (limit_data e)) (accepted_end_once.one_limit text excess other over overly) }
+  checks_end_once text log _ _ _ _ (checked p s l solved reply) (refused_text refusal broken) = absurd (not_refused text p refusal solved broken)
+  checks_end_once text log _ _ _ _ (checked p s l solved reply) (limited_text excess over) = absurd (not_limited text p excess solved over)
+  checks_end_once text log _ _ _ _ (refused_text refusal broken) (checked p s l solved reply) = absurd (not_refused text p refusal solved broken)
+  checks_end_once text log _ _ _ _ (refused_text refusal broken) (refused_text other broke) =
+      record { status = refl; line = ap (λ (r : Refusal). line_of (refused_data (pos r.at) (pos r.code))) (one_refusal_on text 0 refusal other Solve Solve broken broke) }
+  checks_end_once text log _ _ _ _ (refused_text refusal broken) (limited_text excess over) = absurd (not_both_told text refusal excess broken over)
+  checks_end_once text log _ _ _ _ (limited_text excess over) (checked p s l solved reply) = absurd (not_limited text p excess solved over)
+  checks_end_once text log _ _ _ _ (limited_text excess over) (refused_text refusal broken) = absurd (not_both_told text refusal excess broken over)
+  checks_end_once text log _ _ _ _ (limited_text excess over) (limited_text other overly) =
+      record { status = refl; line = ap (λ (e : Excess). line_of (limit_data e)) (one_limit_on text 0 excess other Solve Solve over overly) }
 
   pub accepted_logs_are_answered : AcceptedLogsAreAnswered
   accepted_logs_are_answered text log problem rows claim solved reads right =

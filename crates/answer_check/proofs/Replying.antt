@@ -1,9 +1,8 @@
 -- From what is found out of a text and a log to the reply.
-use Rattle.std.proofs.Common.{◌≡◌, ◌∙◌, ℕ, ℤ, pos, List, Result, Ok, Err, IfOk, string_bytes, sym, ap, subst}
+use Rattle.std.proofs.Common.{◌≡◌, ◌∙◌, inl, inr, ℕ, ℤ, pos, List, Result, Ok, Err, IfOk, IfErr, string_bytes, sym, ap, subst}
 use Rattle.std.specs.declared.alloc.AllocError.{AllocError}
 use Rattle.sopl_base.specs.declared.fault.Excess.{Excess}
 use Rattle.sopl_base.specs.declared.fault.Fault.{Fault}
-use Rattle.sopl_base.specs.declared.fault.Fault.TheVariants as fault
 use Rattle.sopl_base.specs.declared.fault.Refusal.{Refusal}
 use Rattle.sopl_ast.specs.Instances.{Problem}
 use Rattle.sopl_ast.specs.Optimal.{denominator}
@@ -22,17 +21,22 @@ use Rattle.log_tree.specs.Reads.{IsReading, read, refused}
 use Rattle.log_check.specs.Verdicts.{IsVerdict}
 use Rattle.log_check.specs.declared.verdict.Verdict.{Verdict}
 use Rattle.log_check.specs.declared.verdict.Verdict.TheVariants.{Accepted, Rejected}
+use Rattle.scen_accept.proofs.NamesFormed.{model_from_tokens}
 use Rattle.scen_accept.specs.Stated.{States, model_in, problem_in}
 use Rattle.scen_accept.specs.declared.accepted.AcceptedProblem.{AcceptedProblem}
 use Rattle.answer_lines.specs.AnswerData.{limit_data, line_of, refused_data}
 use Rattle.answer_texts.specs.Models.{IsSolvable}
 use Rattle.answer_texts.specs.Logs.{searched_problem}
-use Rattle.answer_texts.specs.Solved.{IsNotYet, IsLimitedInTerms}
+use Rattle.answer_texts.specs.Replies.{IsFaultOn, IsLimitedOn, IsRefusedOn}
+use Rattle.answer_texts.specs.Solved.{SolvedText}
 use Rattle.answer_texts.specs.Solving.{IsProgramOf, IsSolveFault}
+use Rattle.answer_texts.specs.declared.command.Command.TheVariants.{Solve}
 use Rattle.answer_texts.specs.declared.reply.Reply.{Reply}
-use Rattle.answer_texts.specs.declared.status.Status.TheVariants.{Refused, Limit, Unreadable}
+use Rattle.answer_texts.specs.declared.status.Status.{Status}
+use Rattle.answer_texts.specs.declared.status.Status.TheVariants.{Done, Failing, Refused, Limit, Unreadable}
+use Rattle.answer_texts.proofs.Answered.{unsolved_so}
 use Rattle.answer_check.specs.CheckData.{unreadable_data}
-use Rattle.answer_check.specs.CheckReplies.{IsLogReply, accepted, rejected, unreadable, IsCheckReply, checked, not_yet, limited, IsCheckFault}
+use Rattle.answer_check.specs.CheckReplies.{IsLogReply, accepted, rejected, unreadable, IsCheckReply, checked, refused_text, limited_text, IsProgramFor, IsTurnedAway}
 use Rattle.answer_check.specs.Verdicts.{status_of, verdict_data}
 use Rattle.answer_check.proofs.Claiming.{claims_are_true, searched_is}
 
@@ -70,38 +74,83 @@ pub unreadable_so : (problem : Problem) (bytes line : List ℕ) (mistake : Refus
     → line ≡ line_of (unreadable_data (pos mistake.at) (pos mistake.code)) → IsLogReply problem bytes Unreadable line
 unreadable_so problem bytes line mistake reads is = subst (λ l. IsLogReply problem bytes Unreadable l) (sym is) (unreadable mistake.code mistake.at reads)
 
--- a text that is not solved yet
-pub refused_so : (text log : List ℕ) (refusal : Refusal) (result : Result Reply AllocError) → IsNotYet text refusal
+-- a text that is refused
+pub refused_so : (text log : List ℕ) (refusal : Refusal) (result : Result Reply AllocError) → IsRefusedOn text refusal Solve
     → IfOk result (λ reply. reply.status ≡ Refused)
     → IfOk result (λ reply. string_bytes reply.line ≡ line_of (refused_data (pos refusal.at) (pos refusal.code)))
     → IfOk result (λ reply. IsCheckReply text log reply.status (string_bytes reply.line))
 refused_so text log refusal (Ok reply) reason ends is =
     subst (λ s. IsCheckReply text log s (string_bytes reply.line)) (sym ends)
-    (subst (λ l. IsCheckReply text log Refused l) (sym is) (not_yet refusal reason))
+    (subst (λ l. IsCheckReply text log Refused l) (sym is) (refused_text refusal reason))
 refused_so text log refusal (Err error) reason ends is = tt
 
--- a text whose terms pass a limit
-pub limited_so : (text log : List ℕ) (excess : Excess) (result : Result Reply AllocError) → IsLimitedInTerms text excess
+-- a text that passes a limit
+pub limited_so : (text log : List ℕ) (excess : Excess) (result : Result Reply AllocError) → IsLimitedOn text excess Solve
     → IfOk result (λ reply. reply.status ≡ Limit) → IfOk result (λ reply. string_bytes reply.line ≡ line_of (limit_data excess))
     → IfOk result (λ reply. IsCheckReply text log reply.status (string_bytes reply.line))
 limited_so text log excess (Ok reply) over ends is =
     subst (λ s. IsCheckReply text log s (string_bytes reply.line)) (sym ends)
-    (subst (λ l. IsCheckReply text log Limit l) (sym is) (limited excess over))
+    (subst (λ l. IsCheckReply text log Limit l) (sym is) (limited_text excess over))
 limited_so text log excess (Err error) over ends is = tt
 
--- a text of which no log is checked
-pub unchecked_so : (text : List ℕ) (stated : AcceptedProblem) (f : Fault) → States text stated → IsSolveFault (model_in stated) f → IsCheckFault text f
-unchecked_so text stated (fault.Text refusal) states is =
-    record { model = model_in stated; spelled = states.spelled; accepted = states.accepted; unsupported = is }
-unchecked_so text stated (fault.Limit excess) states is =
-    record { model = model_in stated; spelled = states.spelled; accepted = states.accepted; large = is }
-unchecked_so text stated fault.NoMemory states is = tt
+-- a text with its program
+pub program_made : (text : List ℕ) (stated : AcceptedProblem) (result : Result Program Fault) → States text stated
+    → IfOk result (λ program. IsSolvable (model_in stated)) → IfOk result (IsProgramOf (problem_in stated)) → IfOk result (IsProgramFor text)
+program_made text stated (Ok program) states is of =
+    record {
+      problem = problem_in stated;
+      is_solved = record { model = model_in stated; spelled = states.spelled; accepted = states.accepted; solvable = is };
+      is_program = of;
+    }
+program_made text stated (Err fault) states is of = tt
 
--- a text of which a log is checked
-pub checked_so : (text log : List ℕ) (stated : AcceptedProblem) (result : Result Reply AllocError) → States text stated → IsSolvable (model_in stated)
-    → IfOk result (λ reply. IsLogReply (problem_in stated) log reply.status (string_bytes reply.line))
+-- and one that is not solved
+pub unsolved_told : (text : List ℕ) (stated : AcceptedProblem) (result : Result Program Fault) → States text stated → IfErr result (IsSolveFault (model_in stated))
+    → IfErr result (IsFaultOn text Solve)
+unsolved_told text stated (Ok program) states is = tt
+unsolved_told text stated (Err fault) states is = unsolved_so Solve text stated fault states is
+
+-- the reply to the log of a text with this program
+log_of_program : (text log : List ℕ) (program : Program) (reply : Reply) (is : IsProgramFor text program)
+    → ((model : ModelTree) → IsUnfolded model → IsProgramOf (problem_of model) program → IsLogReply (problem_of model) log reply.status (string_bytes reply.line))
+    → IsLogReply is.problem log reply.status (string_bytes reply.line)
+log_of_program text log program reply is replies =
+    let solved : SolvedText text is.problem = is.is_solved in
+    subst (λ (p : Problem). IsLogReply p log reply.status (string_bytes reply.line)) solved.accepted.stated
+    (replies solved.model
+    (record { from = model_from_tokens text solved.model solved.spelled; typed = solved.accepted.typed; passes = solved.accepted.unfolded })
+    (subst (λ (p : Problem). IsProgramOf p program) (sym solved.accepted.stated) is.is_program))
+
+pub program_replies : (text log : List ℕ) (program : Program) (result : Result Reply AllocError) (is : IsProgramFor text program)
+    → ((model : ModelTree) → IsUnfolded model → IsProgramOf (problem_of model) program
+    → IfOk result (λ reply. IsLogReply (problem_of model) log reply.status (string_bytes reply.line)))
     → IfOk result (λ reply. IsCheckReply text log reply.status (string_bytes reply.line))
-checked_so text log stated (Ok reply) states is replies =
-    checked (problem_in stated) reply.status (string_bytes reply.line)
-    (record { model = model_in stated; spelled = states.spelled; accepted = states.accepted; solvable = is }) replies
-checked_so text log stated (Err error) states is replies = tt
+program_replies text log program (Ok reply) is replies =
+    checked is.problem reply.status (string_bytes reply.line) is.is_solved (log_of_program text log program reply is replies)
+program_replies text log program (Err error) is replies = tt
+
+-- no such reply tells of the text
+log_judged : (problem : Problem) (log : List ℕ) (status : Status) (line : List ℕ) → IsLogReply problem log status line → ¬ IsTurnedAway status
+log_judged problem log _ _ (accepted rows claim reads right true_of) = λ away. by_end away
+  where
+    by_end : IsTurnedAway Done → ⊥
+    by_end (inl is) = cc
+    by_end (inr is) = cc
+log_judged problem log _ _ (rejected rows claim node at reads wrong) = λ away. by_end away
+  where
+    by_end : IsTurnedAway Failing → ⊥
+    by_end (inl is) = cc
+    by_end (inr is) = cc
+log_judged problem log _ _ (unreadable code at mistaken) = λ away. by_end away
+  where
+    by_end : IsTurnedAway Unreadable → ⊥
+    by_end (inl is) = cc
+    by_end (inr is) = cc
+
+pub program_judged : (text log : List ℕ) (program : Program) (result : Result Reply AllocError) (is : IsProgramFor text program)
+    → ((model : ModelTree) → IsUnfolded model → IsProgramOf (problem_of model) program
+    → IfOk result (λ reply. IsLogReply (problem_of model) log reply.status (string_bytes reply.line)))
+    → IfOk result (λ reply. ¬ IsTurnedAway reply.status)
+program_judged text log program (Ok reply) is replies =
+    log_judged is.problem log reply.status (string_bytes reply.line) (log_of_program text log program reply is replies)
+program_judged text log program (Err error) is replies = tt

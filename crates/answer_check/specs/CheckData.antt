@@ -5,6 +5,7 @@ use Rattle.log_rows.specs.declared.rows.Footer.{Footer}
 use Rattle.log_rows.specs.declared.rows.Footer.TheVariants.{Optimal, Infeasible, Bounded}
 use Rattle.policy_json.specs.Entries.{whole_number}
 use Rattle.answer_lines.specs.AnswerData.{fraction}
+pub use Rattle.answer_lines.specs.AnswerData.{unreadable_data}
 
 -- a log is accepted that claims that no policy satisfies
 abbrev pub claims_none : Data
@@ -39,8 +40,3 @@ accepted_data (Bounded (Some value) bound) denominator = claims_found (fraction 
 abbrev pub rejected_data : ℤ → ℤ → Data
 rejected_data line node =
     object (member (codes "answer") (string (codes "rejected")) (member (codes "line") (whole_number line) (member (codes "node") (whole_number node) no_members)))
-
--- bytes are not read as a log: the line of the first mistake, and its code
-abbrev pub unreadable_data : ℤ → ℤ → Data
-unreadable_data at code =
-    object (member (codes "answer") (string (codes "unreadable")) (member (codes "at") (whole_number at) (member (codes "code") (whole_number code) no_members)))

@@ -1,13 +1,13 @@
 -- What holds of the replies of `check`.
-use Rattle.std.specs.Prelude.{◌≡◌, ℕ, List}
+use Rattle.std.specs.Prelude.{◌≡◌, ℕ, ◌<◌, ◌^◌, List, Option}
 use Rattle.sopl_ast.specs.Instances.{Problem}
 use Rattle.sopl_ast.specs.Optimal.{denominator}
 use Rattle.log_rows.specs.declared.rows.Row.{Row}
 use Rattle.log_rows.specs.declared.rows.Footer.{Footer}
 use Rattle.log_rows.specs.Accepted.{Accepted}
 use Rattle.log_tree.specs.Reads.{IsReading, read}
-use Rattle.answer_lines.specs.AnswerData.{line_of}
-use Rattle.answer_texts.specs.Logs.{searched_problem}
+use Rattle.answer_lines.specs.AnswerData.{Valued, line_of}
+use Rattle.answer_texts.specs.Logs.{IsLogOf, searched_problem}
 use Rattle.answer_texts.specs.Solved.{SolvedText}
 use Rattle.answer_texts.specs.declared.status.Status.{Status}
 use Rattle.answer_texts.specs.declared.status.Status.TheVariants.{Done}
@@ -36,3 +36,9 @@ abbrev pub AcceptedLogsAreAnswered : Type 0
 AcceptedLogsAreAnswered =
     (text log : List ℕ) (problem : Problem) (rows : List Row) (claim : Footer) → SolvedText text problem → IsReading log (read rows claim)
     → Accepted (searched_problem problem) rows claim → IsAnsweredAccepted text log problem claim
+
+-- and of each log that goes with an answer of `solve`
+abbrev pub WrittenLogsAreAccepted : Type 0
+WrittenLogsAreAccepted =
+    (text log : List ℕ) (problem : Problem) (budget : ℕ) (claim : Footer) (found : Option Valued) → SolvedText text problem → budget < 2 ^ 32
+    → IsLogOf problem budget claim found log → IsAnsweredAccepted text log problem claim

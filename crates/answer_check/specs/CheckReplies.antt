@@ -1,19 +1,21 @@
 -- The replies of `check` to a text and the bytes of a log, each with its cause.
-use Rattle.std.specs.Prelude.{ℕ, List, pos}
+use Rattle.std.specs.Prelude.{◌≡◌, ◌⊎◌, ℕ, List, pos}
 use Rattle.sopl_base.specs.declared.fault.Excess.{Excess}
-use Rattle.sopl_base.specs.declared.fault.Fault.{Fault}
-use Rattle.sopl_base.specs.declared.fault.Fault.TheVariants as fault
 use Rattle.sopl_base.specs.declared.fault.Refusal.{Refusal}
 use Rattle.sopl_ast.specs.Instances.{Problem}
 use Rattle.sopl_ast.specs.Optimal.{denominator}
 use Rattle.log_rows.specs.declared.rows.Row.{Row}
 use Rattle.log_rows.specs.declared.rows.Footer.{Footer}
 use Rattle.log_rows.specs.Accepted.{Accepted}
+use Rattle.term_program.specs.declared.program.Program.{Program}
 use Rattle.log_tree.specs.Reads.{IsReading, read, refused}
 use Rattle.log_check.specs.Verdicts.{IsFirstWrong}
 use Rattle.answer_lines.specs.AnswerData.{line_of, refused_data, limit_data}
 use Rattle.answer_texts.specs.Logs.{searched_problem}
-use Rattle.answer_texts.specs.Solved.{SolvedText, IsNotYet, IsLimitedInTerms}
+use Rattle.answer_texts.specs.Replies.{IsLimitedOn, IsRefusedOn}
+use Rattle.answer_texts.specs.Solved.{SolvedText}
+use Rattle.answer_texts.specs.Solving.{IsProgramOf}
+use Rattle.answer_texts.specs.declared.command.Command.TheVariants.{Solve}
 use Rattle.answer_texts.specs.declared.status.Status.{Status}
 use Rattle.answer_texts.specs.declared.status.Status.TheVariants.{Done, Failing, Refused, Limit, Unreadable}
 use Rattle.answer_check.specs.CheckData.{accepted_data, rejected_data, unreadable_data}
@@ -34,13 +36,17 @@ pub data IsLogReply (problem : Problem) (log : List ℕ) : Status → List ℕ �
 pub data IsCheckReply (text log : List ℕ) : Status → List ℕ → Type 0 where
   -- the text states a problem, and this is the reply to the log of it
   checked : (problem : Problem) (status : Status) (line : List ℕ) → SolvedText text problem → IsLogReply problem log status line → IsCheckReply text log status line
-  -- the text is accepted and has a form that is not solved yet
-  not_yet : (refusal : Refusal) → IsNotYet text refusal → IsCheckReply text log Refused (line_of (refused_data (pos refusal.at) (pos refusal.code)))
-  -- the text is accepted and its terms pass this limit
-  limited : (excess : Excess) → IsLimitedInTerms text excess → IsCheckReply text log Limit (line_of (limit_data excess))
+  -- the text is refused, as `solve` refuses it
+  refused_text : (refusal : Refusal) → IsRefusedOn text refusal Solve → IsCheckReply text log Refused (line_of (refused_data (pos refusal.at) (pos refusal.code)))
+  -- the text passes this limit, as `solve` tells it
+  limited_text : (excess : Excess) → IsLimitedOn text excess Solve → IsCheckReply text log Limit (line_of (limit_data excess))
 
--- a fault says why no log of an accepted text is checked
-abbrev pub IsCheckFault : List ℕ → Fault → Type 0
-IsCheckFault text (fault.Text refusal) = IsNotYet text refusal
-IsCheckFault text (fault.Limit excess) = IsLimitedInTerms text excess
-IsCheckFault text fault.NoMemory = Unit {0}
+-- the text states a problem that is solved, and the program is that of the problem
+pub record IsProgramFor (text : List ℕ) (program : Program) : Type 0 where
+  pub problem : Problem
+  pub is_solved : SolvedText text problem
+  pub is_program : IsProgramOf problem program
+
+-- so ends what is told of a text, whatever the log: it is refused, or it passes a limit
+abbrev pub IsTurnedAway : Status → Type 0
+IsTurnedAway status = (status ≡ Refused) ⊎ (status ≡ Limit)

@@ -1,5 +1,5 @@
 //! What `check` answers of a text and the bytes of a log: that the log is accepted, with what it claims; its first wrong line; or that it cannot be read as a
-//! log. A text that is not solved yet, or whose terms pass a limit, is told as `solve` tells it.
+//! log. A text that is refused, or whose terms pass a limit, is told as `solve` tells it.
 #![tactic(auto)]
 
 mod answer;
@@ -8,8 +8,8 @@ mod lines;
 mod logs;
 mod program;
 
-pub use answer::check_reply;
-pub use laws::{accepted_logs_are_answered, checks_end_once};
+pub use answer::{fault_reply, program_reply, program_to_check};
+pub use laws::{accepted_logs_are_answered, checks_end_once, written_logs_are_accepted};
 
 #[cfg(test)]
 mod tests;

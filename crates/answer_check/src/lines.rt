@@ -1,32 +1,14 @@
 //! The lines that answer a check of a log.
 
-ghost use Rattle.std.specs.Prelude.{◌≡◌, false, string_bytes, IfOk, pos};
+ghost use Rattle.std.specs.Prelude.{◌≡◌, string_bytes, IfOk, pos};
 ghost use Rattle.serde_json.specs.View.{view};
-ghost use Rattle.serde_json.specs.Written.{has_float};
 ghost use Rattle.answer_lines.specs.AnswerData.{fraction, line_of};
-ghost use Rattle.answer_check.specs.CheckData.{claims_none, claims_best, claims_bound, claims_found, accepted_data, rejected_data, unreadable_data};
+ghost use Rattle.answer_check.specs.CheckData.{claims_none, claims_best, claims_bound, claims_found, accepted_data, rejected_data};
 
+use answer_lines::{fraction_text, line};
 use log_rows::Footer;
 use serde_json::{Value, json};
-use sopl_base::Refusal;
 use std::alloc::{AllocError, Global};
-
-/// The line of an answer: its text in compact form, and a line feed.
-fn line(alloc: Global, answer: &Value) -> Result<String, AllocError>
-    requires whole { has_float (view answer.now) ≡ false }
-    ensures text { IfOk result (λ text. string_bytes text ≡ line_of (view answer.now)) }
-{
-    let mut text = answer.to_string(alloc)?;
-    text.push('\n')?;
-    Ok(text)
-}
-
-/// A numerator over a denominator, never reduced.
-fn fraction_text(alloc: Global, numerator: i128, denominator: i128) -> Result<String, AllocError>
-    ensures text { IfOk result (λ text. string_bytes text ≡ fraction numerator denominator) }
-{
-    format!(in alloc; "{numerator}/{denominator}")
-}
 
 fn none_answer(alloc: Global) -> Result<Value, AllocError>
     ensures answer { IfOk result (λ answer. view answer ≡ claims_none) }
@@ -121,19 +103,5 @@ pub(crate) fn rejected_line(alloc: Global, at: u64, node: u64) -> Result<String,
     ensures text { IfOk result (λ text. string_bytes text ≡ line_of (rejected_data (pos at) (pos node))) }
 {
     let answer = rejected_answer(alloc, at, node)?;
-    line(alloc, &answer)
-}
-
-fn unreadable_answer(alloc: Global, at: usize, code: u16) -> Result<Value, AllocError>
-    ensures answer { IfOk result (λ answer. view answer ≡ unreadable_data (pos at) (pos code)) }
-{
-    json!(in alloc; {"answer": "unreadable", "at": at, "code": code})
-}
-
-/// The line of bytes that are not read as a log: the first line that is a mistake, and the code of it.
-pub(crate) fn unreadable_line(alloc: Global, refusal: Refusal) -> Result<String, AllocError>
-    ensures text { IfOk result (λ text. string_bytes text ≡ line_of (unreadable_data (pos refusal.at) (pos refusal.code))) }
-{
-    let answer = unreadable_answer(alloc, refusal.at, refusal.code)?;
     line(alloc, &answer)
 }

@@ -15,7 +15,8 @@ ghost use Rattle.answer_texts.specs.Solving.{IsProgramOf};
 ghost use Rattle.answer_check.specs.CheckReplies.{IsLogReply};
 ghost use Rattle.answer_check.specs.Verdicts.{status_of, verdict_data};
 
-use crate::lines::{accepted_line, rejected_line, unreadable_line};
+use crate::lines::{accepted_line, rejected_line};
+use answer_lines::unreadable_line;
 use answer_texts::{Reply, Status};
 use log_check::{Checker, Verdict};
 use log_rows::Footer;

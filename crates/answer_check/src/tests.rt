@@ -1,7 +1,7 @@
-use super::check_reply;
-use answer_texts::Status;
-use scen_accept::stated_in;
-use sopl_base::Fault;
+mod changes;
+
+use super::{fault_reply, program_reply, program_to_check};
+use answer_texts::{Reply, Status};
 use std::alloc::{AllocError, Global};
 use std::test::Fail;
 
@@ -16,7 +16,7 @@ const ORDER: &str =
 
 const LARGE: &str = "dvar int x in 0..65535; subject to { x*1099511627776 >= 0; }";
 
-const UNSOLVED: &str =
+const CROWDED: &str =
     "range R = 1..3; dvar int x[R] in 1..2; subject to { allDifferent(all(i in R) x[i]); }";
 
 // A text, and logs of it, each with the status and the line that must come; the lines of a log are parted by ` / `. Each log was worked out by hand.
@@ -135,14 +135,20 @@ const LOGS: &[(&str, &str, Status, &str)] = &[
         Status::Unreadable,
         r#"{"answer":"unreadable","at":4,"code":302}"#,
     ),
-    // a text that is not solved yet is told before its log is looked at
+    // a text that is infeasible at its root, by its one constraint; of another constraint there is none
     (
-        UNSOLVED,
-        "",
-        Status::Refused,
-        r#"{"answer":"refused","at":52,"code":117}"#,
+        CROWDED,
+        "sopl-log 1 / n 0 r / f h 0 0 / end infeasible",
+        Status::Done,
+        r#"{"answer":"accepted","claim":"infeasible"}"#,
     ),
-    // and so is the limit that the terms of a text pass
+    (
+        CROWDED,
+        "sopl-log 1 / n 0 r / f h 1 0 / end infeasible",
+        Status::Failing,
+        r#"{"answer":"rejected","line":3,"node":0}"#,
+    ),
+    // the limit that the terms of a text pass is told before its log is looked at
     (
         LARGE,
         "",
@@ -164,10 +170,17 @@ fn bytes_of(alloc: Global, log: &str) -> Result<String, AllocError> {
     Ok(text)
 }
 
+// The reply of a check: the log is looked at where the text is solved.
+fn reply_of(alloc: Global, text: &str, log: &[u8]) -> Result<Reply, AllocError> {
+    match program_to_check(alloc, text.as_bytes()) {
+        Ok(program) => program_reply(alloc, &program, log),
+        Err(fault) => fault_reply(alloc, fault),
+    }
+}
+
 // The status and the line of a check.
-fn answered(alloc: Global, text: &str, log: &[u8]) -> Result<(Status, String), Fault> {
-    let stated = stated_in(alloc, text.as_bytes())?;
-    let reply = check_reply(alloc, &stated, log)?;
+fn answered(alloc: Global, text: &str, log: &[u8]) -> Result<(Status, String), AllocError> {
+    let reply = reply_of(alloc, text, log)?;
     Ok((reply.status, reply.line))
 }
 

@@ -23,6 +23,11 @@ abbrev pub refused_data : ℤ → ℤ → Data
 refused_data at code =
     object (member (codes "answer") (string (codes "refused")) (member (codes "at") (whole_number at) (member (codes "code") (whole_number code) no_members)))
 
+-- bytes are not read as a log, or as a policy: the place of the first mistake, and its code
+abbrev pub unreadable_data : ℤ → ℤ → Data
+unreadable_data at code =
+    object (member (codes "answer") (string (codes "unreadable")) (member (codes "at") (whole_number at) (member (codes "code") (whole_number code) no_members)))
+
 -- a limit, by its code and the texts of the number that was counted and of the one that is allowed
 abbrev pub limit_object : ℤ → List ℕ → List ℕ → Data
 limit_object code counted limit =

@@ -10,5 +10,8 @@ mod scenes;
 mod text;
 
 pub use laws::lines_differ;
-pub use lines::{bound_line, found_line, limit_line, optimal_line, refused_line, word_line};
+pub use lines::{
+    bound_line, found_line, fraction_text, limit_line, line, optimal_line, refused_line,
+    unreadable_line, word_line,
+};
 pub use text::tree_text;

@@ -4,14 +4,14 @@ ghost use Rattle.std.specs.Prelude.{◌≡◌, false, codes, string_bytes, IfOk,
 ghost use Rattle.serde_json.specs.View.{view};
 ghost use Rattle.serde_json.specs.Written.{has_float};
 ghost use Rattle.std.specs.Fmt.{signed_decimal};
-ghost use Rattle.answer_lines.specs.AnswerData.{word_data, refused_data, limit_data, limit_object, optimal_object, bound_object, found_object, fraction, line_of};
+ghost use Rattle.answer_lines.specs.AnswerData.{word_data, refused_data, limit_data, limit_object, optimal_object, bound_object, found_object, fraction, line_of, unreadable_data};
 
 use serde_json::{Value, json};
 use sopl_base::{Excess, Refusal};
 use std::alloc::{AllocError, Global};
 
 /// The line of an answer: its text in compact form, and a line feed.
-fn line(alloc: Global, answer: &Value) -> Result<String, AllocError>
+pub fn line(alloc: Global, answer: &Value) -> Result<String, AllocError>
     requires whole { has_float (view answer.now) ≡ false }
     ensures text { IfOk result (λ text. string_bytes text ≡ line_of (view answer.now)) }
 {
@@ -72,7 +72,11 @@ pub fn limit_line(alloc: Global, excess: &Excess) -> Result<String, AllocError>
 }
 
 /// A numerator over a denominator, never reduced.
-fn fraction_text(alloc: Global, numerator: i128, denominator: i128) -> Result<String, AllocError>
+pub fn fraction_text(
+    alloc: Global,
+    numerator: i128,
+    denominator: i128,
+) -> Result<String, AllocError>
     ensures text { IfOk result (λ text. string_bytes text ≡ fraction numerator denominator) }
 {
     format!(in alloc; "{numerator}/{denominator}")
@@ -135,5 +139,19 @@ pub fn found_line(
     let most = fraction_text(alloc, bound, denominator)?;
     let value = fraction_text(alloc, value, denominator)?;
     let answer = found_answer(alloc, most.as_str(), policy, value.as_str())?;
+    line(alloc, &answer)
+}
+
+fn unreadable_answer(alloc: Global, at: usize, code: u16) -> Result<Value, AllocError>
+    ensures answer { IfOk result (λ answer. view answer ≡ unreadable_data (pos at) (pos code)) }
+{
+    json!(in alloc; {"answer": "unreadable", "at": at, "code": code})
+}
+
+/// The line of bytes that are no log, or no policy: the place of the first mistake, and its code.
+pub fn unreadable_line(alloc: Global, refusal: Refusal) -> Result<String, AllocError>
+    ensures text { IfOk result (λ text. string_bytes text ≡ line_of (unreadable_data (pos refusal.at) (pos refusal.code))) }
+{
+    let answer = unreadable_answer(alloc, refusal.at, refusal.code)?;
     line(alloc, &answer)
 }

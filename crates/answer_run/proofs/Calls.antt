@@ -1,6 +1,7 @@
 -- What came of the calls of a run, by what came of those on the way to its reply and of those that write its line.
 use Rattle.std.proofs.Common.{◌≡◌, ℕ, List, Option, Result, Ok, Err, IfOk, IfErr, refl, sym, subst, string_bytes}
 use Rattle.sopl_io.specs.Calls.{Outcomes, AllSucceeded, no_call, LastFailed, StopsWhere}
+use Rattle.sopl_io.proofs.Calling.{calls_last, calls_more}
 use Rattle.sopl_search.specs.declared.outcome.SearchStop.{SearchStop}
 use Rattle.sopl_search.specs.declared.outcome.SearchStop.TheVariants.{Write}
 use Rattle.sopl_search.specs.declared.outcome.SearchStop.TheVariants as search
@@ -32,6 +33,13 @@ module _ (source_before source_now log_before log_now : Outcomes) where
   -- no reply, since there was no memory for the text
   pub unread_calls : AllSucceeded source_before source_now → ReplyCalls source_before source_now log_before log_before (Err search.NoMemory)
   unread_calls all = calls_succeed all no_call (λ e. cc) tt
+
+  -- one behind calls that succeeded
+  pub calls_behind : (source_later : Outcomes) (result : Result Reply SearchStop) → AllSucceeded source_before source_later
+      → ReplyCalls source_later source_now log_before log_now result → ReplyCalls source_before source_now log_before log_now result
+  calls_behind source_later result all (calls_succeed source log no_write no_read) = calls_succeed (calls_more source_before source_later source_now all source) log no_write no_read
+  calls_behind source_later result all (source_fails last log no_write is) = source_fails (calls_last source_before source_later source_now all last) log no_write is
+  calls_behind source_later result all (log_fails source last is) = log_fails (calls_more source_before source_later source_now all source) last is
 
   -- one to a text
   pub text_calls : (text : List ℕ) (budget : ℕ) (command : Command) (name : List ℕ) (old new : SinkState) (result : Result Reply SearchStop) → AllSucceeded source_before source_now

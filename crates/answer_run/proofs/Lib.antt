@@ -5,3 +5,5 @@ pub mod WholeText
 pub mod Statuses
 pub mod Reading
 pub mod Calls
+mod Seconds
+mod Evaluated

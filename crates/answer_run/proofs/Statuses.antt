@@ -1,9 +1,9 @@
 -- What the outcome of a run says of the words and of the text, and what the sinks took.
-use Rattle.std.proofs.Common.{◌≡◌, ◌⊎◌, inl, inr, ℕ, ◌≤◌, List, Option, Some, None, Result, Err, IsSome, IfSome, option_map, string_bytes, refl, sym, subst, ap}
+use Rattle.std.proofs.Common.{◌≡◌, ◌⊎◌, inl, inr, ℕ, ◌≤◌, List, [], Option, Some, None, Result, Err, IsSome, IfSome, option_map, string_bytes, refl, sym, subst, ap}
 use Rattle.std.specs.Option.{option_and_then}
 use Rattle.std.specs.Io.KnownBytes.{IsAtEnd, Keeps}
 use Rattle.sopl_io.specs.Causes.{Rose}
-use Rattle.sopl_io.specs.Stock.{Stock, text_of}
+use Rattle.sopl_io.specs.Stock.{Stock, begun_stock, text_of}
 use Rattle.sopl_ast.specs.Instances.{Problem}
 use Rattle.answer_texts.specs.Solved.{SolvedText}
 use Rattle.sopl_search.specs.declared.outcome.SearchStop.{SearchStop}
@@ -11,18 +11,40 @@ use Rattle.sopl_search.specs.declared.outcome.SearchStop.TheVariants as search
 use Rattle.sopl_search.specs.declared.outcome.SearchStop.TheVariants.{Write}
 use Rattle.answer_texts.specs.Logs.{SinkState, most_nodes}
 use Rattle.answer_texts.specs.Replies.{Ends, solved, settled}
-use Rattle.answer_texts.specs.declared.command.Command.{Command}
 use Rattle.answer_texts.specs.declared.command.Command.TheVariants.{Solve}
 use Rattle.answer_texts.specs.declared.reply.Reply.{Reply}
 use Rattle.answer_texts.specs.declared.status.Status.{Status}
 use Rattle.answer_texts.specs.declared.status.Status.TheVariants.{Done, Failing, Usage, Refused, Limit, Bounded, ReadFault, WriteFault, NoMemory, Unreadable}
-use Rattle.answer_texts.proofs.Ends.{end_status, ends_alike, ends_settled, one_limit_on, one_refusal_on, reply_ends as text_reply_ends}
+use Rattle.answer_texts.proofs.Ends.{IsEnd, end_status, ends_alike, ends_settled, one_limit_on, one_refusal_on, reply_ends as text_reply_ends}
+use Rattle.answer_check.specs.CheckLaws.{ChecksEndOnce}
+use Rattle.answer_check.specs.CheckReplies.{IsLogReply, accepted, rejected, unreadable, IsCheckReply, checked as checks, refused_text, limited_text}
+use Rattle.answer_eval.specs.EvalLaws.{EvalsEndOnce}
+use Rattle.answer_eval.specs.EvalReplies.{IsEvalReply, evaluated, text_refused, text_limited, IsPolicyReply, satisfied, hard_fails, chance_fails, objective_fails, unreadable as unreadable_policy}
+use Rattle.answer_run.specs.declared.commands.Job.{Job}
+use Rattle.answer_run.specs.declared.commands.Job.TheVariants.{Text, Pair}
+use Rattle.answer_run.specs.declared.commands.PairCommand.{PairCommand}
+use Rattle.answer_run.specs.declared.commands.PairCommand.TheVariants.{Check, Eval}
 use Rattle.answer_run.specs.Words.{Request, request_of}
-use Rattle.answer_run.specs.Replies.{Asked, asked_by, asked_in, IsModelText, IsReply, replied, usage, read_fault, IsAnswered, Answers, whole, prefix, log_prefix, nothing}
-use Rattle.answer_run.specs.Replies.{EndedEarly, EndsSoundly, EndsCompletely, SettlesInBudget, RefusedOnce, LimitedOnce}
+use Rattle.answer_run.specs.Replies.{Asked, asked_by, asked_in, IsModelText, AreSecondBytes, IsPairReply, IsReply, replied, replied_on_both, usage, read_fault, IsAnswered, Answers, whole, prefix, log_prefix, nothing}
+use Rattle.answer_run.specs.Replies.{EndedEarly, EndsJob, taking, EndsSoundly, EndsCompletely, SettlesInBudget, RefusedOnce, LimitedOnce}
 use Rattle.answer_run.specs.Runs.{IsWritten, all, part, Replied, StopsWith, stop_status}
 
--- a run that ended early says nothing of the text
+-- a run that ended early has answered nothing
+pub early_no_answer : (status : Status) → EndedEarly status → IsAnswered status → ⊥
+early_no_answer status (inl early) (inl done) = cc
+early_no_answer status (inl early) (inr (inl done)) = cc
+early_no_answer status (inl early) (inr (inr (inl done))) = cc
+early_no_answer status (inl early) (inr (inr (inr done))) = cc
+early_no_answer status (inr (inl early)) (inl done) = cc
+early_no_answer status (inr (inl early)) (inr (inl done)) = cc
+early_no_answer status (inr (inl early)) (inr (inr (inl done))) = cc
+early_no_answer status (inr (inl early)) (inr (inr (inr done))) = cc
+early_no_answer status (inr (inr early)) (inl done) = cc
+early_no_answer status (inr (inr early)) (inr (inl done)) = cc
+early_no_answer status (inr (inr early)) (inr (inr (inl done))) = cc
+early_no_answer status (inr (inr early)) (inr (inr (inr done))) = cc
+
+-- it says nothing of the text
 early_so : (asked : Option Asked) (status : Status) → EndedEarly status → EndsSoundly asked status
 early_so None status early = tt
 early_so (Some a) status early = inl early
@@ -38,11 +60,11 @@ early_settled (Some a) status early = λ solve problem is enough. inr early
 -- a text is refused once, and passes one limit
 pub refused_once : (asked : Option Asked) → RefusedOnce asked
 refused_once None = tt
-refused_once (Some a) = λ one other is also. one_refusal_on a.text a.budget one other a.command a.command is also
+refused_once (Some a) = λ one other is also. one_refusal_on a.text a.budget one other (taking a.job) (taking a.job) is also
 
 pub limited_once : (asked : Option Asked) → LimitedOnce asked
 limited_once None = tt
-limited_once (Some a) = λ one other is also. one_limit_on a.text a.budget one other a.command a.command is also
+limited_once (Some a) = λ one other is also. one_limit_on a.text a.budget one other (taking a.job) (taking a.job) is also
 
 some_request : (request : Option Request) → IsSome request → request ≡ None → ⊥
 some_request None some none = cc
@@ -68,6 +90,73 @@ settled_done WriteFault is not_cut = cc
 settled_done NoMemory is not_cut = cc
 settled_done Unreadable is not_cut = cc
 
+-- a reply to the check of a log ends neither for the words nor for a source or a sink
+log_status : (problem : Problem) (log : List ℕ) (status : Status) (line : List ℕ) → IsLogReply problem log status line → IsEnd status
+log_status problem log _ _ (accepted rows claim reads right true_of) = record { no_usage = λ e. cc; no_read = λ e. cc; no_write = λ e. cc }
+log_status problem log _ _ (rejected rows claim node at reads wrong) = record { no_usage = λ e. cc; no_read = λ e. cc; no_write = λ e. cc }
+log_status problem log _ _ (unreadable code at mistaken) = record { no_usage = λ e. cc; no_read = λ e. cc; no_write = λ e. cc }
+
+pub check_status : (text log : List ℕ) (status : Status) (line : List ℕ) → IsCheckReply text log status line → IsEnd status
+check_status text log status line (checks problem s l is reply) = log_status problem log s l reply
+check_status text log _ _ (refused_text refusal broken) = record { no_usage = λ e. cc; no_read = λ e. cc; no_write = λ e. cc }
+check_status text log _ _ (limited_text excess over) = record { no_usage = λ e. cc; no_read = λ e. cc; no_write = λ e. cc }
+
+-- nor does one to the evaluation of a policy
+policy_status : (problem : Problem) (bytes : List ℕ) (status : Status) (line : List ℕ) → IsPolicyReply problem bytes status line → IsEnd status
+policy_status problem bytes _ _ (satisfied policy value sums holds is) = record { no_usage = λ e. cc; no_read = λ e. cc; no_write = λ e. cc }
+policy_status problem bytes _ _ (hard_fails policy instance scenario holds fails) = record { no_usage = λ e. cc; no_read = λ e. cc; no_write = λ e. cc }
+policy_status problem bytes _ _ (chance_fails policy instance sum holds fails) = record { no_usage = λ e. cc; no_read = λ e. cc; no_write = λ e. cc }
+policy_status problem bytes _ _ (objective_fails policy scenario holds fails) = record { no_usage = λ e. cc; no_read = λ e. cc; no_write = λ e. cc }
+policy_status problem bytes _ _ (unreadable_policy refusal is) = record { no_usage = λ e. cc; no_read = λ e. cc; no_write = λ e. cc }
+
+eval_status : (text bytes : List ℕ) (status : Status) (line : List ℕ) → IsEvalReply text bytes status line → IsEnd status
+eval_status text bytes status line (evaluated problem s l is reply) = policy_status problem bytes s l reply
+eval_status text bytes _ _ (text_refused refusal broken) = record { no_usage = λ e. cc; no_read = λ e. cc; no_write = λ e. cc }
+eval_status text bytes _ _ (text_limited excess over) = record { no_usage = λ e. cc; no_read = λ e. cc; no_write = λ e. cc }
+
+pub pair_status : (command : PairCommand) (text bytes : List ℕ) (status : Status) (line : List ℕ) → IsPairReply command text bytes status line → IsEnd status
+pair_status Check text bytes status line is = check_status text bytes status line is
+pair_status Eval text bytes status line is = eval_status text bytes status line is
+
+-- all replies to the same two files end alike
+abbrev pub PairsEndOnce : Type 0
+PairsEndOnce =
+    (command : PairCommand) (text bytes : List ℕ) (a b : Status) (l m : List ℕ) → IsPairReply command text bytes a l → IsPairReply command text bytes b m → a ≡ b
+
+pub pairs_end_once : ChecksEndOnce → EvalsEndOnce → PairsEndOnce
+pairs_end_once of_checks of_evals Check text bytes a b l m one other = (of_checks text bytes a b l m one other).status
+pairs_end_once of_checks of_evals Eval text bytes a b l m one other = (of_evals text bytes a b l m one other).0
+
+job_status : (text second : List ℕ) (budget : ℕ) (job : Job) (status : Status) → EndsJob text second budget job status → IsEnd status
+job_status text second budget (Text command) status end = end_status text budget command status end
+job_status text second budget (Pair command) status end = pair_status command text second status end.0 end.1
+
+-- what is asked for ends in one way, but that a search may be cut short
+job_alike : PairsEndOnce → (text second : List ℕ) (budget : ℕ) (job : Job) (status other : Status) → EndsJob text second budget job status
+    → EndsJob text second budget job other → settled status ≡ settled other
+job_alike once text second budget (Text command) status other end ends = ends_alike text budget command status other end ends
+job_alike once text second budget (Pair command) status other end ends = ap settled (once command text second status other end.0 ends.0 end.1 ends.1)
+
+-- the bytes that the stock gives for the second file behind the model's
+pub second_given : Request → Option Stock → List ℕ
+second_given request None = []
+second_given request (Some s) = text_of (begun_stock s) request.second
+
+pub second_is_given : (request : Request) (stock : Option Stock) → AreSecondBytes request stock (second_given request stock)
+unfolding second_given
+second_is_given request None = tt
+second_is_given request (Some s) = refl
+
+abbrev pub asked_with : Request → List ℕ → List ℕ → Asked
+asked_with request text second = record { job = request.job; text = text; second = second; budget = request.budget }
+
+-- a search whose budget is enough is done
+solve_done : (text second : List ℕ) (budget : ℕ) (job : Job) (status : Status) → job ≡ Text Solve → (problem : Problem) → SolvedText text problem → most_nodes problem ≤ budget
+    → EndsJob text second budget job status → status ≡ Done
+solve_done text second budget job status solve problem a enough end =
+    let ends : Ends text budget Solve status = subst (λ (j : Job). EndsJob text second budget j status) solve end in
+    settled_done status (ends_alike text budget Solve status Done ends (solved problem a)) (ends_settled text budget problem a enough Solve status ends)
+
 -- what a status says of the words, the source and the text
 pub record Tells (words : List (List ℕ)) (stock : Option Stock) (before now : ℕ) (status : Status) : Type 0 where
   pub usage : status ≡ Usage → request_of words ≡ None
@@ -79,15 +168,15 @@ pub record Tells (words : List (List ℕ)) (stock : Option Stock) (before now : 
 
 module _ (words : List (List ℕ)) (stock : Option Stock) (before now : ℕ) where
   -- what is told of the text is told of what is asked for
-  told_of : (request : Request) (text : List ℕ) → IsModelText request words stock text → (P : Command → ℕ → List ℕ → Type 0) → P request.command request.budget text
-      → IfSome (asked_in stock words) (λ a. P a.command a.budget a.text)
-  told_of request text is P p =
-      subst (λ o. IfSome (option_and_then (λ (r : Request). option_map (asked_by r) stock) o) (λ (a : Asked). P a.command a.budget a.text)) (sym is.asked)
-      (by_stock stock is.given)
+  told_of : (request : Request) (text second : List ℕ) → IsModelText request words stock text → AreSecondBytes request stock second → (P : Asked → Type 0)
+      → P (asked_with request text second) → IfSome (asked_in stock words) P
+  told_of request text second is are P p =
+      subst (λ o. IfSome (option_and_then (λ (r : Request). option_map (asked_by r) stock) o) P) (sym is.asked) (by_stock stock is.given are)
     where
-      by_stock : (o : Option Stock) → IfSome o (λ s. text ≡ text_of s request.model) → IfSome (option_map (asked_by request) o) (λ (a : Asked). P a.command a.budget a.text)
-      by_stock None given = tt
-      by_stock (Some s) given = subst (P request.command request.budget) given p
+      by_stock : (o : Option Stock) → IfSome o (λ s. text ≡ text_of s request.model) → AreSecondBytes request o second → IfSome (option_map (asked_by request) o) P
+      by_stock None given given_second = tt
+      by_stock (Some s) given given_second =
+          subst (λ b. P (asked_with request (text_of s request.model) b)) given_second (subst (λ t. P (asked_with request t second)) given p)
 
   none_asked : request_of words ≡ None → asked_in stock words ≡ None
   none_asked none = ap (λ o. option_and_then (λ (r : Request). option_map (asked_by r) stock) o) none
@@ -111,22 +200,21 @@ module _ (words : List (List ℕ)) (stock : Option Stock) (before now : ℕ) whe
   pub memory_tells : Tells words stock before now NoMemory
   memory_tells = early_tells NoMemory (inr (inr refl)) (λ e. cc) (λ e. cc) (λ none. inr (inr refl))
 
-  text_tells : (request : Request) (text : List ℕ) (status : Status) → IsModelText request words stock text → Ends text request.budget request.command status
-      → Tells words stock before now status
-  text_tells request text status is end =
-      let no = end_status text request.budget request.command status end in
+  text_tells : PairsEndOnce → (request : Request) (text second : List ℕ) (status : Status) → IsModelText request words stock text → AreSecondBytes request stock second
+      → EndsJob text second request.budget request.job status → Tells words stock before now status
+  text_tells once request text second status is are end =
+      let no = job_status text second request.budget request.job status end in
       record {
         usage = λ e. absurd (no.no_usage e);
         usage_when = λ none. absurd (one_request request (request_of words) is.asked none);
         read = λ e. absurd (no.no_read e);
-        ends = told_of request text is (λ c b t. EndedEarly status ⊎ Ends t b c status) (inr end);
-        ends_when = told_of request text is (λ c b t. (other : Status) → Ends t b c other → (settled status ≡ settled other) ⊎ EndedEarly status)
-            (λ other ends. inl (ends_alike text request.budget request.command status other end ends));
-        enough = told_of request text is (λ c b t. c ≡ Solve → (problem : Problem) → SolvedText t problem → most_nodes problem ≤ b → (status ≡ Done) ⊎ EndedEarly status)
-            (λ solve problem a enough.
-            inl (settled_done status
-            (ends_alike text request.budget request.command status Done end (subst (λ c. Ends text request.budget c Done) (sym solve) (solved problem a)))
-            (ends_settled text request.budget problem a enough request.command status end)));
+        ends = told_of request text second is are (λ a. EndedEarly status ⊎ EndsJob a.text a.second a.budget a.job status) (inr end);
+        ends_when = told_of request text second is are
+            (λ a. (other : Status) → EndsJob a.text a.second a.budget a.job other → (settled status ≡ settled other) ⊎ EndedEarly status)
+            (λ other ends. inl (job_alike once text second request.budget request.job status other end ends));
+        enough = told_of request text second is are
+            (λ a. a.job ≡ Text Solve → (problem : Problem) → SolvedText a.text problem → most_nodes problem ≤ a.budget → (status ≡ Done) ⊎ EndedEarly status)
+            (λ solve problem a enough. inl (solve_done text second request.budget request.job status solve problem a enough end));
       }
 
   usage_tells : request_of words ≡ None → Tells words stock before now Usage
@@ -144,15 +232,20 @@ module _ (words : List (List ℕ)) (stock : Option Stock) (before now : ℕ) whe
   fault_tells named rose = early_tells ReadFault (inl refl) (λ e. cc) (λ e. rose) (λ none. absurd (some_request (request_of words) named none))
 
   -- each reply tells
-  reply_tells : (log : Option (List ℕ)) (status : Status) (line : List ℕ) → IsReply words stock before now log status line → Tells words stock before now status
-  reply_tells log status line (replied request text l s m is reply) = text_tells request text s is (text_reply_ends text request.budget request.command l s m reply)
-  reply_tells log status line (usage none) = usage_tells none
-  reply_tells log status line (read_fault named rose) = fault_tells named rose
+  reply_tells : PairsEndOnce → (log : Option (List ℕ)) (status : Status) (line : List ℕ) → IsReply words stock before now log status line → Tells words stock before now status
+  reply_tells once log status line (replied request command text l s m job is reply) =
+      text_tells once request text (second_given request stock) s is (second_is_given request stock)
+      (subst (λ (j : Job). EndsJob text (second_given request stock) request.budget j s) (sym job) (text_reply_ends text request.budget command l s m reply))
+  reply_tells once log status line (replied_on_both request command text bytes s m job is are reply) =
+      text_tells once request text bytes s is are (subst (λ (j : Job). EndsJob text bytes request.budget j s) (sym job) (m, reply))
+  reply_tells once log status line (usage none) = usage_tells none
+  reply_tells once log status line (read_fault named rose) = fault_tells named rose
 
   -- and no reply is that a sink failed
   pub not_written : (log : Option (List ℕ)) (status : Status) (line : List ℕ) → IsReply words stock before now log status line → ¬ (status ≡ WriteFault)
-  not_written log status line (replied request text l s m is reply) =
-      (end_status text request.budget request.command s (text_reply_ends text request.budget request.command l s m reply)).no_write
+  not_written log status line (replied request command text l s m job is reply) =
+      (end_status text request.budget command s (text_reply_ends text request.budget command l s m reply)).no_write
+  not_written log status line (replied_on_both request command text bytes s m job is are reply) = (pair_status command text bytes s m reply).no_write
   not_written log status line (usage none) = λ e. cc
   not_written log status line (read_fault named rose) = λ e. cc
 
@@ -164,17 +257,13 @@ module _ (words : List (List ℕ)) (stock : Option Stock) (before now : ℕ) whe
     run_written log_before log_now reply status is (all taken) = whole is.log reply.status (string_bytes reply.line) is.is taken is.logged
     run_written log_before log_now reply status is (part rose taken) = prefix is.log reply.status (string_bytes reply.line) rose is.is taken is.logged
 
-    pub written_tells : (reply : Reply) (status : Status) → Replied words stock before now log_old log_new reply → IsWritten old new answer_before answer_now reply status → Tells words stock before now status
-    written_tells reply status is (all taken) = reply_tells is.log reply.status (string_bytes reply.line) is.is
-    written_tells reply status is (part rose taken) = write_tells
+    pub written_tells : PairsEndOnce → (reply : Reply) (status : Status) → Replied words stock before now log_old log_new reply → IsWritten old new answer_before answer_now reply status → Tells words stock before now status
+    written_tells once reply status is (all taken) = reply_tells once is.log reply.status (string_bytes reply.line) is.is
+    written_tells once reply status is (part rose taken) = write_tells
 
     pub written_ends : (reply : Reply) (status : Status) (left : Option (List ℕ)) → IsWritten old new answer_before answer_now reply status → (IsAnswered reply.status → IsAtEnd left) → IsAnswered status → IsAtEnd left
     written_ends reply status left (all taken) ended = ended
-    written_ends reply status left (part rose taken) ended = λ answered. absurd (no_answer answered)
-      where
-        no_answer : ¬ IsAnswered WriteFault
-        no_answer (inl done) = cc
-        no_answer (inr done) = cc
+    written_ends reply status left (part rose taken) ended = λ answered. absurd (early_no_answer WriteFault (inr (inl refl)) answered)
 
     pub written_cause : (reply : Reply) (status : Status) (one two : ℕ) → Replied words stock before now log_old log_new reply
         → (status ≡ WriteFault → (reply.status ≡ WriteFault) ⊎ Rose one two) → status ≡ WriteFault → Rose one two
@@ -203,7 +292,5 @@ stop_cause Write status result one two stops rose is failed = rose stops
 stop_cause search.NoMemory status result one two stops rose is failed = cc
 
 pub stop_no_answer : (stop : SearchStop) (status : Status) (left : Option (List ℕ)) → status ≡ stop_status stop → IsAnswered status → IsAtEnd left
-stop_no_answer Write status left is (inl done) = cc
-stop_no_answer Write status left is (inr done) = cc
-stop_no_answer search.NoMemory status left is (inl done) = cc
-stop_no_answer search.NoMemory status left is (inr done) = cc
+stop_no_answer Write status left is answered = absurd (early_no_answer status (inr (inl is)) answered)
+stop_no_answer search.NoMemory status left is answered = absurd (early_no_answer status (inr (inr is)) answered)

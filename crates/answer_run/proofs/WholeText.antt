@@ -1,11 +1,11 @@
 -- At most one byte more is read of a text than a text may have: what is answered of the bytes that were read holds of the text.
-use Rattle.std.proofs.Common.{◌≡◌, ◌⊎◌, inl, inr, ℕ, ◌≤◌, ◌<◌, List, [], length, take, refl, sym, ap, subst, arith, Option, Some, None, Result, Ok, Err, IfOk, IfErr, IfSome, IsSome, codes}
+use Rattle.std.proofs.Common.{◌≡◌, ◌⊎◌, inl, inr, ℕ, ◌≤◌, ◌<◌, List, [], length, take, refl, sym, ap, subst, arith, Option, Some, None, Result, Ok, Err, IfOk, IfErr, IfSome, IsSome, option_map, codes}
 use Rattle.std.proofs.lemmas.List.{take_all, length-take}
 use Rattle.std.specs.Option.{option_map_or}
 use Rattle.std.specs.Prelude.{string_bytes}
 use Rattle.std.specs.Io.KnownBytes.{IsAtEnd}
 use Rattle.sopl_io.specs.Causes.{Rose}
-use Rattle.sopl_io.specs.Stock.{Stock, text_of}
+use Rattle.sopl_io.specs.Stock.{Stock, begun_stock, text_of}
 use Rattle.sopl_io.specs.Transfer.{cut_at}
 use Rattle.sopl_base.specs.declared.fault.Excess.{Excess}
 use Rattle.sopl_base.specs.declared.fault.Refusal.{Refusal}
@@ -14,18 +14,24 @@ use Rattle.sopl_ast.specs.Tokens.{too_long, no_piece, too_large}
 use Rattle.sopl_ast.specs.Limits.{usual_limits}
 use Rattle.sopl_search.specs.declared.outcome.SearchStop.{SearchStop}
 use Rattle.sopl_search.specs.declared.outcome.SearchStop.TheVariants.{Write, NoMemory}
-use Rattle.answer_lines.specs.AnswerData.{word_data, line_of}
+use Rattle.answer_lines.specs.AnswerData.{word_data, limit_data, line_of}
 use Rattle.answer_texts.specs.Logs.{IsUnused, SinkState}
-use Rattle.answer_texts.specs.Replies.{IsRefusedOn, by_rule, not_yet, IsLimitedOn, by_size, by_terms, IsTextReply, optimal, infeasible, bounded, scenes, refused, limited, Replies}
+use Rattle.answer_texts.specs.Solved.{SolvedText}
+use Rattle.answer_texts.specs.Replies.{IsRefusedOn, by_rule, IsLimitedOn, by_size, by_terms, IsTextReply, optimal, infeasible, bounded, scenes, refused, limited, Replies}
 use Rattle.answer_texts.specs.Replies.{IsCut, Logged, StopsByCause}
 use Rattle.answer_texts.specs.declared.command.Command.{Command}
 use Rattle.answer_texts.specs.declared.command.Command.TheVariants.{Solve}
 use Rattle.answer_texts.specs.declared.reply.Reply.{Reply}
 use Rattle.answer_texts.specs.declared.status.Status.{Status}
-use Rattle.answer_texts.specs.declared.status.Status.TheVariants.{Usage, ReadFault}
+use Rattle.answer_texts.specs.declared.status.Status.TheVariants.{Usage, Refused, Limit, ReadFault}
+use Rattle.answer_check.specs.CheckReplies.{IsCheckReply, IsTurnedAway, checked as checks, refused_text, limited_text}
+use Rattle.answer_eval.specs.EvalReplies.{IsEvalReply, evaluated, text_refused, text_limited}
+use Rattle.answer_run.specs.declared.commands.Job.TheVariants.{Text, Pair}
+use Rattle.answer_run.specs.declared.commands.PairCommand.{PairCommand}
+use Rattle.answer_run.specs.declared.commands.PairCommand.TheVariants.{Check, Eval}
 use Rattle.answer_run.specs.Words.{Request, request_of}
-use Rattle.answer_run.specs.Replies.{IsAnswered, IsCutOff, cut_off, IsReply, replied, usage, read_fault, log_name}
-use Rattle.answer_run.specs.Runs.{Replied, StopsWith}
+use Rattle.answer_run.specs.Replies.{IsAnswered, IsCutOff, cut_off, IsPairReply, IsReply, IsTaken, replied, replied_on_both, usage, read_fault, log_name}
+use Rattle.answer_run.specs.Runs.{Replied, StopsWith, AnswersBoth, second_read, second_unread}
 
 -- a prefix of a text that is short enough is the whole text
 prefix_is_whole : (most : ℕ) → 1048576 < most → (text : List ℕ) → length (take most text) ≤ 1048576 → take most text ≡ text
@@ -38,7 +44,7 @@ size_short text excess (sizes_pass model is typed passes over) = is.read.0
 
 limited_short : (text : List ℕ) (excess : Excess) (command : Command) → IsLimitedOn text excess command → length text ≤ 1048576
 limited_short text excess _ (by_size command over) = size_short text excess over
-limited_short text excess _ (by_terms over) = over.spelled.read.0
+limited_short text excess _ (by_terms command over) = over.spelled.read.0
 
 -- a text is refused where what is read of it is
 refused_short : (most : ℕ) → 1048576 < most → (text : List ℕ) (refusal : Refusal) → length (take most text) ≤ 1048576 → IsRefusedFor (take most text) refusal → IsRefusedFor text refusal
@@ -57,8 +63,6 @@ refused_whole most more text refusal (stopped model is typed stops) = refused_sh
 
 refused_on : (most : ℕ) → 1048576 < most → (text : List ℕ) (refusal : Refusal) (command : Command) → IsRefusedOn (take most text) refusal command → IsRefusedOn text refusal command
 refused_on most more text refusal _ (by_rule command reason) = by_rule command (refused_whole most more text refusal reason)
-refused_on most more text refusal _ (not_yet is) =
-    subst (λ t. IsRefusedOn t refusal Solve) (prefix_is_whole most more text is.spelled.read.0) (not_yet is)
 
 -- a reply to what was read of a text, where that is no longer than a text may be
 reply_moved : (most : ℕ) → 1048576 < most → (text : List ℕ) (budget : ℕ) (command : Command) (log : Option (List ℕ)) (status : Status) (line : List ℕ)
@@ -91,48 +95,60 @@ module _ (words : List (List ℕ)) (stock : Option Stock) (before now : ℕ) (ol
   name_is : (request : Request) → request_of words ≡ Some request → log_name words ≡ request.log
   name_is request asked = ap (λ (o : Option Request). option_map_or (λ (r : Request). r.log) o []) asked
 
-  module _ (bytes : List ℕ) (request : Request) (most : ℕ) (asked : request_of words ≡ Some request) (more : 1048576 < most) where
+  module _ (bytes : List ℕ) (request : Request) (command : Command) (job : request.job ≡ Text command) (most : ℕ) (asked : request_of words ≡ Some request)
+      (more : 1048576 < most) where
     -- what is answered of the bytes that were read is a reply to the words
     read_reply : (o : Option Stock) → IfSome o (λ s. bytes ≡ cut_at (Some most) (text_of s request.model)) → (log : Option (List ℕ)) (status : Status) (line : List ℕ)
-        → IsTextReply bytes request.budget request.command log status line → IsReply words o before now log status line
-    read_reply None read log status line reply = replied request bytes log status line (record { asked = asked; given = tt }) reply
+        → IsTextReply bytes request.budget command log status line → IsReply words o before now log status line
+    read_reply None read log status line reply = replied request command bytes log status line job (record { asked = asked; given = tt }) reply
     read_reply (Some s) read log status line reply =
-        replied request (text_of s request.model) log status line (record { asked = asked; given = refl })
-        (reply_whole most more (text_of s request.model) request.budget request.command log status line
-        (subst (λ b. IsTextReply b request.budget request.command log status line) read reply))
+        replied request command (text_of s request.model) log status line job (record { asked = asked; given = refl })
+        (reply_whole most more (text_of s request.model) request.budget command log status line
+        (subst (λ b. IsTextReply b request.budget command log status line) read reply))
 
     read_cut : (o : Option Stock) → IfSome o (λ s. bytes ≡ cut_at (Some most) (text_of s request.model))
-        → IsCut bytes request.budget request.command request.log old new → IsCutOff words o old new
-    read_cut None read cut = cut_off request bytes (record { asked = asked; given = tt }) cut
+        → IsCut bytes request.budget command request.log old new → IsCutOff words o old new
+    read_cut None read cut = cut_off request command bytes job (record { asked = asked; given = tt }) cut
     read_cut (Some s) read cut =
-        cut_off request (text_of s request.model) (record { asked = asked; given = refl })
-        (cut_whole most more (text_of s request.model) request.budget request.command request.log old new
-        (subst (λ b. IsCut b request.budget request.command request.log old new) read cut))
+        cut_off request command (text_of s request.model) job (record { asked = asked; given = refl })
+        (cut_whole most more (text_of s request.model) request.budget command request.log old new
+        (subst (λ b. IsCut b request.budget command request.log old new) read cut))
 
     module _ (slice : List ℕ) (same : slice ≡ bytes) (read : IfSome stock (λ s. bytes ≡ cut_at (Some most) (text_of s request.model))) where
       -- the same of a reply that was made of so many bytes
       pub reply_made : (result : Result Reply SearchStop)
-          → IfOk result (λ reply. Replies slice request.budget request.command request.log old new reply.status (string_bytes reply.line))
+          → IfOk result (λ reply. Replies slice request.budget command request.log old new reply.status (string_bytes reply.line))
           → IfOk result (Replied words stock before now old new)
       reply_made (Err stop) replies = tt
       reply_made (Ok reply) replies =
           record {
             log = replies.log;
             is = read_reply stock read replies.log reply.status (string_bytes reply.line)
-                (subst (λ b. IsTextReply b request.budget request.command replies.log reply.status (string_bytes reply.line)) same replies.reply);
+                (subst (λ b. IsTextReply b request.budget command replies.log reply.status (string_bytes reply.line)) same replies.reply);
             logged = subst (λ n. Logged n replies.log old new) (sym (name_is request asked)) replies.logged;
           }
 
-      stop_made : (stop : SearchStop) → StopsByCause slice request.budget request.command request.log old new stop → StopsWith words stock old new stop
-      stop_made Write cut = read_cut stock read (subst (λ b. IsCut b request.budget request.command request.log old new) same cut)
+      stop_made : (stop : SearchStop) → StopsByCause slice request.budget command request.log old new stop → StopsWith words stock old new stop
+      stop_made Write cut = read_cut stock read (subst (λ b. IsCut b request.budget command request.log old new) same cut)
       stop_made NoMemory (inl unused) = inl unused
-      stop_made NoMemory (inr cut) = inr (read_cut stock read (subst (λ b. IsCut b request.budget request.command request.log old new) same cut))
+      stop_made NoMemory (inr cut) = inr (read_cut stock read (subst (λ b. IsCut b request.budget command request.log old new) same cut))
 
       -- and of why there is none
-      pub stops_made : (result : Result Reply SearchStop) → IfErr result (StopsByCause slice request.budget request.command request.log old new)
+      pub stops_made : (result : Result Reply SearchStop) → IfErr result (StopsByCause slice request.budget command request.log old new)
           → IfErr result (StopsWith words stock old new)
       stops_made (Ok reply) stops = tt
       stops_made (Err stop) stops = stop_made stop stops
+
+-- a text that is turned away is not answered
+pub away_no_answer : (status : Status) → IsTurnedAway status → IsAnswered status → ⊥
+away_no_answer status (inl away) (inl done) = cc
+away_no_answer status (inl away) (inr (inl done)) = cc
+away_no_answer status (inl away) (inr (inr (inl done))) = cc
+away_no_answer status (inl away) (inr (inr (inr done))) = cc
+away_no_answer status (inr away) (inl done) = cc
+away_no_answer status (inr away) (inr (inl done)) = cc
+away_no_answer status (inr away) (inr (inr (inl done))) = cc
+away_no_answer status (inr away) (inr (inr (inr done))) = cc
 
 -- a text that is answered is no longer than a text may be
 answered_short : (text : List ℕ) (budget : ℕ) (command : Command) (log : Option (List ℕ)) (status : Status) (line : List ℕ)
@@ -141,10 +157,8 @@ answered_short text budget _ _ _ _ (optimal problem policy value log is best log
 answered_short text budget _ _ _ _ (infeasible problem log is none logged) done = is.spelled.read.0
 answered_short text budget _ _ _ _ (bounded problem found bound log is known less logged) done = is.spelled.read.0
 answered_short text budget _ _ _ _ (scenes problem accepted) done = accepted.spelled.read.0
-answered_short text budget _ _ _ _ (refused command refusal why) (inl done) = cc
-answered_short text budget _ _ _ _ (refused command refusal why) (inr done) = cc
-answered_short text budget _ _ _ _ (limited command excess over) (inl done) = cc
-answered_short text budget _ _ _ _ (limited command excess over) (inr done) = cc
+answered_short text budget _ _ _ _ (refused command refusal why) done = absurd (away_no_answer Refused (inl refl) done)
+answered_short text budget _ _ _ _ (limited command excess over) done = absurd (away_no_answer Limit (inr refl) done)
 
 not_full : (most size : ℕ) → Some most ≡ Some size → size < most → ⊥
 not_full most size same below = absurd (omega (arith, below, one most size same))
@@ -200,3 +214,58 @@ module _ (words : List (List ℕ)) (stock : Option Stock) (before now : ℕ) (at
 
   pub want_stops : StopsWith words stock at at NoMemory
   want_stops = inl unused
+
+-- A command on the text and a second file.
+
+-- a text that is taken was read whole
+pub taken_whole : (command : PairCommand) (most : ℕ) → 1048576 < most → (text : List ℕ) → IsTaken command (take most text) → IsTaken command text
+taken_whole command most more text (problem, is) = (problem, subst (λ t. SolvedText t problem) (prefix_is_whole most more text is.spelled.read.0) is)
+
+-- a reply to what was read of a text and to a second file is one to the text
+check_whole : (most : ℕ) → 1048576 < most → (text log : List ℕ) (status : Status) (line : List ℕ) → IsCheckReply (take most text) log status line → IsCheckReply text log status line
+check_whole most more text log status line (checks problem s l is reply) =
+    subst (λ t. IsCheckReply t log s l) (prefix_is_whole most more text is.spelled.read.0) (checks problem s l is reply)
+check_whole most more text log _ _ (refused_text refusal why) = refused_text refusal (refused_on most more text refusal Solve why)
+check_whole most more text log _ _ (limited_text excess over) =
+    subst (λ t. IsCheckReply t log Limit (line_of (limit_data excess))) (prefix_is_whole most more text (limited_short (take most text) excess Solve over)) (limited_text excess over)
+
+eval_whole : (most : ℕ) → 1048576 < most → (text bytes : List ℕ) (status : Status) (line : List ℕ) → IsEvalReply (take most text) bytes status line → IsEvalReply text bytes status line
+eval_whole most more text bytes status line (evaluated problem s l is reply) =
+    subst (λ t. IsEvalReply t bytes s l) (prefix_is_whole most more text is.spelled.read.0) (evaluated problem s l is reply)
+eval_whole most more text bytes _ _ (text_refused refusal why) = text_refused refusal (refused_on most more text refusal Solve why)
+eval_whole most more text bytes _ _ (text_limited excess over) =
+    subst (λ t. IsEvalReply t bytes Limit (line_of (limit_data excess))) (prefix_is_whole most more text (limited_short (take most text) excess Solve over)) (text_limited excess over)
+
+pair_whole : (command : PairCommand) (most : ℕ) → 1048576 < most → (text bytes : List ℕ) (status : Status) (line : List ℕ) → IsPairReply command (take most text) bytes status line
+    → IsPairReply command text bytes status line
+pair_whole Check most more text bytes status line is = check_whole most more text bytes status line is
+pair_whole Eval most more text bytes status line is = eval_whole most more text bytes status line is
+
+pub rose_earlier : (before later now : ℕ) → before ≤ later → Rose later now → Rose before now
+rose_earlier before later now up rose = omega (arith, up, rose)
+
+module _ (words : List (List ℕ)) (before later now : ℕ) (up : before ≤ later) (at : SinkState) (bytes : List ℕ) (request : Request) (command : PairCommand)
+    (job : request.job ≡ Pair command) (most : ℕ) (asked : request_of words ≡ Some request) (more : 1048576 < most) where
+  -- what is answered of both files is a reply to the words
+  both_reply : (o : Option Stock) → IfSome o (λ s. bytes ≡ cut_at (Some most) (text_of s request.model)) → (status : Status) (line : List ℕ)
+      → AnswersBoth command bytes request.second (option_map begun_stock o) later now status line → IsReply words o before now None status line
+  both_reply o read status line (second_unread rose) = read_fault (is_asked request (request_of words) asked) (rose_earlier before later now up rose)
+  both_reply None read status line (second_read second s l given reply) =
+      replied_on_both request command bytes second s l job (record { asked = asked; given = tt }) tt reply
+  both_reply (Some t) read status line (second_read second s l given reply) =
+      replied_on_both request command (text_of t request.model) second s l job (record { asked = asked; given = refl }) given
+      (pair_whole command most more (text_of t request.model) second s l (subst (λ b. IsPairReply command b second s l) read reply))
+
+  pub both_made : (stock mid : Option Stock) → mid ≡ option_map begun_stock stock → (slice : List ℕ) → slice ≡ bytes
+      → IfSome stock (λ s. bytes ≡ cut_at (Some most) (text_of s request.model)) → (result : Result Reply SearchStop)
+      → IfOk result (λ reply. AnswersBoth command slice request.second mid later now reply.status (string_bytes reply.line))
+      → IfOk result (Replied words stock before now at at)
+  both_made stock mid begun slice same read (Err stop) replies = tt
+  both_made stock mid begun slice same read (Ok reply) replies =
+      record {
+        log = None;
+        is = both_reply stock read reply.status (string_bytes reply.line)
+            (subst (λ m. AnswersBoth command bytes request.second m later now reply.status (string_bytes reply.line)) begun
+            (subst (λ b. AnswersBoth command b request.second mid later now reply.status (string_bytes reply.line)) same replies));
+        logged = record { taken = refl; names = refl };
+      }

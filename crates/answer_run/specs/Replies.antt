@@ -3,7 +3,7 @@ use Rattle.std.specs.Prelude.{◌≡◌, ◌⊎◌, ℕ, ◌≤◌, codes, List,
 use Rattle.std.specs.Io.KnownBytes.{Keeps, Appends}
 use Rattle.std.specs.Option.{option_and_then, option_map_or}
 use Rattle.sopl_io.specs.Causes.{Rose}
-use Rattle.sopl_io.specs.Stock.{Stock, text_of, with_name}
+use Rattle.sopl_io.specs.Stock.{Stock, begun_stock, text_of, with_name}
 use Rattle.sopl_io.specs.Transfer.{AppendsPrefix}
 use Rattle.sopl_base.specs.declared.fault.Excess.{Excess}
 use Rattle.sopl_base.specs.declared.fault.Refusal.{Refusal}
@@ -15,7 +15,13 @@ use Rattle.answer_texts.specs.Replies.{Ends, settled, IsLimitedOn, IsRefusedOn, 
 use Rattle.answer_texts.specs.declared.command.Command.{Command}
 use Rattle.answer_texts.specs.declared.command.Command.TheVariants.{Solve}
 use Rattle.answer_texts.specs.declared.status.Status.{Status}
-use Rattle.answer_texts.specs.declared.status.Status.TheVariants.{Done, Usage, Bounded, ReadFault, WriteFault, NoMemory}
+use Rattle.answer_texts.specs.declared.status.Status.TheVariants.{Done, Failing, Usage, Bounded, ReadFault, WriteFault, NoMemory, Unreadable}
+use Rattle.answer_check.specs.CheckReplies.{IsCheckReply, IsTurnedAway}
+use Rattle.answer_eval.specs.EvalReplies.{IsEvalReply}
+use Rattle.answer_run.specs.declared.commands.Job.{Job}
+use Rattle.answer_run.specs.declared.commands.Job.TheVariants.{Text, Pair}
+use Rattle.answer_run.specs.declared.commands.PairCommand.{PairCommand}
+use Rattle.answer_run.specs.declared.commands.PairCommand.TheVariants.{Check, Eval}
 use Rattle.answer_run.specs.Words.{Request, request_of}
 
 -- the words ask for this, and this is the text of the model's file: the one that the source's stock gives for it, where the stock is told
@@ -23,12 +29,25 @@ pub record IsModelText (request : Request) (words : List (List ℕ)) (stock : Op
   pub asked : request_of words ≡ Some request
   pub given : IfSome stock (λ s. text ≡ text_of s request.model)
 
+-- and these are the bytes of the second file: those that the stock gives for it behind the model's, where the stock is told
+abbrev pub AreSecondBytes : Request → Option Stock → List ℕ → Type 0
+AreSecondBytes request stock bytes = IfSome stock (λ s. bytes ≡ text_of (begun_stock s) request.second)
+
+-- a reply to a command on the text of a model and the bytes of a second file: the status that it ends with, and its line
+abbrev pub IsPairReply : PairCommand → List ℕ → List ℕ → Status → List ℕ → Type 0
+IsPairReply Check text bytes status line = IsCheckReply text bytes status line
+IsPairReply Eval text bytes status line = IsEvalReply text bytes status line
+
 -- a reply to the words: the log that goes with it, the status that it ends with, its line, and why it comes; the stock is the source's, and the counts
 -- are those of its faults
 pub data IsReply (words : List (List ℕ)) (stock : Option Stock) (before now : ℕ) : Option (List ℕ) → Status → List ℕ → Type 0 where
   -- a reply to the command on the text of the file that the words name
-  replied : (request : Request) (text : List ℕ) (log : Option (List ℕ)) (status : Status) (line : List ℕ) → IsModelText request words stock text
-      → IsTextReply text request.budget request.command log status line → IsReply words stock before now log status line
+  replied : (request : Request) (command : Command) (text : List ℕ) (log : Option (List ℕ)) (status : Status) (line : List ℕ) → request.job ≡ Text command
+      → IsModelText request words stock text → IsTextReply text request.budget command log status line → IsReply words stock before now log status line
+  -- a reply to the command on the text of the model's file and the bytes of the second file; no log goes with it
+  replied_on_both : (request : Request) (command : PairCommand) (text bytes : List ℕ) (status : Status) (line : List ℕ) → request.job ≡ Pair command
+      → IsModelText request words stock text → AreSecondBytes request stock bytes → IsPairReply command text bytes status line
+      → IsReply words stock before now None status line
   -- the words are not of the form
   usage : request_of words ≡ None → IsReply words stock before now None Usage (line_of (word_data (codes "usage")))
   -- the words name a file, and the source failed
@@ -40,8 +59,8 @@ log_name words = option_map_or (λ (r : Request). r.log) (request_of words) []
 
 -- the words ask for a search of a text that is solved, and the log's sink was begun with the log's name and took a prefix of a log
 pub data IsCutOff (words : List (List ℕ)) (stock : Option Stock) (old new : SinkState) : Type 0 where
-  cut_off : (request : Request) (text : List ℕ) → IsModelText request words stock text
-      → IsCut text request.budget request.command request.log old new → IsCutOff words stock old new
+  cut_off : (request : Request) (command : Command) (text : List ℕ) → request.job ≡ Text command → IsModelText request words stock text
+      → IsCut text request.budget command request.log old new → IsCutOff words stock old new
 
 -- what the answer's sink took, what the log's sink took and was begun with, and the status after it; the counts of faults are the source's, the answer's sink's
 -- and the log's sink's
@@ -61,15 +80,17 @@ pub data Answers (words : List (List ℕ)) (stock : Option Stock) (before now : 
   nothing : Keeps old new → IsUnused log_old log_new ⊎ IsCutOff words stock log_old log_new
       → Answers words stock before now old new answer_before answer_now log_old log_new log_before log_now NoMemory
 
--- a command, the text that it works on, and how many nodes a search may finish
+-- what is done on what, the text of the model, the bytes of the second file, and how many nodes a search may finish
 pub record Asked : Type 0 where
-  pub command : Command
+  pub job : Job
   pub text : List ℕ
+  pub second : List ℕ
   pub budget : ℕ
 
--- what is asked for, where the words are of the form and the source tells its stock: the text is what the stock gives for the model's file
+-- what is asked for, where the words are of the form and the source tells its stock: the text is what the stock gives for the model's file,
+-- and the bytes of the second file are what it gives for that behind the model's
 abbrev pub asked_by : Request → Stock → Asked
-asked_by r s = record { command = r.command; text = text_of s r.model; budget = r.budget }
+asked_by r s = record { job = r.job; text = text_of s r.model; second = text_of (begun_stock s) r.second; budget = r.budget }
 
 abbrev pub asked_in : Option Stock → List (List ℕ) → Option Asked
 asked_in stock words = option_and_then (λ (r : Request). option_map (asked_by r) stock) (request_of words)
@@ -78,38 +99,60 @@ asked_in stock words = option_and_then (λ (r : Request). option_map (asked_by r
 abbrev pub EndedEarly : Status → Type 0
 EndedEarly status = (status ≡ ReadFault) ⊎ (status ≡ WriteFault) ⊎ (status ≡ NoMemory)
 
--- the text was answered
+-- the text was answered, or the second file was
 abbrev pub IsAnswered : Status → Type 0
-IsAnswered status = (status ≡ Done) ⊎ (status ≡ Bounded)
+IsAnswered status = (status ≡ Done) ⊎ (status ≡ Bounded) ⊎ (status ≡ Failing) ⊎ (status ≡ Unreadable)
 
--- a run that did not end early ended as its command ends on its text
+-- how a job ends: as the command ends on the text, or as some reply to the command on the text and the second file ends
+abbrev pub EndsJob : List ℕ → List ℕ → ℕ → Job → Status → Type 0
+EndsJob text second budget (Text command) status = Ends text budget command status
+EndsJob text second budget (Pair command) status = (line : List ℕ) × IsPairReply command text second status line
+
+abbrev pub AskedEnds : Asked → Status → Type 0
+AskedEnds a status = EndsJob a.text a.second a.budget a.job status
+
+-- a run that did not end early ended as what is asked for ends
 abbrev pub EndsSoundly : Option Asked → Status → Type 0
-EndsSoundly asked status = IfSome asked (λ a. EndedEarly status ⊎ Ends a.text a.budget a.command status)
+EndsSoundly asked status = IfSome asked (λ a. EndedEarly status ⊎ AskedEnds a status)
 
--- and as its command ends on its text a run ends, but that a search may be cut short, unless it ends early
+-- and as what is asked for ends a run ends, but that a search may be cut short, unless it ends early
 abbrev pub EndsCompletely : Option Asked → Status → Type 0
 EndsCompletely asked status =
-    IfSome asked (λ a. (end : Status) → Ends a.text a.budget a.command end → (settled status ≡ settled end) ⊎ EndedEarly status)
+    IfSome asked (λ a. (end : Status) → AskedEnds a end → (settled status ≡ settled end) ⊎ EndedEarly status)
 
 -- with a budget of as many nodes as a search may have, it is not cut short
 abbrev pub SettlesInBudget : Option Asked → Status → Type 0
 SettlesInBudget asked status =
-    IfSome asked (λ a. a.command ≡ Solve → (problem : Problem) → SolvedText a.text problem → most_nodes problem ≤ a.budget → (status ≡ Done) ⊎ EndedEarly status)
+    IfSome asked (λ a. a.job ≡ Text Solve → (problem : Problem) → SolvedText a.text problem → most_nodes problem ≤ a.budget → (status ≡ Done) ⊎ EndedEarly status)
+
+-- the command on a text that takes the same texts: a second file is read beside those that are solved
+abbrev pub taking : Job → Command
+taking (Text command) = command
+taking (Pair command) = Solve
 
 -- what is asked for is refused by one code at one place
 abbrev pub RefusedOnce : Option Asked → Type 0
 RefusedOnce asked =
-    IfSome asked (λ a. (one other : Refusal) → IsRefusedOn a.text one a.command → IsRefusedOn a.text other a.command → one ≡ other)
+    IfSome asked (λ a. (one other : Refusal) → IsRefusedOn a.text one (taking a.job) → IsRefusedOn a.text other (taking a.job) → one ≡ other)
 
 -- and passes one limit
 abbrev pub LimitedOnce : Option Asked → Type 0
 LimitedOnce asked =
-    IfSome asked (λ a. (one other : Excess) → IsLimitedOn a.text one a.command → IsLimitedOn a.text other a.command → one ≡ other)
+    IfSome asked (λ a. (one other : Excess) → IsLimitedOn a.text one (taking a.job) → IsLimitedOn a.text other (taking a.job) → one ≡ other)
 
--- the names with which a source was begun, after it was begun with the file of the model, where there is one
-abbrev pub begun_names : Option (List ℕ) → Option (List (List ℕ)) → Option (List (List ℕ))
-begun_names None names = names
-begun_names (Some name) names = with_name names name
+-- the text is one whose second file is read: it states a problem that is solved
+abbrev pub IsTaken : PairCommand → List ℕ → Type 0
+IsTaken command text = (problem : Problem) × SolvedText text problem
+
+-- the names with which a source was begun before and after a run that ended with a status: once with the file of the model, where there is one, and behind it
+-- once with the second file, where the command has one and takes the text; each status that comes of a second file comes behind the begin of that file
+pub data BeginsFiles (stock : Option Stock) (old new : Option (List (List ℕ))) : Option Request → Status → Type 0 where
+  no_file : (status : Status) → new ≡ old → BeginsFiles stock old new None status
+  model_alone : (request : Request) (status : Status) → new ≡ with_name old request.model
+      → ((command : PairCommand) → request.job ≡ Pair command → ¬ IsAnswered status) → BeginsFiles stock old new (Some request) status
+  model_and_second : (request : Request) (command : PairCommand) (status : Status) → request.job ≡ Pair command
+      → IfSome stock (λ s. IsTaken command (text_of s request.model)) → new ≡ with_name (with_name old request.model) request.second → ¬ IsTurnedAway status
+      → BeginsFiles stock old new (Some request) status
 
 -- a source gives what it gave before, and has not failed since: the bytes that are left, its stock, its count of faults
 abbrev pub IsUntouched : Option (List ℕ) → Option Stock → ℕ → Option (List ℕ) → Option Stock → ℕ → Type 0

@@ -10,10 +10,10 @@ abbrev pub text_shown : Bor (List ℕ) → List ℕ
 text_shown text = text.now
 
 abbrev pub row_shown : CommandRow → words.CommandRow
-row_shown r = record { command = r.command; name = r.name.now; options = r.options.now; positional = r.positional }
+row_shown r = record { job = r.job; name = r.name.now; options = r.options.now; positional = r.positional }
 
 abbrev pub part_shown : Part → words.Part
 part_shown p = record { kind = p.kind; value = p.value.now }
 
 abbrev pub request_shown : Request → words.Request
-request_shown r = record { command = r.command; model = r.model.now; budget = r.budget; log = r.log.now }
+request_shown r = record { job = r.job; model = r.model.now; second = r.second.now; budget = r.budget; log = r.log.now }

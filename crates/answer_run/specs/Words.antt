@@ -5,14 +5,16 @@ use Rattle.std.specs.List.{list_all, list_any, before_first, after_first}
 use Rattle.std.specs.Option.{option_and_then, option_map_or}
 use Rattle.std.specs.Str.{bytes_eq}
 use Rattle.sopl_ast.specs.Pieces.{decimal}
-use Rattle.answer_texts.specs.declared.command.Command.{Command}
 use Rattle.answer_texts.specs.declared.command.Command.TheVariants.{Solve, Tree}
+use Rattle.answer_run.specs.declared.commands.Job.{Job}
+use Rattle.answer_run.specs.declared.commands.Job.TheVariants.{Text, Pair}
+use Rattle.answer_run.specs.declared.commands.PairCommand.TheVariants.{Check, Eval}
 use Rattle.answer_run.specs.declared.options.Kind.{Kind}
 use Rattle.answer_run.specs.declared.options.Kind.TheVariants.{Budget, Log, Plain}
 
--- a row of the table of commands: a command, its name, the options that may stand behind it, and how many positional words do
+-- a row of the table of commands: what is done on what, the command's name, the options that may stand behind it, and how many positional words do
 pub record CommandRow : Type 0 where
-  pub command : Command
+  pub job : Job
   pub name : List ℕ
   pub options : List Kind
   pub positional : ℕ
@@ -20,8 +22,10 @@ pub record CommandRow : Type 0 where
 -- the table of commands
 abbrev pub commands : List CommandRow
 commands =
-    record { command = Solve; name = codes "solve"; options = Budget ∷ Log ∷ []; positional = 1 }
-    ∷ record { command = Tree; name = codes "tree"; options = []; positional = 1 }
+    record { job = Text Solve; name = codes "solve"; options = Budget ∷ Log ∷ []; positional = 1 }
+    ∷ record { job = Text Tree; name = codes "tree"; options = []; positional = 1 }
+    ∷ record { job = Pair Check; name = codes "check"; options = []; positional = 2 }
+    ∷ record { job = Pair Eval; name = codes "eval"; options = []; positional = 2 }
     ∷ []
 
 -- the row of the command of this name
@@ -115,20 +119,23 @@ in_range least most number = if nat_le least number && nat_le number most then S
 abbrev pub number_of : ℕ → ℕ → List ℕ → Option ℕ
 number_of least most word = if is_digits word then in_range least most (decimal word) else None
 
--- the budget, which is 1000000 where none is given; the log's name, which is empty where none is given; and a positional word behind so many others
+-- the budget, which is 1000000 where none is given; the name that a part of a kind gives, which is empty where there is none; and a positional word behind
+-- so many others
 abbrev pub budget_in : CommandRow → List (List ℕ) → Option ℕ
 budget_in row words = option_and_then (λ value. option_map_or (number_of 1 4294967295) value (Some 1000000)) (given row Budget words)
 
-abbrev pub log_in : CommandRow → List (List ℕ) → Option (List ℕ)
-log_in row words = option_map (λ value. unwrap_or value []) (given row Log words)
+abbrev pub named_in : CommandRow → Kind → List (List ℕ) → Option (List ℕ)
+named_in row kind words = option_map (λ value. unwrap_or value []) (given row kind words)
 
 abbrev pub positional_in : CommandRow → ℕ → List (List ℕ) → Option (List ℕ)
 positional_in row place words = option_and_then (λ value. value) (given row (Plain place) words)
 
--- a command, the file of the model that it works on, the nodes that a search may finish, and the name of its log
+-- what is done on what, the file of the model, the second file, which is empty where the command has none, the nodes that a search may finish, and the name
+-- of the log that it writes
 pub record Request : Type 0 where
-  pub command : Command
+  pub job : Job
   pub model : List ℕ
+  pub second : List ℕ
   pub budget : ℕ
   pub log : List ℕ
 
@@ -137,10 +144,11 @@ abbrev pub requested : CommandRow → List (List ℕ) → Option Request
 requested row words =
     option_and_then (λ budget.
     option_and_then (λ log.
-    option_map (λ model. record { command = row.command; model = model; budget = budget; log = log }) (positional_in row 0 words))
-    (log_in row words)) (budget_in row words)
+    option_and_then (λ second.
+    option_map (λ model. record { job = row.job; model = model; second = second; budget = budget; log = log }) (positional_in row 0 words))
+    (named_in row (Plain 1) words)) (named_in row Log words)) (budget_in row words)
 
--- what the words ask for: the name of a command, and behind it its options and the file of the model
+-- what the words ask for: the name of a command, and behind it its options and its files
 abbrev pub request_of : List (List ℕ) → Option Request
 request_of [] = None
 request_of (name ∷ words) = option_and_then (λ row. requested row words) (row_named name)

@@ -7,28 +7,58 @@ ghost use Rattle.answer_run.specs.Shown.{row_shown};
 use crate::options::Kind;
 use answer_texts::Command;
 
-/// A row of the table: a command, its name, the options that may stand behind it, and how many positional words do.
+/// A command on the text of a model and the bytes of a second file, which is read where the text is taken.
+#[derive(Clone, Copy, Debug, PartialEq, Eq)]
+pub enum PairCommand {
+    /// Is each line of a log of the text right?
+    Check,
+    /// Does a policy of the text satisfy, and what is it worth?
+    Eval,
+}
+
+/// What a command is done on.
+#[derive(Clone, Copy, Debug, PartialEq, Eq)]
+pub enum Job {
+    /// The text of a model.
+    Text(Command),
+    /// Such a text and a second file.
+    Pair(PairCommand),
+}
+
+/// A row of the table: what is done on what, the command's name, the options that may stand behind it, and how many positional words do.
 #[derive(Clone, Copy, Drop)]
 pub struct CommandRow {
-    pub command: Command,
+    pub job: Job,
     pub name: &'static str,
     pub options: &'static [Kind],
     pub positional: usize,
 }
 
 /// All commands.
-const COMMANDS: [CommandRow; 2] = [
+const COMMANDS: [CommandRow; 4] = [
     CommandRow {
-        command: Command::Solve,
+        job: Job::Text(Command::Solve),
         name: "solve",
         options: &[Kind::Budget, Kind::Log],
         positional: 1,
     },
     CommandRow {
-        command: Command::Tree,
+        job: Job::Text(Command::Tree),
         name: "tree",
         options: &[],
         positional: 1,
+    },
+    CommandRow {
+        job: Job::Pair(PairCommand::Check),
+        name: "check",
+        options: &[],
+        positional: 2,
+    },
+    CommandRow {
+        job: Job::Pair(PairCommand::Eval),
+        name: "eval",
+        options: &[],
+        positional: 2,
     },
 ];
 

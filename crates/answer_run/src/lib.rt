@@ -1,11 +1,16 @@
 //! The top call: the words of the command line, a source and two sinks in, one answer line and a status out.
 //!
-//! `run` reads the words and the text of the model; what the command is answered on that text is the reply of `answer_texts`.
+//! `run` reads the words and the text of the model; what a command is answered on that text is the reply of `answer_texts`. Where it takes
+//! a second file, `run` reads that behind the text, and the reply is that of `answer_check` or `answer_eval`.
 //! Its tests stand in `sopl`.
 #![tactic(auto)]
 
+mod check;
 mod commands;
+mod eval;
 mod options;
+mod pair;
+mod reply;
 mod request;
 mod top;
 mod words;

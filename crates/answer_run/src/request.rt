@@ -6,10 +6,9 @@ ghost use Rattle.std.specs.List.{list_all};
 ghost use Rattle.answer_run.specs.Words as spec;
 ghost use Rattle.answer_run.specs.Shown.{request_shown, row_shown, text_shown};
 
-use crate::commands::{CommandRow, row_named};
+use crate::commands::{CommandRow, Job, row_named};
 use crate::options::{Kind, given};
 use crate::words::{Word, Words};
-use answer_texts::Command;
 
 /// How many nodes a search may finish where the words give no budget.
 const USUAL_BUDGET: u32 = 1_000_000;
@@ -17,12 +16,13 @@ const USUAL_BUDGET: u32 = 1_000_000;
 /// The digits that a number may have.
 const MOST_DIGITS: usize = 10;
 
-/// What the words ask for: a command, the file of the model that it works on, how many nodes a search may finish, and the name
-/// of its log, which is empty where none is given.
+/// What the words ask for: what is done on what, the file of the model, the second file, which is empty where the command has
+/// none, how many nodes a search may finish, and the name of the log that it writes, which is empty where none is given.
 #[derive(Clone, Copy, Drop)]
 pub struct Request<'a> {
-    pub command: Command,
+    pub job: Job,
     pub model: &'a str,
+    pub second: &'a str,
     pub budget: u32,
     pub log: &'a str,
 }
@@ -81,11 +81,11 @@ fn budget_in(row: CommandRow, words: &[Word]) -> Option<u32>
     }
 }
 
-/// The log's name, which is empty where none is given.
-fn log_in<'a>(row: CommandRow, words: &'a [Word]) -> Option<&'a str>
-    ensures { option_map text_shown result ≡ spec.log_in (row_shown row) words.now }
+/// The name that a part of this kind gives, which is empty where there is none.
+fn named_in<'a>(row: CommandRow, kind: Kind, words: &'a [Word]) -> Option<&'a str>
+    ensures { option_map text_shown result ≡ spec.named_in (row_shown row) kind words.now }
 {
-    match given(row, Kind::Log, words)? {
+    match given(row, kind, words)? {
         Some(name) => Some(name),
         None => Some(""),
     }
@@ -104,17 +104,19 @@ fn requested<'a>(row: CommandRow, words: &'a [Word]) -> Option<Request<'a>>
     ensures least { IfSome result (λ request. 1 ≤ request.budget) }
 {
     let budget = budget_in(row, words)?;
-    let log = log_in(row, words)?;
+    let log = named_in(row, Kind::Log, words)?;
+    let second = named_in(row, Kind::Plain(1), words)?;
     let model = positional_in(row, 0, words)?;
     Some(Request {
-        command: row.command,
+        job: row.job,
         model,
+        second,
         budget,
         log,
     })
 }
 
-/// What the words ask for: the name of a command, and behind it its options and the file of the model.
+/// What the words ask for: the name of a command, and behind it its options and its files.
 pub fn asked(words: &Words) -> Option<Request<'_>>
     ensures request { option_map request_shown result ≡ spec.request_of words.now }
     ensures least { IfSome result (λ request. 1 ≤ request.budget) }

@@ -1,25 +1,28 @@
 //! The top call: words, a source and two sinks in, a status out.
 
-ghost use Rattle.std.specs.Prelude.{◌≡◌, ◌⊎◌, ◌≤◌, None, Some, Err, IfOk, IfErr, string_bytes};
+ghost use Rattle.std.specs.Prelude.{◌≡◌, ◌⊎◌, ◌≤◌, None, Err, IfOk, IfErr, string_bytes};
 ghost use Rattle.std.specs.Io.KnownBytes.{IsAtEnd};
 ghost use Rattle.sopl_io.specs.Causes.{Rose};
 ghost use Rattle.sopl_search.specs.declared.outcome.SearchStop.TheVariants as search;
-ghost use Rattle.answer_lines.specs.AnswerData.{line_of, word_data};
 ghost use Rattle.answer_texts.specs.Logs.{told};
 ghost use Rattle.answer_run.specs.Calls.{calls_of, EndsAtFailure, LineCalls, ReplyCalls};
-ghost use Rattle.answer_run.specs.Words.{model_of, request_of};
-ghost use Rattle.answer_run.specs.Replies.{asked_in, Answers, SettlesInBudget, EndsSoundly, EndsCompletely, IsAnswered, LimitedOnce, RefusedOnce, begun_names, IsUntouched};
+ghost use Rattle.answer_run.specs.Words.{request_of};
+ghost use Rattle.answer_run.specs.Replies.{asked_in, Answers, SettlesInBudget, EndsSoundly, EndsCompletely, IsAnswered, LimitedOnce, RefusedOnce, BeginsFiles, IsUntouched};
 ghost use Rattle.answer_run.specs.Reads.{TakesAtMost};
-ghost use Rattle.answer_run.specs.Runs.{IsWritten, Replied, StopsWith, stop_status};
+ghost use Rattle.answer_run.specs.Runs.{IsWritten, Replied, StopsWith, meant_status, stop_status};
 
+use crate::commands::Job;
+use crate::pair::pair_reply;
+use crate::reply::word_reply;
 use crate::request::asked;
 use crate::words::Words;
-use answer_lines::word_line;
+use answer_check::checks_end_once;
+use answer_eval::evals_end_once;
 use answer_texts::{Reply, Status, reply_to};
 use sopl_base::limits;
 use sopl_io::{ReadStop, Sink, Source, read_all, write_all};
 use sopl_search::SearchStop;
-use std::alloc::{AllocError, Global};
+use std::alloc::Global;
 
 /// The bytes of a model text that are read at most: one more than a text may have.
 const MOST_READ: usize = limits::TEXT_BYTES + 1;
@@ -43,9 +46,9 @@ pub fn run<S: Source, K: Sink>(
     ensures usage_when { request_of words.now ≡ None
         → (result ≡ Status.Usage) ⊎ (result ≡ Status.WriteFault) ⊎ (result ≡ Status.NoMemory) }
 
-    // A run ends as its command ends on its text: a text that breaks a rule is refused, and so is, by `solve`, one that has a form
-    // that is not solved yet; a text that passes a limit ends so; each other one is answered, or by `solve` with a bound, where the
-    // search ends with as many nodes as the budget allows before it is done.
+    // A run ends as its command ends on its text, or on its text and its second file. A text that breaks a rule is refused; a text
+    // that passes a limit, itself or in its terms, ends so; each other one is answered: by `check` and `eval` as the second file
+    // deserves, and by `solve` with a bound where the search ends with as many nodes as the budget allows before it is done.
     ensures ends { EndsSoundly (asked_in (S.stock source.old) words.now) result }
     ensures ends_when { EndsCompletely (asked_in (S.stock source.old) words.now) result }
     ensures enough { SettlesInBudget (asked_in (S.stock source.old) words.now) result }
@@ -54,10 +57,10 @@ pub fn run<S: Source, K: Sink>(
     ensures refused_once { RefusedOnce (asked_in (S.stock source.old) words.now) }
     ensures limited_once { LimitedOnce (asked_in (S.stock source.old) words.now) }
 
-    // A text that is answered was read to its end.
+    // A text that is answered was read to its end, and so was a second file.
     ensures ended { IsAnswered result → IsAtEnd (S.left source.new) }
 
-    // Of the model's text one byte more is taken than a text may have, at most.
+    // Of the model's text one byte more is taken than a text may have, at most; a second file has no limit.
     ensures taken_at_most { TakesAtMost 1048577 (asked_in (S.stock source.old) words.now) (S.faults source.old) (S.faults source.new) (S.left source.new) }
 
     // Faults have their causes.
@@ -75,10 +78,13 @@ pub fn run<S: Source, K: Sink>(
     ensures untouched { request_of words.now ≡ None → IsUntouched (S.left source.old) (S.stock source.old) (S.faults source.old)
         (S.left source.new) (S.stock source.new) (S.faults source.new) }
 
-    // The source is begun with the file of the model alone, and the answer's sink is not begun.
-    ensures names { S.names source.new ≡ begun_names (model_of words.now) (S.names source.old) }
+    // The source is begun once with the file of the model; and, where the command has a second file and takes the text, once with
+    // that behind it, in each run that tells of that file. The answer's sink is not begun.
+    ensures names { BeginsFiles (S.stock source.old) (S.names source.old) (S.names source.new) (request_of words.now) result }
     ensures answer_names { K.names answer.new ≡ K.names answer.old }
 {
+    checks_end_once();
+    evals_end_once();
     match reply_for(alloc, words, source, log) {
         Ok(reply) => written(answer, &reply),
         Err(stop) => status_of(stop),
@@ -109,16 +115,6 @@ fn written<K: Sink>(answer: &mut K, reply: &Reply) -> Status
     }
 }
 
-/// A reply that is one word.
-fn word_reply(alloc: Global, status: Status, word: &str) -> Result<Reply, SearchStop>
-    ensures status { IfOk result (λ reply. reply.status ≡ status) }
-    ensures line { IfOk result (λ reply. string_bytes reply.line ≡ line_of (word_data word.now)) }
-    ensures memory { IfErr result (λ stop. stop ≡ search.NoMemory) }
-{
-    let line = word_line(alloc, word)?;
-    Ok(Reply { status, line })
-}
-
 /// The reply to the words, made whole in memory; of a search the log is written first.
 fn reply_for<S: Source, K: Sink>(
     alloc: Global,
@@ -138,20 +134,29 @@ fn reply_for<S: Source, K: Sink>(
     ensures outcomes { ReplyCalls (S.outcomes source.old) (S.outcomes source.new) (K.outcomes log.old) (K.outcomes log.new) result }
     ensures untouched { request_of words.now ≡ None → IsUntouched (S.left source.old) (S.stock source.old) (S.faults source.old)
         (S.left source.new) (S.stock source.new) (S.faults source.new) }
-    ensures names { S.names source.new ≡ begun_names (model_of words.now) (S.names source.old) }
+    ensures names { BeginsFiles (S.stock source.old) (S.names source.old) (S.names source.new) (request_of words.now) (meant_status result) }
 {
     let Some(request) = asked(words) else {
         return word_reply(alloc, Status::Usage, "usage");
     };
     match read_all(alloc, source, request.model, Some(MOST_READ)) {
-        Ok(text) => reply_to(
-            alloc,
-            request.command,
-            text.as_slice(),
-            request.budget,
-            request.log,
-            log,
-        ),
+        Ok(text) => match request.job {
+            Job::Text(command) => reply_to(
+                alloc,
+                command,
+                text.as_slice(),
+                request.budget,
+                request.log,
+                log,
+            ),
+            Job::Pair(command) => pair_reply(
+                alloc,
+                command,
+                text.as_slice(),
+                request.second,
+                source,
+            ),
+        },
         Err(ReadStop::Fault) => word_reply(alloc, Status::ReadFault, "read fault"),
         Err(ReadStop::NoMemory) => Err(SearchStop::NoMemory),
     }

@@ -2,9 +2,10 @@
 
 ghost use Rattle.std.specs.Prelude.{◌≡◌, Some, None, [], ◌∷◌, codes, map};
 ghost use Rattle.answer_texts.specs.declared.command.Command.TheVariants.{Solve, Tree as ShowTree};
+ghost use Rattle.answer_run.specs.declared.commands.PairCommand.TheVariants.{Check, Eval};
 ghost use Rattle.answer_run.specs.declared.options.Kind.TheVariants.{Budget};
 ghost use Rattle.answer_run.specs.Words.{given, model_of, number_of, parts_of, positional_in, request_of};
-ghost use Rattle.answer_run.specs.WorkedWords.{asks, two_or_budget, two_words};
+ghost use Rattle.answer_run.specs.WorkedWords.{asks, asks_both, two_or_budget, two_words};
 
 /// Two positional words, which a row of the table may ask for: each by its place, with an option before, between and behind them; one too few and
 /// one too many; a word that is empty or is no option of the row.
@@ -45,6 +46,13 @@ pub fn worked_requests()
     ensures options_behind { request_of (map codes ("solve" ∷ "m" ∷ "--log" ∷ "f" ∷ "--budget" ∷ "7000" ∷ [])) ≡ Some (asks Solve 7000 (codes "f")) }
     ensures options_before { request_of (map codes ("solve" ∷ "--log=a=b" ∷ "--budget=4294967295" ∷ "m" ∷ [])) ≡ Some (asks Solve 4294967295 (codes "a=b")) }
     ensures tree { request_of (map codes ("tree" ∷ "m" ∷ [])) ≡ Some (asks ShowTree 1000000 []) }
+    ensures check { request_of (map codes ("check" ∷ "m" ∷ "l" ∷ [])) ≡ Some (asks_both Check (codes "l")) }
+    ensures eval { request_of (map codes ("eval" ∷ "m" ∷ "p" ∷ [])) ≡ Some (asks_both Eval (codes "p")) }
+    ensures file_twice { request_of (map codes ("check" ∷ "m" ∷ "m" ∷ [])) ≡ Some (asks_both Check (codes "m")) }
+    ensures no_second { map request_of (map codes ("check" ∷ "m" ∷ []) ∷ map codes ("check" ∷ "m" ∷ "" ∷ []) ∷ map codes ("check" ∷ "m" ∷ "l" ∷ "k" ∷ []) ∷ [])
+        ≡ None ∷ None ∷ None ∷ [] }
+    ensures no_option_of_check { map request_of (map codes ("check" ∷ "m" ∷ "--log" ∷ "l" ∷ []) ∷ map codes ("check" ∷ "--budget=3" ∷ "m" ∷ "l" ∷ []) ∷ [])
+        ≡ None ∷ None ∷ [] }
     ensures model { model_of (map codes ("solve" ∷ "--budget" ∷ "3" ∷ "m" ∷ [])) ≡ Some (codes "m") }
     ensures no_command { map request_of ([] ∷ map codes ("" ∷ "m" ∷ []) ∷ map codes ("Solve" ∷ "m" ∷ []) ∷ map codes ("trees" ∷ "m" ∷ []) ∷ []) ≡ None ∷ None ∷ None ∷ None ∷ [] }
     ensures no_model { map request_of (map codes ("solve" ∷ []) ∷ map codes ("solve" ∷ "" ∷ []) ∷ map codes ("solve" ∷ "--" ∷ "m" ∷ []) ∷ map codes ("tree" ∷ "-m" ∷ []) ∷ [])

@@ -19,7 +19,7 @@ use Rattle.answer_texts.specs.Logs.{IsUnused, SinkState}
 use Rattle.answer_texts.specs.Answering.{Answers, IsBoundedBy, IsCutOff, IsSettledBy, LogStops, optimal as optimal_line, infeasible as infeasible_line, bounded as bounded_line}
 use Rattle.answer_texts.specs.declared.solve_answer.Answer.{Answer}
 use Rattle.answer_texts.specs.declared.solve_answer.Answer.TheVariants.{Settled, Cut}
-use Rattle.answer_texts.specs.Replies.{IsFaultOn, IsLimitedOn, IsRefusedOn, by_rule, not_yet, by_size, by_terms, IsTextReply, optimal, infeasible, bounded, scenes, refused}
+use Rattle.answer_texts.specs.Replies.{IsFaultOn, IsLimitedOn, IsRefusedOn, by_rule, by_size, by_terms, IsTextReply, optimal, infeasible, bounded, scenes, refused}
 use Rattle.answer_texts.specs.Replies.{limited, Replies, IsCut, StopsByCause}
 use Rattle.answer_texts.specs.Unlogged.{IsTold, reply_of, without_log}
 use Rattle.answer_texts.specs.declared.command.Command.{Command}
@@ -52,18 +52,18 @@ text_fault command text (fault.Text refusal) reason = by_rule command reason
 text_fault command text (fault.Limit excess) over = by_size command over
 text_fault command text fault.NoMemory none = tt
 
--- a text that is shown
-pub tree_so : (text : List ℕ) (budget : ℕ) (stated : AcceptedProblem) (line : List ℕ) → States text stated → line ≡ line_of (tree_data (problem_in stated).decisions (problem_in stated).stochastics)
-    → IsTextReply text budget Tree None Done line
-tree_so text budget stated line states is =
-    subst (λ l. IsTextReply text budget Tree None Done l) (sym is)
-    (scenes (problem_in stated) (record { model = model_in stated; spelled = states.spelled; accepted = states.accepted }))
-
 -- a text that is solved
 solved_text : (text : List ℕ) (stated : AcceptedProblem) → States text stated → IsSolvable (model_in stated) → SolvedText text (problem_in stated)
 solved_text text stated states is =
     record { model = model_in stated; spelled = states.spelled; accepted = states.accepted; solvable = is }
 
+-- and shown
+pub tree_so : (text : List ℕ) (budget : ℕ) (stated : AcceptedProblem) (line : List ℕ) → States text stated → IsSolvable (model_in stated) → line ≡ line_of (tree_data (problem_in stated).decisions (problem_in stated).stochastics)
+    → IsTextReply text budget Tree None Done line
+tree_so text budget stated line states solvable is =
+    subst (λ l. IsTextReply text budget Tree None Done l) (sym is) (scenes (problem_in stated) (solved_text text stated states solvable))
+
+-- or answered
 settled_reply : (text : List ℕ) (budget : ℕ) (stated : AcceptedProblem) (log line : List ℕ) → SolvedText text (problem_in stated)
     → IsSettledBy (problem_in stated) budget log line → IsTextReply text budget Solve (Some log) Done line
 settled_reply text budget stated log _ is (optimal_line policy value best logged) = optimal (problem_in stated) policy value log is best logged
@@ -137,9 +137,8 @@ no_write (Ok reply) before now failed = cc
 no_write (Err error) before now failed = cc
 
 -- and one that is not
-pub unsolved_so : (text : List ℕ) (stated : AcceptedProblem) (f : Fault) → States text stated → IsSolveFault (model_in stated) f → IsFaultOn text Solve f
-unsolved_so text stated (fault.Text refusal) states is =
-    not_yet (record { model = model_in stated; spelled = states.spelled; accepted = states.accepted; unsupported = is })
-unsolved_so text stated (fault.Limit excess) states is =
-    by_terms (record { model = model_in stated; spelled = states.spelled; accepted = states.accepted; large = is })
-unsolved_so text stated fault.NoMemory states is = tt
+pub unsolved_so : (command : Command) (text : List ℕ) (stated : AcceptedProblem) (f : Fault) → States text stated → IsSolveFault (model_in stated) f → IsFaultOn text command f
+unsolved_so command text stated (fault.Text refusal) states is = absurd is
+unsolved_so command text stated (fault.Limit excess) states is =
+    by_terms command (record { model = model_in stated; spelled = states.spelled; accepted = states.accepted; large = is })
+unsolved_so command text stated fault.NoMemory states is = tt

@@ -10,19 +10,16 @@ use Rattle.sopl_ast.specs.Limits.{size_excess, usual_limits}
 use Rattle.sopl_ast.specs.UnfoldEvents.{first_failure}
 use Rattle.sopl_ast.specs.Unfolding.{problem_of, text_events}
 use Rattle.scen_accept.proofs.Rejected.{one_model, texts_end_once}
-use Rattle.answer_texts.specs.Solved.{SolvedText, IsNotYet, IsLimitedInTerms}
+use Rattle.answer_texts.specs.Solved.{SolvedText, IsLimitedInTerms}
 use Rattle.answer_texts.proofs.Ended.{accepted_end_once}
 use Rattle.answer_texts.specs.Logs.{most_nodes}
-use Rattle.answer_texts.specs.Replies.{IsRefusedOn, by_rule, not_yet, IsLimitedOn, by_size, by_terms, Ends, settled, solved, bounded_text, shown, refused_text, limited_text}
+use Rattle.answer_texts.specs.Replies.{IsRefusedOn, by_rule, IsLimitedOn, by_size, by_terms, Ends, settled, solved, bounded_text, shown, refused_text, limited_text}
 use Rattle.answer_texts.specs.Replies.{IsTextReply, optimal, infeasible, bounded, scenes, refused, limited}
 use Rattle.answer_texts.specs.declared.command.Command.{Command}
 use Rattle.answer_texts.specs.declared.command.Command.TheVariants.{Solve, Tree}
 use Rattle.answer_texts.specs.declared.status.Status.{Status}
 use Rattle.answer_texts.specs.declared.status.Status.TheVariants.{Done, Usage, Refused, Bounded, ReadFault, WriteFault}
 use Rattle.answer_texts.specs.declared.status.Status.TheVariants as status
-
-other_command : (command : Command) → command ≡ Tree → command ≡ Solve → ⊥
-other_command command tree solve = cc
 
 -- Limits on sizes.
 
@@ -53,50 +50,40 @@ one_size text e f (sizes_pass a is typed passes over) (sizes_pass b other also p
     same_excess e f (sym over ∙ ap (λ m. size_excess usual_limits (problem_of m)) (one_model text a b is other) ∙ over_too)
 
 module _ (text : List ℕ) (budget : ℕ) where
-  -- what an accepted text is refused for, and which limit it passes, is so for `solve` alone
-  accepted_refused : (p : Problem) → AcceptedText usual_limits text p → (r : Refusal) (c : Command) → IsRefusedOn text r c → (c ≡ Solve) × IsNotYet text r
-  accepted_refused p a r _ (by_rule c reason) = absurd (texts_end_once.not_refused text p r a reason)
-  accepted_refused p a r _ (not_yet is) = (refl, is)
+  -- an accepted text is refused for nothing, and what it passes is a limit on its terms
+  accepted_refused : (p : Problem) → AcceptedText usual_limits text p → (r : Refusal) (c : Command) → IsRefusedOn text r c → ⊥
+  accepted_refused p a r _ (by_rule c reason) = texts_end_once.not_refused text p r a reason
 
-  accepted_limited : (p : Problem) → AcceptedText usual_limits text p → (e : Excess) (c : Command) → IsLimitedOn text e c → (c ≡ Solve) × IsLimitedInTerms text e
+  accepted_limited : (p : Problem) → AcceptedText usual_limits text p → (e : Excess) (c : Command) → IsLimitedOn text e c → IsLimitedInTerms text e
   accepted_limited p a e _ (by_size c over) = absurd (texts_end_once.not_limited text p e a over)
-  accepted_limited p a e _ (by_terms is) = (refl, is)
+  accepted_limited p a e _ (by_terms c is) = is
 
-  -- nothing is refused for `solve` that is solved, and nothing that is solved passes a limit
+  -- nothing is refused that is solved, and nothing that is solved passes a limit
   solved_refused : (p : Problem) → SolvedText text p → (r : Refusal) (c : Command) → IsRefusedOn text r c → ⊥
-  solved_refused p a r c why =
-      accepted_end_once.not_both text p r a (accepted_refused p (accepted_end_once.solved_accepted text p a) r c why).1
+  solved_refused p a r c why = accepted_refused p (accepted_end_once.solved_accepted text p a) r c why
 
   solved_limited : (p : Problem) → SolvedText text p → (e : Excess) (c : Command) → IsLimitedOn text e c → ⊥
   solved_limited p a e c over =
-      accepted_end_once.not_limited text p e a (accepted_limited p (accepted_end_once.solved_accepted text p a) e c over).1
+      accepted_end_once.not_limited text p e a (accepted_limited p (accepted_end_once.solved_accepted text p a) e c over)
 
   -- nor is what passes a limit refused
   refused_limited : (r : Refusal) (e : Excess) (c d : Command) → IsRefusedOn text r c → IsLimitedOn text e d → ⊥
   refused_limited r e _ _ (by_rule c reason) (by_size d over) = texts_end_once.refused_alone text r e reason over
-  refused_limited r e _ _ (by_rule c reason) (by_terms is) =
+  refused_limited r e _ _ (by_rule c reason) (by_terms d is) =
       let a = accepted_end_once.limited_accepted text e is in texts_end_once.not_refused text a.0 r a.1 reason
-  refused_limited r e _ _ (not_yet is) (by_size d over) =
-      let a = accepted_end_once.refused_accepted text r is in texts_end_once.not_limited text a.0 e a.1 over
-  refused_limited r e _ _ (not_yet is) (by_terms over) = accepted_end_once.refused_alone text r e is over
 
   -- a text is refused by one code at one place
   pub one_refusal_on : (r s : Refusal) (c d : Command) → IsRefusedOn text r c → IsRefusedOn text s d → r ≡ s
   one_refusal_on r s _ _ (by_rule c reason) (by_rule d other) = texts_end_once.one_refusal text r s reason other
-  one_refusal_on r s _ _ (by_rule c reason) (not_yet is) =
-      let a = accepted_end_once.refused_accepted text s is in absurd (texts_end_once.not_refused text a.0 r a.1 reason)
-  one_refusal_on r s _ _ (not_yet is) (by_rule d other) =
-      let a = accepted_end_once.refused_accepted text r is in absurd (texts_end_once.not_refused text a.0 s a.1 other)
-  one_refusal_on r s _ _ (not_yet is) (not_yet other) = accepted_end_once.one_place text r s is other
 
   -- and passes one limit
   pub one_limit_on : (e f : Excess) (c d : Command) → IsLimitedOn text e c → IsLimitedOn text f d → e ≡ f
   one_limit_on e f _ _ (by_size c over) (by_size d other) = one_size text e f over other
-  one_limit_on e f _ _ (by_size c over) (by_terms is) =
+  one_limit_on e f _ _ (by_size c over) (by_terms d is) =
       let a = accepted_end_once.limited_accepted text f is in absurd (texts_end_once.not_limited text a.0 e a.1 over)
-  one_limit_on e f _ _ (by_terms is) (by_size d other) =
+  one_limit_on e f _ _ (by_terms c is) (by_size d other) =
       let a = accepted_end_once.limited_accepted text e is in absurd (texts_end_once.not_limited text a.0 f a.1 other)
-  one_limit_on e f _ _ (by_terms is) (by_terms other) = accepted_end_once.one_limit text e f is other
+  one_limit_on e f _ _ (by_terms c is) (by_terms d other) = accepted_end_once.one_limit text e f is other
 
   after_solved : (p : Problem) → SolvedText text p → (c : Command) (s : Status) → Ends text budget c s → Done ≡ settled s
   after_solved p a _ _ (solved q b) = refl
@@ -105,34 +92,27 @@ module _ (text : List ℕ) (budget : ℕ) where
   after_solved p a _ _ (refused_text c r why) = absurd (solved_refused p a r c why)
   after_solved p a _ _ (limited_text c e over) = absurd (solved_limited p a e c over)
 
-  after_shown : (p : Problem) → AcceptedText usual_limits text p → (c : Command) (s : Status) → Ends text budget c s → c ≡ Tree → Done ≡ settled s
-  after_shown p a _ _ (solved q b) is = refl
-  after_shown p a _ _ (bounded_text q b less) is = refl
-  after_shown p a _ _ (shown q b) is = refl
-  after_shown p a _ _ (refused_text c r why) is = absurd (other_command c is (accepted_refused p a r c why).0)
-  after_shown p a _ _ (limited_text c e over) is = absurd (other_command c is (accepted_limited p a e c over).0)
+  after_refused : (r : Refusal) (c : Command) → IsRefusedOn text r c → (d : Command) (s : Status) → Ends text budget d s → Refused ≡ settled s
+  after_refused r c why _ _ (solved q b) = absurd (solved_refused q b r c why)
+  after_refused r c why _ _ (bounded_text q b less) = absurd (solved_refused q b r c why)
+  after_refused r c why _ _ (shown q b) = absurd (solved_refused q b r c why)
+  after_refused r c why _ _ (refused_text d s other) = refl
+  after_refused r c why _ _ (limited_text d e over) = absurd (refused_limited r e c d why over)
 
-  after_refused : (r : Refusal) (c : Command) → IsRefusedOn text r c → (d : Command) (s : Status) → Ends text budget d s → d ≡ c → Refused ≡ settled s
-  after_refused r c why _ _ (solved q b) is = absurd (solved_refused q b r c why)
-  after_refused r c why _ _ (bounded_text q b less) is = absurd (solved_refused q b r c why)
-  after_refused r c why _ _ (shown q b) is = absurd (other_command Tree refl (is ∙ (accepted_refused q b r c why).0))
-  after_refused r c why _ _ (refused_text d s other) is = refl
-  after_refused r c why _ _ (limited_text d e over) is = absurd (refused_limited r e c d why over)
-
-  after_limited : (e : Excess) (c : Command) → IsLimitedOn text e c → (d : Command) (s : Status) → Ends text budget d s → d ≡ c → status.Limit ≡ settled s
-  after_limited e c over _ _ (solved q b) is = absurd (solved_limited q b e c over)
-  after_limited e c over _ _ (bounded_text q b less) is = absurd (solved_limited q b e c over)
-  after_limited e c over _ _ (shown q b) is = absurd (other_command Tree refl (is ∙ (accepted_limited q b e c over).0))
-  after_limited e c over _ _ (refused_text d r why) is = absurd (refused_limited r e d c why over)
-  after_limited e c over _ _ (limited_text d f other) is = refl
+  after_limited : (e : Excess) (c : Command) → IsLimitedOn text e c → (d : Command) (s : Status) → Ends text budget d s → status.Limit ≡ settled s
+  after_limited e c over _ _ (solved q b) = absurd (solved_limited q b e c over)
+  after_limited e c over _ _ (bounded_text q b less) = absurd (solved_limited q b e c over)
+  after_limited e c over _ _ (shown q b) = absurd (solved_limited q b e c over)
+  after_limited e c over _ _ (refused_text d r why) = absurd (refused_limited r e d c why over)
+  after_limited e c over _ _ (limited_text d f other) = refl
 
   -- two ends of a command on a text are the same, but that a search may be cut short
   pub ends_alike : (c : Command) (s e : Status) → Ends text budget c s → Ends text budget c e → settled s ≡ settled e
   ends_alike _ _ e (solved p a) other = after_solved p a Solve e other
   ends_alike _ _ e (bounded_text p a less) other = after_solved p a Solve e other
-  ends_alike _ _ e (shown p a) other = after_shown p a Tree e other refl
-  ends_alike _ _ e (refused_text c r why) other = after_refused r c why c e other refl
-  ends_alike _ _ e (limited_text c x over) other = after_limited x c over c e other refl
+  ends_alike _ _ e (shown p a) other = after_solved p a Tree e other
+  ends_alike _ _ e (refused_text c r why) other = after_refused r c why c e other
+  ends_alike _ _ e (limited_text c x over) other = after_limited x c over c e other
 
   -- with a budget of as many nodes as there may be, no search is cut short
   pub ends_settled : (p : Problem) → SolvedText text p → most_nodes p ≤ budget → (c : Command) (s : Status) → Ends text budget c s → ¬ (s ≡ Bounded)

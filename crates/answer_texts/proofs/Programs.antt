@@ -1,5 +1,5 @@
 -- The program of an accepted text, or why there is none.
-use Rattle.std.proofs.Common.{◌≡◌, ◌⊎◌, inl, inr, ℕ, Some, None, Result, Ok, Err, IfOk, IfErr, refl, sym, subst}
+use Rattle.std.proofs.Common.{◌≡◌, ◌⊎◌, inl, inr, Some, None, Result, Ok, Err, IfOk, IfErr, sym, subst}
 use Rattle.sopl_base.specs.declared.fault.Excess.{Excess}
 use Rattle.sopl_base.specs.declared.fault.Fault.{Fault}
 use Rattle.sopl_base.specs.declared.fault.Fault.TheVariants as fault
@@ -12,7 +12,6 @@ use Rattle.compile_laws.specs.Whole.{problem_terms}
 use Rattle.term_program.specs.Programs.{IsMade, problem_in, root_in}
 use Rattle.term_program.specs.declared.program.Program.{Program}
 use Rattle.compile_laws.specs.Texts.{program_excess}
-use Rattle.compile_unsupported.specs.Forms.{unsupported_place}
 use Rattle.answer_texts.specs.Models.{IsSolvable}
 use Rattle.answer_texts.specs.Solving.{IsProgramOf, IsSolveFault}
 
@@ -23,20 +22,14 @@ program_made problem (Ok program) made root terms = record { made = made; root =
 program_made problem (Err f) made root terms = tt
 
 -- its text is solved
-pub text_solvable : (model : ModelTree) (result : Result Program Fault) → unsupported_place model ≡ None
-    → IfOk result (λ program. program_excess (problem_of model) ≡ None) → IfOk result (λ program. IsSolvable model)
-text_solvable model (Ok program) supported allowed = record { supported = supported; allowed = allowed }
-text_solvable model (Err f) supported allowed = tt
+pub text_solvable : (model : ModelTree) (result : Result Program Fault) → IfOk result (λ program. program_excess (problem_of model) ≡ None) → IfOk result (λ program. IsSolvable model)
+text_solvable model (Ok program) allowed = record { allowed = allowed }
+text_solvable model (Err f) allowed = tt
 
 -- or its terms pass a limit
-pub terms_refused : (model : ModelTree) (result : Result Program Fault) → unsupported_place model ≡ None
+pub terms_refused : (model : ModelTree) (result : Result Program Fault)
     → IfErr result (λ f. (f ≡ fault.NoMemory) ⊎ ((e : Excess) × (f ≡ fault.Limit e) × (program_excess (problem_of model) ≡ Some e)))
     → IfErr result (IsSolveFault model)
-terms_refused model (Ok program) supported over = tt
-terms_refused model (Err f) supported (inl memory) = subst (IsSolveFault model) (sym memory) tt
-terms_refused model (Err f) supported (inr over) =
-    subst (IsSolveFault model) (sym over.1) (record { supported = supported; passes = over.2 })
-
--- or it has a form that is not solved yet
-pub form_refused : (model : ModelTree) (place : ℕ) → unsupported_place model ≡ Some place → IsSolveFault model (fault.Text (record { code = 117; at = place }))
-form_refused model place first = record { place = place; first = first; told = refl }
+terms_refused model (Ok program) over = tt
+terms_refused model (Err f) (inl memory) = subst (IsSolveFault model) (sym memory) tt
+terms_refused model (Err f) (inr over) = subst (IsSolveFault model) (sym over.1) (record { passes = over.2 })

@@ -4,7 +4,7 @@ use Rattle.sopl_base.specs.declared.fault.Excess.{Excess}
 use Rattle.sopl_base.specs.declared.fault.Fault.{Fault}
 use Rattle.sopl_base.specs.declared.fault.Fault.TheVariants as fault
 use Rattle.sopl_base.specs.declared.fault.Refusal.{Refusal}
-use Rattle.sopl_ast.specs.Accepted.{AcceptedText, IsLimitedFor, IsRefusedFor}
+use Rattle.sopl_ast.specs.Accepted.{IsLimitedFor, IsRefusedFor}
 use Rattle.sopl_ast.specs.Instances.{Problem}
 use Rattle.sopl_ast.specs.Limits.{usual_limits}
 use Rattle.sopl_ast.specs.Policies.{Policy}
@@ -13,7 +13,7 @@ use Rattle.log_rows.specs.declared.rows.Footer.TheVariants as claim
 use Rattle.sopl_search.specs.declared.outcome.SearchStop.{SearchStop}
 use Rattle.sopl_search.specs.declared.outcome.SearchStop.TheVariants as stop
 use Rattle.answer_lines.specs.Answer.{tree_data}
-use Rattle.answer_texts.specs.Solved.{SolvedText, IsNotYet, IsLimitedInTerms}
+use Rattle.answer_texts.specs.Solved.{SolvedText, IsLimitedInTerms}
 use Rattle.answer_lines.specs.AnswerData.{Valued, word_data, refused_data, limit_data, optimal_data, bounded_data, line_of}
 use Rattle.answer_texts.specs.Answering.{found_value}
 use Rattle.answer_texts.specs.Bounds.{IsBounded}
@@ -27,15 +27,13 @@ use Rattle.answer_texts.specs.declared.status.Status.TheVariants.{Done, Failing,
 pub data IsRefusedOn (text : List ℕ) (refusal : Refusal) : Command → Type 0 where
   -- the text breaks a rule
   by_rule : (command : Command) → IsRefusedFor text refusal → IsRefusedOn text refusal command
-  -- the text is accepted and has a form that is not solved yet
-  not_yet : IsNotYet text refusal → IsRefusedOn text refusal Solve
 
 -- a command does not take the text since it passes this limit
 pub data IsLimitedOn (text : List ℕ) (excess : Excess) : Command → Type 0 where
   -- its unfolding, its scenarios or its decisions pass it
   by_size : (command : Command) → IsLimitedFor usual_limits text excess → IsLimitedOn text excess command
   -- the text is accepted, and its terms pass it
-  by_terms : IsLimitedInTerms text excess → IsLimitedOn text excess Solve
+  by_terms : (command : Command) → IsLimitedInTerms text excess → IsLimitedOn text excess command
 
 -- a fault says why a command is not done on the text
 abbrev pub IsFaultOn : List ℕ → Command → Fault → Type 0
@@ -45,12 +43,12 @@ IsFaultOn text command fault.NoMemory = Unit {0}
 
 -- how a command ends on a text, where nothing fails and a search may finish so many nodes
 pub data Ends (text : List ℕ) (budget : ℕ) : Command → Status → Type 0 where
-  -- the text is accepted, has no form that is not solved yet, and its terms pass no limit
+  -- the text is accepted, and its terms pass no limit
   solved : (problem : Problem) → SolvedText text problem → Ends text budget Solve Done
   -- the same, where a search may want more nodes
   bounded_text : (problem : Problem) → SolvedText text problem → budget < most_nodes problem → Ends text budget Solve Bounded
-  -- the text is accepted
-  shown : (problem : Problem) → AcceptedText usual_limits text problem → Ends text budget Tree Done
+  -- the same
+  shown : (problem : Problem) → SolvedText text problem → Ends text budget Tree Done
   -- the text is refused
   refused_text : (command : Command) (refusal : Refusal) → IsRefusedOn text refusal command → Ends text budget command Refused
   -- the text passes a limit
@@ -85,7 +83,7 @@ pub data IsTextReply (text : List ℕ) (budget : ℕ) : Command → Option (List
       → budget < most_nodes problem → IsLogOf problem budget (claim.Bounded (found_value found) bound) found log
       → IsTextReply text budget Solve (Some log) Bounded (line_of (bounded_data problem found bound))
   -- the text states a problem with these scenarios
-  scenes : (problem : Problem) → AcceptedText usual_limits text problem
+  scenes : (problem : Problem) → SolvedText text problem
       → IsTextReply text budget Tree None Done (line_of (tree_data problem.decisions problem.stochastics))
   -- the text is refused by this code at this place
   refused : (command : Command) (refusal : Refusal) → IsRefusedOn text refusal command

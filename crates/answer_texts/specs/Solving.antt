@@ -9,7 +9,7 @@ use Rattle.compile_laws.specs.Root.{root_box}
 use Rattle.compile_laws.specs.Whole.{problem_terms}
 use Rattle.term_program.specs.Programs.{IsMade, problem_in, root_in}
 use Rattle.term_program.specs.declared.program.Program.{Program}
-use Rattle.answer_texts.specs.Models.{IsUnsupported, IsLarge}
+use Rattle.answer_texts.specs.Models.{IsLarge}
 
 -- the program is that of the problem: over the box of all its points, with the problem's terms
 pub record IsProgramOf (problem : Problem) (program : Program) : Type 0 where
@@ -19,6 +19,6 @@ pub record IsProgramOf (problem : Problem) (program : Program) : Type 0 where
 
 -- a fault says why an accepted model is not solved
 abbrev pub IsSolveFault : ModelTree → Fault → Type 0
-IsSolveFault model (fault.Text refusal) = IsUnsupported model refusal
+IsSolveFault model (fault.Text refusal) = ⊥
 IsSolveFault model (fault.Limit excess) = IsLarge model excess
 IsSolveFault model fault.NoMemory = Unit {0}

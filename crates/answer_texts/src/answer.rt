@@ -3,12 +3,13 @@
 ghost use Rattle.std.specs.Prelude.{◌≡◌, ◌≤◌, ℕ, List, None, Err, string_bytes, pos, IfOk, IfErr};
 ghost use Rattle.sopl_io.specs.Calls.{StopsWhere};
 ghost use Rattle.sopl_io.specs.Causes.{Rose};
-ghost use Rattle.scen_accept.specs.Stated.{IsLaid, States, problem_in};
+ghost use Rattle.scen_accept.specs.Stated.{IsLaid, States, model_in, problem_in};
 ghost use Rattle.answer_lines.specs.Answer.{tree_data};
 ghost use Rattle.answer_lines.specs.AnswerData.{limit_data, line_of, refused_data};
 ghost use Rattle.sopl_search.specs.declared.outcome.SearchStop.TheVariants as search;
 ghost use Rattle.answer_texts.specs.Answering.{Stops};
 ghost use Rattle.answer_texts.specs.Logs.{SinkState, told};
+ghost use Rattle.answer_texts.specs.Models.{IsSolvable};
 ghost use Rattle.answer_texts.specs.declared.solve_answer.SolveStop.TheVariants.{Write};
 ghost use Rattle.scen_accept.specs.declared.accepted.AcceptedProblem.{AcceptedProblem};
 ghost use Rattle.answer_texts.specs.Replies.{IsFaultOn, IsTextReply, Replies, StopsByCause};
@@ -16,6 +17,7 @@ ghost use Rattle.answer_texts.specs.Unlogged.{IsTold, reply_of as replied, witho
 ghost use Rattle.answer_texts.specs.declared.command.Command.TheVariants.{Solve, Tree as ShowTree};
 
 use crate::command::Command;
+use crate::program::terms_allowed;
 use crate::reply::Reply;
 use crate::solve_answer::{Answer, SolveStop};
 use crate::solved::solved_answer;
@@ -28,7 +30,7 @@ use sopl_search::SearchStop;
 use std::alloc::{AllocError, Global};
 
 /// The reply to a text that is refused so.
-fn refused_reply(alloc: Global, refusal: Refusal) -> Result<Reply, AllocError>
+pub fn refused_reply(alloc: Global, refusal: Refusal) -> Result<Reply, AllocError>
     ensures status { IfOk result (λ reply. reply.status ≡ Status.Refused) }
     ensures line { IfOk result (λ reply. string_bytes reply.line ≡ line_of (refused_data (pos refusal.at) (pos refusal.code))) }
 {
@@ -40,7 +42,7 @@ fn refused_reply(alloc: Global, refusal: Refusal) -> Result<Reply, AllocError>
 }
 
 /// The reply to a text that passes this limit.
-fn limit_reply(alloc: Global, excess: &Excess) -> Result<Reply, AllocError>
+pub fn limit_reply(alloc: Global, excess: &Excess) -> Result<Reply, AllocError>
     ensures status { IfOk result (λ reply. reply.status ≡ Status.Limit) }
     ensures line { IfOk result (λ reply. string_bytes reply.line ≡ line_of (limit_data excess.now)) }
 {
@@ -87,10 +89,11 @@ fn tree_line(alloc: Global, stated: &AcceptedProblem) -> Result<String, AllocErr
     Ok(text)
 }
 
-/// The reply to `tree` on a text that states this.
+/// The reply to `tree` on a text that states this, whose terms pass no limit.
 #[tactic(auto, using(crate::proofs::Answered::tree_so))]
-fn tree_reply(alloc: Global, stated: &AcceptedProblem) -> Result<Reply, AllocError>
+fn shown_reply(alloc: Global, stated: &AcceptedProblem) -> Result<Reply, AllocError>
     requires laid_out { IsLaid stated.now }
+    requires solvable { IsSolvable (model_in stated.now) }
     ensures reply { (text : List ℕ) (budget : ℕ) → States text stated.now
         → IfOk result (λ reply. IsTextReply text budget ShowTree None reply.status (string_bytes reply.line)) }
 {
@@ -99,6 +102,19 @@ fn tree_reply(alloc: Global, stated: &AcceptedProblem) -> Result<Reply, AllocErr
         status: Status::Done,
         line,
     })
+}
+
+/// The reply to `tree` on a text that states this: its scenarios, or the limit that its terms pass.
+fn tree_reply(alloc: Global, stated: &AcceptedProblem) -> Result<Reply, AllocError>
+    requires stated { (text : List ℕ) × States text stated.now }
+    requires laid_out { IsLaid stated.now }
+    ensures reply { (text : List ℕ) (budget : ℕ) → States text stated.now
+        → IfOk result (λ reply. IsTextReply text budget ShowTree None reply.status (string_bytes reply.line)) }
+{
+    match terms_allowed(alloc, stated) {
+        Ok(()) => shown_reply(alloc, stated),
+        Err(fault) => fault_reply(alloc, fault),
+    }
 }
 
 /// The reply of an answer.
@@ -185,8 +201,8 @@ fn stated_reply<K: Sink>(
 
 /// The reply to a command on the bytes of a text: `solve` prints the best policy with its value, `infeasible`, or a bound where its search ends
 /// with as many nodes as the budget allows before it is done, and `tree` the scenarios; both tell the first rule that the text breaks, or the limit
-/// that it passes, and `solve` besides the first form that is not solved yet, or the limit that the text's terms pass. The sink is begun with the name
-/// and takes the log, where the text is solved, and is not used else. There is no reply where memory runs out, and where the sink failed.
+/// that it or its terms pass. The sink is begun with the name and takes the log, where `solve` is done on the text, and is not used else. There is no
+/// reply where memory runs out, and where the sink failed.
 pub fn reply_to<K: Sink>(
     alloc: Global,
     command: Command,

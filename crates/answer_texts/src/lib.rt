@@ -1,6 +1,6 @@
 //! What a command on a text is answered: a status and a line of JSON. `reply_to` takes the command and the bytes of the text; `solve` is
-//! answered by the best policy, that none satisfies, or a bound, with the log of the search, or why the text is not solved; each accepted
-//! text is solved, or not yet, or passes a limit on its terms.
+//! answered by the best policy, that none satisfies, or a bound, with the log of the search, or the limit that the text's terms pass; each
+//! accepted text is solved, or passes a limit on its terms.
 //! Its tests stand in `sopl`.
 #![tactic(auto)]
 
@@ -14,8 +14,9 @@ mod solved;
 mod solved_laws;
 mod status;
 
-pub use answer::reply_to;
+pub use answer::{limit_reply, refused_reply, reply_to};
 pub use command::Command;
+pub use program::{program_of, terms_allowed};
 pub use reply::Reply;
 pub use solve_answer::{Answer, SolveStop};
 pub use solved::solved_answer;

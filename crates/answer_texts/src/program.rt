@@ -1,35 +1,34 @@
 //! From what an accepted text states to its program.
 
-ghost use Rattle.std.specs.Prelude.{◌≡◌, ℕ, List, IfOk, IfErr};
+ghost use Rattle.std.specs.Prelude.{◌≡◌, ℕ, List, IfOk, IfErr, OnOk};
 ghost use Rattle.scen_accept.specs.Stated.{IsLaid, States, model_in, problem_in};
-ghost use Rattle.compile_unsupported.specs.Forms as forms;
 ghost use Rattle.answer_texts.specs.Models.{IsSolvable};
 ghost use Rattle.answer_texts.specs.Solving.{IsProgramOf, IsSolveFault};
 
-use compile_unsupported::unsupported_place;
 use scen_accept::AcceptedProblem;
-use sopl_base::{Fault, codes};
+use sopl_base::Fault;
 use sopl_compile::compile;
 use sopl_term::Program;
 use std::alloc::Global;
 
-/// The place of the first form of what a text states that is not solved yet.
-fn first_unsupported(stated: &AcceptedProblem) -> Option<usize>
-    ensures place { result ≡ forms.unsupported_place (model_in stated.now) }
-{
-    unsupported_place(stated.ground.typed().model())
-}
-
-/// The program of what a text states. Or its first form that is not solved yet, or the first limit that its terms pass.
-pub(crate) fn program_of(alloc: Global, stated: &AcceptedProblem) -> Result<Program, Fault>
+/// The program of what a text states. Or the first limit that its terms pass.
+pub fn program_of(alloc: Global, stated: &AcceptedProblem) -> Result<Program, Fault>
     requires stated { (text : List ℕ) × States text stated.now }
     requires laid_out { IsLaid stated.now }
     ensures program { IfOk result (IsProgramOf (problem_in stated.now)) }
     ensures solvable { IfOk result (λ program. IsSolvable (model_in stated.now)) }
     ensures refused { IfErr result (IsSolveFault (model_in stated.now)) }
 {
-    match first_unsupported(stated) {
-        Some(at) => Err(Fault::refused(codes::UNSOLVED_FORM, at)),
-        None => compile(alloc, &stated.ground, &stated.tree),
-    }
+    compile(alloc, &stated.ground, &stated.tree)
+}
+
+/// That the terms of what a text states pass no limit, or the first one that they pass. Its program is made and given up again.
+pub fn terms_allowed(alloc: Global, stated: &AcceptedProblem) -> Result<(), Fault>
+    requires stated { (text : List ℕ) × States text stated.now }
+    requires laid_out { IsLaid stated.now }
+    ensures solvable { OnOk result (IsSolvable (model_in stated.now)) }
+    ensures refused { IfErr result (IsSolveFault (model_in stated.now)) }
+{
+    program_of(alloc, stated)?;
+    Ok(())
 }

@@ -19,7 +19,7 @@ pub enum Answer {
 /// Why a text has no answer.
 #[derive(Debug, Drop)]
 pub enum SolveStop {
-    /// It is not solved yet, it passes a limit, or there was no memory.
+    /// It passes a limit in its terms, or there was no memory.
     Unsolved(Fault),
     /// The sink of the log failed.
     Write,

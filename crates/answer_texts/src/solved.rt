@@ -75,8 +75,8 @@ fn logged_answer<K: Sink>(
 
 /// The answer to what an accepted text states: its optimal policy with the value, `infeasible` where no policy satisfies, or a bound
 /// where the search ends with as many nodes as the budget allows before it is done. The sink is begun with the name, and takes the
-/// log of the search. Or why there is none: the text's first form that is not solved yet (117), the first limit that its terms pass
-/// (206, 207), or a fault of the sink; of the first two the sink knows nothing.
+/// log of the search. Or why there is none: the first limit that the text's terms pass (206, 207), of which the sink knows nothing, or a
+/// fault of the sink.
 pub fn solved_answer<K: Sink>(
     alloc: Global,
     stated: &AcceptedProblem,

@@ -2,8 +2,7 @@
 
 ghost use Rattle.answer_texts.specs.Laws.{AcceptedEndOnce};
 
-/// An accepted text is solved with one problem, or has a form that is not solved yet, or passes a limit on its terms, and no two
-/// of these. It does nothing when it runs.
+/// An accepted text is solved with one problem, or passes a limit on its terms, and not both. It does nothing when it runs.
 pub fn accepted_end_once()
     ensures law { AcceptedEndOnce }
 {}

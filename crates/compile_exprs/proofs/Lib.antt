@@ -5,3 +5,4 @@ mod Parts
 mod Products
 mod Sizes
 mod Steps
+mod Sums

@@ -1,9 +1,9 @@
 -- The parts of expressions as lists.
-use Rattle.std.proofs.Common.{◌≡◌, ◌∙◌, refl, ap, sym, arith, ℕ, ◌<◌, Bool, false, List, [], ◌∷◌, length, map}
+use Rattle.std.proofs.Common.{◌≡◌, ◌∙◌, refl, ap, arith, ℕ, ◌<◌, Bool, List, [], ◌∷◌, length, map}
 use Rattle.std.specs.List.{AllByRecursion}
 use Rattle.term_language.specs.Terms as c
 use Rattle.term_language.specs.Terms.{Term}
-use Rattle.compile_laws.specs.Instances.{Place, chain_instance, conditions, elements, instance, instances, knowing, shape_instance, sum_of, table_of}
+use Rattle.compile_laws.specs.Instances.{Place, TaskTerms, chain_instance, conditions, elements, instance, instances, knowing, shape_instance, table_of, tasks_of, terms_of}
 use Rattle.compile_names.specs.declared.setting.Scenarios.{Scenarios}
 use Rattle.compile_scene.specs.Scenes.{place_of}
 use Rattle.compile_scene.specs.declared.scene.NumberedScenario.{NumberedScenario}
@@ -13,8 +13,8 @@ use Rattle.sopl_ast.specs.Tree as t
 use Rattle.sopl_ast.specs.Tree.{Tree}
 use Rattle.unfold_tables.specs.Tables.{table_known}
 use Rattle.compile_exprs.specs.Buildable.{AreBuildable, IsBuildable, TermsAreBuildable}
-use Rattle.compile_exprs.specs.Made.{IsBody}
-use Rattle.compile_exprs.proofs.Loops.{conds_list, parts_list, terms_list}
+use Rattle.compile_exprs.specs.Made.{IsBody, IsTaskBody}
+use Rattle.compile_exprs.proofs.Loops.{conds_list, parts_list, tasks_list, terms_list}
 
 pub all_hold : (known : Known) (es : List Tree) → AreBuildable known (trees es) → AllByRecursion (λ e. IsBuildable known e) es
 all_hold known [] are = tt
@@ -29,6 +29,13 @@ pub bodies_hold : (setting : Scenarios) (known : Known) (e : Tree) (all : List K
 bodies_hold setting known e [] over are = tt
 bodies_hold setting known e (here ∷ all) over are = ((are.0.0 ∙ over, are.0.1), bodies_hold setting known e all over are.1)
 
+pub task_bodies_hold : (setting : Scenarios) (known : Known) (start duration demand : Tree) (all : List Known) → known.constants ≡ (table_known setting.table.now).constants
+    → AllByRecursion (λ (here : Known). (here.constants ≡ known.constants) × IsBuildable here start × IsBuildable here duration × IsBuildable here demand) all
+    → AllByRecursion (IsTaskBody setting start duration demand) all
+task_bodies_hold setting known start duration demand [] over are = tt
+task_bodies_hold setting known start duration demand (here ∷ all) over are =
+    ((are.0.0 ∙ over, are.0.1, are.0.2, are.0.3), task_bodies_hold setting known start duration demand all over are.1)
+
 pub instances_are : (place : Place) (es : List Tree) → terms_list (map (λ e. (instance place e).term) es) ≡ instances place (trees es)
 instances_are place [] = refl
 instances_are place (e ∷ es) = ap (c.term (instance place e).term) (instances_are place es)
@@ -41,19 +48,29 @@ pub chain_is : (place : Place) (ps : List (Bool × Tree)) → parts_list (map (�
 chain_is place [] = refl
 chain_is place (p ∷ ps) = ap (c.part p.0 (instance place p.1).term) (chain_is place ps)
 
--- terms of which none is subtracted
-abbrev pub as_part : {A : Type 0} → (A → Term) → A → Bool × Term
-as_part f x = (false, f x)
+-- those of an expression at each of some places
+pub terms_are : {A : Type 0} (f : A → Term) (xs : List A) → terms_list (map f xs) ≡ terms_of (map f xs)
+terms_are f [] = refl
+terms_are f (x ∷ xs) = ap (c.term (f x)) (terms_are f xs)
 
-pub sum_is : {A : Type 0} (f : A → Term) (xs : List A) → parts_list (map (as_part f) xs) ≡ sum_of (map f xs)
-sum_is f [] = refl
-sum_is f (x ∷ xs) = ap (c.part false (f x)) (sum_is f xs)
+pub tasks_are : {A : Type 0} (f : A → TaskTerms) (xs : List A) → tasks_list (map f xs) ≡ tasks_of (map f xs)
+tasks_are f [] = refl
+tasks_are f (x ∷ xs) = ap (c.task (f x).start (f x).duration (f x).demand) (tasks_are f xs)
 
--- those of an expression at the places of binders
+-- at the places of binders
 pub places_are : (scene : NumberedScenario) (known : Known) (e : Tree) (all : List Known)
-    → sum_of (map (λ here. (instance (place_of scene here) e).term) all) ≡ sum_of (map (λ place. (instance place e).term) (map (knowing (place_of scene known)) all))
+    → map (λ here. (instance (place_of scene here) e).term) all ≡ map (λ place. (instance place e).term) (map (knowing (place_of scene known)) all)
 places_are scene known e [] = refl
-places_are scene known e (here ∷ all) = ap (c.part false (instance (place_of scene here) e).term) (places_are scene known e all)
+places_are scene known e (here ∷ all) = ap (λ xs. (instance (place_of scene here) e).term ∷ xs) (places_are scene known e all)
+
+abbrev pub task_instance : Tree → Tree → Tree → Place → TaskTerms
+task_instance start duration demand place = record { start = (instance place start).term; duration = (instance place duration).term; demand = (instance place demand).term }
+
+pub task_places_are : (scene : NumberedScenario) (known : Known) (start duration demand : Tree) (all : List Known)
+    → map (λ here. task_instance start duration demand (place_of scene here)) all ≡ map (task_instance start duration demand) (map (knowing (place_of scene known)) all)
+task_places_are scene known start duration demand [] = refl
+task_places_are scene known start duration demand (here ∷ all) =
+    ap (λ xs. task_instance start duration demand (place_of scene here) ∷ xs) (task_places_are scene known start duration demand all)
 
 -- an element of an array has an index
 pub index_is : (place : Place) (name : List ℕ) (es : List Tree) → 0 < length es

@@ -7,7 +7,8 @@ use Rattle.std.specs.declared.vec.Vec.{Vec}
 use Rattle.sopl_base.specs.declared.fault.Fault.{Fault}
 use Rattle.box_problem.specs.Box.{Box}
 use Rattle.term_language.specs.Terms as c
-use Rattle.term_language.specs.Terms.{Term, Terms, Parts, Cond, Conds}
+use Rattle.term_language.specs.Terms.{Term, Terms, Parts, Cond, Conds, Tasks}
+use Rattle.compile_laws.specs.Instances.{TaskTerms}
 use Rattle.compile_names.specs.declared.setting.Scenarios.{Scenarios}
 use Rattle.compile_laws.specs.Measured.{IsSizeFault, Measures, first_large}
 use Rattle.compile_laws.specs.Subterms.{subterms, condition_subterms}
@@ -15,14 +16,31 @@ use Rattle.compile_laws.proofs.Measuring.{faults_end, faults_in_turn}
 use Rattle.compile_scene.specs.Scenes.{root_in}
 use Rattle.compile_scene.specs.Works.{Extends, IsReady, Stands, things_of}
 use Rattle.compile_scene.specs.declared.work.Lowering.{Lowering}
-use Rattle.compile_scene.proofs.Growing.{extends_not, extends_twice, stands_grows}
-use Rattle.sopl_term.specs.Built.{Grows}
-use Rattle.term_nodes.specs.Built.{AllBelow}
-use Rattle.term_nodes.specs.Things.{Thing, a_cond, a_term, cond_at, cond_in, term_at, term_in, terms_at, thing_at}
+use Rattle.compile_scene.proofs.Growing.{extends_not, extends_twice, grows_twice, stands_grows}
+use Rattle.sopl_term.specs.Built.{Grows, task_ids}
+use Rattle.term_nodes.specs.Built.{AllBelow, TasksBelow}
+use Rattle.term_nodes.specs.Things.{Thing, a_cond, a_term, cond_at, cond_in, tasks_at, term_at, term_in, terms_at, thing_at}
+use Rattle.term_nodes.specs.declared.nodes.Task.{Task}
 use Rattle.term_program.specs.declared.ids.CondId.{CondId}
 use Rattle.term_program.specs.declared.ids.TermId.{TermId}
-use Rattle.compile_exprs.specs.Made.{AreConds, AreParts, AreReady, AreTerms, CondsAreThere, IsMade, IsOperand, IsUsable, MakesCond, MakesConds, MakesParts, MakesTerm, MakesTerms, PartsAreThere}
+use Rattle.compile_exprs.specs.Made.{AreConds, AreParts, AreReady, AreTasks, AreTerms, CondsAreThere, IsMade, IsOperand, IsTask, IsUsable, MakesCond, MakesConds, MakesParts, MakesTerm, MakesTerms}
+use Rattle.compile_exprs.specs.Made.{PartsAreThere, TermsAreThere, subterms_of_task}
 use Rattle.compile_exprs.proofs.Sizes.{AreSmall, both_small, large_behind}
+
+-- Tasks stay where more is added.
+
+pub later_tasks : (before after : List Thing) (ids : List Task) → Grows before after → TasksBelow (length before) ids → tasks_at after ids ≡ tasks_at before ids
+later_tasks before after [] grows below = refl
+later_tasks before after (t ∷ ids) grows below =
+    ap (λ x. c.task (term_in x) (term_at after t.duration) (term_at after t.demand) (tasks_at after ids)) (grows.same t.start below.0.0)
+    ∙ (ap (λ x. c.task (term_at before t.start) (term_in x) (term_at after t.demand) (tasks_at after ids)) (grows.same t.duration below.0.1.0)
+    ∙ (ap (λ x. c.task (term_at before t.start) (term_at before t.duration) (term_in x) (tasks_at after ids)) (grows.same t.demand below.0.1.1)
+    ∙ ap (c.task (term_at before t.start) (term_at before t.duration) (term_at before t.demand)) (later_tasks before after ids grows below.1)))
+
+pub later_tasks_below : (n m : ℕ) (ids : List Task) → n ≤ m → TasksBelow n ids → TasksBelow m ids
+later_tasks_below n m [] more below = tt
+later_tasks_below n m (t ∷ ids) more below =
+    ((omega (arith, below.0.0, more), (omega (arith, below.0.1.0, more), omega (arith, below.0.1.1, more))), later_tasks_below n m ids more below.1)
 
 -- What was added may be used.
 
@@ -38,6 +56,11 @@ pub terms_ready : (setting : Scenarios) (before after : Lowering) (ts : Terms) (
     → IfOk r (λ (ids : Vec TermId Global). AreReady setting after ids.items)
 terms_ready setting before after ts (Ok ids) made = record { ready = made.extends.ready; exist = made.exist }
 terms_ready setting before after ts (Err fault) made = tt
+
+pub terms_there : (setting : Scenarios) (before after : Lowering) (ts : Terms) (r : Result (Vec TermId Global) Fault) → MakesTerms setting before after ts r
+    → IfOk r (λ (ids : Vec TermId Global). TermsAreThere after ids.items)
+terms_there setting before after ts (Ok ids) made = record { building = made.extends.ready.building; exist = made.exist }
+terms_there setting before after ts (Err fault) made = tt
 
 pub conds_there : (setting : Scenarios) (before after : Lowering) (ts : Conds) (r : Result (Vec CondId Global) Fault) → MakesConds setting before after ts r
     → IfOk r (λ (ids : Vec CondId Global). CondsAreThere after ids.items)
@@ -65,6 +88,14 @@ both_conds setting before mid after id thing sizes t (Ok other) first second = (
   omega (arith, first.stands.exists, second.extends.grows.more),
 )
 both_conds setting before mid after id thing sizes t (Err fault) first second = tt
+
+pub both_tasks : (setting : Scenarios) (before mid after : Lowering) (ids : List (TermId × TermId × TermId)) (ts : Tasks) (t : Term) (r : Result TermId Fault) → AreTasks setting before mid ids ts
+    → MakesTerm setting mid after t r → IfOk r (λ (other : TermId). IsUsable after other.0 × TasksBelow (length (things_of after)) (task_ids ids))
+both_tasks setting before mid after ids ts t (Ok other) first second = (
+  record { building = second.extends.ready.building; exists = second.stands.exists },
+  later_tasks_below (length (things_of mid)) (length (things_of after)) (task_ids ids) second.extends.grows.more first.exist,
+)
+both_tasks setting before mid after ids ts t (Err fault) first second = tt
 
 pub operand_term : (setting : Scenarios) (mid after : Lowering) (id : ℕ) (t : Term) (r : Result TermId Fault) → IsOperand setting mid id → MakesTerm setting mid after t r
     → IfOk r (λ (other : TermId). IsUsable after other.0 × (id < length (things_of after)))
@@ -148,6 +179,38 @@ cond_made setting before mid after made t id extends small is more stands = reco
   stands = subst (λ x. Stands (things_of after) id (a_cond x)) is stands;
   small = small;
 }
+
+abbrev terms_of_task : Term → Term → Term → TaskTerms
+terms_of_task x y z = record { start = x; duration = y; demand = z }
+
+-- a task by its three terms, one after the other
+pub task_made : (setting : Scenarios) (before first second after : Lowering) (a b d : TermId) (x y z : Term)
+    → IsMade setting before first a.0 (a_term x) (subterms x) → IsMade setting first second b.0 (a_term y) (subterms y) → IsMade setting second after d.0 (a_term z) (subterms z)
+    → IsTask setting before after (a, b, d) (record { start = x; duration = y; demand = z })
+task_made setting before first second after a b d x y z start duration demand =
+    let grown = grows_twice (things_of first) (things_of second) (things_of after) duration.extends.grows demand.extends.grows in
+    let one = stands_grows (things_of first) (things_of after) a.0 (a_term x) grown start.stands in
+    let two = stands_grows (things_of second) (things_of after) b.0 (a_term y) demand.extends.grows duration.stands in
+    record {
+      extends = extends_twice setting before second after (extends_twice setting before first second start.extends duration.extends) demand.extends;
+      exist = (one.exists, (two.exists, (demand.stands.exists, tt)));
+      is = ap (λ t. terms_of_task t (term_at (things_of after) b.0) (term_at (things_of after) d.0)) (term_is (things_of after) a.0 x one)
+          ∙ (ap (λ t. terms_of_task x t (term_at (things_of after) d.0)) (term_is (things_of after) b.0 y two) ∙ ap (terms_of_task x y) (term_is (things_of after) d.0 z demand.stands));
+      small = both_small (root_in setting) (subterms x) (subterms y ++ subterms z) start.small (both_small (root_in setting) (subterms y) (subterms z) duration.small demand.small);
+    }
+
+-- the first of its terms is too large, or the second, or the third
+pub start_large : (root : Box) (x : TaskTerms) (fault : Fault) → IsSizeFault root (subterms x.start) fault → IsSizeFault root (subterms_of_task x) fault
+start_large root x fault large = faults_end root (subterms x.start) (subterms x.duration ++ subterms x.demand) fault large
+
+pub duration_large : (root : Box) (x : TaskTerms) (fault : Fault) → AreSmall root (subterms x.start) → IsSizeFault root (subterms x.duration) fault → IsSizeFault root (subterms_of_task x) fault
+duration_large root x fault small large =
+    faults_in_turn root (subterms x.start) (subterms x.duration ++ subterms x.demand) fault small (faults_end root (subterms x.duration) (subterms x.demand) fault large)
+
+pub demand_large : (root : Box) (x : TaskTerms) (fault : Fault) → AreSmall root (subterms x.start) → AreSmall root (subterms x.duration) → IsSizeFault root (subterms x.demand) fault
+    → IsSizeFault root (subterms_of_task x) fault
+demand_large root x fault small more large =
+    faults_in_turn root (subterms x.start) (subterms x.duration ++ subterms x.demand) fault small (faults_in_turn root (subterms x.duration) (subterms x.demand) fault more large)
 
 -- What a call says of what it made, clause by clause.
 

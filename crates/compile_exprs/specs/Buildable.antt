@@ -1,5 +1,4 @@
--- What a walk over an expression asks for: the ranges of binders pass, what stands behind them may be built at each place that they give, divisors are numbers other than 0, and there is no form
--- that has no term yet. For proofs alone.
+-- What a walk over an expression asks for: the ranges of binders pass, what stands behind them may be built at each place that they give, and divisors are numbers other than 0. For proofs alone.
 use Rattle.std.specs.Prelude.{◌≡◌, ℤ, pos, false, Some, None}
 use Rattle.std.specs.List.{AllByRecursion}
 use Rattle.std.specs.Ordering.{int_eq}
@@ -47,8 +46,12 @@ abbrev mutual
   ShapeIsBuildable known (t.Least es) = AreBuildable known es
   ShapeIsBuildable known (t.Greatest es) = AreBuildable known es
   ShapeIsBuildable known (t.Abs e) = IsBuildable known e
-  ShapeIsBuildable known (t.AllDifferent bs e) = ⊥
-  ShapeIsBuildable known (t.Cumulative bs start duration demand capacity) = ⊥
+  ShapeIsBuildable known (t.AllDifferent bs e) =
+      AreMet known None bs × AllByRecursion (λ (here : Known). (here.constants ≡ known.constants) × IsBuildable here e) (all_bindings known bs)
+  ShapeIsBuildable known (t.Cumulative bs start duration demand capacity) =
+      AreMet known None bs
+      × AllByRecursion (λ (here : Known). (here.constants ≡ known.constants) × IsBuildable here start × IsBuildable here duration × IsBuildable here demand) (all_bindings known bs)
+      × IsBuildable known capacity
 
   pub AreBuildable : Known → Trees → Type 0
   AreBuildable known no_tree = Unit {0}

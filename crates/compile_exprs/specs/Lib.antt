@@ -1,5 +1,4 @@
 pub mod Over
-pub mod Supported
 -- For proofs alone: nothing is to be believed here
 pub mod Buildable
 pub mod Made

@@ -1,12 +1,13 @@
 -- What the steps of a walk over an expression say of a work. For proofs alone.
-use Rattle.std.specs.Prelude.{◌≡◌, ◌<◌, ℕ, Bool, List, None, length, Result, Ok, Err}
+use Rattle.std.specs.Prelude.{◌≡◌, ◌<◌, ℕ, Bool, List, [], ◌∷◌, ◌++◌, None, length, Result, Ok, Err}
 use Rattle.std.specs.declared.alloc.Global.{Global}
 use Rattle.std.specs.declared.vec.Vec.{Vec}
 use Rattle.sopl_base.specs.declared.fault.Fault.{Fault}
-use Rattle.term_language.specs.Terms.{Term, Terms, Parts, Cond, Conds}
+use Rattle.term_language.specs.Terms.{Term, Terms, Parts, Cond, Conds, Tasks}
+use Rattle.compile_laws.specs.Instances.{TaskTerms}
 use Rattle.compile_names.specs.declared.setting.Scenarios.{Scenarios}
 use Rattle.compile_laws.specs.Measured.{IsSizeFault, first_large}
-use Rattle.compile_laws.specs.Subterms.{subterms, all_subterms, part_subterms, condition_subterms, all_condition_subterms}
+use Rattle.compile_laws.specs.Subterms.{subterms, all_subterms, part_subterms, condition_subterms, all_condition_subterms, task_subterms}
 use Rattle.sopl_scen.specs.Layout.{count_in}
 use Rattle.compile_scene.specs.Scenes.{root_in}
 use Rattle.compile_scene.specs.Works.{Extends, IsReady, Stands, things_of}
@@ -14,9 +15,9 @@ use Rattle.compile_scene.specs.declared.scene.NumberedScenario.{NumberedScenario
 use Rattle.compile_scene.specs.declared.work.Lowering.{Lowering}
 use Rattle.sopl_ast.specs.Known as place
 use Rattle.sopl_ast.specs.Tree.{Tree}
-use Rattle.sopl_term.specs.Built.{IsBuilding, cond_ids, signed_of, term_ids}
-use Rattle.term_nodes.specs.Built.{AllBelow, PartsBelow}
-use Rattle.term_nodes.specs.Things.{Thing, a_cond, a_term, conds_at, parts_at, term_at, terms_at}
+use Rattle.sopl_term.specs.Built.{IsBuilding, cond_ids, signed_of, task_ids, term_ids}
+use Rattle.term_nodes.specs.Built.{AllBelow, PartsBelow, TasksBelow}
+use Rattle.term_nodes.specs.Things.{Thing, a_cond, a_term, conds_at, parts_at, tasks_at, term_at, terms_at}
 use Rattle.term_program.specs.declared.ids.CondId.{CondId}
 use Rattle.term_program.specs.declared.ids.TermId.{TermId}
 use Rattle.unfold_constants.specs.declared.constant_scope.ConstantScope.{ConstantScope}
@@ -39,6 +40,10 @@ pub record AreReady (setting : Scenarios) (work : Lowering) (ids : List TermId) 
   pub ready : IsReady setting work
   pub exist : AllBelow (length (things_of work)) (term_ids ids)
 
+pub record TermsAreThere (work : Lowering) (ids : List TermId) : Type 0 where
+  pub building : IsBuilding work.builder
+  pub exist : AllBelow (length (things_of work)) (term_ids ids)
+
 pub record CondsAreThere (work : Lowering) (ids : List CondId) : Type 0 where
   pub building : IsBuilding work.builder
   pub exist : AllBelow (length (things_of work)) (cond_ids ids)
@@ -47,9 +52,23 @@ pub record PartsAreThere (work : Lowering) (ids : List (Bool × TermId)) : Type 
   pub building : IsBuilding work.builder
   pub exist : PartsBelow (length (things_of work)) (signed_of ids)
 
--- a place in a text where an expression may be built
+-- a place in a text where an expression may be built, and one where a task may be
 abbrev pub IsBody : Scenarios → Tree → place.Known → Type 0
 IsBody setting e here = (here.constants ≡ (table_known setting.table.now).constants) × IsBuildable here e
+
+abbrev pub IsTaskBody : Scenarios → Tree → Tree → Tree → place.Known → Type 0
+IsTaskBody setting start duration demand here =
+    (here.constants ≡ (table_known setting.table.now).constants) × IsBuildable here start × IsBuildable here duration × IsBuildable here demand
+
+-- a task by the numbers of its terms: the numbers, its terms, and the terms in these
+abbrev pub numbers_of : TermId × TermId × TermId → List ℕ
+numbers_of id = id.0.0 ∷ id.1.0 ∷ id.2.0 ∷ []
+
+abbrev pub task_at : List Thing → TermId × TermId × TermId → TaskTerms
+task_at things id = record { start = term_at things id.0.0; duration = term_at things id.1.0; demand = term_at things id.2.0 }
+
+abbrev pub subterms_of_task : TaskTerms → List Term
+subterms_of_task x = subterms x.start ++ (subterms x.duration ++ subterms x.demand)
 
 -- a thing was added, and none of these terms is too large
 pub record IsMade (setting : Scenarios) (before after : Lowering) (id : ℕ) (thing : Thing) (sizes : List Term) : Type 0 where
@@ -85,6 +104,19 @@ pub record AreParts (setting : Scenarios) (before after : Lowering) (ids : List 
   pub are : parts_at (things_of after) (signed_of ids) ≡ ts
   pub small : first_large (root_in setting) (part_subterms ts) ≡ None
 
+-- a task was added, and tasks were
+pub record IsTask (setting : Scenarios) (before after : Lowering) (id : TermId × TermId × TermId) (x : TaskTerms) : Type 0 where
+  pub extends : Extends setting before after
+  pub exist : AllBelow (length (things_of after)) (numbers_of id)
+  pub is : task_at (things_of after) id ≡ x
+  pub small : first_large (root_in setting) (subterms_of_task x) ≡ None
+
+pub record AreTasks (setting : Scenarios) (before after : Lowering) (ids : List (TermId × TermId × TermId)) (ts : Tasks) : Type 0 where
+  pub extends : Extends setting before after
+  pub exist : TasksBelow (length (things_of after)) (task_ids ids)
+  pub are : tasks_at (things_of after) (task_ids ids) ≡ ts
+  pub small : first_large (root_in setting) (task_subterms ts) ≡ None
+
 -- or a term in them is too large
 abbrev pub MakesTerms : Scenarios → Lowering → Lowering → Terms → Result (Vec TermId Global) Fault → Type 0
 MakesTerms setting before after ts (Ok ids) = AreTerms setting before after ids.items ts
@@ -97,6 +129,14 @@ MakesConds setting before after ts (Err fault) = IsSizeFault (root_in setting) (
 abbrev pub MakesParts : Scenarios → Lowering → Lowering → Parts → Result (Vec (Bool × TermId) Global) Fault → Type 0
 MakesParts setting before after ts (Ok ids) = AreParts setting before after ids.items ts
 MakesParts setting before after ts (Err fault) = IsSizeFault (root_in setting) (part_subterms ts) fault
+
+abbrev pub MakesTask : Scenarios → Lowering → Lowering → TaskTerms → Result (TermId × TermId × TermId) Fault → Type 0
+MakesTask setting before after x (Ok id) = IsTask setting before after id x
+MakesTask setting before after x (Err fault) = IsSizeFault (root_in setting) (subterms_of_task x) fault
+
+abbrev pub MakesTasks : Scenarios → Lowering → Lowering → Tasks → Result (Vec (TermId × TermId × TermId) Global) Fault → Type 0
+MakesTasks setting before after ts (Ok ids) = AreTasks setting before after ids.items ts
+MakesTasks setting before after ts (Err fault) = IsSizeFault (root_in setting) (task_subterms ts) fault
 
 -- a term by its number, which is not too large, nor is one in it
 pub record IsOperand (setting : Scenarios) (work : Lowering) (id : ℕ) : Type 0 where

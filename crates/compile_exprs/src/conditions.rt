@@ -2,12 +2,13 @@
 
 ghost use Rattle.std.specs.Prelude.{◌≡◌, ◌<◌, length, IfOk};
 ghost use Rattle.term_language.specs.Terms as c;
-ghost use Rattle.compile_exprs.specs.Made.{CondsAreThere, IsMade, IsUsable, MakesCond, MakesConds, MakesTerm};
+ghost use Rattle.compile_exprs.specs.Made.{AreTasks, CondsAreThere, IsMade, IsUsable, MakesCond, MakesConds, MakesTerm, MakesTerms, TermsAreThere};
 ghost use Rattle.compile_names.specs.declared.setting.Scenarios.{Scenarios};
 ghost use Rattle.compile_laws.specs.Subterms.{condition_subterms, subterms};
 ghost use Rattle.compile_scene.specs.Works.{IsReady, things_of};
 ghost use Rattle.compile_scene.specs.declared.work.Lowering.{Lowering};
-ghost use Rattle.sopl_term.specs.Built.{IsBuilding};
+ghost use Rattle.sopl_term.specs.Built.{IsBuilding, task_ids};
+ghost use Rattle.term_nodes.specs.Built.{TasksBelow};
 ghost use Rattle.term_nodes.specs.Things.{a_cond, a_term};
 
 use compile_scene::Lowering;
@@ -74,6 +75,32 @@ pub(crate) fn any_of(
 {
     let ids = parts?;
     Ok(work.any(ids.as_slice())?)
+}
+
+/// Adds `allDifferent` of terms.
+pub(crate) fn differing(
+    work: &mut Lowering,
+    parts: Result<Vec<TermId>, Fault>,
+) -> Result<CondId, Fault>
+    requires parts_exist { IfOk parts (λ ids. TermsAreThere work.old ids.items) }
+    ensures made { (setting : Scenarios) (before : Lowering) (ts : c.Terms) → MakesTerms setting before work.old ts parts → MakesCond setting before work.new (c.AllDifferent ts) result }
+{
+    let ids = parts?;
+    Ok(work.all_different(ids.as_slice())?)
+}
+
+/// Adds `cumulative` of tasks under a capacity, which was added behind them.
+pub(crate) fn fitting(
+    work: &mut Lowering,
+    tasks: &[(TermId, TermId, TermId)],
+    capacity: Result<TermId, Fault>,
+) -> Result<CondId, Fault>
+    requires parts_exist { IfOk capacity (λ id. IsUsable work.old id.0 × TasksBelow (length (things_of work.old)) (task_ids tasks.now)) }
+    ensures made { (setting : Scenarios) (before mid : Lowering) (ts : c.Tasks) (t : c.Term) → AreTasks setting before mid tasks.now ts → MakesTerm setting mid work.old t capacity
+        → MakesCond setting before work.new (c.Cumulative ts t) result }
+{
+    let id = capacity?;
+    Ok(work.cumulative(tasks, id)?)
 }
 
 /// Adds the condition that a number is: none that holds.

@@ -2,7 +2,6 @@
 
 ghost use Rattle.std.specs.Prelude.{◌≡◌, ◌<◌, IfOk, OnOk};
 ghost use Rattle.compile_exprs.specs.Over.{IsOver};
-ghost use Rattle.compile_exprs.specs.Supported.{IsSupported};
 ghost use Rattle.compile_laws.specs.Instances.{instance};
 ghost use Rattle.compile_laws.specs.Measured.{Measures};
 ghost use Rattle.compile_laws.specs.Subterms.{condition_subterms, subterms};
@@ -32,7 +31,6 @@ pub fn term_of<'a>(
     requires exists { scene.now.scenario < count_in scene.now.setting.now.tree.now }
     requires table { IsOver scene.now.setting.now known.now }
     requires passes { NothingFails (expression_events (known_in known.now) e.now) }
-    requires supported { IsSupported e.now }
     ensures extends { OnOk result (Extends scene.now.setting.now work.old work.new) }
     ensures stands { IfOk result (λ id. Stands (things_of work.new) id.0 (a_term (instance (place_of scene.now (known_in known.now)) e.now).term)) }
     ensures measured { Measures (root_in scene.now.setting.now) (subterms (instance (place_of scene.now (known_in known.now)) e.now).term) result }
@@ -51,7 +49,6 @@ pub fn condition_of<'a>(
     requires exists { scene.now.scenario < count_in scene.now.setting.now.tree.now }
     requires table { IsOver scene.now.setting.now known.now }
     requires passes { NothingFails (expression_events (known_in known.now) e.now) }
-    requires supported { IsSupported e.now }
     ensures extends { OnOk result (Extends scene.now.setting.now work.old work.new) }
     ensures stands { IfOk result (λ id. Stands (things_of work.new) id.0 (a_cond (instance (place_of scene.now (known_in known.now)) e.now).cond)) }
     ensures measured { Measures (root_in scene.now.setting.now) (condition_subterms (instance (place_of scene.now (known_in known.now)) e.now).cond) result }

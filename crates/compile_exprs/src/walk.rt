@@ -5,8 +5,8 @@ ghost use Rattle.std.specs.List.{AllByRecursion};
 ghost use Rattle.compile_counts.specs.Walked.{AreMet};
 ghost use Rattle.term_language.specs.Terms as c;
 ghost use Rattle.compile_exprs.specs.Buildable.{AreBuildable, FactorIsBuildable, FactorsAreBuildable, IsBuildable, TermsAreBuildable};
-ghost use Rattle.compile_exprs.specs.Made.{IsBody, IsOperand, IsPlaced, MakesCond, MakesConds, MakesParts, MakesTerm, MakesTerms};
-ghost use Rattle.compile_laws.specs.Instances.{chain_instance, conditions, instance, instances, places, product_instance, shape_instance, sum_of};
+ghost use Rattle.compile_exprs.specs.Made.{IsBody, IsOperand, IsPlaced, IsTaskBody, MakesCond, MakesConds, MakesParts, MakesTask, MakesTasks, MakesTerm, MakesTerms};
+ghost use Rattle.compile_laws.specs.Instances.{chain_instance, conditions, instance, instances, places, product_instance, shape_instance, tasks_of, terms_of};
 ghost use Rattle.sopl_scen.specs.Layout.{count_in};
 ghost use Rattle.compile_scene.specs.Scenes.{place_of};
 ghost use Rattle.compile_scene.specs.Works.{IsReady, things_of};
@@ -17,8 +17,10 @@ ghost use Rattle.sopl_ast.specs.Tree as t;
 ghost use Rattle.term_nodes.specs.Things.{term_at};
 ghost use Rattle.unfold_constants.specs.Here.{known_in};
 
-use crate::chains::{extreme, summed};
-use crate::conditions::{all_of, any_of, compared, denied, implied, no_condition};
+use crate::chains::{added_up, extreme, summed};
+use crate::conditions::{
+    all_of, any_of, compared, denied, differing, fitting, implied, no_condition,
+};
 use crate::elements::{element, named};
 use crate::lists::{listed, listed_part};
 use crate::numbers::{literal, multiplied, negated, number, quotient, remainder, sized};
@@ -29,6 +31,14 @@ use sopl_base::{CmpOp, Fault};
 use sopl_term::{CondId, TermId};
 use term_math::Extreme;
 use unfold_constants::ConstantScope;
+
+/// The start, the length and the demand of tasks, as expressions.
+#[derive(Clone, Copy)]
+struct TaskExprs<'a> {
+    start: &'a Expr,
+    duration: &'a Expr,
+    demand: &'a Expr,
+}
 
 /// Adds the term of an expression; a condition is a number.
 #[cycle(walk)]
@@ -58,7 +68,7 @@ pub(crate) fn term<'a>(
         Kind::Mul(parts) => product(scene, known, work, parts),
         Kind::Sum(over, part) => {
             let ids = behind(scene, known, work, over, part);
-            summed(work, ids)
+            added_up(work, ids)
         }
         Kind::Least(parts) => {
             let ids = terms(scene, known, work, parts.as_slice());
@@ -110,7 +120,18 @@ pub(crate) fn condition<'a>(
             any_of(work, ids)
         }
         Kind::Implies(a, b) => implication(scene, known, work, a, b),
-        Kind::AllDifferent(_, _) | Kind::Cumulative(_, _, _, _, _) => unreachable!(),
+        Kind::AllDifferent(over, part) => {
+            let ids = behind(scene, known, work, over, part);
+            differing(work, ids)
+        }
+        Kind::Cumulative(over, start, duration, demand, most) => {
+            let task = TaskExprs {
+                start,
+                duration,
+                demand,
+            };
+            scheduled(scene, known, work, over, &task, most)
+        }
         Kind::Lit(_)
         | Kind::Name(_)
         | Kind::Index(_, _)
@@ -344,13 +365,13 @@ fn behind<'a>(
     work: &mut Lowering,
     over: &'a Binders,
     e: &'a Expr,
-) -> Result<Vec<(bool, TermId)>, Fault>
+) -> Result<Vec<TermId>, Fault>
     requires ready { IsReady scene.now.setting.now work.old }
     requires placed { IsPlaced scene.now known.now }
     requires met { AreMet (known_in known.now) None (binders over.now) }
     requires bodies { AllByRecursion (λ (here : place.Known). (here.constants ≡ (known_in known.now).constants) × IsBuildable here e.now) (all_bindings (known_in known.now) (binders over.now)) }
-    ensures made { MakesParts scene.now.setting.now work.old work.new
-        (sum_of (map (λ here. (instance here e.now).term) (places (place_of scene.now (known_in known.now)) (binders over.now)))) result }
+    ensures made { MakesTerms scene.now.setting.now work.old work.new
+        (terms_of (map (λ here. (instance here e.now).term) (places (place_of scene.now (known_in known.now)) (binders over.now)))) result }
 {
     let here = all_places(work.alloc, known, None, over.as_slice())?;
     each(scene, work, here.as_slice(), e)
@@ -363,17 +384,122 @@ fn each<'a>(
     work: &mut Lowering,
     here: &[ConstantScope<'a>],
     e: &'a Expr,
-) -> Result<Vec<(bool, TermId)>, Fault>
+) -> Result<Vec<TermId>, Fault>
     requires ready { IsReady scene.now.setting.now work.old }
     requires exists { scene.now.scenario < count_in scene.now.setting.now.tree.now }
     requires bodies { AllByRecursion (IsBody scene.now.setting.now e.now) (map known_in here.now) }
-    ensures made { MakesParts scene.now.setting.now work.old work.new
-        (sum_of (map (λ known. (instance (place_of scene.now known) e.now).term) (map known_in here.now))) result }
+    ensures made { MakesTerms scene.now.setting.now work.old work.new
+        (terms_of (map (λ known. (instance (place_of scene.now known) e.now).term) (map known_in here.now))) result }
 {
     let mut ids = Vec::new(work.alloc);
     'here: for known in here {
         let id = term(scene, known, work, e)?;
-        listed_part(&mut ids, false, id)?;
+        listed(&mut ids, id)?;
     }
     Ok(ids)
+}
+
+/// Adds `cumulative`: its tasks first, and its capacity last.
+#[cycle(walk)]
+fn scheduled<'a>(
+    scene: &NumberedScenario<'_, '_>,
+    known: &ConstantScope<'a>,
+    work: &mut Lowering,
+    over: &'a Binders,
+    task: &TaskExprs<'a>,
+    most: &'a Expr,
+) -> Result<CondId, Fault>
+    requires ready { IsReady scene.now.setting.now work.old }
+    requires placed { IsPlaced scene.now known.now }
+    requires met { AreMet (known_in known.now) None (binders over.now) }
+    requires bodies { AllByRecursion
+        (λ (here : place.Known). (here.constants ≡ (known_in known.now).constants) × IsBuildable here task.now.start.now × IsBuildable here task.now.duration.now
+        × IsBuildable here task.now.demand.now)
+        (all_bindings (known_in known.now) (binders over.now)) }
+    requires most { IsBuildable (known_in known.now) most.now }
+    ensures made { MakesCond scene.now.setting.now work.old work.new
+        (c.Cumulative
+        (tasks_of (map (λ here. record { start = (instance here task.now.start.now).term; duration = (instance here task.now.duration.now).term; demand = (instance here task.now.demand.now).term })
+        (places (place_of scene.now (known_in known.now)) (binders over.now))))
+        (instance (place_of scene.now (known_in known.now)) most.now).term) result }
+{
+    let tasks = tasks_behind(scene, known, work, over, task)?;
+    let capacity = term(scene, known, work, most);
+    fitting(work, tasks.as_slice(), capacity)
+}
+
+/// Adds the terms of tasks, one task for each way in which their binders take their values.
+#[cycle(walk)]
+fn tasks_behind<'a>(
+    scene: &NumberedScenario<'_, '_>,
+    known: &ConstantScope<'a>,
+    work: &mut Lowering,
+    over: &'a Binders,
+    task: &TaskExprs<'a>,
+) -> Result<Vec<(TermId, TermId, TermId)>, Fault>
+    requires ready { IsReady scene.now.setting.now work.old }
+    requires placed { IsPlaced scene.now known.now }
+    requires met { AreMet (known_in known.now) None (binders over.now) }
+    requires bodies { AllByRecursion
+        (λ (here : place.Known). (here.constants ≡ (known_in known.now).constants) × IsBuildable here task.now.start.now × IsBuildable here task.now.duration.now
+        × IsBuildable here task.now.demand.now)
+        (all_bindings (known_in known.now) (binders over.now)) }
+    ensures made { MakesTasks scene.now.setting.now work.old work.new
+        (tasks_of (map (λ here. record { start = (instance here task.now.start.now).term; duration = (instance here task.now.duration.now).term; demand = (instance here task.now.demand.now).term })
+        (places (place_of scene.now (known_in known.now)) (binders over.now)))) result }
+{
+    let here = all_places(work.alloc, known, None, over.as_slice())?;
+    each_task(scene, work, here.as_slice(), task)
+}
+
+/// Adds the terms of a task at each of some places.
+#[cycle(walk)]
+fn each_task<'a>(
+    scene: &NumberedScenario<'_, '_>,
+    work: &mut Lowering,
+    here: &[ConstantScope<'a>],
+    task: &TaskExprs<'a>,
+) -> Result<Vec<(TermId, TermId, TermId)>, Fault>
+    requires ready { IsReady scene.now.setting.now work.old }
+    requires exists { scene.now.scenario < count_in scene.now.setting.now.tree.now }
+    requires bodies { AllByRecursion (IsTaskBody scene.now.setting.now task.now.start.now task.now.duration.now task.now.demand.now) (map known_in here.now) }
+    ensures made { MakesTasks scene.now.setting.now work.old work.new
+        (tasks_of (map (λ known. record {
+          start = (instance (place_of scene.now known) task.now.start.now).term;
+          duration = (instance (place_of scene.now known) task.now.duration.now).term;
+          demand = (instance (place_of scene.now known) task.now.demand.now).term;
+        }) (map known_in here.now))) result }
+{
+    let mut ids = Vec::new(work.alloc);
+    'here: for known in here {
+        let id = one_task(scene, known, work, task)?;
+        listed(&mut ids, id)?;
+    }
+    Ok(ids)
+}
+
+/// Adds the terms of a task: its start, its length and its demand.
+#[cycle(walk)]
+fn one_task<'a>(
+    scene: &NumberedScenario<'_, '_>,
+    known: &ConstantScope<'a>,
+    work: &mut Lowering,
+    task: &TaskExprs<'a>,
+) -> Result<(TermId, TermId, TermId), Fault>
+    requires ready { IsReady scene.now.setting.now work.old }
+    requires placed { IsPlaced scene.now known.now }
+    requires start { IsBuildable (known_in known.now) task.now.start.now }
+    requires duration { IsBuildable (known_in known.now) task.now.duration.now }
+    requires demand { IsBuildable (known_in known.now) task.now.demand.now }
+    ensures made { MakesTask scene.now.setting.now work.old work.new
+        (record {
+          start = (instance (place_of scene.now (known_in known.now)) task.now.start.now).term;
+          duration = (instance (place_of scene.now (known_in known.now)) task.now.duration.now).term;
+          demand = (instance (place_of scene.now (known_in known.now)) task.now.demand.now).term;
+        }) result }
+{
+    let start = term(scene, known, work, task.start)?;
+    let duration = term(scene, known, work, task.duration)?;
+    let demand = term(scene, known, work, task.demand)?;
+    Ok((start, duration, demand))
 }

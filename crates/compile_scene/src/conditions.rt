@@ -4,9 +4,9 @@ ghost use Rattle.std.specs.Prelude.{◌≡◌, ◌<◌, length, IfOk};
 ghost use Rattle.term_language.specs.Laws.{IsTable};
 ghost use Rattle.term_language.specs.Terms as term;
 ghost use Rattle.compile_names.specs.declared.setting.Scenarios.{Scenarios};
-ghost use Rattle.sopl_term.specs.Built.{IsBuilding, cond_ids};
-ghost use Rattle.term_nodes.specs.Built.{AllBelow};
-ghost use Rattle.term_nodes.specs.Things.{a_cond, a_table, cond_at, conds_at, term_at};
+ghost use Rattle.sopl_term.specs.Built.{IsBuilding, cond_ids, task_ids, term_ids};
+ghost use Rattle.term_nodes.specs.Built.{AllBelow, TasksBelow};
+ghost use Rattle.term_nodes.specs.Things.{a_cond, a_table, cond_at, conds_at, tasks_at, term_at, terms_at};
 ghost use Rattle.term_math.specs.Kept as kept;
 ghost use Rattle.compile_scene.specs.Works.{Extends, IsReady, Stands, things_of};
 
@@ -68,6 +68,32 @@ impl Lowering {
         ensures stands { IfOk result (λ id. Stands (things_of self.new) id.0 (a_cond (term.Any (conds_at (things_of self.old) (cond_ids parts.now))))) }
     {
         self.builder.any(parts)
+    }
+
+    /// `allDifferent` of terms.
+    pub fn all_different(&mut self, parts: &[TermId]) -> Result<CondId, AllocError>
+        requires building { IsBuilding self.old.builder }
+        requires exist { AllBelow (length (things_of self.old)) (term_ids parts.now) }
+        ensures extends { (setting : Scenarios) → IsReady setting self.old → Extends setting self.old self.new }
+        ensures stands { IfOk result (λ id. Stands (things_of self.new) id.0 (a_cond (term.AllDifferent (terms_at (things_of self.old) (term_ids parts.now))))) }
+    {
+        self.builder.all_different(parts)
+    }
+
+    /// `cumulative` of tasks, each by its start, its length and its demand, under a capacity.
+    pub fn cumulative(
+        &mut self,
+        tasks: &[(TermId, TermId, TermId)],
+        capacity: TermId,
+    ) -> Result<CondId, AllocError>
+        requires building { IsBuilding self.old.builder }
+        requires exist { TasksBelow (length (things_of self.old)) (task_ids tasks.now) }
+        requires capacity { capacity.0 < length (things_of self.old) }
+        ensures extends { (setting : Scenarios) → IsReady setting self.old → Extends setting self.old self.new }
+        ensures stands { IfOk result (λ id. Stands (things_of self.new) id.0
+            (a_cond (term.Cumulative (tasks_at (things_of self.old) (task_ids tasks.now)) (term_at (things_of self.old) capacity.0)))) }
+    {
+        self.builder.cumulative(tasks, capacity)
     }
 
     /// An array by its sets and its elements, which are numbers and cells as they are.

@@ -29,6 +29,4 @@ mod place_tests;
 #[cfg(test)]
 mod printed;
 #[cfg(test)]
-mod tests;
-#[cfg(test)]
 mod unfold_tests;

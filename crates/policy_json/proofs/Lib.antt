@@ -9,6 +9,7 @@ pub mod Branches
 pub mod Ready
 pub mod NodeSteps
 pub mod NodeLaws
+pub mod RunEnds
 pub mod Plain
 pub mod Chosen
 pub mod Held
@@ -16,3 +17,4 @@ pub mod Staged
 pub mod Samples
 pub mod Printed
 pub mod Texts
+pub mod Grounded

@@ -29,7 +29,7 @@ use Rattle.scen_laws.proofs.Histories.{row_is}
 use Rattle.policy_json.specs.Entries.{entry_of, seen_entries}
 use Rattle.policy_json.specs.Nodes.{branch_of, decide_of, decided_at, decision_entry, node_at, node_of, numbered_in_stage, outcomes_after, seen_after}
 use Rattle.policy_json.specs.Stages.{number_in, numbers_of}
-use Rattle.policy_json.specs.Steps.{Parts, IsReady, block_in, branch_in, branches_in, decide_in, decided_in, drawn_in, first_in, no_decision, no_variable, node_in, seen_in, shown_in}
+use Rattle.policy_json.specs.Steps.{Begins, Parts, IsReady, block_in, branch_in, branches_in, decide_in, decided_in, drawn_in, first_in, no_decision, no_variable, node_in, seen_in, shown_in}
 use Rattle.policy_json.proofs.LastStages.{last_stage_few}
 use Rattle.policy_json.specs.LastStage.{last_stage}
 use Rattle.policy_json.proofs.Branches.{branch_after}
@@ -72,11 +72,6 @@ paired_same f from (s ∷ ss) (v ∷ vs) long each =
     nothing_more n = omega arith
 
 -- The first scenario of a block.
-
--- a scenario is the first of the block of the history with this number
-pub record Begins (ss : List Stochastic) (stage scenario number : ℕ) : Type 0 where
-  pub exists : number < length (histories stage ss)
-  pub at : scenario ≡ number * block_of stage ss + 0
 
 begins_within : (ss : List Stochastic) (stage scenario number : ℕ) → AreOrderly ss → Begins ss stage scenario number → scenario < length (scenarios ss)
 begins_within ss stage scenario number is b =
@@ -177,7 +172,7 @@ seen_same parts are stage scenario number row within inside b =
 -- Nodes.
 
 -- the first scenario of a block of the next stage
-next_begins : (parts : Parts) → IsReady parts → (stage scenario number i : ℕ) → 1 ≤ stage → stage < 24 → Begins parts.stochastics stage scenario number
+pub next_begins : (parts : Parts) → IsReady parts → (stage scenario number i : ℕ) → 1 ≤ stage → stage < 24 → Begins parts.stochastics stage scenario number
     → i < length (rows (of_stage stage parts.stochastics))
     → Begins parts.stochastics (stage + 1) (first_in parts.tree stage scenario i) (next_number stage parts.stochastics number i)
 next_begins parts are stage scenario number i from to b below =
@@ -253,7 +248,7 @@ first_history ss o =
     nil_from_length (get_or (histories 1 ss) 0 [])
     (history_long 1 0 ss o (omega (arith, some_histories 1 ss o)) ∙ none_before ss o.bounded)
 
-first_begins : (ss : List Stochastic) → AreOrderly ss → Begins ss 1 0 0
+pub first_begins : (ss : List Stochastic) → AreOrderly ss → Begins ss 1 0 0
 first_begins ss o = record { exists = omega (arith, some_histories 1 ss o); at = none (block_of 1 ss) }
   where
     none : (n : ℕ) → 0 ≡ 0 * n + 0

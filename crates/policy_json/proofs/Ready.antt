@@ -1,20 +1,19 @@
 -- What is known of a point whose parts go together.
-use Rattle.std.proofs.Common.{◌≡◌, ◌+◌, ◌-◌, ◌*◌, ◌/◌, ◌≤◌, ◌<◌, ◌^◌, ℕ, pos, [], length, get_or, slice_get, Some, true, arith, sym, subst, ◌∙◌}
-use Rattle.std.proofs.lemmas.Nat.{mul-le}
+use Rattle.std.proofs.Common.{◌≡◌, ◌+◌, ◌-◌, ◌/◌, ◌≤◌, ◌<◌, ◌^◌, ℕ, pos, [], length, get_or, slice_get, Some, true, arith, sym, subst, ◌∙◌}
 use Rattle.std.specs.List.{AllByRecursion}
 use Rattle.std.proofs.lemmas.Option.{slice_get-get_or, slice_get_within}
 use Rattle.sopl_ast.specs.Instances.{Decision, Stochastic}
 use Rattle.sopl_ast.specs.Scenarios.{Scenario, scenarios}
-use Rattle.sopl_ast.specs.Histories.{history, histories}
+use Rattle.sopl_ast.specs.Histories.{history}
 use Rattle.sopl_ast.specs.Pieces.{is_word}
 use Rattle.unfold_laws.specs.Bounds.{IsBoundedDecision}
 use Rattle.scen_laws.specs.Laws.{rows, seen_before}
-use Rattle.sopl_scen.specs.Layout.{IsTreeOf, cell_at, cell_in, cells_for, count_in, decisions_in, histories_in}
-use Rattle.scen_laws.specs.BlockLaws.{AreOrderly, FillsBlocks, block_of, of_stage}
+use Rattle.sopl_scen.specs.Layout.{IsTreeOf, cell_at, cell_in, cells_for, count_in, decisions_in}
+use Rattle.scen_laws.specs.BlockLaws.{AreOrderly, block_of, of_stage}
 use Rattle.scen_laws.proofs.Prefixes.{seen_next, seen_within}
-use Rattle.scen_laws.proofs.Blocks.{blocks_divide, blocks_fill, branches_are}
+use Rattle.scen_laws.proofs.Blocks.{branches_are}
 use Rattle.policy_json.specs.Stages.{StageParts, stage_in}
-use Rattle.policy_json.specs.Steps.{Parts, IsReady, ready, block_in, branches_in, first_in, no_decision}
+use Rattle.policy_json.specs.Steps.{Parts, IsReady, ready, block_in, branches_in, no_decision}
 use Rattle.policy_json.proofs.StageSteps.{stage_found, stages_long}
 use Rattle.policy_json.proofs.Words.{decision_word, stochastic_word}
 
@@ -91,43 +90,3 @@ unfolding branches_in
 branches_same parts (ready k stated is long staged words) stage from to =
     (λ i. is.counted (stage + 1) (omega arith, omega (arith, to)) i / is.counted stage (from, omega (arith, to)) i)
     ∙ branches_are stage parts.stochastics (record { ordered = stated.ordered; outcomes = stated.outcomes; bounded = stated.stochastics })
-
-pub histories_some : (parts : Parts) → IsReady parts → (stage : ℕ) → 1 ≤ stage → stage ≤ 24 → 1 ≤ histories_in parts.tree stage
-histories_some parts are stage from to =
-    let is : IsTreeOf parts.decisions parts.stochastics parts.tree = tree_of parts are in
-    let fills : FillsBlocks stage parts.stochastics = blocks_fill stage parts.stochastics (orderly parts are) in
-    subst (λ n. 1 ≤ n) (sym (is.counted stage (from, to))) fills.some
-
--- a scenario that begins a block is there
-pub begins_within : (parts : Parts) → IsReady parts → (stage scenario : ℕ) → 1 ≤ stage → stage ≤ 24 → scenario + block_in parts.tree stage ≤ count_in parts.tree
-    → scenario < count_in parts.tree
-begins_within parts are stage scenario from to room =
-    let fills : FillsBlocks stage parts.stochastics = blocks_fill stage parts.stochastics (orderly parts are) in
-    omega (arith, block_same parts are stage from to, fills.filled, room)
-
--- each block of the next stage lies within the block
-pub branch_room : (parts : Parts) → IsReady parts → (stage scenario i : ℕ) → 1 ≤ stage → stage < 24
-    → scenario + block_in parts.tree stage ≤ count_in parts.tree → i < branches_in parts.tree stage
-    → first_in parts.tree stage scenario i + block_in parts.tree (stage + 1) ≤ count_in parts.tree
-branch_room parts are stage scenario i from to room below =
-    fit scenario i (block_in parts.tree stage) (block_in parts.tree (stage + 1)) (branches_in parts.tree stage) (count_in parts.tree) room below
-    (block_same parts are stage from (omega (arith, to))
-    ∙ (blocks_divide stage parts.stochastics (orderly parts are)
-    ∙ (λ k. sym (branches_same parts are stage from to) k * sym (block_same parts are (stage + 1) (omega arith) (omega (arith, to))) k)))
-  where
-    fit : (s i b next many count : ℕ) → s + b ≤ count → i < many → b ≡ many * next → s + i * next + next ≤ count
-    fit s i b next many count room below is =
-        let some : i + 1 ≤ many = omega (arith, below) in
-        let least : next ≤ next = omega arith in
-        let product : (i + 1) * next ≤ many * next = mul-le (i + 1) next many next some least in
-        omega (arith, room, is, product)
-
--- the only block of the first stage is all scenarios
-pub whole_room : (parts : Parts) → IsReady parts → 0 + block_in parts.tree 1 ≤ count_in parts.tree
-whole_room parts are =
-    let is : IsTreeOf parts.decisions parts.stochastics parts.tree = tree_of parts are in
-    let fills : FillsBlocks 1 parts.stochastics = blocks_fill 1 parts.stochastics (orderly parts are) in
-    let least : block_of 1 parts.stochastics ≤ block_of 1 parts.stochastics = omega arith in
-    let product : 1 * block_of 1 parts.stochastics ≤ length (histories 1 parts.stochastics) * block_of 1 parts.stochastics =
-    mul-le 1 (block_of 1 parts.stochastics) (length (histories 1 parts.stochastics)) (block_of 1 parts.stochastics) fills.some least in
-    omega (arith, block_same parts are 1 (omega arith) (omega arith), fills.whole, is.count, product)

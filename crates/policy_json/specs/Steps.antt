@@ -1,12 +1,14 @@
 -- The nodes of a policy, as the program makes them from the tables of a tree. These steps are the code's own: no public clause cites them.
-use Rattle.std.specs.Prelude.{◌≡◌, ℕ, zero, suc, ◌+◌, ◌-◌, ◌*◌, ◌/◌, ℤ, pos, List, [], length, map, get_or, IsTrue}
+use Rattle.std.specs.Prelude.{◌≡◌, ℕ, zero, suc, ◌+◌, ◌-◌, ◌*◌, ◌/◌, ◌≤◌, ◌<◌, ℤ, pos, List, [], length, map, get_or, IsTrue}
 use Rattle.std.specs.List.{list_all, range_with_len}
 use Rattle.serde_json.specs.Data.{Data}
 use Rattle.sopl_ast.specs.Instances.{Decision, Stochastic, names_in}
 use Rattle.sopl_ast.specs.Cells.{policy_at}
+use Rattle.sopl_ast.specs.Histories.{histories}
 use Rattle.sopl_ast.specs.Pieces.{is_word}
+use Rattle.scen_laws.specs.BlockLaws.{block_of}
 use Rattle.scen_laws.specs.Laws.{seen_before}
-use Rattle.sopl_scen.specs.Layout.{Layout, AreStated, IsTreeOf, cell_in, cells_for, count_in, histories_in, value_in}
+use Rattle.sopl_scen.specs.Layout.{Layout, AreStated, IsTreeOf, cell_in, cells_for, count_in, histories_in, history_in, value_in}
 use Rattle.policy_json.specs.Entries.{entry_of}
 use Rattle.policy_json.specs.declared.point.Point as declared
 use Rattle.policy_json.specs.Nodes.{branch_of, node_of, outermost_node}
@@ -69,6 +71,18 @@ abbrev pub seen_in : Parts → ℕ → ℕ → List Data
 seen_in parts stage scenario =
     map (drawn_in parts scenario)
     (range_with_len (seen_before stage parts.stochastics) (seen_before (stage + 1) parts.stochastics - seen_before stage parts.stochastics))
+
+-- a scenario is the first one that has the history with this number: it begins a block of them
+pub record Begins (stochastics : List Stochastic) (stage scenario number : ℕ) : Type 0 where
+  pub exists : number < length (histories stage stochastics)
+  pub at : scenario ≡ number * block_of stage stochastics + 0
+
+-- the scenarios from one on that share its history of a stage, up to an end
+pub record IsRunOf (tree : Layout) (stage scenario end : ℕ) : Type 0 where
+  pub above : scenario < end
+  pub within : end ≤ count_in tree
+  pub same : (later : ℕ) → scenario ≤ later → later < end → history_in tree stage later ≡ history_in tree stage scenario
+  pub other : end < count_in tree → ¬ (history_in tree stage end ≡ history_in tree stage scenario)
 
 -- how many scenarios share a history of a stage
 unfoldable pub block_in : Layout → ℕ → ℕ

@@ -7,15 +7,15 @@ ghost use Rattle.serde_json.specs.Written.{has_float};
 ghost use Rattle.sopl_ast.specs.Cells.{policy_at};
 ghost use Rattle.sopl_ast.specs.Instances.{names_in};
 ghost use Rattle.sopl_ast.specs.Pieces.{is_word};
-ghost use Rattle.sopl_scen.specs.Layout.{AreStated, IsTreeOf, cells_for, count_in};
+ghost use Rattle.sopl_scen.specs.Layout.{AreStated, IsTreeOf, cells_for, history_in};
 ghost use Rattle.policy_json.specs.Held.{held_outermost};
 ghost use Rattle.policy_json.specs.Nodes.{branch_of, node_of, outermost_node};
-ghost use Rattle.policy_json.specs.Steps.{IsReady, block_in, node_in, parts_in, shown_in};
+ghost use Rattle.policy_json.specs.Steps.{Begins, IsReady, node_in, parts_in, shown_in};
 
-use crate::blocks::Blocks;
 use crate::decided::decide_list;
 use crate::last_stage::greatest_stage;
 use crate::point::Point;
+use crate::runs::run_end;
 use crate::seen::seen_list;
 use crate::stages::stages;
 use serde_json::{Value, json};
@@ -72,20 +72,21 @@ fn node_value(
     requires ready { IsReady (parts_in point.now) }
     requires from { 1 ≤ stage }
     requires to { stage + later ≤ 24 }
-    requires block { scenario + block_in (parts_in point.now).tree stage ≤ count_in (parts_in point.now).tree }
+    requires begins { Begins (parts_in point.now).stochastics stage scenario (history_in (parts_in point.now).tree stage scenario) }
     ensures { IfOk result (λ v. view v ≡ node_in (parts_in point.now) later stage scenario) }
 {
     let decide = decide_list(alloc, point, stage, scenario)?;
     if later == 0 {
         return node_object(alloc, decide, Vec::new(alloc));
     }
-    let blocks = Blocks::after(point.tree, stage);
+    let end = run_end(point.tree, stage, scenario);
     let mut next = Vec::new(alloc);
-    'branches: for i in 0..blocks.many {
-        let first = scenario + i * blocks.long;
+    let mut first = scenario;
+    'branches: while first < end {
         let node = node_value(alloc, point, later - 1, stage + 1, first)?;
         let seen = seen_list(alloc, point, stage, first)?;
         next.push(branch_object(alloc, seen, node)?)?;
+        first = run_end(point.tree, stage + 1, first);
     }
     node_object(alloc, decide, next)
 }

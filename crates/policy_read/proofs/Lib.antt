@@ -9,4 +9,7 @@ mod Printing
 mod Small
 mod Visited
 mod Putting
+mod Indices
+mod Inside
 mod RoundTrip
+mod Reading

@@ -7,6 +7,8 @@ use Rattle.serde_json.specs.Data.{Data}
 use Rattle.sopl_ast.specs.Cells.{IsPoint, cells, policy_at}
 use Rattle.sopl_ast.specs.Instances.{Decision, Problem}
 use Rattle.sopl_ast.specs.Policies.{IsKey, Key, Policy}
+use Rattle.sopl_ast.specs.Unfolding.{problem_of}
+use Rattle.unfold_laws.proofs.Whole.{decisions_are_bounded}
 use Rattle.policy_tree.proofs.Bijection.{points_are_policies, points_differ}
 use Rattle.policy_tree.proofs.Members.{In}
 use Rattle.policy_json.specs.Entries.{entry_of}
@@ -16,6 +18,7 @@ use Rattle.policy_json.specs.Staged.{IsStaged}
 use Rattle.policy_json.proofs.Branches.{branch_after}
 use Rattle.policy_json.proofs.Chosen.{AreChosen, any_chosen, none_seen}
 use Rattle.policy_json.proofs.Printed.{data_alike}
+use Rattle.policy_json.proofs.Staged.{texts_are_staged}
 use Rattle.policy_read.specs.declared.domains.Domain.{Domain}
 use Rattle.policy_read.specs.declared.entry.Told.{Told}
 use Rattle.policy_read.specs.Listed.{pairwise}
@@ -23,7 +26,8 @@ use Rattle.policy_read.specs.Entries.{told_at}
 use Rattle.policy_read.specs.Forms.{Facing, all_told, facing, nodes_behind, nodes_of, told_by, told_list}
 use Rattle.policy_read.specs.Domains.{cell_domain, low_in}
 use Rattle.policy_read.specs.Policies.{Differs, NoJson, Point, data_read, node_read, policy_unless, put_all_at, values_unless}
-use Rattle.policy_read.specs.Printed.{AreReadable, PrintedIsRead, TextsAreRead}
+use Rattle.policy_read.specs.Printed.{AcceptedAreRead, AreReadable, PrintedIsRead, TextsAreRead}
+use Rattle.policy_read.proofs.Indices.{accepted_are_readable}
 use Rattle.policy_read.proofs.Printing.{IsReadBack, decide_back}
 use Rattle.policy_read.proofs.Putting.{all_point, all_there, lows_lie, none_outside}
 use Rattle.policy_read.proofs.Small.{policy, prints_in_form, shown}
@@ -150,3 +154,7 @@ texts_are_read problem values staged bounded point small text d read has =
     ap (λ o. option_map_or (data_read problem.decisions problem.stochastics) o NoJson) read
     ∙ ap (λ o. option_map_or (node_read problem.decisions problem.stochastics) o (Differs 0)) has
     ∙ printed_is_read problem values staged bounded point small
+
+pub accepted_are_read : AcceptedAreRead
+accepted_are_read model from passes values point text d read has =
+    texts_are_read (problem_of model) values (texts_are_staged model from passes) (decisions_are_bounded model passes) point (accepted_are_readable model passes values point) text d read has

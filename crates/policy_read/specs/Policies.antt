@@ -1,10 +1,13 @@
 -- A policy that is read from a text.
-use Rattle.std.specs.Prelude.{ℕ, ◌-◌, ℤ, pos, List, [], ◌∷◌, Option, Some, None, map, set, codes, length}
+use Rattle.std.specs.Prelude.{◌≡◌, ℕ, ◌-◌, ℤ, pos, List, [], ◌∷◌, Option, Some, None, map, set, codes, length}
 use Rattle.std.specs.List.{range_with_len}
 use Rattle.std.specs.Option.{option_map_or}
 use Rattle.serde_json.specs.Data.{Data}
 use Rattle.serde_json.specs.Find.{get}
-use Rattle.sopl_ast.specs.Cells.{policy_at}
+use Rattle.sopl_base.specs.declared.fault.Fault.{Fault}
+use Rattle.sopl_base.specs.declared.fault.Fault.TheVariants as fault
+use Rattle.sopl_base.specs.declared.fault.Refusal.{Refusal}
+use Rattle.sopl_ast.specs.Cells.{Cell, IsPoint, policy_at}
 use Rattle.sopl_ast.specs.Instances.{Decision, Stochastic}
 use Rattle.sopl_scen.specs.Layout.{cells_for}
 use Rattle.policy_json.specs.LastStage.{last_stage}
@@ -31,6 +34,26 @@ policy_reading (declared.Point values) = Point values.items
 policy_reading declared.NoJson = NoJson
 policy_reading (declared.Differs node) = Differs node
 policy_reading (declared.Outside cell) = Outside cell
+
+-- why a text holds no policy: the code, and the place of it
+abbrev pub policy_refusal : PolicyReading → Option Refusal
+policy_refusal (Point values) = None
+policy_refusal NoJson = Some (record { code = 401; at = 0 })
+policy_refusal (Differs node) = Some (record { code = 402; at = node })
+policy_refusal (Outside cell) = Some (record { code = 403; at = cell })
+
+-- a fault says so
+abbrev pub RefusesPolicy : PolicyReading → Fault → Type 0
+RefusesPolicy reading (fault.Text refusal) = policy_refusal reading ≡ Some refusal
+RefusesPolicy reading (fault.Limit excess) = ⊥
+RefusesPolicy reading fault.NoMemory = Unit {0}
+
+-- the values that a text holds are a point of the cells
+abbrev pub HoldsPoint : List Cell → PolicyReading → Type 0
+HoldsPoint cells (Point values) = IsPoint cells values
+HoldsPoint cells NoJson = Unit {0}
+HoldsPoint cells (Differs node) = Unit {0}
+HoldsPoint cells (Outside cell) = Unit {0}
 
 -- the numbers below a number
 unfoldable pub numbers_below : ℕ → List ℤ

@@ -5,7 +5,11 @@ use Rattle.serde_json.specs.Data.{Data}
 use Rattle.serde_json.specs.Find.{get}
 use Rattle.sopl_ast.specs.Cells.{IsPoint, cells, policy_at}
 use Rattle.sopl_ast.specs.Instances.{Decision, Outcome, Problem, Stochastic}
+use Rattle.sopl_ast.specs.Origin.{IsFromTokens}
+use Rattle.sopl_ast.specs.Unfolding.{problem_of, text_events}
+use Rattle.sopl_ast.specs.Whole.{ModelTree}
 use Rattle.unfold_laws.specs.Bounds.{IsBoundedDecision}
+use Rattle.unfold_laws.specs.Passing.{NothingFails}
 use Rattle.policy_json.specs.LastStage.{last_stage}
 use Rattle.policy_json.specs.Nodes.{policy_data}
 use Rattle.policy_json.specs.Staged.{IsStaged}
@@ -42,3 +46,15 @@ TextsAreRead =
     (problem : Problem) (values : List ℤ) → IsStaged problem → AllByRecursion IsBoundedDecision problem.decisions → IsPoint (cells problem) values → AreReadable problem values
     → (text : List ℕ) (d : Data) → data_in text ≡ Some d → get (codes "policy") d ≡ Some (policy_data problem (policy_at (cells problem) values))
     → policy_in problem.decisions problem.stochastics text ≡ Point values
+
+-- all indices and values of a text whose unfolding nothing stops are below 2^63, and so are those of its points
+abbrev pub AcceptedAreReadable : Type 0
+AcceptedAreReadable =
+    (model : ModelTree) → NothingFails (text_events model) → (values : List ℤ) → IsPoint (cells (problem_of model)) values → AreReadable (problem_of model) values
+
+-- so what is printed of a policy of an accepted text is read as the policy, in each text whose data has it as its member `policy`
+abbrev pub AcceptedAreRead : Type 0
+AcceptedAreRead =
+    (model : ModelTree) → IsFromTokens model → NothingFails (text_events model) → (values : List ℤ) → IsPoint (cells (problem_of model)) values
+    → (text : List ℕ) (d : Data) → data_in text ≡ Some d → get (codes "policy") d ≡ Some (policy_data (problem_of model) (policy_at (cells (problem_of model)) values))
+    → policy_in (problem_of model).decisions (problem_of model).stochastics text ≡ Point values

@@ -1,6 +1,6 @@
 //! What is printed of a policy is read as that policy.
 
-ghost use Rattle.policy_read.specs.Printed.{PrintedIsRead, PrintsInForm, TextsAreRead};
+ghost use Rattle.policy_read.specs.Printed.{AcceptedAreRead, AcceptedAreReadable, PrintedIsRead, PrintsInForm, TextsAreRead};
 
 /// The outermost node that is printed of a point's policy is read as that point, where the problem comes by stage, and its indices and
 /// values are whole numbers of 64 signed bits; and so is each text whose JSON has this node as its member `policy`, whatever else it has.
@@ -9,4 +9,11 @@ pub fn printed_is_read()
     ensures node { PrintedIsRead }
     ensures text { TextsAreRead }
     ensures form { PrintsInForm }
+{}
+
+/// The indices of an accepted text, the values of its stochastic variables and those of its points are whole numbers of 64 signed bits, and so what is printed
+/// of a policy of it is read as that policy.
+pub fn accepted_are_read()
+    ensures readable { AcceptedAreReadable }
+    ensures read { AcceptedAreRead }
 {}

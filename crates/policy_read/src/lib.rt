@@ -1,15 +1,17 @@
 //! A policy is read from JSON.
 #![tactic(auto)]
 
+mod codes;
 mod domains;
 mod entry;
 mod form;
 mod laws;
 mod lists;
 mod policy;
+mod reader;
 #[cfg(test)]
 mod tests;
 
-pub use laws::printed_is_read;
+pub use laws::{accepted_are_read, printed_is_read};
 pub use lists::data_in;
-pub use policy::{PolicyReading, policy_in};
+pub use reader::read;

@@ -22,7 +22,7 @@ use unfold_variables::{DecisionItem, StochItem};
 
 /// What a text says of a policy: the values of all cells, or why there is none.
 #[derive(Drop)]
-pub enum PolicyReading {
+pub(crate) enum PolicyReading {
     /// The policy, as a point: the values of its cells.
     Point(Vec<i64>),
     /// The text is no JSON.
@@ -34,7 +34,7 @@ pub enum PolicyReading {
 }
 
 /// The policy that a text holds, by its member `policy`, as a point of the cells of a tree.
-pub fn policy_in(
+pub(crate) fn policy_in(
     alloc: Global,
     text: &[u8],
     decisions: &[DecisionItem],

@@ -4,7 +4,7 @@
 ghost use Rattle.std.specs.Prelude.{◌≡◌, IfOk};
 ghost use Rattle.policy_json.specs.Samples.{decided, drawn, sample_decisions, sample_stochastics};
 
-use crate::{PolicyReading, policy_in};
+use crate::policy::{PolicyReading, policy_in};
 use sopl_ast::Name;
 use sopl_scen::Tree;
 use std::alloc::{AllocError, Global};

@@ -39,14 +39,15 @@ fn rest_of(alloc: Global, program: &Program, best: Option<i128>) -> Result<Vec<i
 
 /// The same of the program of a text.
 fn rest_in(alloc: Global, text: &str, best: Option<i128>) -> Result<Vec<i64>, Fault> {
-    match program_in(alloc, text)? {
-        None => Ok(Vec::new(alloc)),
-        Some(program) => Ok(rest_of(alloc, &program, best)?),
-    }
+    let program = program_in(alloc, text)?;
+    Ok(rest_of(alloc, &program, best)?)
 }
 
-/// Texts, each with the best value that is known or none, and with the lower and then the upper ends of the cells; none where a reason closes the box. A chance constraint asks for enough weight;
-/// the expected value, and the worst one, is to be better than the best that is known, and nothing is better where there is no objective; and a bound and hard constraints narrow in turn.
+/// Texts, each with the best value that is known or none, and with the lower and then the upper ends of the cells; none where a reason
+/// closes the box. A chance constraint asks for enough weight; the expected value, and the worst one, is to be better than the best that is
+/// known, and nothing is better where there is no objective; and a bound and hard constraints narrow in turn. Three values are left for
+/// three terms where two of them have two values, and none where there are fewer values than terms; tasks that may not run at once, and a
+/// length that is not negative; an index of its array.
 const RESTS: &str = "\
 dvar int x in 0..9; stoch int d in {2:1, 6:3}; maximize expected(x); subject to { prob(x >= d) >= 1/4; } -> none : 2 9
 dvar int x in 0..9; stoch int d in {2:1, 6:3}; maximize expected(x); subject to { prob(x >= d) >= 3/4; } -> none : 6 9
@@ -64,6 +65,12 @@ dvar int x in 0..9; subject to { x >= 3; } -> 0 :
 dvar int x in 0..5 stage 1; stoch int d in {1:1, 3:1} stage 1; dvar int y in 0..3 stage 2; maximize expected(4*y - 3*x); subject to { y <= d; y <= x; } -> none : 0 0 0 5 1 3
 dvar int x in 0..5 stage 1; stoch int d in {1:1, 3:1} stage 1; dvar int y in 0..3 stage 2; maximize expected(4*y - 3*x); subject to { y <= d; y <= x; } -> 1 : 0 0 0 1 1 1
 dvar int x in 0..5 stage 1; stoch int d in {1:1, 3:1} stage 1; dvar int y in 0..3 stage 2; maximize expected(4*y - 3*x); subject to { y <= d; y <= x; } -> 8 :
+range R = 1..3; dvar int x[R] in 1..3; subject to { allDifferent(all(i in R) x[i]); x[1] <= 2; x[2] <= 2; } -> none : 1 1 3 2 2 3
+range R = 1..3; dvar int x[R] in 1..2; subject to { allDifferent(all(i in R) x[i]); } -> none :
+range R = 1..2; dvar int s[R] in 0..4; subject to { cumulative(all(i in R) (s[i], 2, 1), 1); s[1] <= 0; } -> none : 0 2 0 4
+range R = 1..2; dvar int s[R] in 0..4; dvar int l in -3..9; subject to { cumulative(all(i in R) (s[i], l, i), 2); s[1] == 1; s[2] == 4; } -> none : 1 4 0 1 4 3
+range R = 1..4; int a[R] = [2, 9, 4, 7]; dvar int x in 0..6; subject to { a[x] >= 4; } -> none : 2 4
+range R = 1..3; dvar int x[R] in 1..3; subject to { !allDifferent(all(i in R) x[i]); x[1] == 1; x[2] == 2; x[3] >= 2; } -> none : 1 2 2 1 2 2
 ";
 
 /// The numbers of a text, between blanks.

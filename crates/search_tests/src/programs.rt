@@ -2,11 +2,10 @@
 //!
 //! The sizes and the programs were computed by hand.
 
-ghost use Rattle.std.specs.Prelude.{◌≡◌, ◌<◌, false, length, IfOk, IfSome};
+ghost use Rattle.std.specs.Prelude.{◌≡◌, ◌<◌, false, length, IfOk};
 ghost use Rattle.std.specs.Option.{option_map_or};
 ghost use Rattle.term_program.specs.Programs.{IsMade, problem_in};
 
-use compile_unsupported::unsupported_place;
 use scen_accept::stated_in;
 use sopl_base::{CmpOp, Fault};
 use sopl_compile::compile;
@@ -15,18 +14,12 @@ use std::alloc::{AllocError, Global};
 use std::process::Abort;
 use std::test::Fail;
 
-/// The program of a text; none where it has a form that is not solved yet.
-pub(crate) fn program_in(alloc: Global, text: &str) -> Result<Option<Program>, Fault>
-    ensures made { IfOk result (λ found. IfSome found IsMade) }
+/// The program of a text.
+pub(crate) fn program_in(alloc: Global, text: &str) -> Result<Program, Fault>
+    ensures made { IfOk result IsMade }
 {
     let stated = stated_in(alloc, text.as_bytes())?;
-    match unsupported_place(stated.ground.typed().model()) {
-        Some(_) => Ok(None),
-        None => {
-            let program = compile(alloc, &stated.ground, &stated.tree)?;
-            Ok(Some(program))
-        }
-    }
+    compile(alloc, &stated.ground, &stated.tree)
 }
 
 /// The code and the number of the limit that a text's terms pass.
@@ -38,8 +31,10 @@ fn excess_in(alloc: Global, text: &str) -> Result<Option<(u16, i128)>, Fault> {
     }
 }
 
-/// Texts, and the limits that their terms pass: too many nodes, before a term that is too large and with nothing built; a hard constraint's term and not the objective's; the objective's alone; a hard
-/// constraint's and not that of a chance constraint before it; of one constraint the first scenario's; an objective whose size is one too great, and one that is at the limit.
+/// Texts, and the limits that their terms pass: too many nodes, before a term that is too large and with nothing built; a hard constraint's
+/// term and not the objective's; the objective's alone; a hard constraint's and not that of a chance constraint before it; of one constraint
+/// the first scenario's; an objective whose size is one too great, and one that is at the limit. Terms of `allDifferent` and tasks count once
+/// for each value; of a task the start comes first, then its length and its demand, then the next task, and the capacity last.
 const LIMITS: &str = "\
 range C = 1..14; stoch int c[C] in {0:1, 1:1}; subject to { sum(i in 1..254) i >= 0; } -> 206 4210688
 range C = 1..14; stoch int c[C] in {0:1, 1:1}; dvar int x in 0..65535; subject to { x * 1099511627776 >= sum(i in 1..254) i; } -> 206 4243456
@@ -51,6 +46,14 @@ dvar int x in 0..65535; stoch int d in {2:1, 1:1}; subject to { x * d * 10995116
 dvar int x in 0..65535; stoch int a in {0:1073741824}; stoch int b in {0:1073741824}; stoch int c in {0:1073741824}; maximize expected(x * 1048593); subject to { } -> 207 85070672840065989843959263248561209344
 dvar int x in 0..65535; stoch int a in {0:1073741824}; stoch int b in {0:1073741824}; stoch int c in {0:1073741824}; maximize expected(x * 1048592); subject to { } -> none
 dvar int x in 0..65535; stoch int a in {0:1073741824}; stoch int b in {0:1073741824}; stoch int c in {0:1073741824}; maximize worst(x * 1048593); subject to { } -> none
+range T = 1..14; range R = 1..300; stoch int d[T] in {0:1, 1:1}; dvar int x in 0..1; subject to { allDifferent(all(i in R) x + i); } -> 206 14761984
+range C = 1..14; stoch int c[C] in {0:1, 1:1}; subject to { cumulative(all(i in 1..85) (i, 1, 1), 1); } -> 206 4210688
+dvar int x in 0..65535; subject to { cumulative(all(i in 1..2) (x*549755813888, x*1099511627776, 1), x); } -> 207 36028247263150080
+dvar int x in 0..65535; subject to { cumulative(all(i in 1..2) (i, x*1099511627776, x*549755813888), x); } -> 207 72056494526300160
+dvar int x in 0..65535; subject to { cumulative(all(i in 1..2) ((i - 1)*x*549755813888, 1, x*1099511627776), x); } -> 207 72056494526300160
+dvar int x in 0..65535; subject to { cumulative(all(i in 1..2) (i, 1, x*549755813888), x*1099511627776); } -> 207 36028247263150080
+dvar int x in 0..65535; subject to { !cumulative(all(i in 1..2) (i, 1, 1), x*1099511627776); } -> 207 72056494526300160
+dvar int x in 0..65535; maximize expected(2*allDifferent(all(i in 1..2) x*i*1099511627776)); subject to { } -> 207 72056494526300160
 ";
 
 /// Two numbers that are written behind one another.
@@ -190,12 +193,10 @@ fn shown(alloc: Global, program: &Program) -> Result<Vec<i128>, AllocError>
     Ok(found)
 }
 
-/// What the program of a text tells; nothing where it has a form that is not solved yet.
+/// What the program of a text tells.
 fn shown_in(alloc: Global, text: &str) -> Result<Vec<i128>, Fault> {
-    match program_in(alloc, text)? {
-        Some(program) => Ok(shown(alloc, &program)?),
-        None => Ok(Vec::new(alloc)),
-    }
+    let program = program_in(alloc, text)?;
+    Ok(shown(alloc, &program)?)
 }
 
 /// An order before the demand is seen, and sales behind it: x is cell 0, and y has the cells 1 and 2. The constraints `y <= d` are `y - 1 <= 0` and `y - 3 <= 0`.

@@ -1,6 +1,8 @@
 //! The run from words to the answer line, over sources and sinks in memory.
 
 mod answers;
+mod checks;
+mod evals;
 mod faults;
 mod runs;
 mod streams;

@@ -3,7 +3,6 @@ mod Listing
 mod Numbering
 mod Places
 mod Additions
-mod Supported
 mod Passed
 mod Objectives
 mod Weights

@@ -1,8 +1,7 @@
 -- A problem over a setting, and what its expressions are in all scenarios.
-use Rattle.std.specs.Prelude.{◌≡◌, ℕ, List, [], map, None, Some, slice_get}
+use Rattle.std.specs.Prelude.{◌≡◌, ℕ, List, [], map, None}
 use Rattle.std.specs.Option.{option_map_or}
 use Rattle.term_language.specs.Terms.{Cond, Term}
-use Rattle.compile_exprs.specs.Supported.{IsSupported}
 use Rattle.compile_laws.specs.Whole.{condition_at, goal_terms}
 use Rattle.compile_names.specs.declared.setting.Scenarios.{Scenarios}
 use Rattle.sopl_ast.specs.Instances.{Objective, Problem}
@@ -29,10 +28,6 @@ pub record IsSettingOf (problem : Problem) (setting : Scenarios) : Type 0 where
   pub known : table_known setting.table.now ≡ problem.known
   pub decisions : setting.decisions.now ≡ problem.decisions
   pub stochastics : setting.stochs.now ≡ problem.stochastics
-
--- no form that is not solved yet stands in these conditions
-abbrev pub AreSupported : List Tree → Type 0
-AreSupported conditions = (text : ℕ) (e : Tree) → slice_get conditions text ≡ Some e → IsSupported e
 
 -- the condition with a number in each scenario, where binders give this
 abbrev pub instances_in : Scenarios → List Tree → ℕ → List Binding → List Cond

@@ -11,7 +11,7 @@ ghost use Rattle.sopl_ast.specs.Instances.{Chance, Hard};
 ghost use Rattle.sopl_ast.specs.References.{now_of};
 ghost use Rattle.sopl_compile.specs.Adding.{Adds, HasWeights, with_chances, with_hards};
 ghost use Rattle.sopl_compile.specs.Listed.{AreListed};
-ghost use Rattle.sopl_compile.specs.Posed.{AreSupported, instances_in, posed};
+ghost use Rattle.sopl_compile.specs.Posed.{instances_in, posed};
 ghost use Rattle.sopl_term.specs.Built.{cond_ids, problem_built};
 ghost use Rattle.term_nodes.specs.Things.{cond_in};
 ghost use Rattle.unfold_laws.specs.Conditions.{IsMet, IsThreshold};
@@ -37,7 +37,6 @@ fn instances_of<'a>(
     work: &mut Lowering,
 ) -> Result<Vec<CondId>, Fault>
     requires ready { IsReady setting.now work.old }
-    requires supported { AreSupported (map now_of conditions.now) }
     requires met { IsMet (table_known setting.now.table.now) (map now_of conditions.now) text env.now }
     ensures extends { OnOk result (Extends setting.now work.old work.new) }
     ensures listed { IfOk result (λ ids. AreListed cond_in (things_of work.new) (cond_ids ids.items) (instances_in setting.now (map now_of conditions.now) text env.now)) }
@@ -57,7 +56,6 @@ fn add_hard<'a>(
 ) -> Result<(), Fault>
     requires ready { IsReady setting.now work.old }
     requires weights { HasWeights setting.now work.old }
-    requires supported { AreSupported (map now_of conditions.now) }
     requires met { IsMet (table_known setting.now.table.now) (map now_of conditions.now) hard.now.text hard.now.bound }
     ensures adds { OnOk result (Adds setting.now work.old work.new (with_hards (problem_built work.old.builder) (hard_terms (posed setting.now (map now_of conditions.now)) hard.now ∷ []))) }
     ensures measured { Measures (root_in setting.now) (constraint_subterms (hard_terms (posed setting.now (map now_of conditions.now)) hard.now)) result }
@@ -77,7 +75,6 @@ fn add_chance<'a>(
 ) -> Result<(), Fault>
     requires ready { IsReady setting.now work.old }
     requires weights { HasWeights setting.now work.old }
-    requires supported { AreSupported (map now_of conditions.now) }
     requires met { IsMet (table_known setting.now.table.now) (map now_of conditions.now) chance.now.text chance.now.bound }
     requires threshold { IsThreshold chance.now.p chance.now.q }
     ensures adds { OnOk result (Adds setting.now work.old work.new (with_chances (problem_built work.old.builder) (chance_terms (posed setting.now (map now_of conditions.now)) chance.now ∷ []))) }
@@ -98,7 +95,6 @@ pub(crate) fn add_hards<'a>(
 ) -> Result<(), Fault>
     requires ready { IsReady setting.now work.old }
     requires weights { HasWeights setting.now work.old }
-    requires supported { AreSupported (map now_of conditions.now) }
     requires met { AllByRecursion (λ (h : Hard). IsMet (table_known setting.now.table.now) (map now_of conditions.now) h.text h.bound) hards.now }
     ensures adds { OnOk result (Adds setting.now work.old work.new (with_hards (problem_built work.old.builder) (map (hard_terms (posed setting.now (map now_of conditions.now))) hards.now))) }
     ensures measured { Measures (root_in setting.now) (flat_map constraint_subterms (map (hard_terms (posed setting.now (map now_of conditions.now))) hards.now)) result }
@@ -119,7 +115,6 @@ pub(crate) fn add_chances<'a>(
 ) -> Result<(), Fault>
     requires ready { IsReady setting.now work.old }
     requires weights { HasWeights setting.now work.old }
-    requires supported { AreSupported (map now_of conditions.now) }
     requires met { AllByRecursion (λ (c : Chance). IsMet (table_known setting.now.table.now) (map now_of conditions.now) c.text c.bound × IsThreshold c.p c.q) chances.now }
     ensures adds { OnOk result (Adds setting.now work.old work.new (with_chances (problem_built work.old.builder) (map (chance_terms (posed setting.now (map now_of conditions.now))) chances.now))) }
     ensures measured { Measures (root_in setting.now)

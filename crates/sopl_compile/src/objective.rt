@@ -2,7 +2,6 @@
 
 ghost use Rattle.std.specs.Prelude.{◌≡◌, IfOk, OnOk, None};
 ghost use Rattle.std.specs.List.{flat_map};
-ghost use Rattle.compile_exprs.specs.Supported.{IsSupported};
 ghost use Rattle.compile_laws.specs.Measured.{Measures};
 ghost use Rattle.compile_laws.specs.Subterms.{subterms};
 ghost use Rattle.compile_scene.specs.Scenes.{root_in};
@@ -16,7 +15,6 @@ ghost use Rattle.sopl_term.specs.Built.{term_ids};
 ghost use Rattle.term_nodes.specs.Things.{term_in};
 ghost use Rattle.unfold_laws.specs.Passing.{NothingFails};
 ghost use Rattle.unfold_tables.specs.Tables.{table_known};
-ghost use Rattle.compile_unsupported.specs.Forms.{unsupported_place};
 
 use crate::scenarios::terms_of;
 use compile_names::Scenarios;
@@ -36,7 +34,6 @@ fn goal_terms<'a>(
 ) -> Result<Vec<TermId>, Fault>
     requires ready { IsReady setting.now work.old }
     requires passes { NothingFails (expression_events (table_known setting.now.table.now) goal.now.expr) }
-    requires supported { IsSupported goal.now.expr }
     ensures extends { OnOk result (Extends setting.now work.old work.new) }
     ensures listed { IfOk result (λ ids. AreListed term_in (things_of work.new) (term_ids ids.items) (terms_in setting.now (table_known setting.now.table.now) goal.now.expr)) }
     ensures measured { Measures (root_in setting.now) (flat_map subterms (terms_in setting.now (table_known setting.now.table.now) goal.now.expr)) result }
@@ -55,7 +52,6 @@ pub(crate) fn terms_of_model<'a>(
     requires ready { IsReady setting.now work.old }
     requires setting { IsSettingOf (problem_of (whole model.now)) setting.now }
     requires passes { NothingFails (text_events (whole model.now)) }
-    requires supported { unsupported_place (whole model.now) ≡ None }
     ensures extends { OnOk result (Extends setting.now work.old work.new) }
     ensures listed { IfOk result (λ ids. AreListed term_in (things_of work.new) (term_ids ids.items) (terms_asked (problem_of (whole model.now)))) }
     ensures measured { Measures (root_in setting.now) (flat_map subterms (terms_asked (problem_of (whole model.now)))) result }

@@ -4,7 +4,6 @@ ghost use Rattle.std.specs.Prelude.{◌≡◌, ◌∷◌, ◌++◌, [], IfOk, On
 ghost use Rattle.compile_laws.specs.Measured.{Measures, constraint_subterms};
 ghost use Rattle.compile_laws.specs.Subterms.{subterms};
 ghost use Rattle.compile_exprs.specs.Over.{IsOver};
-ghost use Rattle.compile_exprs.specs.Supported.{IsSupported};
 ghost use Rattle.std.specs.List.{flat_map};
 ghost use Rattle.compile_scene.specs.Scenes.{root_in};
 ghost use Rattle.compile_scene.specs.Works.{Extends, IsReady, things_of};
@@ -43,7 +42,6 @@ pub(crate) fn conditions_of<'a>(
     requires ready { IsReady setting.now work.old }
     requires table { IsOver setting.now known.now }
     requires passes { NothingFails (expression_events (known_in known.now) e.now) }
-    requires supported { IsSupported e.now }
     ensures extends { OnOk result (Extends setting.now work.old work.new) }
     ensures listed { IfOk result (λ ids. AreListed cond_in (things_of work.new) (cond_ids ids.items) (conditions_in setting.now (known_in known.now) e.now)) }
     ensures measured { Measures (root_in setting.now) (constraint_subterms (conditions_in setting.now (known_in known.now) e.now)) result }
@@ -67,7 +65,6 @@ pub(crate) fn terms_of<'a>(
     requires ready { IsReady setting.now work.old }
     requires table { IsOver setting.now known.now }
     requires passes { NothingFails (expression_events (known_in known.now) e.now) }
-    requires supported { IsSupported e.now }
     ensures extends { OnOk result (Extends setting.now work.old work.new) }
     ensures listed { IfOk result (λ ids. AreListed term_in (things_of work.new) (term_ids ids.items) (terms_in setting.now (known_in known.now) e.now)) }
     ensures measured { Measures (root_in setting.now) (flat_map subterms (terms_in setting.now (known_in known.now) e.now)) result }

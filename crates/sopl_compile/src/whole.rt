@@ -22,7 +22,6 @@ ghost use Rattle.sopl_term.specs.Built.{asked_direction, asked_worst, problem_bu
 ghost use Rattle.term_nodes.specs.Things.{term_in};
 ghost use Rattle.term_program.specs.Programs.{IsMade, problem_in};
 ghost use Rattle.term_program.specs.Programs as programs;
-ghost use Rattle.compile_unsupported.specs.Forms.{unsupported_place};
 
 use crate::constraints::{add_chances, add_hards};
 use crate::objective::terms_of_model;
@@ -49,7 +48,6 @@ fn add_all<'a>(
     requires weights { HasWeights setting.now work.old }
     requires setting { IsSettingOf (problem_of (whole ground.now.typed.model)) setting.now }
     requires conditions { map now_of conditions.now ≡ (problem_of (whole ground.now.typed.model)).conditions }
-    requires supported { unsupported_place (whole ground.now.typed.model) ≡ None }
     ensures adds { OnOk result (Adds setting.now work.old work.new
         (with_chances (with_hards (problem_built work.old.builder) (problem_terms (problem_of (whole ground.now.typed.model))).hards)
         (problem_terms (problem_of (whole ground.now.typed.model))).chances)) }
@@ -73,7 +71,6 @@ fn completed<'a>(
     requires setting { IsSettingOf (problem_of (whole ground.now.typed.model)) setting.now }
     requires conditions { map now_of conditions.now ≡ (problem_of (whole ground.now.typed.model)).conditions }
     requires within { size_excess usual_limits (problem_of (whole ground.now.typed.model)) ≡ None }
-    requires supported { unsupported_place (whole ground.now.typed.model) ≡ None }
     requires begun { problem_built work.builder ≡ bare_terms (problem_of (whole ground.now.typed.model)) }
     requires direction { asked_direction work.builder ≡ direction_of (problem_of (whole ground.now.typed.model)) }
     requires worst { asked_worst work.builder ≡ worst_of (problem_of (whole ground.now.typed.model)) }
@@ -93,7 +90,6 @@ fn completed<'a>(
 fn program_of(alloc: Global, ground: &Ground, tree: &Tree) -> Result<Program, Fault>
     requires laid_out { IsTreeOf (problem_of (whole ground.now.typed.model)).decisions (problem_of (whole ground.now.typed.model)).stochastics tree.now }
     requires within { size_excess usual_limits (problem_of (whole ground.now.typed.model)) ≡ None }
-    requires supported { unsupported_place (whole ground.now.typed.model) ≡ None }
     ensures made { IfOk result IsMade }
     ensures root { IfOk result (λ program. programs.root_in program ≡ root_box (cells (problem_of (whole ground.now.typed.model)))) }
     ensures problem { IfOk result (λ program. problem_in program ≡ problem_terms (problem_of (whole ground.now.typed.model))) }
@@ -120,7 +116,6 @@ fn program_of(alloc: Global, ground: &Ground, tree: &Tree) -> Result<Program, Fa
 pub fn compile(alloc: Global, ground: &Ground, tree: &Tree) -> Result<Program, Fault>
     requires laid_out { IsTreeOf (problem_of (whole ground.now.typed.model)).decisions (problem_of (whole ground.now.typed.model)).stochastics tree.now }
     requires within { size_excess usual_limits (problem_of (whole ground.now.typed.model)) ≡ None }
-    requires supported { unsupported_place (whole ground.now.typed.model) ≡ None }
     ensures made { IfOk result IsMade }
     ensures root { IfOk result (λ program. programs.root_in program ≡ root_box (cells (problem_of (whole ground.now.typed.model)))) }
     ensures problem { IfOk result (λ program. problem_in program ≡ problem_terms (problem_of (whole ground.now.typed.model))) }

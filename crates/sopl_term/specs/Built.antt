@@ -10,6 +10,7 @@ use Rattle.sopl_base.specs.declared.direction.Direction.TheVariants.{Minimize, M
 use Rattle.term_problem.specs.Problems.{GoalTerms, ProblemTerms}
 use Rattle.term_nodes.specs.Things.{Thing, a_term, cond_at, term_at, terms_at, thing_at}
 use Rattle.term_nodes.specs.declared.nodes.Signed.{Signed}
+use Rattle.term_nodes.specs.declared.nodes.Task.{Task}
 use Rattle.term_program.specs.declared.ids.TermId.{TermId}
 use Rattle.term_program.specs.declared.ids.CondId.{CondId}
 use Rattle.sopl_term.specs.declared.builder.Builder.{Builder}
@@ -75,7 +76,7 @@ pub record IsUnder (before after : Builder) : Type 0 where
   pub direction : asked_direction after ≡ asked_direction before
   pub worst : asked_worst after ≡ asked_worst before
 
--- the numbers of terms, of conditions, and of the parts of a sum
+-- the numbers of terms, of conditions, of the parts of a sum, and of tasks
 abbrev pub term_ids : List TermId → List ℕ
 term_ids ids = map (λ (id : TermId). id.0) ids
 
@@ -84,6 +85,9 @@ cond_ids ids = map (λ (id : CondId). id.0) ids
 
 abbrev pub signed_of : List (Bool × TermId) → List Signed
 signed_of parts = map (λ (p : Bool × TermId). record { subtracted = p.0; term = p.1.0 }) parts
+
+abbrev pub task_ids : List (TermId × TermId × TermId) → List Task
+task_ids tasks = map (λ (t : TermId × TermId × TermId). record { start = t.0.0; duration = t.1.0; demand = t.2.0 }) tasks
 
 -- the conditions of these numbers
 abbrev pub conds_of : Builder → List CondId → List rule.Cond

@@ -72,20 +72,61 @@ range R = 1..2; int a[R] = [5, 7]; dvar int x in 0..3; dvar int y in 0..1; maxim
 range R = 1..2; int a[R] = [3, 4]; dvar int x in R; subject to { a[a[x]] >= 0; } -> {"answer":"infeasible"}
 "##;
 
-/// Texts with a form that is not solved yet, each with the line on which `solve` ends: its place is the first one's.
-const NOT_YET: &str = r##"
-range R = 1..3; dvar int x[R] in 1..2; subject to { allDifferent(all(i in R) x[i]); } -> {"answer":"refused","at":52,"code":117}
-range R = 1..2; int a[R] = [5, 7]; dvar int x in 1..2; maximize expected(a[x] + allDifferent(all(i in R) a[x])); subject to { 1 == 2; } -> {"answer":"refused","at":80,"code":117}
-range R = 1..2; int a[R] = [5, 7]; dvar int x in 1..2; subject to { cumulative(all(i in R) (a[x], 1, 1), 1); } -> {"answer":"refused","at":68,"code":117}
-range T = 1..14; range R = 1..300; stoch int d[T] in {0:1, 1:1}; dvar int x in 0..1; subject to { allDifferent(all(i in R) x + i); } -> {"answer":"refused","at":98,"code":117}
+/// Texts with `allDifferent` and `cumulative`, each with the line on which `solve` ends, worked by hand: as constraints and as numbers, under
+/// `!`, in chance constraints, in one another, of no term, of terms that are never or perhaps defined or that share a decision, of tasks whose
+/// starts, lengths, demands and capacity are decided, of lengths that may be negative or 0, and in constant places.
+const GLOBALS: &str = r##"
+range R = 1..3; dvar int x[R] in 1..2; subject to { allDifferent(all(i in R) x[i]); } -> {"answer":"infeasible"}
+range R = 1..3; dvar int x[R] in 1..3; maximize expected(x[1] - x[3]); subject to { allDifferent(all(i in R) x[i]); } -> {"answer":"optimal","policy":{"decide":[["x",[1],3],["x",[2],2],["x",[3],1]],"next":[]},"value":"2/1"}
+range R = 1..2; dvar int s[R] in 0..3; minimize expected(max(s[1] + 2, s[2] + 2)); subject to { cumulative(all(i in R) (s[i], 2, 1), 1); s[1] <= s[2]; } -> {"answer":"optimal","policy":{"decide":[["s",[1],0],["s",[2],2]],"next":[]},"value":"4/1"}
+range R = 1..3; dvar int x[R] in 1..3; subject to { allDifferent(all(i in R) x[i]); x[1] <= 2; x[2] <= 2; } -> {"answer":"optimal","policy":{"decide":[["x",[1],1],["x",[2],2],["x",[3],3]],"next":[]},"value":"0/1"}
+range R = 1..2; int length[R] = [2, 3]; dvar int start[R] in 0..4; minimize worst(start[1] + 2*start[2]); subject to { cumulative(all(i in R) (start[i], length[i], 1), 1); } -> {"answer":"optimal","policy":{"decide":[["start",[1],3],["start",[2],0]],"next":[]},"value":"3/1"}
+range R = 1..2; int a[R] = [5, 7]; dvar int x in 1..2; maximize expected(a[x] + allDifferent(all(i in R) a[x])); subject to { 1 == 2; } -> {"answer":"infeasible"}
+range R = 1..2; int a[R] = [5, 7]; dvar int x in 1..2; subject to { cumulative(all(i in R) (a[x], 1, 1), 1); } -> {"answer":"infeasible"}
+range R = 1..3; range E = 1..0; dvar int x[R] in 0..4; dvar int c in -1..1; minimize expected(x[1] + 10*x[2] + 100*x[3] + 1000*(c + 1)); subject to { allDifferent(all(i in R) x[i]); allDifferent(all(i in E) x[i]); cumulative(all(i in E) (x[i], 1, 1), c); !allDifferent(all(i in 1..2) (2*x[1] + 0*i)); cumulative(all(i in R) (x[i], 0, 9), 0); x[2] >= allDifferent(all(i in R) x[i]); } -> {"answer":"optimal","policy":{"decide":[["x",[1],2],["x",[2],1],["x",[3],0],["c",[],0]],"next":[]},"value":"1012/1"}
+range N = 1..0; int a[N] = 5; dvar int x in 0..1; minimize expected(x + 10*allDifferent(all(i in 1..1) a[x])); subject to { !allDifferent(all(i in 1..1) a[x]); } -> {"answer":"optimal","policy":{"decide":[["x",[],0]],"next":[]},"value":"0/1"}
+range R = 1..1; int a[R] = [1]; dvar int x in 0..1; minimize expected(x); subject to { allDifferent(all(i in R) a[x]); } -> {"answer":"optimal","policy":{"decide":[["x",[],1]],"next":[]},"value":"1/1"}
+dvar int s in 0..1; dvar int l in -1..1; minimize expected(l + s); subject to { cumulative(all(i in 1..2) (s, l, 1), 1); } -> {"answer":"optimal","policy":{"decide":[["s",[],0],["l",[],0]],"next":[]},"value":"0/1"}
+dvar int s in 0..1; dvar int l in -1..1; maximize expected(l - s); subject to { !cumulative(all(i in 1..2) (s, l, i - 1), 1); } -> {"answer":"optimal","policy":{"decide":[["s",[],0],["l",[],-1]],"next":[]},"value":"-1/1"}
+range R = 1..2; dvar int s[R] in 0..2; dvar int l in 0..3; dvar int u in 0..2; maximize expected(10*l + 3*u - s[1] - 2*s[2]); subject to { cumulative(all(i in R) (s[i], l, u), 2); } -> {"answer":"optimal","policy":{"decide":[["s",[1],0],["s",[2],0],["l",[],3],["u",[],1]],"next":[]},"value":"33/1"}
+subject to { allDifferent(all(i in 1..2) 7); } -> {"answer":"infeasible"}
+range R = 1..2; int a[R] = [5, 7]; dvar int x in R; subject to { allDifferent(all(i in R) a[x]); } -> {"answer":"infeasible"}
+range R = 1..2; int a[R] = [5, 7]; dvar int x in 0..2; minimize expected(x); subject to { allDifferent(all(i in R) i*a[x]); } -> {"answer":"optimal","policy":{"decide":[["x",[],1]],"next":[]},"value":"1/1"}
+range R = 1..3; dvar int x[R] in 0..2; minimize expected(100*x[1] + 10*x[2] + x[3]); subject to { allDifferent(all(i in R) x[i] + x[1]); } -> {"answer":"optimal","policy":{"decide":[["x",[1],0],["x",[2],1],["x",[3],2]],"next":[]},"value":"12/1"}
+dvar int x in 0..2; dvar int y in 1..5; maximize expected(2*x - y); subject to { allDifferent(all(i in 1..2) (2 - i)*2*x + (i - 1)*(5 - y)); } -> {"answer":"optimal","policy":{"decide":[["x",[],2],["y",[],2]],"next":[]},"value":"2/1"}
+range R = 1..2; int a[R] = [5, 7]; dvar int x in 0..3; maximize expected(x); subject to { cumulative(all(i in 1..1) (1, 1, 1), a[x] - 5); } -> {"answer":"optimal","policy":{"decide":[["x",[],2]],"next":[]},"value":"2/1"}
+stoch int d in {1:1, 2:3}; dvar int x in 0..3; maximize expected(x); subject to { prob(allDifferent(all(i in 1..2) i*x + (i - 1)*d)) >= 3/4; prob(cumulative(all(i in 1..2) (i*x, d, 1), 1)) >= 1/4; } -> {"answer":"optimal","policy":{"decide":[["x",[],3]],"next":[]},"value":"12/4"}
+dvar int s in 0..3; minimize worst(4*cumulative(all(i in 1..2) (i*s, 2, 1), 1) - 2*allDifferent(all(i in 1..2) i*s) - s); subject to { } -> {"answer":"optimal","policy":{"decide":[["s",[],1]],"next":[]},"value":"-3/1"}
+range R = 1..2; int a[R] = [5, 7]; dvar int x in R; subject to { x == 1; forall(i in R) { i == 1; prob(allDifferent(all(j in R) x + j)) >= 1/2; } cumulative(all(i in R) (x, 1, 1), 1); } -> {"answer":"infeasible"}
+range R = 1..2; int a[R] = [5, 7]; dvar int x in R; subject to { a[1 + allDifferent(all(i in R) x)] == 5; } -> {"answer":"optimal","policy":{"decide":[["x",[],1]],"next":[]},"value":"0/1"}
+range R = 1..2; dvar int x[R] in R; subject to { !(x[1] == 1 => (x[2] == 1 && allDifferent(all(i in R) x[i]))); } -> {"answer":"optimal","policy":{"decide":[["x",[1],1],["x",[2],1]],"next":[]},"value":"0/1"}
+range R = 1..2; dvar int x[R] in R; subject to { x[1] * 2 * allDifferent(all(i in R) x[i]) div 2 == 1; } -> {"answer":"optimal","policy":{"decide":[["x",[1],1],["x",[2],2]],"next":[]},"value":"0/1"}
+range R = 1..2; dvar int x[R] in R; subject to { sum(i in R) (x[i] + allDifferent(all(j in R) x[j])) == 1 || max(x[1], 1) == 1; } -> {"answer":"optimal","policy":{"decide":[["x",[1],1],["x",[2],1]],"next":[]},"value":"0/1"}
+range N = 1..0; range R = 1..2; dvar int x in R; subject to { forall(i in N) allDifferent(all(j in R) x + i); } -> {"answer":"optimal","policy":{"decide":[["x",[],1]],"next":[]},"value":"0/1"}
+range R = 1..2; int c = allDifferent(all(i in R) i); dvar int x in 0..c stage c; stoch int d in {c:1}; subject to { x == d; } -> {"answer":"optimal","policy":{"decide":[["x",[],1]],"next":[]},"value":"0/1"}
 "##;
 
-/// Texts whose terms pass a limit, each with the line on which `solve` ends.
+/// Texts with these forms, each with the whole log of its search.
+const LOGS: &[(&str, &str)] = &[
+    (
+        "range R = 1..3; dvar int x[R] in 1..2; subject to { allDifferent(all(i in R) x[i]); }",
+        "sopl-log 1\nn 0 r\nf h 0 0\nend infeasible\n",
+    ),
+    (
+        "range R = 1..3; dvar int x[R] in 1..3; subject to { allDifferent(all(i in R) x[i]); x[1] <= 2; x[2] <= 2; }",
+        "sopl-log 1\nn 0 r\ns h 1 0 0 le 2\ns h 2 0 1 le 2\ns h 0 0 2 ge 3\nx 0 1\nn 1 0 l\ns h 0 0 1 ge 2\nv\nn 2 0 h\ns h 0 0 1 le 1\nf b\nend optimal 0\n",
+    ),
+];
+
+/// Texts whose terms pass a limit, each with the line on which both commands end.
 const LARGE: &str = r##"
 range T = 1..14; range R = 1..300; stoch int d[T] in {0:1, 1:1}; dvar int x in 0..1; int a[0..1] = [1, 1]; subject to { sum(i in R) a[x] >= 0; } -> {"answer":"limit","code":206,"counted":"9879552","limit":"4194304"}
 range T = 1..14; range R = 1..300; stoch int d[T] in {0:1, 1:1}; subject to { sum(i in R) i >= 0; } -> {"answer":"limit","code":206,"counted":"4964352","limit":"4194304"}
 dvar int x in 0..65535; subject to { x*1099511627776 >= 0; } -> {"answer":"limit","code":207,"counted":"72056494526300160","limit":"1099511627776"}
 dvar int x in 0..65535; maximize expected(x*1099511627776*2); subject to { x*1099511627775 >= 0; } -> {"answer":"limit","code":207,"counted":"72056494526234625","limit":"1099511627776"}
+range T = 1..14; range R = 1..300; stoch int d[T] in {0:1, 1:1}; dvar int x in 0..1; subject to { allDifferent(all(i in R) x + i); } -> {"answer":"limit","code":206,"counted":"14761984","limit":"4194304"}
+range C = 1..14; stoch int c[C] in {0:1, 1:1}; subject to { cumulative(all(i in 1..85) (i, 1, 1), 1); } -> {"answer":"limit","code":206,"counted":"4210688","limit":"4194304"}
+dvar int x in 0..65535; subject to { cumulative(all(i in 1..2) ((i - 1)*x*549755813888, 1, x*1099511627776), x); } -> {"answer":"limit","code":207,"counted":"72056494526300160","limit":"1099511627776"}
 "##;
 
 /// Texts that break a rule, each with the line on which both commands end.
@@ -159,8 +200,7 @@ fn solves(rt: &impl Abort, alloc: Global, table: &str, status: Status) -> Result
 fn whole_texts(rt: HostRuntime) -> Result<(), Fail> {
     solves(&rt, rt.alloc(), SOLVED, Status::Done)?;
     solves(&rt, rt.alloc(), ELEMENTS, Status::Done)?;
-    solves(&rt, rt.alloc(), NOT_YET, Status::Refused)?;
-    solves(&rt, rt.alloc(), LARGE, Status::Limit)?;
+    solves(&rt, rt.alloc(), GLOBALS, Status::Done)?;
     Ok(())
 }
 
@@ -168,6 +208,16 @@ fn whole_texts(rt: HostRuntime) -> Result<(), Fail> {
 fn refusals_and_limits(rt: HostRuntime) -> Result<(), Fail> {
     both_end(&rt, rt.alloc(), REFUSED, Status::Refused)?;
     both_end(&rt, rt.alloc(), LIMITED, Status::Limit)?;
+    both_end(&rt, rt.alloc(), LARGE, Status::Limit)?;
+    Ok(())
+}
+
+#[test]
+fn whole_logs(rt: HostRuntime) -> Result<(), Fail> {
+    for (text, log) in LOGS {
+        let ended = ran(rt.alloc(), &["solve", "m"], text, &[], &WIDE)?;
+        assert_eq!(&rt; ended.log.bytes(), log.as_bytes(), "{text}");
+    }
     Ok(())
 }
 

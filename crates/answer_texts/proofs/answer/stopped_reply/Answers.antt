@@ -14,7 +14,7 @@ returns-in-Unsolved-clause-reply c =
     let all : Stops stated budget name old new (Unsolved c.in-Unsolved.fault) = subst (Stops stated budget name old new) c.in-Unsolved.is stops in
     subst (λ (r : Result Reply SearchStop). IfOk r (λ reply. Replies text budget Solve name old new reply.status (string_bytes reply.line))) (sym c.without_log.ensures.reply)
     (fault_replies text budget stated states name old new c.in-Unsolved.fault c.fault_reply.result all.1
-    (c.fault_reply.ensures.reply Solve text budget (unsolved_so text stated c.in-Unsolved.fault states all.0)) c.fault_reply.ensures.told)
+    (c.fault_reply.ensures.reply Solve text budget (unsolved_so Solve text stated c.in-Unsolved.fault states all.0)) c.fault_reply.ensures.told)
 
 pub returns-in-Unsolved-clause-stopped : goal.returns-in-Unsolved-clause-stopped
 returns-in-Unsolved-clause-stopped c =

@@ -1,6 +1,7 @@
-use Rattle.std.proofs.Common.{string_bytes}
-use Rattle.answer_texts.proofs.Answered.{tree_so}
+use Rattle.answer_texts.specs.declared.command.Command.TheVariants.{Tree}
+use Rattle.answer_texts.proofs.Answered.{unsolved_so}
 use Rattle.answer_texts.proofs.answer.tree_reply.Goals as goal
 
-pub returns : goal.returns
-returns c = record { reply = λ text budget states. tree_so text budget c.args.stated.now (string_bytes c.in_ok-line.line) states c.in_ok-line.ensures.text }
+pub returns-in-Err : goal.returns-in-Err
+returns-in-Err c =
+    record { reply = λ text budget states. c.fault_reply.ensures.reply Tree text budget (unsolved_so Tree text c.args.stated.now c.in-Err.fault states c.in-Err.ensures.refused) }

@@ -1,8 +1,8 @@
-use Rattle.std.proofs.Common.{rules, arith, ◌≡◌, ◌∙◌, ◌<◌, ap, sym, subst, length, map, false, Err}
+use Rattle.std.proofs.Common.{rules, arith, ◌≡◌, ◌∙◌, ◌<◌, ap, sym, subst, length, map, Err, IfOk}
 use Rattle.term_language.specs.Terms as rule
-use Rattle.compile_laws.specs.Instances.{chain_instance, conditions, instance, instances, product_instance, sum_of}
+use Rattle.compile_laws.specs.Instances.{chain_instance, conditions, instance, instances, places, product_instance, tasks_of, terms_of}
 use Rattle.compile_laws.specs.Measured.{IsSizeFault}
-use Rattle.compile_laws.specs.Subterms.{condition_subterms, subterms}
+use Rattle.compile_laws.specs.Subterms.{condition_subterms, subterms, task_subterms}
 use Rattle.compile_laws.proofs.Measuring.{faults_end}
 use Rattle.compile_scene.specs.Scenes.{place_of, root_in}
 use Rattle.compile_scene.specs.Works.{things_of}
@@ -12,14 +12,17 @@ use Rattle.sopl_ast.specs.Lists.{binders, factors, terms, trees}
 use Rattle.sopl_ast.specs.Tree as shape
 use Rattle.sopl_ast.specs.Tree.{Node, factor, no_factor}
 use Rattle.sopl_ast.specs.Weight.{weight}
+use Rattle.sopl_term.specs.Built.{task_ids}
+use Rattle.term_nodes.specs.Built.{TasksBelow}
 use Rattle.term_nodes.specs.Things.{term_at}
+use Rattle.term_program.specs.declared.ids.TermId.{TermId}
 use Rattle.unfold_constants.specs.Here.{known_in}
-use Rattle.compile_exprs.specs.Made.{MakesCond, MakesConds, MakesParts, MakesTerm, MakesTerms}
-use Rattle.compile_exprs.proofs.Loops.{conds_end, conds_fault, left_first, left_holds, left_more, parts_end, parts_fault, terms_end, terms_fault}
+use Rattle.compile_exprs.specs.Made.{AreTasks, IsUsable, MakesCond, MakesConds, MakesParts, MakesTask, MakesTasks, MakesTerm, MakesTerms}
+use Rattle.compile_exprs.proofs.Loops.{conds_end, conds_fault, left_first, left_holds, left_more, parts_end, parts_fault, tasks_end, tasks_fault, terms_end, terms_fault}
 use Rattle.compile_counts.proofs.Loops.{next_is, next_seen, none_is, none_seen}
-use Rattle.compile_exprs.proofs.Parts.{all_hold, chain_is, conditions_are, index_is, instances_are, places_are, sum_is, terms_hold}
+use Rattle.compile_exprs.proofs.Parts.{all_hold, chain_is, conditions_are, index_is, instances_are, places_are, task_instance, task_places_are, tasks_are, terms_are, terms_hold}
 use Rattle.compile_exprs.proofs.Products.{factored_fault, factored_holds, factored_more, product_fault}
-use Rattle.compile_exprs.proofs.Steps.{cond_is, term_is}
+use Rattle.compile_exprs.proofs.Steps.{both_tasks, cond_is, demand_large, duration_large, start_large, task_made, term_is}
 use Rattle.compile_exprs.proofs.walk.+walk.Goals as goal
 
 pub terms-parts-init : goal.terms-parts-init
@@ -52,7 +55,7 @@ pub terms-parts-preserved : goal.terms-parts-preserved
 terms-parts-preserved s c =
     left_more _ _ _ _ _ _ _ _ _ c.part-item.result _ c.term.new.work c.in_ok-id.id c.listed.new.ids.items
     (next_is c.args.parts.now c.parts.part-index c.part-item.result c.parts-test.true c.part-item.is)
-    c.in_ok-id.ensures.made.extends c.in_ok-id.ensures.made.stands.exists (term_is _ _ _ c.in_ok-id.ensures.made.stands) c.in_ok-id.ensures.made.small c.in_ok-listed.ensures.more c.parts.invariant
+    c.in_ok-id.ensures.made.extends (c.in_ok-id.ensures.made.stands.exists, tt) (term_is _ _ _ c.in_ok-id.ensures.made.stands) c.in_ok-id.ensures.made.small c.in_ok-listed.ensures.more c.parts.invariant
 
 pub terms-returns : goal.terms-returns
 terms-returns s c =
@@ -92,7 +95,7 @@ pub conditions-parts-preserved : goal.conditions-parts-preserved
 conditions-parts-preserved s c =
     left_more _ _ _ _ _ _ _ _ _ c.part-item.result _ c.condition.new.work c.in_ok-id.id c.listed.new.ids.items
     (next_is c.args.parts.now c.parts.part-index c.part-item.result c.parts-test.true c.part-item.is)
-    c.in_ok-id.ensures.made.extends c.in_ok-id.ensures.made.stands.exists (cond_is _ _ _ c.in_ok-id.ensures.made.stands) c.in_ok-id.ensures.made.small c.in_ok-listed.ensures.more c.parts.invariant
+    c.in_ok-id.ensures.made.extends (c.in_ok-id.ensures.made.stands.exists, tt) (cond_is _ _ _ c.in_ok-id.ensures.made.stands) c.in_ok-id.ensures.made.small c.in_ok-listed.ensures.more c.parts.invariant
 
 pub conditions-returns : goal.conditions-returns
 conditions-returns s c =
@@ -132,7 +135,7 @@ pub chain-parts-preserved : goal.chain-parts-preserved
 chain-parts-preserved s c =
     left_more _ _ _ _ _ _ _ _ _ c.part-item.result _ c.term.new.work (c.part-item.result.0, c.in_ok-id.id) c.listed_part.new.ids.items
     (next_is c.args.parts.now c.parts.part-index c.part-item.result c.parts-test.true c.part-item.is)
-    c.in_ok-id.ensures.made.extends c.in_ok-id.ensures.made.stands.exists (ap (λ x. (c.part-item.result.0, x)) (term_is _ _ _ c.in_ok-id.ensures.made.stands)) c.in_ok-id.ensures.made.small
+    c.in_ok-id.ensures.made.extends (c.in_ok-id.ensures.made.stands.exists, tt) (ap (λ x. (c.part-item.result.0, x)) (term_is _ _ _ c.in_ok-id.ensures.made.stands)) c.in_ok-id.ensures.made.small
     c.in_ok-listed_part.ensures.more c.parts.invariant
 
 pub chain-returns : goal.chain-returns
@@ -146,24 +149,24 @@ pub each-returns-in_err-id : goal.each-returns-in_err-id
 each-returns-in_err-id s c =
     let same : c.from_residual.result ≡ Err c.in_err-id.field-0.0 = search rules in
     record {
-      made = subst (MakesParts c.args.scene.now.setting.now c.args.work.now c.term.new.work
-          (sum_of (map (λ known. (instance (place_of c.args.scene.now known) c.args.e.now).term) (map known_in c.args.here.now)))) (sym same)
-          (parts_fault _ _ _ _ _ _ _ _ _ (known_in c.known-item.result) _ c.in_err-id.field-0.0
-          (next_seen known_in c.args.here.now c.here.known-index c.known-item.result c.here-test.true c.known-item.is) (sum_is _ (map known_in c.args.here.now)) c.in_err-id.ensures.made
+      made = subst (MakesTerms c.args.scene.now.setting.now c.args.work.now c.term.new.work
+          (terms_of (map (λ known. (instance (place_of c.args.scene.now known) c.args.e.now).term) (map known_in c.args.here.now)))) (sym same)
+          (terms_fault _ _ _ _ _ _ _ _ _ (known_in c.known-item.result) _ c.in_err-id.field-0.0
+          (next_seen known_in c.args.here.now c.here.known-index c.known-item.result c.here-test.true c.known-item.is) (terms_are _ (map known_in c.args.here.now)) c.in_err-id.ensures.made
           c.here.invariant);
     }
 
 pub each-here-preserved : goal.each-here-preserved
 each-here-preserved s c =
-    left_more _ _ _ _ _ _ _ _ _ (known_in c.known-item.result) _ c.term.new.work (false, c.in_ok-id.id) c.listed_part.new.ids.items
+    left_more _ _ _ _ _ _ _ _ _ (known_in c.known-item.result) _ c.term.new.work c.in_ok-id.id c.listed.new.ids.items
     (next_seen known_in c.args.here.now c.here.known-index c.known-item.result c.here-test.true c.known-item.is)
-    c.in_ok-id.ensures.made.extends c.in_ok-id.ensures.made.stands.exists (ap (λ x. (false, x)) (term_is _ _ _ c.in_ok-id.ensures.made.stands)) c.in_ok-id.ensures.made.small
-    c.in_ok-listed_part.ensures.more c.here.invariant
+    c.in_ok-id.ensures.made.extends (c.in_ok-id.ensures.made.stands.exists, tt) (term_is _ _ _ c.in_ok-id.ensures.made.stands) c.in_ok-id.ensures.made.small
+    c.in_ok-listed.ensures.more c.here.invariant
 
 pub each-returns : goal.each-returns
 each-returns s c =
     record {
-      made = parts_end _ _ _ _ _ _ _ _ _ (none_seen known_in c.args.here.now c.here.known-index c.here-test.false) (sum_is _ (map known_in c.args.here.now)) c.here.invariant;
+      made = terms_end _ _ _ _ _ _ _ _ _ (none_seen known_in c.args.here.now c.here.known-index c.here-test.false) (terms_are _ (map known_in c.args.here.now)) c.here.invariant;
     }
 
 pub behind-returns : goal.behind-returns
@@ -171,9 +174,104 @@ behind-returns s c =
     let all : map known_in c.as_slice-2.result.now ≡ all_bindings (known_in c.args.known.now) (binders c.args.over.now) =
     ap (map known_in) c.as_slice-2.ensures.value ∙ c.in_ok-here.ensures.places ∙ ap (λ bs. all_bindings (known_in c.args.known.now) (binders bs)) c.as_slice.ensures.items in
     record {
-      made = subst (λ ts. MakesParts c.args.scene.now.setting.now c.args.work.now c.each.new.work ts c.each.result)
-          (ap (λ l. sum_of (map (λ known. (instance (place_of c.args.scene.now known) c.args.e.now).term) l)) all
+      made = subst (λ ts. MakesTerms c.args.scene.now.setting.now c.args.work.now c.each.new.work (terms_of ts) c.each.result)
+          (ap (λ l. map (λ known. (instance (place_of c.args.scene.now known) c.args.e.now).term) l) all
           ∙ places_are c.args.scene.now (known_in c.args.known.now) c.args.e.now (all_bindings (known_in c.args.known.now) (binders c.args.over.now))) c.each.ensures.made;
+    }
+
+pub one_task-returns-in_err-start : goal.one_task-returns-in_err-start
+one_task-returns-in_err-start s c =
+    let same : c.from_residual.result ≡ Err c.in_err-start.field-0.0 = search rules in
+    let place = place_of c.args.scene.now (known_in c.args.known.now) in
+    let task = task_instance c.args.task.now.start.now c.args.task.now.duration.now c.args.task.now.demand.now place in
+    record {
+      made = subst (MakesTask c.args.scene.now.setting.now c.args.work.now c.term.new.work task) (sym same)
+          (start_large (root_in c.args.scene.now.setting.now) task c.in_err-start.field-0.0 c.in_err-start.ensures.made);
+    }
+
+pub one_task-returns-in_err-duration : goal.one_task-returns-in_err-duration
+one_task-returns-in_err-duration s c =
+    let same : c.from_residual-in_err-duration.result ≡ Err c.in_err-duration.field-0.0 = search rules in
+    let place = place_of c.args.scene.now (known_in c.args.known.now) in
+    let task = task_instance c.args.task.now.start.now c.args.task.now.duration.now c.args.task.now.demand.now place in
+    record {
+      made = subst (MakesTask c.args.scene.now.setting.now c.args.work.now c.term-2.new.work task) (sym same)
+          (duration_large (root_in c.args.scene.now.setting.now) task c.in_err-duration.field-0.0 c.in_ok-start.ensures.made.small c.in_err-duration.ensures.made);
+    }
+
+pub one_task-returns-in_err-demand : goal.one_task-returns-in_err-demand
+one_task-returns-in_err-demand s c =
+    let same : c.from_residual-in_err-demand.result ≡ Err c.in_err-demand.field-0.0 = search rules in
+    let place = place_of c.args.scene.now (known_in c.args.known.now) in
+    let task = task_instance c.args.task.now.start.now c.args.task.now.duration.now c.args.task.now.demand.now place in
+    record {
+      made = subst (MakesTask c.args.scene.now.setting.now c.args.work.now c.term-3.new.work task) (sym same)
+          (demand_large (root_in c.args.scene.now.setting.now) task c.in_err-demand.field-0.0 c.in_ok-start.ensures.made.small c.in_ok-duration.ensures.made.small c.in_err-demand.ensures.made);
+    }
+
+pub one_task-returns : goal.one_task-returns
+one_task-returns s c =
+    record { made = task_made _ _ _ _ _ c.in_ok-start.start c.in_ok-duration.duration c.in_ok-demand.demand _ _ _ c.in_ok-start.ensures.made c.in_ok-duration.ensures.made c.in_ok-demand.ensures.made }
+
+pub each_task-returns-in_err-id : goal.each_task-returns-in_err-id
+each_task-returns-in_err-id s c =
+    let same : c.from_residual.result ≡ Err c.in_err-id.field-0.0 = search rules in
+    record {
+      made = subst (MakesTasks c.args.scene.now.setting.now c.args.work.now c.one_task.new.work
+          (tasks_of (map (λ known. task_instance c.args.task.now.start.now c.args.task.now.duration.now c.args.task.now.demand.now (place_of c.args.scene.now known)) (map known_in c.args.here.now)))) (sym same)
+          (tasks_fault _ _ _ _ _ _ _ _ _ (known_in c.known-item.result) _ c.in_err-id.field-0.0
+          (next_seen known_in c.args.here.now c.here.known-index c.known-item.result c.here-test.true c.known-item.is) (tasks_are _ (map known_in c.args.here.now)) c.in_err-id.ensures.made
+          c.here.invariant);
+    }
+
+pub each_task-here-preserved : goal.each_task-here-preserved
+each_task-here-preserved s c =
+    left_more _ _ _ _ _ _ _ _ _ (known_in c.known-item.result) _ c.one_task.new.work c.in_ok-id.id c.listed.new.ids.items
+    (next_seen known_in c.args.here.now c.here.known-index c.known-item.result c.here-test.true c.known-item.is)
+    c.in_ok-id.ensures.made.extends c.in_ok-id.ensures.made.exist c.in_ok-id.ensures.made.is c.in_ok-id.ensures.made.small
+    c.in_ok-listed.ensures.more c.here.invariant
+
+pub each_task-returns : goal.each_task-returns
+each_task-returns s c =
+    record {
+      made = tasks_end _ _ _ _ _ _ _ _ _ (none_seen known_in c.args.here.now c.here.known-index c.here-test.false) (tasks_are _ (map known_in c.args.here.now)) c.here.invariant;
+    }
+
+pub tasks_behind-returns : goal.tasks_behind-returns
+tasks_behind-returns s c =
+    let all : map known_in c.as_slice-2.result.now ≡ all_bindings (known_in c.args.known.now) (binders c.args.over.now) =
+    ap (map known_in) c.as_slice-2.ensures.value ∙ c.in_ok-here.ensures.places ∙ ap (λ bs. all_bindings (known_in c.args.known.now) (binders bs)) c.as_slice.ensures.items in
+    record {
+      made = subst (λ ts. MakesTasks c.args.scene.now.setting.now c.args.work.now c.each_task.new.work (tasks_of ts) c.each_task.result)
+          (ap (λ l. map (λ known. task_instance c.args.task.now.start.now c.args.task.now.duration.now c.args.task.now.demand.now (place_of c.args.scene.now known)) l) all
+          ∙ task_places_are c.args.scene.now (known_in c.args.known.now) c.args.task.now.start.now c.args.task.now.duration.now c.args.task.now.demand.now
+          (all_bindings (known_in c.args.known.now) (binders c.args.over.now))) c.each_task.ensures.made;
+    }
+
+pub scheduled-returns-in_err-tasks : goal.scheduled-returns-in_err-tasks
+scheduled-returns-in_err-tasks s c =
+    let same : c.from_residual.result ≡ Err c.in_err-tasks.field-0.0 = search rules in
+    let place = place_of c.args.scene.now (known_in c.args.known.now) in
+    let tasks = tasks_of (map (task_instance c.args.task.now.start.now c.args.task.now.duration.now c.args.task.now.demand.now) (places place (binders c.args.over.now))) in
+    record {
+      made = subst (MakesCond c.args.scene.now.setting.now c.args.work.now c.tasks_behind.new.work (rule.Cumulative tasks (instance place c.args.most.now).term)) (sym same)
+          (faults_end (root_in c.args.scene.now.setting.now) (task_subterms tasks) (subterms (instance place c.args.most.now).term) c.in_err-tasks.field-0.0 c.in_err-tasks.ensures.made);
+    }
+
+pub scheduled-fitting-requires : goal.scheduled-fitting-requires
+scheduled-fitting-requires s c =
+    record {
+      parts_exist = subst (λ l. IfOk c.term-capacity.result (λ (other : TermId). IsUsable c.term-capacity.new.work other.0 × TasksBelow (length (things_of c.term-capacity.new.work)) (task_ids l)))
+          (sym c.as_slice.ensures.value) (both_tasks _ _ _ _ c.in_ok-tasks.tasks.items _ _ c.term-capacity.result c.in_ok-tasks.ensures.made c.term-capacity.ensures.made);
+    }
+
+pub scheduled-returns : goal.scheduled-returns
+scheduled-returns s c =
+    let place = place_of c.args.scene.now (known_in c.args.known.now) in
+    let tasks = tasks_of (map (task_instance c.args.task.now.start.now c.args.task.now.duration.now c.args.task.now.demand.now) (places place (binders c.args.over.now))) in
+    record {
+      made = c.fitting.ensures.made _ _ _ _ _
+          (subst (λ l. AreTasks c.args.scene.now.setting.now c.args.work.now c.tasks_behind.new.work l tasks) (sym c.as_slice.ensures.value) c.in_ok-tasks.ensures.made) c.term-capacity.ensures.made;
     }
 
 pub comparison-returns-in_err-left : goal.comparison-returns-in_err-left
@@ -306,8 +404,8 @@ pub term-returns-in-Sum : goal.term-returns-in-Sum
 term-returns-in-Sum s c =
     let same : Node c.e.inside.at (shape.Sum (binders c.in-Sum.over) c.deref-in-Sum.result.now) ≡ c.args.e.now = search rules in
     record {
-      made = subst (λ e. MakesTerm c.args.scene.now.setting.now c.args.work.now c.summed-in-Sum.new.work (instance (place_of c.args.scene.now (known_in c.args.known.now)) e).term
-          c.summed-in-Sum.result) same (c.summed-in-Sum.ensures.made _ _ _ c.behind-ids.ensures.made);
+      made = subst (λ e. MakesTerm c.args.scene.now.setting.now c.args.work.now c.added_up.new.work (instance (place_of c.args.scene.now (known_in c.args.known.now)) e).term
+          c.added_up.result) same (c.added_up.ensures.made _ _ _ c.behind-ids.ensures.made);
     }
 
 pub term-returns-in-Least : goal.term-returns-in-Least
@@ -340,4 +438,21 @@ term-returns-in-Cmp s c =
     ≡ (instance (place_of c.args.scene.now (known_in c.args.known.now)) c.args.e.now).term = search rules in
     record {
       made = subst (λ x. MakesTerm c.args.scene.now.setting.now c.args.work.now c.number.new.work x c.number.result) same (c.number.ensures.made _ _ _ c.condition-id.ensures.made);
+    }
+
+pub condition-returns-in-AllDifferent : goal.condition-returns-in-AllDifferent
+condition-returns-in-AllDifferent s c =
+    let same : Node c.e.inside.at (shape.AllDifferent (binders c.in-AllDifferent.over) c.deref-in-AllDifferent.result.now) ≡ c.args.e.now = search rules in
+    record {
+      made = subst (λ e. MakesCond c.args.scene.now.setting.now c.args.work.now c.differing.new.work (instance (place_of c.args.scene.now (known_in c.args.known.now)) e).cond c.differing.result)
+          same (c.differing.ensures.made _ _ _ c.behind-ids.ensures.made);
+    }
+
+pub condition-returns-in-Cumulative : goal.condition-returns-in-Cumulative
+condition-returns-in-Cumulative s c =
+    let same : Node c.e.inside.at (shape.Cumulative (binders c.in-Cumulative.over) c.deref-in-Cumulative.result.now c.deref-in-Cumulative-2.result.now c.deref-in-Cumulative-3.result.now
+    c.deref-in-Cumulative-4.result.now) ≡ c.args.e.now = search rules in
+    record {
+      made = subst (λ e. MakesCond c.args.scene.now.setting.now c.args.work.now c.scheduled.new.work (instance (place_of c.args.scene.now (known_in c.args.known.now)) e).cond c.scheduled.result)
+          same c.scheduled.ensures.made;
     }

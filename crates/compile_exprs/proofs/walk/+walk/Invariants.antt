@@ -8,9 +8,9 @@ use Rattle.sopl_ast.specs.Tree.{Tree}
 use Rattle.sopl_ast.specs.Weight.{weight, weight_of_trees, weight_of_terms, weight_factors, weight_of_binders}
 use Rattle.unfold_constants.specs.Here.{known_in}
 use Rattle.compile_exprs.specs.Buildable.{IsBuildable}
-use Rattle.compile_exprs.specs.Made.{IsBody}
-use Rattle.compile_exprs.proofs.Loops.{IsLeft, of_conds, of_parts, of_terms}
-use Rattle.compile_exprs.proofs.Parts.{as_part}
+use Rattle.compile_exprs.specs.Made.{IsBody, IsTaskBody}
+use Rattle.compile_exprs.proofs.Loops.{IsLeft, of_conds, of_parts, of_tasks, of_terms}
+use Rattle.compile_exprs.proofs.Parts.{task_instance}
 use Rattle.compile_exprs.proofs.Products.{IsFactored}
 use Rattle.compile_exprs.proofs.walk.+walk.Given as goal
 
@@ -56,6 +56,20 @@ decreases-behind l = 4 * weight_of_binders l.over.now + 4 * weight l.e.now + 3
 abbrev pub decreases-each : goal.decreases-each
 decreases-each l = 4 * weight l.e.now + 2
 
+abbrev pub decreases-scheduled : goal.decreases-scheduled
+decreases-scheduled l =
+    4 * weight_of_binders l.over.now + 4 * (weight l.task.now.start.now + weight l.task.now.duration.now + weight l.task.now.demand.now) + 4 * weight l.most.now + 5
+
+abbrev pub decreases-tasks_behind : goal.decreases-tasks_behind
+decreases-tasks_behind l =
+    4 * weight_of_binders l.over.now + 4 * (weight l.task.now.start.now + weight l.task.now.duration.now + weight l.task.now.demand.now) + 4
+
+abbrev pub decreases-each_task : goal.decreases-each_task
+decreases-each_task l = 4 * (weight l.task.now.start.now + weight l.task.now.duration.now + weight l.task.now.demand.now) + 3
+
+abbrev pub decreases-one_task : goal.decreases-one_task
+decreases-one_task l = 4 * (weight l.task.now.start.now + weight l.task.now.duration.now + weight l.task.now.demand.now) + 2
+
 abbrev pub invariant-terms-parts : goal.invariant-terms-parts
 invariant-terms-parts l =
     IsLeft of_terms (λ e. IsBuildable (known_in l.known) e) (λ e. (instance (place_of l.scene (known_in l.known)) e).term) l.scene.setting.now l.fn.work l.work l.ids.items
@@ -77,5 +91,11 @@ invariant-multiply-parts l =
 
 abbrev pub invariant-each-here : goal.invariant-each-here
 invariant-each-here l =
-    IsLeft of_parts (IsBody l.scene.setting.now l.e) (as_part (λ (known : Known). (instance (place_of l.scene known) l.e).term)) l.scene.setting.now l.fn.work l.work l.ids.items
+    IsLeft of_terms (IsBody l.scene.setting.now l.e) (λ (known : Known). (instance (place_of l.scene known) l.e).term) l.scene.setting.now l.fn.work l.work l.ids.items
+    (map known_in (drop l.known-index l.here)) (map known_in l.here)
+
+abbrev pub invariant-each_task-here : goal.invariant-each_task-here
+invariant-each_task-here l =
+    IsLeft of_tasks (IsTaskBody l.scene.setting.now l.task.start.now l.task.duration.now l.task.demand.now)
+    (λ (known : Known). task_instance l.task.start.now l.task.duration.now l.task.demand.now (place_of l.scene known)) l.scene.setting.now l.fn.work l.work l.ids.items
     (map known_in (drop l.known-index l.here)) (map known_in l.here)

@@ -17,15 +17,11 @@ use Rattle.term_program.specs.declared.ids.TermId.{TermId}
 use Rattle.unfold_tables.specs.Tables.{table_known}
 use Rattle.sopl_compile.proofs.Listing.{none_listed}
 use Rattle.sopl_compile.proofs.Objectives.{goal_listed, goal_passes, no_terms}
-use Rattle.sopl_compile.proofs.Supported.{goal_supported}
 use Rattle.sopl_compile.proofs.objective.terms_of_model.Goals as goal
 
 pub goal_terms-requires-clause-passes : goal.goal_terms-requires-clause-passes
 goal_terms-requires-clause-passes c =
     goal_passes (whole c.args.model.now) (table_known c.args.setting.now.table.now) (goal_tree c.in-Some.goal) c.requires.passes c.requires.setting.known (ap (option_map goal_tree) c.in-Some.is)
-
-pub goal_terms-requires-clause-supported : goal.goal_terms-requires-clause-supported
-goal_terms-requires-clause-supported c = goal_supported (whole c.args.model.now) c.requires.supported (goal_tree c.in-Some.goal) (ap (option_map goal_tree) c.in-Some.is)
 
 pub returns-in-None-clause-listed : goal.returns-in-None-clause-listed
 returns-in-None-clause-listed c =

@@ -21,11 +21,7 @@ use Rattle.sopl_compile.proofs.Faults.{chances_fault, goal_measures, hards_fault
 use Rattle.sopl_compile.proofs.Objectives.{goal_measured}
 use Rattle.sopl_compile.proofs.Passed.{chances_met, hards_met}
 use Rattle.sopl_compile.proofs.Places.{chances_are, hards_are}
-use Rattle.sopl_compile.proofs.Supported.{conditions_supported}
 use Rattle.sopl_compile.proofs.whole.add_all.Goals as goal
-
-pub add_hards-requires-clause-supported : goal.add_hards-requires-clause-supported
-add_hards-requires-clause-supported c = conditions_supported (whole c.args.ground.now.typed.model) c.requires.supported (map now_of c.args.conditions.now) c.requires.conditions
 
 pub add_hards-requires-clause-met : goal.add_hards-requires-clause-met
 add_hards-requires-clause-met c =
@@ -41,9 +37,6 @@ returns-in_err-add_hards-clause-measured c =
     (hards_are (problem_of (whole c.args.ground.now.typed.model)) c.args.setting.now c.requires.setting (map now_of c.args.conditions.now) c.hards.result.now c.requires.conditions
     c.hards.ensures.hards)
     c.in_err-add_hards.ensures.measured))
-
-pub add_chances-requires-clause-supported : goal.add_chances-requires-clause-supported
-add_chances-requires-clause-supported c = conditions_supported (whole c.args.ground.now.typed.model) c.requires.supported (map now_of c.args.conditions.now) c.requires.conditions
 
 pub add_chances-requires-clause-met : goal.add_chances-requires-clause-met
 add_chances-requires-clause-met c =

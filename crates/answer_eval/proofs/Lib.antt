@@ -1,0 +1,4 @@
+mod Plain
+mod Denominators
+mod Replying
+mod Ending

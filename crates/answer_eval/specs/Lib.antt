@@ -1,0 +1,3 @@
+pub mod EvalData
+pub mod EvalReplies
+pub mod EvalLaws

@@ -1,4 +1,0 @@
-pub mod Minimum
-pub mod Walks
-pub mod ConstraintWalks
-pub mod Found

@@ -1,0 +1,14 @@
+mod Compared
+mod Divided
+mod Light
+mod Safe
+mod Firsts
+mod ReportLaws
+mod Listed
+mod Weights
+mod Objectives
+mod Placed
+mod Trials
+mod TrialSteps
+mod Limited
+mod Ready

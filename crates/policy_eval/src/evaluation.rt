@@ -1,0 +1,74 @@
+//! A policy is evaluated.
+
+ghost use Rattle.std.specs.Prelude.{◌≡◌, All, None, IfOk};
+ghost use Rattle.compile_laws.specs.Texts.{program_excess};
+ghost use Rattle.sopl_ast.specs.Cells.{IsPoint, cells, policy_at};
+ghost use Rattle.sopl_ast.specs.Limits.{size_excess, usual_limits};
+ghost use Rattle.sopl_ast.specs.Unfolding.{problem_of};
+ghost use Rattle.sopl_ast.specs.WholeModel.{whole};
+ghost use Rattle.sopl_scen.specs.Layout.{IsTreeOf};
+ghost use Rattle.policy_eval.specs.Reports.{IsHeld, IsReport};
+ghost use Rattle.policy_eval.specs.Shown.{report_shown};
+ghost use Rattle.policy_eval.specs.Tried.{IsTrial, policy_of, posed};
+
+use crate::report::Report;
+use crate::trial::Trial;
+use policy_values::Variables;
+use sopl_scen::Tree;
+use sopl_unfold::Ground;
+use std::alloc::{AllocError, Global};
+
+/// What is told of a policy, which is given by the values of the cells, in their order: that it satisfies, with its value and the sums of
+/// the chance constraints; or what fails first, hard constraints before chance constraints, and these before the objective. The text passes
+/// no limit on its terms (206, 207), so no number in it passes the sizes that are reckoned with.
+pub fn evaluate(
+    alloc: Global,
+    policy: &[i64],
+    ground: &Ground,
+    tree: &Tree,
+) -> Result<Report, AllocError>
+    requires laid_out { IsTreeOf (problem_of (whole ground.now.typed.model)).decisions (problem_of (whole ground.now.typed.model)).stochastics tree.now }
+    requires within { size_excess usual_limits (problem_of (whole ground.now.typed.model)) ≡ None }
+    requires allowed { program_excess (problem_of (whole ground.now.typed.model)) ≡ None }
+    requires point { IsPoint (cells (problem_of (whole ground.now.typed.model))) policy.now }
+    ensures report { IfOk result (λ report. IsReport (problem_of (whole ground.now.typed.model)) (policy_at (cells (problem_of (whole ground.now.typed.model))) policy.now)
+        (report_shown report)) }
+{
+    let variables = Variables::of(alloc, ground.stochs(), ground.decisions())?;
+    let conditions = ground.conditions(alloc)?;
+    let trial = Trial {
+        alloc,
+        table: ground.table(),
+        conditions: conditions.as_slice(),
+        hards: ground.hards(),
+        chances: ground.chances(),
+        goal: &ground.typed().model().goal,
+        variables: &variables,
+        tree,
+        policy,
+    };
+    report_of(&trial)
+}
+
+/// What is told behind all trials.
+fn report_of(trial: &Trial<'_, '_>) -> Result<Report, AllocError>
+    requires tried { IsTrial trial.now }
+    ensures told { IfOk result (λ report. IsReport (posed trial.now) (policy_of trial.now) (report_shown report)) }
+{
+    match trial.hards()? {
+        Some(report) => Ok(report),
+        None => chances_told(trial),
+    }
+}
+
+/// What is told where no hard constraint fails.
+fn chances_told(trial: &Trial<'_, '_>) -> Result<Report, AllocError>
+    requires tried { IsTrial trial.now }
+    requires held { All (IsHeld (posed trial.now) (policy_of trial.now)) trial.now.hards.now }
+    ensures told { IfOk result (λ report. IsReport (posed trial.now) (policy_of trial.now) (report_shown report)) }
+{
+    match trial.chances()? {
+        Ok(sums) => trial.objective(sums),
+        Err(report) => Ok(report),
+    }
+}

@@ -1,0 +1,50 @@
+-- What a ground problem states, as its policies are printed and read.
+use mathlib.Core.Bool.{Bool-set}
+use Rattle.std.proofs.Common.{◌≡◌, ◌∙◌, ℕ, suc, ℤ, true, List, [], ◌∷◌, length, refl, sym, ap, subst}
+use Rattle.std.proofs.Math.Logic.{∥∥₁_elim}
+use Rattle.std.specs.List.{list_all}
+use Rattle.sopl_ast.specs.Cells.{Cell, IsPoint, cells, policy_at}
+use Rattle.sopl_ast.specs.Instances.{Decision, Problem, Stochastic, names_in}
+use Rattle.sopl_ast.specs.Origin.{IsFromTokens}
+use Rattle.sopl_ast.specs.Pieces.{is_word}
+use Rattle.sopl_ast.specs.Unfolding.{problem_of, text_events}
+use Rattle.sopl_ast.specs.Whole.{ModelTree}
+use Rattle.unfold_laws.specs.Passing.{NothingFails}
+use Rattle.unfold_laws.proofs.Names.{names_are_words}
+use Rattle.sopl_scen.specs.Layout.{AreStated, IsTreeOf, Layout, cells_for}
+use Rattle.sopl_scen.proofs.GroundStated.{ground_stated}
+use Rattle.sopl_scen.proofs.Stated.{constraints_in}
+use Rattle.serde_json.specs.Data.{Data}
+use Rattle.policy_json.specs.Nodes.{outermost_node, policy_data}
+
+module _ (model : ModelTree) (from : ∥ IsFromTokens model ∥₁) (passes : NothingFails (text_events model)) (ds : List Decision) (ss : List Stochastic)
+    (decided : ds ≡ (problem_of model).decisions) (drawn : ss ≡ (problem_of model).stochastics) where
+  -- its variables are as a text states them
+  pub ground_states : (constraints : ℕ) × AreStated ds ss constraints
+  ground_states = (constraints_in (problem_of model), ground_stated model from passes ds ss (constraints_in (problem_of model)) decided drawn refl)
+
+  -- and their names have the form of names
+  pub ground_spells : list_all is_word (names_in ds ss) ≡ true
+  ground_spells =
+      subst (λ d. list_all is_word (names_in d ss) ≡ true) (sym decided)
+      (subst (λ s. list_all is_word (names_in (problem_of model).decisions s) ≡ true) (sym drawn)
+      (∥∥₁_elim from (Bool-set _ _) (names_are_words model)))
+
+  -- a tree of the problem is one of these variables
+  pub ground_laid : (tree : Layout) → IsTreeOf (problem_of model).decisions (problem_of model).stochastics tree → IsTreeOf ds ss tree
+  ground_laid tree laid = subst (λ d. IsTreeOf d ss tree) (sym decided) (subst (λ s. IsTreeOf (problem_of model).decisions s tree) (sym drawn) laid)
+
+  -- what is printed of these variables is printed of the problem
+  pub ground_printed : (values : List ℤ) (d : Data) → d ≡ outermost_node ds ss (policy_at (cells_for ds ss) values) → d ≡ policy_data (problem_of model) (policy_at (cells (problem_of model)) values)
+  ground_printed values d is = is ∙ (λ i. outermost_node (decided i) (drawn i) (policy_at (cells_for (decided i) (drawn i)) values))
+
+-- a point of the cells has a value for each
+point_length : (all : List Cell) (values : List ℤ) → IsPoint all values → length values ≡ length all
+point_length [] [] is = refl
+point_length [] (v ∷ values) is = absurd is
+point_length (c ∷ all) [] is = absurd is
+point_length (c ∷ all) (v ∷ values) is = ap suc (point_length all values is.2)
+
+pub values_long : (problem : Problem) (tree : Layout) (values : List ℤ) → IsTreeOf problem.decisions problem.stochastics tree → IsPoint (cells problem) values
+    → length values ≡ tree.cells
+values_long problem tree values laid is = point_length (cells problem) values is ∙ sym laid.celled

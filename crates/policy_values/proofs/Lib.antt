@@ -1,0 +1,5 @@
+mod Sized
+mod Numbered
+mod Found
+pub mod Seen
+mod Loops

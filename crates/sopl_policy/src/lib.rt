@@ -1,0 +1,7 @@
+//! A policy as it is kept: the values of all cells, and where the cells of each decision begin.
+#![tactic(auto)]
+
+mod first_cells;
+mod policy;
+
+pub use policy::{Policy, policy_of};
