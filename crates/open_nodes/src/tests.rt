@@ -57,7 +57,7 @@ fn taken(
                 if number < splits {
                     split(alloc, &mut seats, *seat, number)?;
                 }
-                number = number + 1;
+                number = number.wrapping_add(1);
             }
         }
     }
