@@ -236,7 +236,7 @@ dvar int x in -3..3; subject to { cumulative(all(i in 1..0) (0, 1, 1), x); }
 #[test]
 fn forms_are_evaluated(rt: HostRuntime) -> Result<(), Fail> {
     let mut lines = FORMS.lines();
-    let mut rows = 0;
+    let mut rows: usize = 0;
     while let Some(text) = lines.next() {
         let policy = lines.next().unwrap_or("");
         let reply = evaluated(rt.alloc(), text, policy.as_bytes())?;
@@ -245,7 +245,7 @@ fn forms_are_evaluated(rt: HostRuntime) -> Result<(), Fail> {
             lines.next(),
             "{text} {policy}"
         );
-        rows = rows + 1;
+        rows = rows.wrapping_add(1);
     }
     assert_eq!(rt; rows, 76);
     Ok(())
