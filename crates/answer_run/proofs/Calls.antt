@@ -2,9 +2,9 @@
 use Rattle.std.proofs.Common.{◌≡◌, ℕ, List, Option, Result, Ok, Err, IfOk, IfErr, refl, sym, subst, string_bytes}
 use Rattle.sopl_io.specs.Calls.{Outcomes, AllSucceeded, no_call, LastFailed, StopsWhere}
 use Rattle.sopl_io.proofs.Calling.{calls_last, calls_more}
-use Rattle.sopl_search.specs.declared.outcome.SearchStop.{SearchStop}
-use Rattle.sopl_search.specs.declared.outcome.SearchStop.TheVariants.{Write}
-use Rattle.sopl_search.specs.declared.outcome.SearchStop.TheVariants as search
+use Rattle.sopl_base.specs.declared.stop.SearchStop.{SearchStop}
+use Rattle.sopl_base.specs.declared.stop.SearchStop.TheVariants.{Write}
+use Rattle.sopl_base.specs.declared.stop.SearchStop.TheVariants as search
 use Rattle.answer_texts.specs.Logs.{SinkState}
 use Rattle.answer_texts.specs.Replies.{Replies}
 use Rattle.answer_texts.specs.declared.command.Command.{Command}

@@ -6,9 +6,9 @@ use Rattle.sopl_io.specs.Causes.{Rose}
 use Rattle.sopl_io.specs.Stock.{Stock, begun_stock, text_of}
 use Rattle.sopl_ast.specs.Instances.{Problem}
 use Rattle.answer_texts.specs.Solved.{SolvedText}
-use Rattle.sopl_search.specs.declared.outcome.SearchStop.{SearchStop}
-use Rattle.sopl_search.specs.declared.outcome.SearchStop.TheVariants as search
-use Rattle.sopl_search.specs.declared.outcome.SearchStop.TheVariants.{Write}
+use Rattle.sopl_base.specs.declared.stop.SearchStop.{SearchStop}
+use Rattle.sopl_base.specs.declared.stop.SearchStop.TheVariants as search
+use Rattle.sopl_base.specs.declared.stop.SearchStop.TheVariants.{Write}
 use Rattle.answer_texts.specs.Logs.{SinkState, most_nodes}
 use Rattle.answer_texts.specs.Replies.{Ends, solved, settled}
 use Rattle.answer_texts.specs.declared.command.Command.TheVariants.{Solve}

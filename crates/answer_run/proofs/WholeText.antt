@@ -12,8 +12,8 @@ use Rattle.sopl_base.specs.declared.fault.Refusal.{Refusal}
 use Rattle.sopl_ast.specs.Accepted.{IsRefusedFor, no_tokens, misspelled, mistaken, stopped, IsLimitedFor, unfolding_passes, sizes_pass}
 use Rattle.sopl_ast.specs.Tokens.{too_long, no_piece, too_large}
 use Rattle.sopl_ast.specs.Limits.{usual_limits}
-use Rattle.sopl_search.specs.declared.outcome.SearchStop.{SearchStop}
-use Rattle.sopl_search.specs.declared.outcome.SearchStop.TheVariants.{Write, NoMemory}
+use Rattle.sopl_base.specs.declared.stop.SearchStop.{SearchStop}
+use Rattle.sopl_base.specs.declared.stop.SearchStop.TheVariants.{Write, NoMemory}
 use Rattle.answer_lines.specs.AnswerData.{word_data, limit_data, line_of}
 use Rattle.answer_texts.specs.Logs.{IsUnused, SinkState}
 use Rattle.answer_texts.specs.Solved.{SolvedText}

@@ -2,8 +2,8 @@
 use Rattle.std.specs.Prelude.{◌≡◌, ℕ, List, Option, Result, Err, IfOk}
 use Rattle.std.specs.Io.KnownBytes.{Keeps}
 use Rattle.sopl_io.specs.Calls.{Outcomes, AllSucceeded, LastFailed}
-use Rattle.sopl_search.specs.declared.outcome.SearchStop.{SearchStop}
-use Rattle.sopl_search.specs.declared.outcome.SearchStop.TheVariants.{Write}
+use Rattle.sopl_base.specs.declared.stop.SearchStop.{SearchStop}
+use Rattle.sopl_base.specs.declared.stop.SearchStop.TheVariants.{Write}
 use Rattle.answer_texts.specs.declared.reply.Reply.{Reply}
 use Rattle.answer_texts.specs.declared.status.Status.{Status}
 use Rattle.answer_texts.specs.declared.status.Status.TheVariants.{ReadFault, WriteFault, NoMemory}

@@ -5,8 +5,8 @@ use Rattle.sopl_io.specs.Causes.{Rose}
 use Rattle.sopl_io.specs.Stock.{Stock, text_of, with_name}
 use Rattle.sopl_io.specs.Rests.{LeavesRest}
 use Rattle.sopl_io.specs.Transfer.{AppendsPrefix}
-use Rattle.sopl_search.specs.declared.outcome.SearchStop.{SearchStop}
-use Rattle.sopl_search.specs.declared.outcome.SearchStop.TheVariants.{Write, NoMemory}
+use Rattle.sopl_base.specs.declared.stop.SearchStop.{SearchStop}
+use Rattle.sopl_base.specs.declared.stop.SearchStop.TheVariants.{Write, NoMemory}
 use Rattle.answer_lines.specs.AnswerData.{line_of, word_data}
 use Rattle.answer_texts.specs.Logs.{IsUnused, SinkState}
 use Rattle.answer_texts.specs.Replies.{Logged}

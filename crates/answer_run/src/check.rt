@@ -5,7 +5,7 @@ ghost use Rattle.std.specs.Io.KnownBytes.{IsAtEnd};
 ghost use Rattle.sopl_io.specs.Calls.{Outcomes};
 ghost use Rattle.sopl_io.specs.Rests.{LeavesRest};
 ghost use Rattle.sopl_io.specs.Stock.{text_of, with_name};
-ghost use Rattle.sopl_search.specs.declared.outcome.SearchStop.TheVariants as search;
+ghost use Rattle.sopl_base.specs.declared.stop.SearchStop.TheVariants as search;
 ghost use Rattle.answer_texts.specs.Replies.{IsFaultOn};
 ghost use Rattle.answer_texts.specs.declared.command.Command.TheVariants.{Solve};
 ghost use Rattle.answer_check.specs.CheckReplies.{IsCheckReply, IsProgramFor, IsTurnedAway};
@@ -17,9 +17,8 @@ ghost use Rattle.answer_run.specs.Runs.{AnswersBoth, BeginsSecond, LeavesSecond,
 use crate::reply::word_reply;
 use answer_check::{fault_reply, program_reply, program_to_check};
 use answer_texts::{Reply, Status};
-use sopl_base::Fault;
+use sopl_base::{Fault, SearchStop};
 use sopl_io::{ReadStop, Source, read_all};
-use sopl_search::SearchStop;
 use sopl_term::Program;
 use std::alloc::Global;
 

@@ -5,7 +5,7 @@ ghost use Rattle.std.specs.Io.KnownBytes.{IsAtEnd};
 ghost use Rattle.sopl_io.specs.Calls.{Outcomes};
 ghost use Rattle.sopl_io.specs.Rests.{LeavesRest};
 ghost use Rattle.sopl_io.specs.Stock.{text_of, with_name};
-ghost use Rattle.sopl_search.specs.declared.outcome.SearchStop.TheVariants as search;
+ghost use Rattle.sopl_base.specs.declared.stop.SearchStop.TheVariants as search;
 ghost use Rattle.answer_texts.specs.Replies.{IsFaultOn};
 ghost use Rattle.answer_texts.specs.declared.command.Command.TheVariants.{Solve};
 ghost use Rattle.answer_check.specs.CheckReplies.{IsTurnedAway};
@@ -19,9 +19,8 @@ use crate::reply::word_reply;
 use answer_eval::{policy_reply, text_to_eval, unsolved_reply};
 use answer_texts::{Reply, Status};
 use scen_accept::AcceptedProblem;
-use sopl_base::Fault;
+use sopl_base::{Fault, SearchStop};
 use sopl_io::{ReadStop, Source, read_all};
-use sopl_search::SearchStop;
 use std::alloc::Global;
 
 /// The reply to the bytes of a policy of a text that states this.

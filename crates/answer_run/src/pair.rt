@@ -3,7 +3,7 @@
 ghost use Rattle.std.specs.Prelude.{◌≡◌, ◌≤◌, IfOk, IfErr, string_bytes};
 ghost use Rattle.std.specs.Io.KnownBytes.{IsAtEnd};
 ghost use Rattle.sopl_io.specs.Calls.{Outcomes};
-ghost use Rattle.sopl_search.specs.declared.outcome.SearchStop.TheVariants as search;
+ghost use Rattle.sopl_base.specs.declared.stop.SearchStop.TheVariants as search;
 ghost use Rattle.answer_run.specs.Calls.{ReplyCalls};
 ghost use Rattle.answer_run.specs.Replies.{IsAnswered};
 ghost use Rattle.answer_run.specs.Runs.{AnswersBoth, BeginsSecond, LeavesSecond, meant_status};
@@ -12,8 +12,8 @@ use crate::check::check_reply;
 use crate::commands::PairCommand;
 use crate::eval::eval_reply;
 use answer_texts::Reply;
+use sopl_base::SearchStop;
 use sopl_io::Source;
-use sopl_search::SearchStop;
 use std::alloc::Global;
 
 /// The reply to a command on the text of a model and a second file, which the source gives under this name. The source is begun once

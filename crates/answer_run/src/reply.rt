@@ -1,12 +1,12 @@
 //! Replies that speak of no text.
 
 ghost use Rattle.std.specs.Prelude.{◌≡◌, IfOk, IfErr, string_bytes};
-ghost use Rattle.sopl_search.specs.declared.outcome.SearchStop.TheVariants as search;
+ghost use Rattle.sopl_base.specs.declared.stop.SearchStop.TheVariants as search;
 ghost use Rattle.answer_lines.specs.AnswerData.{line_of, word_data};
 
 use answer_lines::word_line;
 use answer_texts::{Reply, Status};
-use sopl_search::SearchStop;
+use sopl_base::SearchStop;
 use std::alloc::Global;
 
 /// A reply that is one word.

@@ -3,7 +3,7 @@
 ghost use Rattle.std.specs.Prelude.{◌≡◌, ◌⊎◌, ◌≤◌, None, Err, IfOk, IfErr, string_bytes};
 ghost use Rattle.std.specs.Io.KnownBytes.{IsAtEnd};
 ghost use Rattle.sopl_io.specs.Causes.{Rose};
-ghost use Rattle.sopl_search.specs.declared.outcome.SearchStop.TheVariants as search;
+ghost use Rattle.sopl_base.specs.declared.stop.SearchStop.TheVariants as search;
 ghost use Rattle.answer_texts.specs.Logs.{told};
 ghost use Rattle.answer_run.specs.Calls.{calls_of, EndsAtFailure, LineCalls, ReplyCalls};
 ghost use Rattle.answer_run.specs.Words.{request_of};
@@ -19,9 +19,8 @@ use crate::words::Words;
 use answer_check::checks_end_once;
 use answer_eval::evals_end_once;
 use answer_texts::{Reply, Status, reply_to};
-use sopl_base::limits;
+use sopl_base::{SearchStop, limits};
 use sopl_io::{ReadStop, Sink, Source, read_all, write_all};
-use sopl_search::SearchStop;
 use std::alloc::Global;
 
 /// The bytes of a model text that are read at most: one more than a text may have.

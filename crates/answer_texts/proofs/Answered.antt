@@ -13,7 +13,7 @@ use Rattle.scen_accept.specs.declared.accepted.AcceptedProblem.{AcceptedProblem}
 use Rattle.answer_lines.specs.AnswerData.{limit_data, line_of, refused_data}
 use Rattle.answer_texts.specs.Models.{IsSolvable}
 use Rattle.answer_texts.specs.Solved.{SolvedText}
-use Rattle.sopl_search.specs.declared.outcome.SearchStop.TheVariants.{Write}
+use Rattle.sopl_base.specs.declared.stop.SearchStop.TheVariants.{Write}
 use Rattle.answer_texts.specs.Solving.{IsSolveFault}
 use Rattle.answer_texts.specs.Logs.{IsUnused, SinkState}
 use Rattle.answer_texts.specs.Answering.{Answers, IsBoundedBy, IsCutOff, IsSettledBy, LogStops, optimal as optimal_line, infeasible as infeasible_line, bounded as bounded_line}

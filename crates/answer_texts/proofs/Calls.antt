@@ -3,8 +3,8 @@ use Rattle.std.proofs.Common.{◌≡◌, true, false, Result, Ok, Err, is_err, r
 use Rattle.std.specs.declared.alloc.AllocError.{AllocError}
 use Rattle.sopl_io.specs.Calls.{Outcomes, outcome_of, with_call, AllSucceeded, no_call, LastFailed, StopsWhere}
 use Rattle.sopl_io.proofs.Calling.{call_failed, call_made, where_all}
-use Rattle.sopl_search.specs.declared.outcome.SearchStop.{SearchStop}
-use Rattle.sopl_search.specs.declared.outcome.SearchStop.TheVariants as search
+use Rattle.sopl_base.specs.declared.stop.SearchStop.{SearchStop}
+use Rattle.sopl_base.specs.declared.stop.SearchStop.TheVariants as search
 use Rattle.answer_texts.specs.Stops.{made_of, solved_of}
 use Rattle.answer_texts.specs.Unlogged.{without_log}
 use Rattle.answer_texts.specs.declared.reply.Reply.{Reply}

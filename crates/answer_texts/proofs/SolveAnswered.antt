@@ -25,8 +25,8 @@ use Rattle.sopl_search.specs.Outcomes.{HasCause, IsTrueOf, value_of}
 use Rattle.sopl_search.specs.declared.outcome.Found.{Found}
 use Rattle.sopl_search.specs.declared.outcome.Outcome.{Outcome}
 use Rattle.sopl_search.specs.declared.outcome.Outcome.TheVariants as outcome
-use Rattle.sopl_search.specs.declared.outcome.SearchStop.{SearchStop}
-use Rattle.sopl_search.specs.declared.outcome.SearchStop.TheVariants as search
+use Rattle.sopl_base.specs.declared.stop.SearchStop.{SearchStop}
+use Rattle.sopl_base.specs.declared.stop.SearchStop.TheVariants as search
 use Rattle.term_problem.specs.Search.{problem_over}
 use Rattle.term_program.specs.Stated.{box_problem_of}
 use Rattle.compile_laws.specs.Root.{root_box}

@@ -10,8 +10,8 @@ use Rattle.sopl_ast.specs.Limits.{usual_limits}
 use Rattle.sopl_ast.specs.Policies.{Policy}
 use Rattle.sopl_ast.specs.Optimal.{IsOptimal, IsInfeasible}
 use Rattle.log_rows.specs.declared.rows.Footer.TheVariants as claim
-use Rattle.sopl_search.specs.declared.outcome.SearchStop.{SearchStop}
-use Rattle.sopl_search.specs.declared.outcome.SearchStop.TheVariants as stop
+use Rattle.sopl_base.specs.declared.stop.SearchStop.{SearchStop}
+use Rattle.sopl_base.specs.declared.stop.SearchStop.TheVariants as stop
 use Rattle.answer_lines.specs.Answer.{tree_data}
 use Rattle.answer_texts.specs.Solved.{SolvedText, IsLimitedInTerms}
 use Rattle.answer_lines.specs.AnswerData.{Valued, word_data, refused_data, limit_data, optimal_data, bounded_data, line_of}

@@ -2,8 +2,8 @@
 use Rattle.std.specs.Prelude.{Result, Ok, Err}
 use Rattle.std.specs.declared.alloc.AllocError.{AllocError}
 use Rattle.sopl_base.specs.declared.fault.Fault.TheVariants as fault
-use Rattle.sopl_search.specs.declared.outcome.SearchStop.{SearchStop}
-use Rattle.sopl_search.specs.declared.outcome.SearchStop.TheVariants as search
+use Rattle.sopl_base.specs.declared.stop.SearchStop.{SearchStop}
+use Rattle.sopl_base.specs.declared.stop.SearchStop.TheVariants as search
 use Rattle.answer_texts.specs.declared.solve_answer.Answer.{Answer}
 use Rattle.answer_texts.specs.declared.solve_answer.SolveStop.{SolveStop}
 use Rattle.answer_texts.specs.declared.solve_answer.SolveStop.TheVariants.{Unsolved, Write}

@@ -6,7 +6,7 @@ ghost use Rattle.sopl_io.specs.Causes.{Rose};
 ghost use Rattle.scen_accept.specs.Stated.{IsLaid, States, model_in, problem_in};
 ghost use Rattle.answer_lines.specs.Answer.{tree_data};
 ghost use Rattle.answer_lines.specs.AnswerData.{limit_data, line_of, refused_data};
-ghost use Rattle.sopl_search.specs.declared.outcome.SearchStop.TheVariants as search;
+ghost use Rattle.sopl_base.specs.declared.stop.SearchStop.TheVariants as search;
 ghost use Rattle.answer_texts.specs.Answering.{Stops};
 ghost use Rattle.answer_texts.specs.Logs.{SinkState, told};
 ghost use Rattle.answer_texts.specs.Models.{IsSolvable};
@@ -24,9 +24,8 @@ use crate::solved::solved_answer;
 use crate::status::Status;
 use answer_lines::{limit_line, refused_line, tree_text};
 use scen_accept::{AcceptedProblem, stated_in};
-use sopl_base::{Excess, Fault, Refusal};
+use sopl_base::{Excess, Fault, Refusal, SearchStop};
 use sopl_io::Sink;
-use sopl_search::SearchStop;
 use std::alloc::{AllocError, Global};
 
 /// The reply to a text that is refused so.

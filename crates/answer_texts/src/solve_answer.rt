@@ -3,8 +3,7 @@
 ghost use Rattle.std.specs.Prelude.{◌≡◌};
 ghost use Rattle.answer_texts.specs.Stops.{made_of, solved_of};
 
-use sopl_base::Fault;
-use sopl_search::SearchStop;
+use sopl_base::{Fault, SearchStop};
 use std::alloc::AllocError;
 
 /// The line that answers a text.

@@ -5,7 +5,7 @@ ghost use Rattle.sopl_io.specs.Calls.{StopsWhere};
 ghost use Rattle.sopl_io.specs.Causes.{Rose};
 ghost use Rattle.scen_accept.specs.Stated.{IsLaid, States, model_in, problem_in};
 ghost use Rattle.answer_texts.specs.Models.{IsSolvable};
-ghost use Rattle.sopl_search.specs.declared.outcome.SearchStop.TheVariants as search;
+ghost use Rattle.sopl_base.specs.declared.stop.SearchStop.TheVariants as search;
 ghost use Rattle.answer_texts.specs.Solving.{IsProgramOf};
 ghost use Rattle.answer_texts.specs.Logs.{told, TookPrefix, WrotePrefix};
 ghost use Rattle.answer_texts.specs.Answering.{Answers, Searched, Stops};
@@ -16,8 +16,8 @@ use crate::program::program_of;
 use crate::solve_answer::{Answer, SolveStop, made, solved};
 use prop_set::search_program;
 use scen_accept::AcceptedProblem;
+use sopl_base::SearchStop;
 use sopl_io::Sink;
-use sopl_search::SearchStop;
 use sopl_term::Program;
 use std::alloc::Global;
 

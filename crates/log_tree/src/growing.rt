@@ -7,11 +7,10 @@ ghost use Rattle.log_tree.specs.Slots.{SlotsFit};
 ghost use Rattle.log_tree.specs.Reads.{ended_row, row_with_steps};
 ghost use Rattle.log_tree.specs.Progress.{RefusesNode, IsPlacedNode};
 
-use crate::codes;
 use crate::reading::Heading;
 use crate::slots::{Slots, add_slots, depth_in, is_next};
 use log_rows::{EndLine, Parent, Row};
-use sopl_base::{Fault, Steps};
+use sopl_base::{Fault, Steps, codes, limits};
 use std::alloc::{AllocError, Global};
 
 /// The rows that were read, and what is kept of each.
@@ -45,7 +44,7 @@ impl Growing {
             return Err(Fault::refused(codes::NODE_PLACE, number));
         }
         let depth = depth_in(slots, &heading.parent);
-        if depth > codes::GREATEST_DEPTH {
+        if depth > limits::NODE_DEPTH {
             return Err(Fault::refused(codes::NODE_DEPTH, number));
         }
         Ok(depth)

@@ -2,7 +2,6 @@
 //! compared with the line that is written of what was read; so what is read is what would be written.
 #![tactic(auto)]
 
-pub mod codes;
 mod cutting;
 mod fitting;
 mod growing;

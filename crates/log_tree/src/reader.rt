@@ -5,12 +5,11 @@ ghost use Rattle.log_tree.specs.Cutting.{lines_in};
 ghost use Rattle.log_tree.specs.Reads.{IsNoStep, IsNoNode, ReadsFrom, IsReading, RefusedAs, read};
 ghost use Rattle.log_tree.specs.Progress.{IsRowBody, RefusesBody, RefusesRows};
 
-use crate::codes;
 use crate::cutting::first_line;
 use crate::growing::Growing;
 use crate::lines::{end_in, footer_in, heading_in, step_in};
 use log_rows::{EndLine, Footer, Row};
-use sopl_base::{Fault, Steps};
+use sopl_base::{Fault, Steps, codes};
 use std::alloc::Global;
 
 /// The steps and the end of a row, and what stands behind them.

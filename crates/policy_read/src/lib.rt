@@ -1,7 +1,6 @@
 //! A policy is read from JSON.
 #![tactic(auto)]
 
-mod codes;
 mod domains;
 mod entry;
 mod form;

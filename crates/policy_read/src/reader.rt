@@ -8,9 +8,8 @@ ghost use Rattle.sopl_scen.specs.Layout.{IsTreeOf};
 ghost use Rattle.sopl_policy.specs.Kept.{IsPolicyFor};
 ghost use Rattle.policy_read.specs.Policies.{HoldsPoint, Point, RefusesPolicy, policy_in, policy_reading};
 
-use crate::codes;
 use crate::policy::{PolicyReading, policy_in};
-use sopl_base::Fault;
+use sopl_base::{Fault, codes};
 use sopl_policy::{Policy, policy_of};
 use sopl_scen::Tree;
 use sopl_unfold::Ground;

@@ -7,7 +7,7 @@ ghost use Rattle.sopl_io.specs.Causes.{Rose};
 ghost use Rattle.box_problem.specs.Bits.{bits_in};
 ghost use Rattle.box_problem.specs.Box.{points};
 ghost use Rattle.box_problem.specs.Covers.{nodes_for};
-ghost use Rattle.sopl_search.specs.declared.outcome.SearchStop.TheVariants.{NoMemory, Write};
+ghost use Rattle.sopl_base.specs.declared.stop.SearchStop.TheVariants.{NoMemory, Write};
 ghost use Rattle.box_problem.specs.Near.{IsNearBox};
 ghost use Rattle.sopl_search.specs.Logged.{IsPrefixLogged, IsLogged};
 ghost use Rattle.sopl_search.specs.Outcomes.{HasCause, IsSettled, IsTrueOf};
@@ -15,8 +15,9 @@ ghost use Rattle.term_program.specs.Stated.{box_problem_of};
 ghost use Rattle.term_program.specs.Programs.{IsMade};
 
 use crate::reasons::props_of;
+use sopl_base::SearchStop;
 use sopl_io::Sink;
-use sopl_search::{Outcome, SearchStop, search};
+use sopl_search::{Outcome, search};
 use std::alloc::Global;
 use term_program::Program;
 

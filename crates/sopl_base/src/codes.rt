@@ -1,4 +1,5 @@
-//! The codes of refusals (101 to 117) and of limits (201 to 209). A refusal tells the place of the first mistake, a limit what was counted.
+//! The codes of refusals (101 to 117), of limits (201 to 209), of bytes that are no log (301 to 303) and of bytes that are no policy (401 to 403). A refusal
+//! tells the place of the first mistake, a limit what was counted.
 
 /// The text is longer than a text may be.
 pub const TEXT_LENGTH: u16 = 101;
@@ -48,8 +49,8 @@ pub const THRESHOLD: u16 = 115;
 /// The literal is too large.
 pub const LITERAL: u16 = 116;
 
-/// The form is not solved yet.
-pub const UNSOLVED_FORM: u16 = 117;
+/// The form is of the language, and is not solved yet; no form of today's language is.
+pub const NOT_YET: u16 = 117;
 
 /// All scenarios weigh too much together.
 pub const WEIGHT: u16 = 201;
@@ -77,3 +78,21 @@ pub const NUMBERS: u16 = 208;
 
 /// There are too many instances times scenarios.
 pub const COPIES: u16 = 209;
+
+/// The line is none that a log has in its place, or is missing.
+pub const LOG_LINE: u16 = 301;
+
+/// The node is not the next one, or hangs at no side that is free.
+pub const NODE_PLACE: u16 = 302;
+
+/// The node lies too deep.
+pub const NODE_DEPTH: u16 = 303;
+
+/// The bytes are no JSON.
+pub const POLICY_JSON: u16 = 401;
+
+/// A node has not the form that is printed.
+pub const POLICY_SHAPE: u16 = 402;
+
+/// A value lies outside its domain.
+pub const POLICY_VALUE: u16 = 403;

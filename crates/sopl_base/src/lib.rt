@@ -11,6 +11,7 @@ mod numbers;
 mod reason;
 mod span;
 mod steps;
+mod stop;
 
 pub use comparison::CmpOp;
 pub use direction::Direction;
@@ -20,3 +21,4 @@ pub use numbers::{better, bits, midpoint, reaches};
 pub use reason::{Reason, Side, Step};
 pub use span::Span;
 pub use steps::Steps;
+pub use stop::SearchStop;

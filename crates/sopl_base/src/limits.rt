@@ -44,3 +44,6 @@ pub const TERM_SIZE: u128 = 1 << 40;
 
 /// The size of an expected objective.
 pub const GOAL_SIZE: i128 = 1 << 126;
+
+/// The depth of a node of a log.
+pub const NODE_DEPTH: u32 = 2_048;

@@ -1,6 +1,6 @@
 //! A list of steps.
 
-ghost use Rattle.std.specs.Prelude.{◌≡◌, List, [], ◌∷◌, ◌++◌, OnOk, OnErr};
+ghost use Rattle.std.specs.Prelude.{◌≡◌, List, [], ◌∷◌, ◌++◌, IfOk, OnOk, OnErr};
 
 use crate::reason::Step;
 use std::alloc::{AllocError, Global};
@@ -29,6 +29,14 @@ impl Steps {
         Steps {
             items: Vec::new(alloc),
         }
+    }
+
+    /// No steps, with room for `capacity` of them and for no more.
+    pub fn with_capacity(alloc: Global, capacity: usize) -> Result<Self, AllocError>
+        ensures empty { IfOk result (λ steps. steps ≡ []) }
+    {
+        let items = Vec::with_capacity(alloc, capacity)?;
+        Ok(Steps { items })
     }
 
     /// Adds a step at the end.

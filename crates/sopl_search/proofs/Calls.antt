@@ -1,8 +1,8 @@
 -- What came of the calls of the sink of the log.
 use Rattle.std.proofs.Common.{◌≡◌, Result, Ok, Err, OnErr}
 use Rattle.sopl_io.specs.Calls.{Outcomes, StopsAtFailure, StopsWhere}
-use Rattle.sopl_search.specs.declared.outcome.SearchStop.{SearchStop}
-use Rattle.sopl_search.specs.declared.outcome.SearchStop.TheVariants.{Write}
+use Rattle.sopl_base.specs.declared.stop.SearchStop.{SearchStop}
+use Rattle.sopl_base.specs.declared.stop.SearchStop.TheVariants.{Write}
 
 -- where the log was written, an error is that a write failed
 pub stops_at_write : {T : Type 0} (before now : Outcomes) (result : Result T SearchStop) → OnErr result (result ≡ Err Write) → StopsAtFailure before now result

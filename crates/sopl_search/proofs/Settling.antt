@@ -12,7 +12,7 @@ use Rattle.box_problem.proofs.Nodes.{best_at_last, none_at_last}
 use Rattle.sopl_search.specs.declared.outcome.Found.{Found}
 use Rattle.sopl_search.specs.declared.outcome.Outcome.{Outcome}
 use Rattle.sopl_search.specs.declared.outcome.Outcome.TheVariants.{Optimal, Infeasible, Bounded}
-use Rattle.sopl_search.specs.declared.outcome.SearchStop.{SearchStop}
+use Rattle.sopl_base.specs.declared.stop.SearchStop.{SearchStop}
 use Rattle.sopl_search.specs.Frontiers.{IsSound}
 use Rattle.sopl_search.specs.Ends.{IsPosed}
 use Rattle.sopl_search.specs.Outcomes.{Closes, HasCause, IsGood, IsSettled, IsTrueOf, Settles, found_of, value_of}

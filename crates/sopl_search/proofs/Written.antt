@@ -9,8 +9,8 @@ use Rattle.log_rows.specs.Lines.{log_lines, text_of}
 use Rattle.log_rows.specs.Ranges.{FooterFits}
 use Rattle.log_rows.proofs.LogTexts.{texts_are_logs}
 use Rattle.sopl_search.specs.declared.outcome.Outcome.{Outcome}
-use Rattle.sopl_search.specs.declared.outcome.SearchStop.{SearchStop}
-use Rattle.sopl_search.specs.declared.outcome.SearchStop.TheVariants.{NoMemory, Write}
+use Rattle.sopl_base.specs.declared.stop.SearchStop.{SearchStop}
+use Rattle.sopl_base.specs.declared.stop.SearchStop.TheVariants.{NoMemory, Write}
 use Rattle.sopl_search.specs.Logged.{IsPrefixLogged, IsLogged, IsSearchLog, IsTree, footer_of}
 
 abbrev bytes_of : List Row → Outcome → List ℕ

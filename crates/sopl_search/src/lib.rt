@@ -15,9 +15,10 @@ mod tree;
 mod tree_laws;
 mod values;
 
-pub use outcome::{Found, Outcome, SearchStop};
+pub use outcome::{Found, Outcome};
 pub use posed::SearchProblem;
 pub use searching::search;
+pub use sopl_base::SearchStop;
 pub use tree_laws::{high_half_never_alone, sides_are_ordered};
 pub use values::Values;
 

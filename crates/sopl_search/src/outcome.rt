@@ -7,7 +7,6 @@ ghost use Rattle.sopl_search.specs.Outcomes.{value_of};
 
 use crate::values::Values;
 use log_rows::Footer;
-use std::alloc::AllocError;
 
 /// A point that satisfies, and its value.
 #[derive(Drop)]
@@ -47,24 +46,5 @@ impl Outcome {
             Outcome::Infeasible => Footer::Infeasible,
             Outcome::Bounded { found, bound } => Footer::Bounded(value_in(found), *bound),
         }
-    }
-}
-
-/// Why a search gives no outcome: the sink of its log failed, or memory is wanted.
-#[derive(Clone, Copy, Debug, PartialEq, Eq)]
-pub enum SearchStop {
-    Write,
-    NoMemory,
-}
-
-impl From<AllocError> for SearchStop {
-    ghost use Rattle.std.specs.Prelude.{◌≡◌};
-    ghost use Rattle.sopl_search.specs.declared.outcome.SearchStop.{SearchStop};
-    ghost use Rattle.sopl_search.specs.declared.outcome.SearchStop.TheVariants.{NoMemory};
-
-    ghost from_gives = { λ _ stop. stop ≡ NoMemory };
-
-    fn from(_error: AllocError) -> SearchStop {
-        SearchStop::NoMemory
     }
 }

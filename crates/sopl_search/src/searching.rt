@@ -9,7 +9,7 @@ ghost use Rattle.box_problem.specs.Box.{points};
 ghost use Rattle.box_problem.specs.BoxProblem.{BoxProblem, Lawful};
 ghost use Rattle.box_problem.specs.Covers.{nodes_for};
 ghost use Rattle.prop_core.specs.Members.{AllFit, together};
-ghost use Rattle.sopl_search.specs.declared.outcome.SearchStop.TheVariants.{NoMemory, Write};
+ghost use Rattle.sopl_base.specs.declared.stop.SearchStop.TheVariants.{NoMemory, Write};
 ghost use Rattle.sopl_search.specs.Frontiers.{CutsMarks, Keeps, Stands};
 ghost use Rattle.sopl_search.specs.Ends.{AreAll, IsPosed};
 ghost use Rattle.box_problem.specs.Near.{IsNearBox};
@@ -18,9 +18,10 @@ ghost use Rattle.sopl_search.specs.Outcomes.{HasCause, IsSettled, IsTrueOf};
 
 use crate::bounding::{bound_over, closed, settle};
 use crate::frontier::Frontier;
-use crate::outcome::{Outcome, SearchStop};
+use crate::outcome::Outcome;
 use crate::posed::SearchProblem;
 use crate::tree::Tree;
+use sopl_base::SearchStop;
 use sopl_io::Sink;
 use std::alloc::{AllocError, Global};
 

@@ -7,11 +7,12 @@ ghost use Rattle.sopl_io.specs.Causes.{HasCause};
 ghost use Rattle.sopl_io.specs.Transfer.{AppendsPrefix};
 ghost use Rattle.log_rows.specs.Lines.{log_lines, text_of};
 ghost use Rattle.log_rows.specs.Ranges.{FooterFits};
-ghost use Rattle.sopl_search.specs.declared.outcome.SearchStop.TheVariants.{Write};
+ghost use Rattle.sopl_base.specs.declared.stop.SearchStop.TheVariants.{Write};
 ghost use Rattle.sopl_search.specs.Logged.{footer_of};
 
-use crate::outcome::{Outcome, SearchStop};
+use crate::outcome::Outcome;
 use log_rows::{Row, put_log};
+use sopl_base::SearchStop;
 use sopl_io::Sink;
 
 /// What a search answers, and the rows of its nodes.

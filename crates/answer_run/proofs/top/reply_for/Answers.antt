@@ -1,7 +1,7 @@
 use Rattle.std.proofs.Common.{rules, arith, ◌≡◌, Some, None, Err, refl, vec_len}
 use Rattle.sopl_io.specs.Causes.{Rose}
 use Rattle.sopl_io.specs.declared.transfer.ReadStop.TheVariants.{NoMemory}
-use Rattle.sopl_search.specs.declared.outcome.SearchStop.TheVariants as search
+use Rattle.sopl_base.specs.declared.stop.SearchStop.TheVariants as search
 use Rattle.answer_texts.specs.Logs.{told}
 use Rattle.answer_run.specs.declared.commands.Job.TheVariants.{Text, Pair}
 use Rattle.answer_run.specs.Runs.{meant_status}

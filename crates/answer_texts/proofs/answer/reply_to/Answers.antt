@@ -1,5 +1,5 @@
 use Rattle.std.proofs.Common.{Result, IfOk, string_bytes, sym, subst}
-use Rattle.sopl_search.specs.declared.outcome.SearchStop.{SearchStop}
+use Rattle.sopl_base.specs.declared.stop.SearchStop.{SearchStop}
 use Rattle.answer_texts.specs.Logs.{told}
 use Rattle.answer_texts.specs.Replies.{Replies}
 use Rattle.answer_texts.specs.declared.reply.Reply.{Reply}

@@ -1,5 +1,5 @@
 use Rattle.std.proofs.Common.{Result, IfOk, IfErr, string_bytes, sym, subst}
-use Rattle.sopl_search.specs.declared.outcome.SearchStop.{SearchStop}
+use Rattle.sopl_base.specs.declared.stop.SearchStop.{SearchStop}
 use Rattle.answer_texts.specs.Answering.{Stops}
 use Rattle.answer_texts.specs.declared.solve_answer.SolveStop.TheVariants.{Unsolved}
 use Rattle.answer_texts.specs.Replies.{Replies, StopsByCause}

@@ -1,5 +1,5 @@
 use Rattle.std.proofs.Common.{Result, IfOk, IfErr, sym, subst}
-use Rattle.sopl_search.specs.declared.outcome.SearchStop.{SearchStop}
+use Rattle.sopl_base.specs.declared.stop.SearchStop.{SearchStop}
 use Rattle.scen_accept.specs.Stated.{problem_in}
 use Rattle.answer_texts.specs.Answering.{Searched}
 use Rattle.answer_texts.specs.Logs.{TookPrefix}
