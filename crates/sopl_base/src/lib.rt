@@ -12,6 +12,7 @@ mod reason;
 mod span;
 mod steps;
 mod stop;
+mod wide;
 
 pub use comparison::CmpOp;
 pub use direction::Direction;
@@ -22,3 +23,4 @@ pub use reason::{Reason, Side, Step};
 pub use span::Span;
 pub use steps::Steps;
 pub use stop::SearchStop;
+pub use wide::Wide;

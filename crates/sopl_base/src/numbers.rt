@@ -4,6 +4,7 @@ ghost use Rattle.std.specs.Prelude.{◌≡◌, ◌+◌, ◌*◌, ◌^◌, ◌<�
 ghost use Rattle.sopl_base.specs.Better.{IsBetter};
 
 use crate::direction::Direction;
+use crate::wide::Wide;
 
 /// Whether `sum / total` is at least `p / q`, without a division.
 pub fn reaches(sum: i128, total: i128, p: i64, q: i64) -> bool
@@ -16,27 +17,18 @@ pub fn reaches(sum: i128, total: i128, p: i64, q: i64) -> bool
     requires q_high { q ≤ℤ pos (2 ^ 20) }
     ensures { IsTrue result ↔ ((p *ℤ total) ≤ℤ (q *ℤ sum)) }
 {
-    Product::new(p, total).value <= Product::new(q, sum).value
+    weighed(p, total).value <= weighed(q, sum).value
 }
 
-/// A whole weight sum, times a part of a threshold.
-#[derive(Clone, Copy)]
-struct Product {
-    value: i128,
-}
-
-impl Product {
-    fn new(factor: i64, sum: i128) -> Product
-        requires factor_low { pos 0 ≤ℤ factor }
-        requires factor_high { factor ≤ℤ pos (2 ^ 20) }
-        requires sum_low { pos 0 ≤ℤ sum }
-        requires sum_high { sum ≤ℤ pos (2 ^ 100) }
-        ensures { result.value ≡ factor *ℤ sum }
-    {
-        Product {
-            value: i128::from(factor) * sum,
-        }
-    }
+/// A part of a threshold times a sum of weights.
+fn weighed(factor: i64, sum: i128) -> Wide
+    requires factor_low { pos 0 ≤ℤ factor }
+    requires factor_high { factor ≤ℤ pos (2 ^ 20) }
+    requires sum_low { pos 0 ≤ℤ sum }
+    requires sum_high { sum ≤ℤ pos (2 ^ 100) }
+    ensures { result.value ≡ factor *ℤ sum }
+{
+    Wide::of(factor).times(Wide { value: sum })
 }
 
 /// Whether the objective's value `a` is better than `b`.

@@ -5,7 +5,7 @@ use Rattle.sopl_base.proofs.numbers.reaches.Goals as goal
 
 pub returns : goal.returns
 returns c =
-    let left : SFits w128 c.new.result.value = search rules in
-    let right : SFits w128 c.new-2.result.value = search rules in
-    rw (to_z-of_z w128 c.new.result.value left, to_z-of_z w128 c.new-2.result.value right, c.new.ensures, c.new-2.ensures)
+    let left : SFits w128 c.weighed.result.value = search rules in
+    let right : SFits w128 c.weighed-2.result.value = search rules in
+    rw (to_z-of_z w128 c.weighed.result.value left, to_z-of_z w128 c.weighed-2.result.value right, c.weighed.ensures, c.weighed-2.ensures)
     (search rules)
