@@ -2,13 +2,15 @@
 use Rattle.std.proofs.Common.{◌≡◌, inl, inr, ℕ, ◌<◌, ℤ, List, [], ◌∷◌, length, Option, Some, None, Any, arith, refl, subst}
 use Rattle.std.proofs.lemmas.List.Elements.{All-nil, All-cons}
 use Rattle.sopl_base.specs.Better.{IsBetter}
+use Rattle.sopl_base.proofs.Lists.{any_here, any_later}
+use Rattle.sopl_base.proofs.Options.{some_turned}
 use Rattle.box_problem.specs.Box.{Box, points}
 use Rattle.box_problem.specs.BoxProblem.{BoxProblem, Lawful}
 use Rattle.box_problem.specs.Covers.{nodes_for}
 use Rattle.box_problem.specs.Reached.{NoneBetter}
-use Rattle.box_problem.proofs.Opens.{counts_leave, covers_bound}
+use Rattle.box_problem.proofs.Opens.{counts_leave, covers_bound, not_better_than_itself, still_not_better}
 use Rattle.box_problem.specs.Opens.{AreOpen, IsBetterOf, IsBound, IsUnsettled}
-use Rattle.box_problem.proofs.Values.{any_here, any_later, better_twice, not_better_than_itself, not_better_twice, same_value}
+use Rattle.box_problem.proofs.Values.{better_twice}
 
 pub bound_holds : (problem : BoxProblem) (v : Option ℤ) (finished : ℕ) (opens : List Box) (bound : ℤ) → Lawful problem → AreOpen problem v finished opens → IsBound problem v opens bound
     → NoneBetter problem bound
@@ -28,7 +30,7 @@ first_bound problem b opens bound is = record {
   reached = tt;
   ends = All-cons (λ p. ¬ IsBetter problem.direction (problem.end p) bound) b opens is.reached is.ends;
   one_of_them = elim is.one_of_them [
-    | inl same ↦ inr (any_here (λ p. bound ≡ problem.end p) b opens (same_value (problem.end b) bound same))
+    | inl same ↦ inr (any_here (λ p. bound ≡ problem.end p) b opens (some_turned (problem.end b) bound same))
     | inr later ↦ inr (any_later (λ p. bound ≡ problem.end p) b opens later)
   ];
 }
@@ -38,7 +40,7 @@ kept_bound : (problem : BoxProblem) (w : ℤ) (b : Box) (opens : List Box) (boun
     → IsBound problem (Some w) (b ∷ opens) bound
 kept_bound problem w b opens bound worse is = record {
   reached = is.reached;
-  ends = All-cons (λ p. ¬ IsBetter problem.direction (problem.end p) bound) b opens (not_better_twice problem.direction (problem.end b) w bound worse is.reached) is.ends;
+  ends = All-cons (λ p. ¬ IsBetter problem.direction (problem.end p) bound) b opens (still_not_better problem.direction (problem.end b) w bound worse is.reached) is.ends;
   one_of_them = elim is.one_of_them [
     | inl same ↦ inl same
     | inr later ↦ inr (any_later (λ p. bound ≡ problem.end p) b opens later)
@@ -52,7 +54,7 @@ new_bound problem w b opens bound better is = record {
   reached = λ above. is.reached (better_twice problem.direction (problem.end b) w bound better above);
   ends = All-cons (λ p. ¬ IsBetter problem.direction (problem.end p) bound) b opens is.reached is.ends;
   one_of_them = elim is.one_of_them [
-    | inl same ↦ inr (any_here (λ p. bound ≡ problem.end p) b opens (same_value (problem.end b) bound same))
+    | inl same ↦ inr (any_here (λ p. bound ≡ problem.end p) b opens (some_turned (problem.end b) bound same))
     | inr later ↦ inr (any_later (λ p. bound ≡ problem.end p) b opens later)
   ];
 }
@@ -69,12 +71,12 @@ bound_grows problem (Some w) b opens best bound choice is = elim choice [
 pub best_within_bound : (problem : BoxProblem) (v : ℤ) (finished : ℕ) (opens : List Box) (bound : ℤ) → Lawful problem → AreOpen problem (Some v) finished opens → IsBound problem (Some v) opens bound
     → ¬ IsBetter problem.direction bound v → NoneBetter problem v
 best_within_bound problem v finished opens bound lawful all is within point q satisfies =
-    not_better_twice problem.direction (problem.value point) bound v (bound_holds problem (Some v) finished opens bound lawful all is point q satisfies) within
+    still_not_better problem.direction (problem.value point) bound v (bound_holds problem (Some v) finished opens bound lawful all is point q satisfies) within
 
 pub bound_is_hopeful : (problem : BoxProblem) (v : ℤ) (opens : List Box) (bound : ℤ) → IsBound problem (Some v) opens bound → IsBetter problem.direction bound v
     → Any (λ b. IsBetter problem.direction (problem.end b) v) opens
 bound_is_hopeful problem v opens bound is better = elim is.one_of_them [
-  | inl same ↦ absurd (not_better_than_itself problem.direction v (subst (λ (x : ℤ). IsBetter problem.direction x v) (same_value v bound same) better))
+  | inl same ↦ absurd (not_better_than_itself problem.direction v (subst (λ (x : ℤ). IsBetter problem.direction x v) (some_turned v bound same) better))
   | inr some ↦ (some.0, some.1, some.2, some.3, subst (λ (x : ℤ). IsBetter problem.direction x v) some.4 better)
 ]
 

@@ -48,11 +48,11 @@ points_alive [] highs = omega arith
 points_alive (lo ∷ lows) [] = omega arith
 points_alive (lo ∷ lows) (hi ∷ highs) = omega (arith, points_alive lows highs)
 
-gap_above : (lo k hi : ℤ) → lo ≤ℤ k → k <ℤ hi → int_gap lo k < int_gap lo hi
+pub gap_above : (lo k hi : ℤ) → lo ≤ℤ k → k <ℤ hi → int_gap lo k < int_gap lo hi
 gap_above lo k hi above below =
     omega (arith, ints, gap_leads lo k above, gap_leads lo hi (omega (arith, ints)))
 
-gap_below : (lo k hi : ℤ) → lo <ℤ k → k ≤ℤ hi → int_gap k hi < int_gap lo hi
+pub gap_below : (lo k hi : ℤ) → lo <ℤ k → k ≤ℤ hi → int_gap k hi < int_gap lo hi
 gap_below lo k hi above below =
     omega (arith, ints, gap_leads k hi below, gap_leads lo hi (omega (arith, ints)))
 

@@ -1,19 +1,10 @@
 -- The binary digits of a number.
-use Rattle.std.proofs.Common.{◌≡◌, ◌⊎◌, inl, inr, ℕ, zero, suc, ◌+◌, ◌*◌, ◌^◌, ◌<◌, ◌≤◌, Bool, true, false, cond, nat_le, List, ◌∷◌, length, filter, arith, refl, sym, subst}
+use Rattle.std.proofs.Common.{◌≡◌, inl, inr, ℕ, zero, suc, ◌+◌, ◌*◌, ◌^◌, ◌<◌, ◌≤◌, Bool, true, false, nat_le, length, filter, arith, sym, subst}
 use Rattle.std.specs.List.{range_with_len}
 use Rattle.std.proofs.Math.Nat.{pow-suc}
-use Rattle.std.proofs.lemmas.Bool.{leb-true, le-leb}
+use Rattle.std.proofs.lemmas.Bool.{leb-true, le-leb, cases_Bool}
+use Rattle.sopl_base.proofs.Lists.{filter_drops, filter_keeps}
 use Rattle.box_problem.specs.Bits.{digits}
-
-taken : (p : ℕ → Bool) (a : ℕ) (rest : List ℕ) → p a ≡ true → length (filter p (a ∷ rest)) ≡ suc (length (filter p rest))
-taken p a rest is = λ i. length (cond (is i) (a ∷ filter p rest) (filter p rest))
-
-left_out : (p : ℕ → Bool) (a : ℕ) (rest : List ℕ) → p a ≡ false → length (filter p (a ∷ rest)) ≡ length (filter p rest)
-left_out p a rest is = λ i. length (cond (is i) (a ∷ filter p rest) (filter p rest))
-
-either_way : (x : Bool) → (x ≡ true) ⊎ (x ≡ false)
-either_way true = inl refl
-either_way false = inr refl
 
 -- places that are the same
 at_zero : (p q : ℕ → Bool) (a b : ℕ) → (p (a + 0) ≡ true → q (b + 0) ≡ true) → p a ≡ true → q b ≡ true
@@ -43,22 +34,22 @@ as_many : (p q : ℕ → Bool) (a b n : ℕ) → ((j : ℕ) → p (a + j) ≡ tr
 as_many p q a b zero gives = omega arith
 as_many p q a b (suc n) gives =
     let later = as_many p q (a + 1) (b + 1) n (λ j. at_later p q a b j (gives (suc j))) in
-    elim (either_way (p a)) [
-      | inl yes_p ↦ omega (arith, later, taken p a (range_with_len (a + 1) n) yes_p, taken q b (range_with_len (b + 1) n) (at_zero p q a b (gives 0) yes_p))
-      | inr not_p ↦ elim (either_way (q b)) [
-        | inl yes_q ↦ omega (arith, later, left_out p a (range_with_len (a + 1) n) not_p, taken q b (range_with_len (b + 1) n) yes_q)
-        | inr not_q ↦ omega (arith, later, left_out p a (range_with_len (a + 1) n) not_p, left_out q b (range_with_len (b + 1) n) not_q)
+    elim (cases_Bool (p a)) [
+      | inl yes_p ↦ omega (arith, later, filter_keeps p a (range_with_len (a + 1) n) yes_p, filter_keeps q b (range_with_len (b + 1) n) (at_zero p q a b (gives 0) yes_p))
+      | inr not_p ↦ elim (cases_Bool (q b)) [
+        | inl yes_q ↦ omega (arith, later, filter_drops p a (range_with_len (a + 1) n) not_p, filter_keeps q b (range_with_len (b + 1) n) yes_q)
+        | inr not_q ↦ omega (arith, later, filter_drops p a (range_with_len (a + 1) n) not_p, filter_drops q b (range_with_len (b + 1) n) not_q)
       ]
     ]
 
 -- the last of n + 1 numbers may be left out where it does not pass
 last_left_out : (p : ℕ → Bool) (a n : ℕ) → p (a + n) ≡ false → length (filter p (range_with_len a (suc n))) ≡ length (filter p (range_with_len a n))
-last_left_out p a zero fails = left_out p a (range_with_len (a + 1) 0) (at_start p a fails)
+last_left_out p a zero fails = filter_drops p a (range_with_len (a + 1) 0) (at_start p a fails)
 last_left_out p a (suc n) fails =
     let later = last_left_out p (a + 1) n (at_next p a n fails) in
-    elim (either_way (p a)) [
-      | inl passes ↦ omega (arith, later, taken p a (range_with_len (a + 1) (suc n)) passes, taken p a (range_with_len (a + 1) n) passes)
-      | inr not_passes ↦ omega (arith, later, left_out p a (range_with_len (a + 1) (suc n)) not_passes, left_out p a (range_with_len (a + 1) n) not_passes)
+    elim (cases_Bool (p a)) [
+      | inl passes ↦ omega (arith, later, filter_keeps p a (range_with_len (a + 1) (suc n)) passes, filter_keeps p a (range_with_len (a + 1) n) passes)
+      | inr not_passes ↦ omega (arith, later, filter_drops p a (range_with_len (a + 1) (suc n)) not_passes, filter_drops p a (range_with_len (a + 1) n) not_passes)
     ]
 
 -- a greater number has as many digits, or more
@@ -89,5 +80,5 @@ digits_halved h g order some small =
     let q : ℕ → Bool = λ k. nat_le (2 ^ k) g in
     let short = last_left_out p 0 63 (too_great h g order small) in
     let fewer = as_many p q 0 1 63 (λ j passes. twice h g j order passes) in
-    let first = taken q 0 (range_with_len 1 63) (one_passes g some) in
+    let first = filter_keeps q 0 (range_with_len 1 63) (one_passes g some) in
     omega (arith, short, fewer, first)

@@ -10,3 +10,4 @@ pub mod Bits
 pub mod Values
 pub mod Nodes
 pub mod Bounds
+pub mod Shared

@@ -1,5 +1,5 @@
 -- Lists of open boxes.
-use Rattle.std.proofs.Common.{◌≡◌, ◌⊎◌, ◌↔◌, inl, inr, ℕ, zero, suc, ◌+◌, ◌<◌, ◌≤◌, ℤ, true, List, [], ◌∷◌, ◌++◌, length, get_or, Option, Some, None, IfSome, All, Any, sum_by, arith, refl, sym, subst}
+use Rattle.std.proofs.Common.{◌≡◌, ◌⊎◌, ◌↔◌, inl, inr, ℕ, zero, suc, ◌+◌, ◌<◌, ◌≤◌, ℤ, true, List, [], ◌∷◌, ◌++◌, length, get_or, Option, Some, None, IfSome, All, Any, sum_by, arith, sym, subst}
 use Rattle.std.proofs.lemmas.List.Sums.{sum_by-append, sum_by_from}
 use Rattle.std.proofs.lemmas.List.Elements.{All-nil, All-cons, All-head, All-tail}
 use Rattle.sopl_base.specs.declared.reason.Side.{Side}
@@ -9,6 +9,7 @@ use Rattle.sopl_base.specs.Better.{IsBetter}
 use Rattle.sopl_base.specs.declared.direction.Direction.{Direction}
 use Rattle.sopl_base.specs.declared.direction.Direction.TheVariants.{Minimize, Maximize, Nothing}
 use Rattle.std.proofs.lemmas.Int.{ints, by_lt_z}
+use Rattle.sopl_base.proofs.Lists.{any_here, any_later}
 use Rattle.box_problem.specs.Box.{Box, IsBox, Inside, InBox, IsPoint, points}
 use Rattle.box_problem.specs.Steps.{IsCut, narrowed, cut_away, after_steps, after_step}
 use Rattle.box_problem.specs.BoxProblem.{BoxProblem, Beats, Follows, Lawful}
@@ -18,13 +19,6 @@ use Rattle.box_problem.proofs.Boxes.{part_of_itself, parts_of_parts, only_point}
 use Rattle.box_problem.proofs.Cuts.{cuts_make_parts, cuts_cover}
 use Rattle.box_problem.proofs.Counts.{cuts_count, points_alive}
 use Rattle.box_problem.proofs.Steps.{steps_narrow, steps_keep, steps_lead_inside, beats_earlier}
-
--- the first element, or a later one
-any_here : {X : Type 0} (P : X → Type 0) (x : X) (xs : List X) → P x → Any P (x ∷ xs)
-any_here P x xs here = (zero, x, omega arith, refl, here)
-
-any_later : {X : Type 0} (P : X → Type 0) (x : X) (xs : List X) → Any P xs → Any P (x ∷ xs)
-any_later P x xs later = (suc later.0, later.1, omega (arith, later.2), later.3, later.4)
 
 any_cases_at : {X : Type 0} (P : X → Type 0) (x : X) (xs : List X) (k : ℕ) (y : X) → k < length (x ∷ xs) → get_or (x ∷ xs) k y ≡ y → P y → P x ⊎ Any P xs
 any_cases_at P x xs zero y exists is holds = inl (subst P (sym is) holds)
@@ -137,23 +131,23 @@ covers_after_refuted problem reason v b opens lawful refuted covers =
     covers
 
 -- no value is better than itself
-not_better_than_itself : (direction : Direction) (x : ℤ) → ¬ IsBetter direction x x
+pub not_better_than_itself : (direction : Direction) (x : ℤ) → ¬ IsBetter direction x x
 not_better_than_itself Minimize x better = omega (arith, ints)
 not_better_than_itself Maximize x better = omega (arith, ints)
 not_better_than_itself Nothing x better = better
 
 -- of two values not each is better than the other
-not_both_better : (direction : Direction) (x w : ℤ) → IsBetter direction x w → ¬ IsBetter direction w x
+pub not_both_better : (direction : Direction) (x w : ℤ) → IsBetter direction x w → ¬ IsBetter direction w x
 not_both_better Minimize x w better worse = omega (arith, ints)
 not_both_better Maximize x w better worse = omega (arith, ints)
 not_both_better Nothing x w better worse = better
 
-follows_better : (direction : Direction) (x : ℤ) (v : Option ℤ) → IfSome v (λ w. IsBetter direction x w) → Follows direction (Some x) v
+pub follows_better : (direction : Direction) (x : ℤ) (v : Option ℤ) → IfSome v (λ w. IsBetter direction x w) → Follows direction (Some x) v
 follows_better direction x None better = tt
 follows_better direction x (Some w) better = not_both_better direction x w better
 
 -- a value that beats v is as good as v
-beats_follows : (problem : BoxProblem) (v : Option ℤ) (point : List ℤ) → Beats problem v point → Follows problem.direction (Some (problem.value point)) v
+pub beats_follows : (problem : BoxProblem) (v : Option ℤ) (point : List ℤ) → Beats problem v point → Follows problem.direction (Some (problem.value point)) v
 beats_follows problem v point beats =
     follows_better problem.direction (problem.value point) v beats.better
 
@@ -189,7 +183,7 @@ pub covers_at_last : (problem : BoxProblem) (v : Option ℤ) (point : List ℤ) 
 covers_at_last problem v point covers q beats = omega (arith, (covers.cover point q beats).2)
 
 -- what is not better than a value that is not better than another is not better than that one
-still_not_better : (direction : Direction) (x y z : ℤ) → ¬ IsBetter direction x y → ¬ IsBetter direction y z → ¬ IsBetter direction x z
+pub still_not_better : (direction : Direction) (x y z : ℤ) → ¬ IsBetter direction x y → ¬ IsBetter direction y z → ¬ IsBetter direction x z
 still_not_better Minimize x y z first second better =
     by_lt_z x y first (λ up. second (omega (arith, ints)))
 still_not_better Maximize x y z first second better =
@@ -227,7 +221,7 @@ counts_in_any_order problem finished b prefix back =
     (λ counts. record { count = omega (arith, same, counts.count) }, λ counts. record { count = omega (arith, same, counts.count) })
 
 -- steps leave no more points
-points_after : (problem : BoxProblem) (v : Option ℤ) (b : Box) (steps : List Step) → IsBox b → AllRight problem v b steps → points (after_steps b steps) ≤ points b
+pub points_after : (problem : BoxProblem) (v : Option ℤ) (b : Box) (steps : List Step) → IsBox b → AllRight problem v b steps → points (after_steps b steps) ≤ points b
 points_after problem v b [] is_box right = omega arith
 points_after problem v b (s ∷ steps) is_box right =
     let first = (steps_narrow problem v b s is_box right.0).0 in

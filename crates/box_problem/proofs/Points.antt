@@ -5,6 +5,7 @@ use Rattle.std.proofs.lemmas.Int.{ints, by_lt_z}
 use Rattle.std.proofs.lemmas.List.{length-map, length-append}
 use Rattle.std.proofs.lemmas.List.Elements.{Contains-append_cases, Contains-append_left, Contains-append_right, Contains-get_or, All-append, All-map, All-weaker}
 use Rattle.std.proofs.lemmas.List.Kept.{AllPairs-cons}
+use Rattle.sopl_base.proofs.Lists.{contains_later}
 use Rattle.box_problem.specs.Box.{Box, low, high, IsBox, InBox, points, points_between}
 use Rattle.box_problem.proofs.Counts.{gap_leads}
 
@@ -39,9 +40,6 @@ wider : (from to least most : ℤ) (rests more : List (List ℤ)) (p : List ℤ)
 wider from to least most rests more [] low high grows is = is
 wider from to least most rests more (x ∷ rest) low high grows is =
     (omega (arith, ints, is.0), omega (arith, ints, is.1), grows rest is.2)
-
-contains_later : {X : Type 0} (x : X) (xs : List X) (y : X) → Contains xs y → Contains (x ∷ xs) y
-contains_later x xs y later = (suc later.0, omega (arith, later.1), later.2)
 
 map_at : (lo : ℤ) (rests : List (List ℤ)) (k : ℕ) (p : List ℤ) → k < length (map (λ rest. lo ∷ rest) rests) → get_or (map (λ rest. lo ∷ rest) rests) k p ≡ p → IsBegun lo lo rests p
 map_at lo [] k p exists is = absurd (omega arith)

@@ -5,9 +5,7 @@ use Rattle.sopl_base.specs.declared.reason.Side.{Side}
 use Rattle.sopl_base.specs.declared.reason.Side.TheVariants.{Le, Ge}
 use Rattle.box_problem.specs.Steps.{IsCut}
 use Rattle.box_problem.proofs.Cuts.{cuts_make_parts}
-use Rattle.sopl_base.specs.declared.interval.Interval.{Interval}
-use Rattle.box_problem.proofs.Boxes.{intervals_make_a_box}
-use Rattle.box_problem.specs.Box.{Box, box_of, low, high, IsBox, with_low, with_high}
+use Rattle.box_problem.specs.Box.{Box, low, high, IsBox, with_low, with_high}
 use Rattle.box_store.specs.declared.trail.Entry.{Entry}
 use Rattle.box_store.specs.declared.trail.Entry.TheVariants.{Low, High, Marked}
 use Rattle.box_store.specs.Trail.{marks_of, AreSound}
@@ -74,9 +72,3 @@ raised_is_box b cell side k z is_box cut side_is is =
 pub lowered_is_box : (b : Box) (cell : ℕ) (side : Side) (k z : ℤ) → IsBox b → IsCut b cell side k → side ≡ Le → z ≡ k → IsBox (with_high b cell z)
 lowered_is_box b cell side k z is_box cut side_is is =
     subst (λ (y : ℤ). IsBox (with_high b cell y)) (sym is) (cuts_make_parts b cell Le k is_box (subst (λ (s : Side). IsCut b cell s k) side_is cut)).0.is_box
-
--- the ends of intervals are a box
-pub made_box : (roots : List Interval) (lows highs : List ℤ) → lows ≡ (box_of roots).lows → highs ≡ (box_of roots).highs → IsBox (record { lows = lows; highs = highs })
-made_box roots lows highs lows_are highs_are =
-    subst (λ (xs : List ℤ). IsBox (with_lows (with_highs (box_of roots) highs) xs)) (sym lows_are)
-    (subst (λ (ys : List ℤ). IsBox (with_highs (box_of roots) ys)) (sym highs_are) (intervals_make_a_box roots))

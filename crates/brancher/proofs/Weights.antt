@@ -1,17 +1,9 @@
 -- What is found among one cell more.
-use Rattle.std.proofs.Common.{◌≡◌, inl, inr, ℕ, ◌+◌, ◌<◌, ℤ, ◌≤ℤ◌, List, Option, None, Some, IfSome, arith, subst}
-use Rattle.std.proofs.lemmas.Bool.{cases_lt}
+use Rattle.std.proofs.Common.{◌≡◌, ℕ, ◌+◌, ◌<◌, ℤ, ◌≤ℤ◌, List, Option, None, Some, IfSome, arith}
 use Rattle.std.proofs.lemmas.Int.{ints}
+use Rattle.sopl_base.proofs.Naturals.{one_more}
 use Rattle.brancher.specs.Choices.{IsUnfixed, cell_end}
 use Rattle.brancher.specs.Finding.{Exceeds, FindsMost, IsOutdone}
-
--- what holds of the first numbers and of the next one
-one_more : (P : ℕ → Type 0) (at : ℕ) → ((k : ℕ) → k < at → P k) → P at → (k : ℕ) → k < at + 1 → P k
-one_more P at before here k less =
-    elim (cases_lt k at) [
-      | inl earlier ↦ before k earlier
-      | inr later ↦ subst P (omega (arith, less, later)) here
-    ]
 
 pub fixed_most : (weight : ℕ → ℤ) (lows highs : List ℤ) (at : ℕ) (found : Option ℕ) → FindsMost weight lows highs at found → cell_end lows at ≡ cell_end highs at
     → FindsMost weight lows highs (at + 1) found

@@ -19,8 +19,8 @@ use Rattle.term_nodes.specs.Built.{AllBelow, PartsBelow, TasksBelow}
 use Rattle.term_nodes.specs.Things.{Thing, cond_in, conds_at, parts_at, tasks_at, term_at, term_in, terms_at, thing_at}
 use Rattle.term_program.specs.declared.ids.CondId.{CondId}
 use Rattle.term_program.specs.declared.ids.TermId.{TermId}
+use Rattle.sopl_term.proofs.Keeping.{all_below}
 use Rattle.compile_exprs.specs.Made.{AreConds, AreParts, AreTasks, AreTerms, numbers_of, subterms_of_task, task_at}
-use Rattle.compile_exprs.proofs.Steps.{later_below}
 use Rattle.compile_exprs.proofs.Sizes.{AreSmall, large_behind}
 
 -- Terms, conditions, terms with a sign, and tasks: which numbers one has, what it stands for among things, the terms in that, and that this stays where more is added.
@@ -119,7 +119,7 @@ module _ {A I B : Type 0} (sort : Sort I B) (P : A → Type 0) (f : A → B) (se
     extends = extends_twice setting before now after l.extends extends;
     exist = subst (λ xs. AllBelow (length (things_of after)) (flat_map sort.numbers xs)) (sym added)
         (below_more sort.numbers (length (things_of after)) ids id
-        (later_below (length (things_of now)) (length (things_of after)) (flat_map sort.numbers ids) extends.grows.more l.exist) exists);
+        (all_below (length (things_of now)) (length (things_of after)) (flat_map sort.numbers ids) extends.grows.more l.exist) exists);
     are = ap (λ xs. map (sort.seen (things_of after)) xs ++ map f later) added
         ∙ (ap (λ xs. xs ++ map f later) (map-append (sort.seen (things_of after)) ids (id ∷ []))
         ∙ (append_assoc (map (sort.seen (things_of after)) ids) (sort.seen (things_of after) id ∷ []) (map f later)

@@ -1,7 +1,5 @@
 -- What is made of what was added.
-use Rattle.std.proofs.Common.{◌≡◌, ◌∙◌, refl, ap, ap₂, sym, subst, arith, inl, ℕ, ◌<◌, ◌≤◌, Bool, List, [], ◌∷◌, ◌++◌, length, None, Result, Ok, Err, IfOk, OnOk}
-use Rattle.std.proofs.lemmas.List.{append_assoc, append-nil}
-use Rattle.std.specs.declared.alloc.AllocError.{AllocError}
+use Rattle.std.proofs.Common.{◌≡◌, ◌∙◌, refl, ap, ap₂, sym, subst, arith, ℕ, ◌<◌, ◌≤◌, Bool, List, [], ◌∷◌, ◌++◌, length, Result, Ok, Err, IfOk, OnOk}
 use Rattle.std.specs.declared.alloc.Global.{Global}
 use Rattle.std.specs.declared.vec.Vec.{Vec}
 use Rattle.sopl_base.specs.declared.fault.Fault.{Fault}
@@ -19,13 +17,13 @@ use Rattle.compile_scene.specs.declared.work.Lowering.{Lowering}
 use Rattle.compile_scene.proofs.Growing.{extends_not, extends_twice, grows_twice, stands_grows}
 use Rattle.sopl_term.specs.Built.{Grows, task_ids}
 use Rattle.term_nodes.specs.Built.{AllBelow, TasksBelow}
-use Rattle.term_nodes.specs.Things.{Thing, a_cond, a_term, cond_at, cond_in, tasks_at, term_at, term_in, terms_at, thing_at}
+use Rattle.term_nodes.specs.Things.{Thing, a_cond, a_term, cond_at, cond_in, tasks_at, term_at, term_in, terms_at}
 use Rattle.term_nodes.specs.declared.nodes.Task.{Task}
 use Rattle.term_program.specs.declared.ids.CondId.{CondId}
 use Rattle.term_program.specs.declared.ids.TermId.{TermId}
-use Rattle.compile_exprs.specs.Made.{AreConds, AreParts, AreReady, AreTasks, AreTerms, CondsAreThere, IsMade, IsOperand, IsTask, IsUsable, MakesCond, MakesConds, MakesParts, MakesTerm, MakesTerms}
+use Rattle.compile_exprs.specs.Made.{AreReady, AreTasks, CondsAreThere, IsMade, IsOperand, IsTask, IsUsable, MakesCond, MakesConds, MakesParts, MakesTerm, MakesTerms}
 use Rattle.compile_exprs.specs.Made.{PartsAreThere, TermsAreThere, subterms_of_task}
-use Rattle.compile_exprs.proofs.Sizes.{AreSmall, both_small, large_behind}
+use Rattle.compile_exprs.proofs.Sizes.{AreSmall, both_small}
 
 -- Tasks stay where more is added.
 
@@ -133,10 +131,6 @@ later_cond_is before after id t grows stands = cond_is after id t (stands_grows 
 pub later_terms : (before after : List Thing) (ids : List ℕ) → Grows before after → AllBelow (length before) ids → terms_at after ids ≡ terms_at before ids
 later_terms before after [] grows below = refl
 later_terms before after (id ∷ ids) grows below = ap₂ (λ x xs. c.term x xs) (ap term_in (grows.same id below.0)) (later_terms before after ids grows below.1)
-
-pub later_below : (n m : ℕ) (ids : List ℕ) → n ≤ m → AllBelow n ids → AllBelow m ids
-later_below n m [] more below = tt
-later_below n m (id ∷ ids) more below = (omega (arith, below.0, more), later_below n m ids more below.1)
 
 -- A term is added to those before it, none of which is too large.
 

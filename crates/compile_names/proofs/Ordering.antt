@@ -5,11 +5,11 @@ use Rattle.std.proofs.lemmas.Simd.{map-map}
 use Rattle.std.specs.List.{flat_map}
 use Rattle.std.specs.declared.alloc.Global.{Global}
 use Rattle.std.specs.declared.vec.Vec.{Vec}
+use Rattle.sopl_base.proofs.Lists.{map_same}
 use Rattle.term_language.specs.Arrays.{indices}
 use Rattle.compile_names.specs.declared.first_places.Places.{Places}
 use Rattle.compile_names.specs.Kept.{place_in, places_behind, sets_in}
 use Rattle.compile_names.specs.Plans.{place_among}
-use Rattle.compile_names.proofs.Planned.{same_map}
 
 module _ (places : Places) (numbers : List ℤ) where
   -- no set is left
@@ -32,7 +32,7 @@ module _ (places : Places) (numbers : List ℤ) where
       first : map (λ more. place_in places (numbers ++ more)) (map (λ more. n ∷ more) rest) ≡ map (λ more. place_in places ((numbers ++ n ∷ []) ++ more)) rest
       first =
           map-map (λ more. place_in places (numbers ++ more)) (λ more. n ∷ more) rest
-          ∙ same_map (λ more. place_in places (numbers ++ n ∷ more)) (λ more. place_in places ((numbers ++ n ∷ []) ++ more))
+          ∙ map_same (λ more. place_in places (numbers ++ n ∷ more)) (λ more. place_in places ((numbers ++ n ∷ []) ++ more))
           (λ more. ap (place_in places) (sym (append_assoc numbers (n ∷ []) more))) rest
 
   pub sets_behind : (set : Vec ℤ Global) (later : List (Vec ℤ Global)) → places_behind places numbers (set ∷ later) ≡ each_behind later set.items
@@ -58,4 +58,4 @@ pub order_is : (places : Places) (given : List (List ℤ)) (sets : List (Vec ℤ
     → ((x : List ℤ) → place_in places x ≡ place_among 0 given x) → order ≡ [] → index ≡ [] → new ≡ order ++ places_behind places index sets
     → new ≡ map (place_among 0 given) (indices (sets_in sets))
 order_is places given sets order new index same empty none is =
-    is ∙ (λ i. empty i ++ places_behind places (none i) sets) ∙ same_map (λ x. place_in places x) (place_among 0 given) same (indices (sets_in sets))
+    is ∙ (λ i. empty i ++ places_behind places (none i) sets) ∙ map_same (λ x. place_in places x) (place_among 0 given) same (indices (sets_in sets))

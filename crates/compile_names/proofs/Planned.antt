@@ -2,6 +2,7 @@
 use Rattle.std.proofs.Common.{◌≡◌, refl, sym, ap, ◌∙◌, arith, ℕ, suc, ◌+◌, ℤ, pos, Bool, true, false, cond, List, [], ◌∷◌, map, Option, Some, None, option_map, option_and_then, slice_get}
 use Rattle.std.proofs.lemmas.Simd.{map-map}
 use Rattle.std.specs.Option.{unwrap_or}
+use Rattle.sopl_base.proofs.Lists.{map_same}
 use Rattle.term_language.specs.Terms.{Item, Fixed}
 use Rattle.term_language.specs.Arrays.{Entry, indices, same_index, item_in}
 use Rattle.compile_laws.specs.Instances.{sets_of}
@@ -45,13 +46,9 @@ item_placed (e ∷ later) index = by (same_index e.index index) (item_placed lat
         ∙ sym (behind_one e.item (map item_of later) (place_among 0 (map index_in later) index))
         ∙ ap (option_and_then (slice_get (e.item ∷ map item_of later))) (sym (shifted (map index_in later) 0 index))
 
-pub same_map : {A B : Type 0} (f g : A → B) → ((x : A) → f x ≡ g x) → (xs : List A) → map f xs ≡ map g xs
-same_map f g same [] = refl
-same_map f g same (x ∷ xs) = λ i. same x i ∷ same_map f g same xs i
-
 pub tables_are_planned : TablesArePlanned
 tables_are_planned entries =
     ap (λ items. record { sets = sets_of (map index_in entries); items = items })
-    (same_map (λ index. unwrap_or (item_in entries index) (Fixed (pos 0))) (λ index. picked (map item_of entries) (place_among 0 (map index_in entries) index))
+    (map_same (λ index. unwrap_or (item_in entries index) (Fixed (pos 0))) (λ index. picked (map item_of entries) (place_among 0 (map index_in entries) index))
     (λ index. ap (λ item. unwrap_or item (Fixed (pos 0))) (item_placed entries index)) (indices (sets_of (map index_in entries)))
     ∙ sym (map-map (picked (map item_of entries)) (place_among 0 (map index_in entries)) (indices (sets_of (map index_in entries)))))

@@ -1,9 +1,9 @@
 -- What a tree gives in a scenario is the place of the scenario.
-use Rattle.std.proofs.Common.{arith, ◌≡◌, refl, sym, ap, subst, ◌∙◌, ℕ, suc, ◌+◌, ◌<◌, List, [], ◌∷◌, length, map, slice_get, Some, Contains}
+use Rattle.std.proofs.Common.{arith, ◌≡◌, sym, ap, subst, ◌∙◌, ℕ, ◌<◌, List, length, map, slice_get, Some, Contains}
 use Rattle.std.proofs.lemmas.List.FromFn.{get_or-map-range_with_len, length-map-range_with_len}
 use Rattle.std.proofs.lemmas.Option.{slice_get_within, get_or_from_slice_get}
 use Rattle.std.specs.List.{range_with_len}
-use Rattle.std.specs.Option.{unwrap_or}
+use Rattle.sopl_base.proofs.Lists.{by_elements}
 use Rattle.sopl_ast.specs.Instances.{Decision, Stochastic, Problem}
 use Rattle.sopl_ast.specs.Scenarios.{Scenario, scenarios}
 use Rattle.sopl_ast.specs.Histories.{history}
@@ -14,15 +14,6 @@ use Rattle.compile_laws.specs.Whole.{cell_numbers}
 use Rattle.compile_laws.proofs.Numbers.{cells_are_numbered, numbers_are_one}
 use Rattle.compile_laws.proofs.Stands.{scenarios_are_whole}
 use Rattle.compile_names.specs.Places.{values_at, cells_at, PlacesOfTree}
-
--- a list by its elements
-by_elements : {A : Type 0} (f : ℕ → A) (first : ℕ) (xs : List A) → ((j : ℕ) → j < length xs → slice_get xs j ≡ Some (f (first + j))) → map f (range_with_len first (length xs)) ≡ xs
-by_elements f first [] each = refl
-by_elements {A} f first (x ∷ xs) each =
-    let here : f first ≡ x = ap f (omega arith) ∙ sym (ap (λ o. unwrap_or o x) (each 0 (omega arith))) in
-    let later : (j : ℕ) → j < length xs → slice_get xs j ≡ Some (f ((first + 1) + j)) =
-    λ j below. each (suc j) (omega (arith, below)) ∙ ap (λ k. Some (f k)) (omega arith) in
-    λ i. here i ∷ by_elements f (first + 1) xs later i
 
 module _ (ss : List Stochastic) (i : ℕ) (s : Scenario) (at : slice_get (scenarios ss) i ≡ Some s) where
   contained : Contains (scenarios ss) s

@@ -10,16 +10,16 @@ use Rattle.std.specs.declared.alloc.AllocError.{AllocError}
 use Rattle.std.specs.declared.alloc.Global.{Global}
 use Rattle.std.specs.declared.vec.Vec.{Vec}
 use Rattle.sopl_base.specs.declared.interval.Interval.{Interval}
+use Rattle.sopl_base.proofs.Lists.{each_of}
 use Rattle.sopl_ast.specs.Cells.{Cell, cells_of}
 use Rattle.sopl_ast.specs.Histories.{histories}
 use Rattle.sopl_ast.specs.Instances.{Decision, Stochastic}
 use Rattle.box_problem.specs.Box.{Box, box_of}
 use Rattle.compile_laws.specs.Root.{root_box}
 use Rattle.compile_names.specs.declared.setting.Scenarios.{Scenarios}
-use Rattle.sopl_scen.specs.Layout.{IsTreeOf, Layout, cell_at, cells_for, histories_in}
+use Rattle.sopl_scen.specs.Layout.{Layout, cell_at, cells_for, histories_in}
 use Rattle.compile_scene.specs.Domains.{decision_ends, domains_in, ends_of}
 use Rattle.compile_scene.specs.Scenes.{IsLaid, root_in}
-use Rattle.compile_scene.proofs.Copies.{each_of}
 use Rattle.sopl_term.specs.Built.{IsNear}
 use Rattle.unfold_laws.specs.Bounds.{IsBoundedDecision, IsStage}
 use Rattle.unfold_laws.specs.Passing.{IsConstant}

@@ -1,11 +1,11 @@
 -- What stands in a work stays where more is added, and what is added stands.
-use Rattle.std.proofs.Common.{◌≡◌, ◌∙◌, refl, ap, sym, subst, arith, ℕ, zero, suc, ◌+◌, ◌<◌, ◌≤◌, ◌^◌, nat_le, Bool, true, false, pos, cond, List, [], ◌∷◌, ◌++◌, length}
-use Rattle.std.proofs.Common.{length-append, Option, Some, None, option_map, Result, Ok, Err, IfOk, OnOk, inl, inr}
+use Rattle.std.proofs.Common.{◌≡◌, ◌∙◌, refl, ap, sym, subst, arith, ℕ, ◌+◌, ◌<◌, ◌≤◌, ◌^◌, List, [], ◌∷◌, ◌++◌, length}
+use Rattle.std.proofs.Common.{length-append, Some, None, option_map, Result, Ok, Err, IfOk, OnOk, inl, inr}
 use Rattle.std.specs.declared.alloc.AllocError.{AllocError}
 use Rattle.std.specs.declared.alloc.Global.{Global}
 use Rattle.std.specs.declared.vec.Vec.{Vec}
 use Rattle.sopl_base.specs.declared.fault.Fault.{Fault}
-use Rattle.sopl_base.specs.declared.fault.Fault.TheVariants.{Limit, NoMemory}
+use Rattle.sopl_base.specs.declared.fault.Fault.TheVariants.{Limit}
 use Rattle.box_problem.specs.Box.{Box}
 use Rattle.term_language.specs.Sizes.{size}
 use Rattle.term_language.specs.Terms.{Table, Term}
@@ -20,10 +20,11 @@ use Rattle.compile_scene.specs.declared.work.Lowering.{Lowering}
 use Rattle.sopl_term.specs.Built.{Grows, IsBuilding, IsKept, built, root_built}
 use Rattle.sopl_term.specs.declared.builder.Builder.{Builder}
 use Rattle.sopl_term.specs.declared.ids.TableId.{TableId}
-use Rattle.term_nodes.specs.Things.{Thing, a_cond, a_table, a_term, thing_at}
+use Rattle.term_nodes.specs.Things.{Thing, a_table, thing_at}
+use Rattle.term_nodes.proofs.Growing.{last_is}
 use Rattle.term_program.specs.declared.ids.CondId.{CondId}
 use Rattle.term_program.specs.declared.ids.TermId.{TermId}
-use Rattle.term_store.specs.Stores.{IsAdded, IsMeasured, too_large}
+use Rattle.term_store.specs.Stores.{IsAdded, IsMeasured}
 
 -- Growth.
 
@@ -91,14 +92,10 @@ extends_not setting work ready = record { ready = ready; grows = grows_not (thin
 
 -- Addition.
 
-last_at : (things : List Thing) (thing : Thing) → thing_at (things ++ thing ∷ []) (length things) ≡ thing
-last_at [] thing = refl
-last_at (x ∷ things) thing = last_at things thing
-
 pub added_stands : (before after : List Thing) (id : ℕ) (thing : Thing) → IsAdded before after id thing → Stands after id thing
 added_stands before after id thing added = record {
   exists = omega (arith, added.number, ap length added.added, length-append before (thing ∷ []));
-  is = ap (λ (ts : List Thing). thing_at ts id) added.added ∙ ap (thing_at (before ++ thing ∷ [])) added.number ∙ last_at before thing;
+  is = ap (λ (ts : List Thing). thing_at ts id) added.added ∙ ap (thing_at (before ++ thing ∷ [])) added.number ∙ last_is before thing;
 }
 
 pub term_stands : (result : Result TermId Fault) (before after : List Thing) (thing : Thing) → IfOk result (λ (id : TermId). IsAdded before after id.0 thing)

@@ -1,16 +1,13 @@
 -- The arrays of all scenarios.
-use Rattle.std.proofs.Common.{arith, ◌≡◌, ◌∙◌, refl, ap, sym, subst, ℕ, zero, suc, ℤ, ◌+◌, ◌<◌, ◌≤◌, Bool, true, false, ◌&&◌, List, [], ◌∷◌, ◌++◌, length, length-append, map}
+use Rattle.std.proofs.Common.{arith, ◌≡◌, ◌∙◌, refl, ap, sym, subst, ℕ, zero, suc, ℤ, ◌+◌, ◌<◌, ◌≤◌, true, List, [], ◌∷◌, ◌++◌, length, length-append, map}
 use Rattle.std.proofs.Common.{get_or, inl, inr, Result, Ok, Err, IfOk}
-use Rattle.std.proofs.lemmas.Bool.{cases_lt}
-use Rattle.std.proofs.lemmas.List.{get_or_append_left, length-map, map-append}
+use Rattle.std.proofs.lemmas.Bool.{cases_lt, and_parts}
 use Rattle.std.specs.List.{list_all}
 use Rattle.std.specs.declared.alloc.Global.{Global}
 use Rattle.std.specs.declared.vec.Vec.{Vec}
 use Rattle.term_language.specs.Laws.{IsTable}
-use Rattle.term_language.specs.Terms.{Item, Table}
-use Rattle.compile_laws.specs.Instances.{elements, table_of}
+use Rattle.term_language.specs.Terms.{Table}
 use Rattle.compile_laws.proofs.Tables.{tables_are_sound}
-use Rattle.compile_names.specs.Places.{place_in}
 use Rattle.compile_names.specs.Tables.{table_in}
 use Rattle.compile_names.specs.Variables.{item_from}
 use Rattle.compile_names.specs.declared.arrays.Array.{Array}
@@ -36,15 +33,10 @@ fixed_item tree i j (Fixed z) fixed = refl
 fixed_item tree i j (Drawn k) fixed = absurd (cc)
 fixed_item tree i j (Decided k) fixed = absurd (cc)
 
-both : (a b : Bool) → (a && b) ≡ true → (a ≡ true) × (b ≡ true)
-both true true is = (refl, refl)
-both true false is = absurd (cc)
-both false b is = absurd (cc)
-
 fixed_items : (tree : Layout) (i j : ℕ) (origins : List Origin) → list_all is_fixed origins ≡ true → map (item_from tree i) origins ≡ map (item_from tree j) origins
 fixed_items tree i j [] fixed = refl
 fixed_items tree i j (origin ∷ origins) fixed =
-    let parts = both (is_fixed origin) (list_all is_fixed origins) fixed in
+    let parts = and_parts (is_fixed origin) (list_all is_fixed origins) fixed in
     λ k. fixed_item tree i j origin parts.0 k ∷ fixed_items tree i j origins parts.1 k
 
 fixed_tables : (tree : Layout) (i j : ℕ) (array : Array) → list_all is_fixed array.origins.items ≡ true → table_in tree i array ≡ table_in tree j array

@@ -1,8 +1,10 @@
 -- No two scenarios have the same values.
-use Rattle.std.proofs.Common.{◌≡◌, sym, subst, true≢false, ℕ, suc, ◌+◌, ℤ, Bool, true, false, not, ◌&&◌, ◌||◌, List, [], ◌∷◌, ◌++◌, map, All, arith}
+use Rattle.std.proofs.Common.{◌≡◌, sym, subst, ℕ, suc, ◌+◌, ℤ, true, false, not, List, [], ◌∷◌, ◌++◌, map, All, arith}
 use Rattle.std.proofs.lemmas.List.{map-append}
 use Rattle.std.specs.List.{AllByRecursion, IsDistinct, flat_map, enumerate_from, list_any}
 use Rattle.std.specs.Ordering.{int_eq}
+use Rattle.std.proofs.lemmas.Bool.{and_left, and_parts, and_right, or_parts}
+use Rattle.sopl_base.proofs.Booleans.{not_true}
 use Rattle.sopl_ast.specs.Numbers.{all_distinct}
 use Rattle.sopl_ast.specs.Known.{same_values}
 use Rattle.sopl_ast.specs.Instances.{Outcome, Stochastic}
@@ -25,29 +27,6 @@ abbrev after_each : List ℕ → List Stochastic → ℕ → List Outcome → Li
 after_each places later n os =
     flat_map (λ (drawn : ℕ × Outcome). map (preceded_by drawn) (scenarios_after (places ++ drawn.0 ∷ []) later)) (enumerate_from n os)
 
-behind_false : (a b : Bool) → b ≡ false → (a && b) ≡ false
-behind_false true b is = is
-behind_false false b is = λ i. false
-
-before_false : (a b : Bool) → a ≡ false → (a && b) ≡ false
-before_false true b is = absurd (true≢false is)
-before_false false b is = λ i. false
-
-both_true : (a b : Bool) → (a && b) ≡ true → (a ≡ true) × (b ≡ true)
-both_true true b is = (λ i. true, is)
-both_true false b is = absurd (true≢false (sym is))
-
-not_true : (a : Bool) → not a ≡ true → a ≡ false
-not_true true is = is'
-  where
-    is' : true ≡ false
-    is' = sym is
-not_true false is = λ i. false
-
-both_false : (a b : Bool) → (a || b) ≡ false → (a ≡ false) × (b ≡ false)
-both_false true b is = absurd (true≢false is)
-both_false false b is = (λ i. false, is)
-
 all_append : (P : List ℤ → Type 0) (xs ys : List (List ℤ)) → AllByRecursion P xs → AllByRecursion P ys → AllByRecursion P (xs ++ ys)
 all_append P [] ys one two = two
 all_append P (x ∷ xs) ys one two = (one.0, all_append P xs ys one.1 two)
@@ -64,7 +43,7 @@ differ_behind : (o : ℕ × Outcome) (xs : List ℤ) (ss : List Scenario) → Di
     → Differs (o.1.value ∷ xs) (map values_of (map (preceded_by o) ss))
 differ_behind o xs [] differ = tt
 differ_behind o xs (s ∷ ss) differ =
-    (behind_false (int_eq o.1.value o.1.value) (same_values xs s.values) differ.0, differ_behind o xs ss differ.1)
+    (and_right (int_eq o.1.value o.1.value) (same_values xs s.values) differ.0, differ_behind o xs ss differ.1)
 
 distinct_behind : (o : ℕ × Outcome) (ss : List Scenario) → IsDistinct same_values (map values_of ss)
     → IsDistinct same_values (map values_of (map (preceded_by o) ss))
@@ -77,7 +56,7 @@ differ_here : (x : ℤ) (xs : List ℤ) (o : ℕ × Outcome) (ss : List Scenario
     → Differs (x ∷ xs) (map values_of (map (preceded_by o) ss))
 differ_here x xs o [] other = tt
 differ_here x xs o (s ∷ ss) other =
-    (before_false (int_eq x o.1.value) (same_values xs s.values) other, differ_here x xs o ss other)
+    (and_left (int_eq x o.1.value) (same_values xs s.values) other, differ_here x xs o ss other)
 
 differ_each : (x : ℤ) (xs : List ℤ) (places : List ℕ) (later : List Stochastic) (n : ℕ) (os : List Outcome)
     → list_any (int_eq x) (map value_of os) ≡ false → Differs (x ∷ xs) (map values_of (after_each places later n os))
@@ -86,7 +65,7 @@ differ_each x xs places later n (o ∷ os) other =
     let here : List Scenario = map (preceded_by (n, o)) (scenarios_after (places ++ n ∷ []) later) in
     let rest : List Scenario = after_each places later (n + 1) os in
     let parts : (int_eq x o.value ≡ false) × (list_any (int_eq x) (map value_of os) ≡ false) =
-    both_false (int_eq x o.value) (list_any (int_eq x) (map value_of os)) other in
+    or_parts (int_eq x o.value) (list_any (int_eq x) (map value_of os)) other in
     subst (Differs (x ∷ xs)) (sym (map-append values_of here rest))
     (all_append (λ ys. same_values (x ∷ xs) ys ≡ false) (map values_of here) (map values_of rest)
     (differ_here x xs (n, o) (scenarios_after (places ++ n ∷ []) later) parts.0) (differ_each x xs places later (n + 1) os parts.1))
@@ -108,7 +87,7 @@ distinct_each places later n (o ∷ os) outcomes each =
     let here : List Scenario = map (preceded_by (n, o)) after in
     let rest : List Scenario = after_each places later (n + 1) os in
     let parts : (not (list_any (int_eq o.value) (map value_of os)) ≡ true) × (all_distinct (map value_of os) ≡ true) =
-    both_true (not (list_any (int_eq o.value) (map value_of os))) (all_distinct (map value_of os)) outcomes in
+    and_parts (not (list_any (int_eq o.value) (map value_of os))) (all_distinct (map value_of os)) outcomes in
     subst (IsDistinct same_values) (sym (map-append values_of here rest))
     (distinct_append (map values_of here) (map values_of rest) (distinct_behind (n, o) after (each (places ++ n ∷ [])))
     (distinct_each places later (n + 1) os parts.1 each)

@@ -5,3 +5,4 @@ mod Times
 mod Holding
 mod Satisfied
 pub mod Distinct
+pub mod Shared

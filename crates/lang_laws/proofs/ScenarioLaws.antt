@@ -4,13 +4,15 @@ use Rattle.std.proofs.Math.IntN.{zero-*ℤ, *ℤ-zero, +ℤ_assoc}
 use Rattle.std.proofs.lemmas.Int.{ints}
 use Rattle.std.proofs.lemmas.List.{map-append, length-map}
 use Rattle.std.specs.List.{flat_map, enumerate_from}
+use Rattle.sopl_base.proofs.Lists.{flat_map-flat_map, map-flat_map, map-map, nothing_behind}
+use Rattle.sopl_base.proofs.Integers.{*ℤ-+ℤ, *ℤ_assoc, +ℤ-*ℤ}
 use Rattle.sopl_ast.specs.Numbers.{total}
 use Rattle.sopl_ast.specs.Instances.{Outcome, Stochastic}
 use Rattle.sopl_ast.specs.Scenarios as ast
 use Rattle.sopl_ast.specs.Scenarios.{total_of, total_weight}
 use Rattle.sopl_ast.specs.PlacedScenarios.{Scenario, preceded_by, scenarios_after, without_places}
 use Rattle.lang_laws.specs.Laws.{WeightsSum, ScenariosAgree, followed_by, ScenariosSplit, HasOutcomes, ScenariosAlive}
-use Rattle.lang_laws.proofs.Integers.{*ℤ-+ℤ, +ℤ-*ℤ, *ℤ_assoc, one-*ℤ}
+use Rattle.lang_laws.proofs.Integers.{one-*ℤ}
 
 -- the weight of a scenario
 abbrev pub weight_of : Scenario → ℤ
@@ -54,30 +56,9 @@ append-assoc : {A : Type 0} (xs ys zs : List A) → (xs ++ ys) ++ zs ≡ xs ++ (
 append-assoc [] ys zs = refl
 append-assoc (x ∷ xs) ys zs = ap (λ more. x ∷ more) (append-assoc xs ys zs)
 
-nothing_behind : {A : Type 0} (xs : List A) → xs ++ [] ≡ xs
-nothing_behind [] = refl
-nothing_behind (x ∷ xs) = ap (λ more. x ∷ more) (nothing_behind xs)
-
 pub map-same : {A : Type 0} (f : A → A) (same : (x : A) → f x ≡ x) (xs : List A) → map f xs ≡ xs
 map-same f same [] = refl
 map-same f same (x ∷ xs) = λ i. same x i ∷ map-same f same xs i
-
-pub map-map : {A B C : Type 0} (f : B → C) (g : A → B) (xs : List A) → map f (map g xs) ≡ map (λ x. f (g x)) xs
-map-map f g [] = refl
-map-map f g (x ∷ xs) = ap (λ more. f (g x) ∷ more) (map-map f g xs)
-
-flat_map-append : {A B : Type 0} (f : A → List B) (xs ys : List A) → flat_map f (xs ++ ys) ≡ flat_map f xs ++ flat_map f ys
-flat_map-append f [] ys = refl
-flat_map-append f (x ∷ xs) ys = ap (λ more. f x ++ more) (flat_map-append f xs ys) ∙ sym (append-assoc (f x) (flat_map f xs) (flat_map f ys))
-
-pub flat_map-flat_map : {A B C : Type 0} (f : B → List C) (g : A → List B) (xs : List A) → flat_map f (flat_map g xs) ≡ flat_map (λ x. flat_map f (g x)) xs
-flat_map-flat_map f g [] = refl
-flat_map-flat_map f g (x ∷ xs) =
-    flat_map-append f (g x) (flat_map g xs) ∙ ap (λ more. flat_map f (g x) ++ more) (flat_map-flat_map f g xs)
-
-pub map-flat_map : {A B C : Type 0} (f : B → C) (g : A → List B) (xs : List A) → map f (flat_map g xs) ≡ flat_map (λ x. map f (g x)) xs
-map-flat_map f g [] = refl
-map-flat_map f g (x ∷ xs) = map-append f (g x) (flat_map g xs) ∙ ap (λ more. map f (g x) ++ more) (map-flat_map f g xs)
 
 flat_map-map : {A B C : Type 0} (f : B → List C) (g : A → B) (xs : List A) → flat_map f (map g xs) ≡ flat_map (λ x. f (g x)) xs
 flat_map-map f g [] = refl

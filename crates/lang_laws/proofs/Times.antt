@@ -5,21 +5,9 @@ use Rattle.std.proofs.lemmas.Bool.{and_parts, and_from}
 use Rattle.std.specs.Prelude.{int_le, int_lt, if◌then◌else◌}
 use Rattle.std.specs.Int.{int_min}
 use Rattle.std.specs.List.{list_all}
+use Rattle.sopl_base.proofs.Tests.{le_test, le_tested, lt_test, lt_tested}
 use Rattle.sopl_ast.specs.Numbers.{Task, runs, asked, demanded, is_sound, all_fit, are_within}
 use Rattle.lang_laws.specs.Laws.{FitAtEachTime}
-
--- tests of numbers and what they say
-at_most : (a b : ℤ) → int_le a b ≡ true → a ≤ℤ b
-at_most a b is = grind (arith, ints)
-
-tested : (a b : ℤ) → a ≤ℤ b → int_le a b ≡ true
-tested a b is = grind (arith, ints)
-
-less : (a b : ℤ) → int_lt a b ≡ true → a <ℤ b
-less a b is = grind (arith, ints)
-
-less_tested : (a b : ℤ) → a <ℤ b → int_lt a b ≡ true
-less_tested a b is = grind (arith, ints)
 
 -- A task at two times.
 
@@ -27,11 +15,11 @@ less_tested a b is = grind (arith, ints)
 runs_when : (t : ℤ) (x : Task) → runs t x ≡ true → (x.start ≤ℤ t) × (t <ℤ (x.start +ℤ x.duration))
 runs_when t x is =
     let parts : (int_le x.start t ≡ true) × (int_lt t (x.start +ℤ x.duration) ≡ true) = and_parts (int_le x.start t) (int_lt t (x.start +ℤ x.duration)) is in
-    (at_most x.start t parts.0, less t (x.start +ℤ x.duration) parts.1)
+    (le_tested x.start t parts.0, lt_tested t (x.start +ℤ x.duration) parts.1)
 
 runs_then : (t : ℤ) (x : Task) → x.start ≤ℤ t → t <ℤ (x.start +ℤ x.duration) → runs t x ≡ true
 runs_then t x from until =
-    and_from (int_le x.start t) (int_lt t (x.start +ℤ x.duration)) (tested x.start t from) (less_tested t (x.start +ℤ x.duration) until)
+    and_from (int_le x.start t) (int_lt t (x.start +ℤ x.duration)) (le_test x.start t from) (lt_test t (x.start +ℤ x.duration) until)
 
 -- a task that runs later, and has started by an earlier time, runs then
 runs_before : (s t : ℤ) (x : Task) → s ≤ℤ t → x.start ≤ℤ s → runs t x ≡ true → runs s x ≡ true
@@ -97,7 +85,7 @@ last_of t (x ∷ xs) = by_run (runs t x) refl (last_of t xs)
   where
     by_start : (l : Last t xs) (b : Bool) → int_le x.start l.task.start ≡ b → runs t x ≡ true → Last t (x ∷ xs)
     by_start l true first is =
-        record { task = l.task; among = inr l.among; runs_now = l.runs_now; after_all = (λ now. at_most x.start l.task.start first, l.after_all) }
+        record { task = l.task; among = inr l.among; runs_now = l.runs_now; after_all = (λ now. le_tested x.start l.task.start first, l.after_all) }
     by_start l false first is =
         let order : l.task.start ≤ℤ x.start = grind (arith, ints) in
         record { task = x; among = inl refl; runs_now = is; after_all = (λ now. omega (arith, ints), started_later l.task.start x.start t xs order l.after_all) }
@@ -126,7 +114,7 @@ unfolding Started
 demanded_before s t [] sound order started = omega (arith, ints)
 demanded_before s t (x ∷ xs) sound order started =
     let parts : (is_sound x ≡ true) × (list_all is_sound xs ≡ true) = and_parts (is_sound x) (list_all is_sound xs) sound in
-    let demand : pos 0 ≤ℤ x.demand = at_most (pos 0) x.demand (and_parts (int_le (pos 0) x.duration) (int_le (pos 0) x.demand) parts.0).1 in
+    let demand : pos 0 ≤ℤ x.demand = le_tested (pos 0) x.demand (and_parts (int_le (pos 0) x.duration) (int_le (pos 0) x.demand) parts.0).1 in
     sum_order (asked t x) (demanded t xs) (asked s x) (demanded s xs) (asked_before s t x demand order started.0)
     (demanded_before s t xs parts.1 order started.1)
 
@@ -171,13 +159,13 @@ fits_at capacity xs within t =
     let parts : (int_le (pos 0) capacity ≡ true) × ((list_all is_sound xs && all_fit capacity xs) ≡ true) =
     and_parts (int_le (pos 0) capacity) (list_all is_sound xs && all_fit capacity xs) within in
     let tests : (list_all is_sound xs ≡ true) × (all_fit capacity xs ≡ true) = and_parts (list_all is_sound xs) (all_fit capacity xs) parts.1 in
-    by_last (at_most (pos 0) capacity parts.0) tests.0 tests.1 (last_of t xs)
+    by_last (le_tested (pos 0) capacity parts.0) tests.0 tests.1 (last_of t xs)
   where
     by_last : pos 0 ≤ℤ capacity → list_all is_sound xs ≡ true → all_fit capacity xs ≡ true → Idle t xs ⊎ Last t xs → demanded t xs ≤ℤ capacity
     by_last least sound fit (inl idle) = subst (λ z. z ≤ℤ capacity) (sym (idle_asks t xs idle)) least
     by_last least sound fit (inr l) =
         let here : demanded l.task.start xs ≤ℤ capacity =
-        at_most (demanded l.task.start xs) capacity (passed (λ (task : Task). int_le (demanded task.start xs) capacity) l.task xs fit l.among) in
+        le_tested (demanded l.task.start xs) capacity (passed (λ (task : Task). int_le (demanded task.start xs) capacity) l.task xs fit l.among) in
         let before : demanded t xs ≤ℤ demanded l.task.start xs = demanded_before l.task.start t xs sound (runs_when t l.task l.runs_now).0 l.after_all in
         omega (arith, ints)
 
@@ -185,9 +173,9 @@ fits_from : (capacity : ℤ) (xs : List Task) → list_all is_sound xs ≡ true 
 fits_from capacity xs sound each =
     let least : pos 0 ≤ℤ capacity =
     subst (λ z. z ≤ℤ capacity) (idle_asks (early xs) xs (idle_early (early xs) xs (omega (arith, ints)))) (each (early xs)) in
-    and_from (int_le (pos 0) capacity) (list_all is_sound xs && all_fit capacity xs) (tested (pos 0) capacity least)
+    and_from (int_le (pos 0) capacity) (list_all is_sound xs && all_fit capacity xs) (le_test (pos 0) capacity least)
     (and_from (list_all is_sound xs) (all_fit capacity xs) sound
-    (all_pass (λ (task : Task). int_le (demanded task.start xs) capacity) (λ task. tested (demanded task.start xs) capacity (each task.start)) xs))
+    (all_pass (λ (task : Task). int_le (demanded task.start xs) capacity) (λ task. le_test (demanded task.start xs) capacity (each task.start)) xs))
 
 sound_from : (capacity : ℤ) (xs : List Task) → are_within capacity xs ≡ true → list_all is_sound xs ≡ true
 sound_from capacity xs within =

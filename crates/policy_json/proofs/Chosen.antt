@@ -2,10 +2,11 @@
 use Rattle.std.proofs.Common.{◌≡◌, ◌≤◌, ◌<◌, ◌+◌, ◌++◌, ℕ, ℤ, pos, true, false, cond, nat_lt, List, [], ◌∷◌, length, map, All, ◌⊎◌, inl, inr, arith, refl, sym, ap, subst, ◌∙◌}
 use Rattle.std.proofs.lemmas.Bool.{cases_order}
 use Rattle.std.proofs.lemmas.List.Elements.{All-head, All-tail}
+use Rattle.sopl_base.proofs.Tests.{nat_test, nat_untest}
 use Rattle.sopl_ast.specs.Instances.{Outcome, Stochastic}
 use Rattle.sopl_ast.specs.Scenarios.{Scenario, preceded_by, scenarios}
 use Rattle.sopl_ast.specs.Histories.{history}
-use Rattle.scen_laws.proofs.Prefixes.{below, differ, not_below, same}
+use Rattle.scen_laws.proofs.Prefixes.{differ, same}
 use Rattle.policy_tree.proofs.Members.{In, In-flat_map, In-map, from_flat_map, from_map}
 use Rattle.policy_json.specs.Nodes.{outcomes_after, seen_after}
 use Rattle.policy_json.specs.Staged.{Ascend}
@@ -81,7 +82,7 @@ none_seen stage from [] vs a h = refl
 none_seen stage from (s ∷ ss) [] a h = refl
 none_seen stage from (s ∷ ss) (v ∷ vs) a h =
     let first : from ≤ s.stage = a.0 in
-    history_unseen stage s ss v vs (not_below s.stage stage (omega arith)) ∙ none_seen stage s.stage ss vs a.1 (omega arith)
+    history_unseen stage s ss v vs (nat_untest s.stage stage (omega arith)) ∙ none_seen stage s.stage ss vs a.1 (omega arith)
 
 -- there are chosen values that have shown, when the next stage is chosen, what vs had shown when this stage was, and then ws
 abbrev pub Next : ℕ → List Stochastic → List ℤ → List ℤ → Type 0
@@ -108,8 +109,8 @@ next_chosen stage from (s ∷ ss) (v ∷ vs) ws a c d =
     seen_before earlier n = (
       v ∷ n.0,
       (c.0, n.1),
-      history_seen (stage + 1) s ss v n.0 (below s.stage (stage + 1) (omega arith))
-          ∙ (ap (λ xs. v ∷ xs) n.2 ∙ sym (ap (λ xs. xs ++ ws) (history_seen stage s ss v vs (below s.stage stage earlier)))),
+      history_seen (stage + 1) s ss v n.0 (nat_test s.stage (stage + 1) (omega arith))
+          ∙ (ap (λ xs. v ∷ xs) n.2 ∙ sym (ap (λ xs. xs ++ ws) (history_seen stage s ss v vs (nat_test s.stage stage earlier)))),
     )
 
     seen_now : s.stage ≡ stage → (zs : List ℤ) → AreChosen (s ∷ seen_after stage ss) zs
@@ -120,17 +121,17 @@ next_chosen stage from (s ∷ ss) (v ∷ vs) ws a c d =
         let none : history stage ss vs ≡ [] = none_seen stage s.stage ss vs a.1 (omega arith) in (
           z ∷ n.0,
           (e.0, n.1),
-          history_seen (stage + 1) s ss z n.0 (below s.stage (stage + 1) (omega arith))
+          history_seen (stage + 1) s ss z n.0 (nat_test s.stage (stage + 1) (omega arith))
               ∙ (ap (λ xs. z ∷ xs) (n.2 ∙ ap (λ xs. xs ++ zs) none)
-              ∙ sym (ap (λ xs. xs ++ z ∷ zs) (history_unseen stage s ss v vs (not_below s.stage stage (omega arith)) ∙ none))),
+              ∙ sym (ap (λ xs. xs ++ z ∷ zs) (history_unseen stage s ss v vs (nat_untest s.stage stage (omega arith)) ∙ none))),
         )
 
     seen_later : stage < s.stage → Next stage ss vs ws → Next stage (s ∷ ss) (v ∷ vs) ws
     seen_later later n = (
       v ∷ n.0,
       (c.0, n.1),
-      history_unseen (stage + 1) s ss v n.0 (not_below s.stage (stage + 1) (omega arith))
-          ∙ (n.2 ∙ sym (ap (λ xs. xs ++ ws) (history_unseen stage s ss v vs (not_below s.stage stage (omega arith))))),
+      history_unseen (stage + 1) s ss v n.0 (nat_untest s.stage (stage + 1) (omega arith))
+          ∙ (n.2 ∙ sym (ap (λ xs. xs ++ ws) (history_unseen stage s ss v vs (nat_untest s.stage stage (omega arith))))),
     )
 
 -- of the values that vs shows, those that are seen after a stage, which the history of the next stage has behind that of the stage
@@ -156,25 +157,25 @@ now_chosen stage from (s ∷ ss) (v ∷ vs) a c =
         let none : history stage ss vs ≡ [] = none_seen stage s.stage ss vs a.1 (omega arith) in (
           v ∷ n.0,
           subst (λ b. AreChosen (cond b (s ∷ seen_after stage ss) (seen_after stage ss)) (v ∷ n.0)) (sym (same s.stage stage here)) (c.0, n.1),
-          history_seen (stage + 1) s ss v vs (below s.stage (stage + 1) (omega arith))
+          history_seen (stage + 1) s ss v vs (nat_test s.stage (stage + 1) (omega arith))
               ∙ (ap (λ xs. v ∷ xs) (n.2 ∙ ap (λ xs. xs ++ n.0) none)
-              ∙ sym (ap (λ xs. xs ++ v ∷ n.0) (history_unseen stage s ss v vs (not_below s.stage stage (omega arith)) ∙ none))),
+              ∙ sym (ap (λ xs. xs ++ v ∷ n.0) (history_unseen stage s ss v vs (nat_untest s.stage stage (omega arith)) ∙ none))),
         )
 
     seen_before : s.stage < stage → Now stage ss vs → Now stage (s ∷ ss) (v ∷ vs)
     seen_before earlier n = (
       n.0,
       kept n.0 (inl earlier) n.1,
-      history_seen (stage + 1) s ss v vs (below s.stage (stage + 1) (omega arith))
-          ∙ (ap (λ xs. v ∷ xs) n.2 ∙ sym (ap (λ xs. xs ++ n.0) (history_seen stage s ss v vs (below s.stage stage earlier)))),
+      history_seen (stage + 1) s ss v vs (nat_test s.stage (stage + 1) (omega arith))
+          ∙ (ap (λ xs. v ∷ xs) n.2 ∙ sym (ap (λ xs. xs ++ n.0) (history_seen stage s ss v vs (nat_test s.stage stage earlier)))),
     )
 
     seen_later : stage < s.stage → Now stage ss vs → Now stage (s ∷ ss) (v ∷ vs)
     seen_later later n = (
       n.0,
       kept n.0 (inr later) n.1,
-      history_unseen (stage + 1) s ss v vs (not_below s.stage (stage + 1) (omega arith))
-          ∙ (n.2 ∙ sym (ap (λ xs. xs ++ n.0) (history_unseen stage s ss v vs (not_below s.stage stage (omega arith))))),
+      history_unseen (stage + 1) s ss v vs (nat_untest s.stage (stage + 1) (omega arith))
+          ∙ (n.2 ∙ sym (ap (λ xs. xs ++ n.0) (history_unseen stage s ss v vs (nat_untest s.stage stage (omega arith))))),
     )
 
 -- what is chosen for the variables of a stage can be seen after it

@@ -1,9 +1,9 @@
 -- What a ground problem states, as its policies are printed and read.
 use mathlib.Core.Bool.{Bool-set}
-use Rattle.std.proofs.Common.{◌≡◌, ◌∙◌, ℕ, suc, ℤ, true, List, [], ◌∷◌, length, refl, sym, ap, subst}
+use Rattle.std.proofs.Common.{◌≡◌, ◌∙◌, ℕ, ℤ, true, List, length, refl, sym, subst}
 use Rattle.std.proofs.Math.Logic.{∥∥₁_elim}
 use Rattle.std.specs.List.{list_all}
-use Rattle.sopl_ast.specs.Cells.{Cell, IsPoint, cells, policy_at}
+use Rattle.sopl_ast.specs.Cells.{IsPoint, cells, policy_at}
 use Rattle.sopl_ast.specs.Instances.{Decision, Problem, Stochastic, names_in}
 use Rattle.sopl_ast.specs.Origin.{IsFromTokens}
 use Rattle.sopl_ast.specs.Pieces.{is_word}
@@ -15,6 +15,7 @@ use Rattle.sopl_scen.specs.Layout.{AreStated, IsTreeOf, Layout, cells_for}
 use Rattle.sopl_scen.proofs.GroundStated.{ground_stated}
 use Rattle.sopl_scen.proofs.Stated.{constraints_in}
 use Rattle.serde_json.specs.Data.{Data}
+use Rattle.sopl_policy.proofs.Keeping.{point_long}
 use Rattle.policy_json.specs.Nodes.{outermost_node, policy_data}
 
 module _ (model : ModelTree) (from : ∥ IsFromTokens model ∥₁) (passes : NothingFails (text_events model)) (ds : List Decision) (ss : List Stochastic)
@@ -38,13 +39,6 @@ module _ (model : ModelTree) (from : ∥ IsFromTokens model ∥₁) (passes : No
   pub ground_printed : (values : List ℤ) (d : Data) → d ≡ outermost_node ds ss (policy_at (cells_for ds ss) values) → d ≡ policy_data (problem_of model) (policy_at (cells (problem_of model)) values)
   ground_printed values d is = is ∙ (λ i. outermost_node (decided i) (drawn i) (policy_at (cells_for (decided i) (drawn i)) values))
 
--- a point of the cells has a value for each
-point_length : (all : List Cell) (values : List ℤ) → IsPoint all values → length values ≡ length all
-point_length [] [] is = refl
-point_length [] (v ∷ values) is = absurd is
-point_length (c ∷ all) [] is = absurd is
-point_length (c ∷ all) (v ∷ values) is = ap suc (point_length all values is.2)
-
 pub values_long : (problem : Problem) (tree : Layout) (values : List ℤ) → IsTreeOf problem.decisions problem.stochastics tree → IsPoint (cells problem) values
     → length values ≡ tree.cells
-values_long problem tree values laid is = point_length (cells problem) values is ∙ sym laid.celled
+values_long problem tree values laid is = point_long (cells problem) values is ∙ sym laid.celled

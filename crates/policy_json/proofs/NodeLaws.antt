@@ -8,12 +8,12 @@ use Rattle.std.proofs.lemmas.Bool.Decides.{nat_tests}
 use Rattle.std.proofs.lemmas.List.{nil_from_length}
 use Rattle.std.proofs.lemmas.Option.{get_or_from_slice_get, slice_get-get_or, slice_get_within}
 use Rattle.serde_json.specs.Data.{Data}
+use Rattle.sopl_base.proofs.Lists.{map-map}
 use Rattle.sopl_ast.specs.Instances.{Decision, Stochastic}
 use Rattle.sopl_ast.specs.Scenarios.{Scenario, scenarios}
 use Rattle.sopl_ast.specs.Histories.{history, histories}
 use Rattle.sopl_ast.specs.Cells.{Cell, policy_at}
 use Rattle.sopl_ast.specs.Policies.{Policy}
-use Rattle.lang_laws.proofs.ScenarioLaws.{map-map}
 use Rattle.policy_tree.proofs.Members.{In}
 use Rattle.policy_tree.proofs.CellsOf.{Once-numbered}
 use Rattle.policy_tree.proofs.Found.{found_at}

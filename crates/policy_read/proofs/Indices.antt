@@ -1,37 +1,37 @@
 -- The indices of a text whose unfolding nothing stops, the values of its stochastic variables and the values of its points are read back.
 use native.Mathlib.Omega.{arith}
-use Rattle.std.proofs.Common.{◌≡◌, ◌∙◌, ◌+◌, ◌<◌, ◌≤◌, ◌^◌, ℕ, zero, suc, ℤ, pos, negsuc, ◌+ℤ◌, ◌≤ℤ◌, ◌<ℤ◌, Bool, true, false, cond, List, [], ◌∷◌, ◌++◌, map, All, Option}
-use Rattle.std.proofs.Common.{Some, None, unwrap_or, refl, sym, ap, ap₂, subst}
+use Rattle.std.proofs.Common.{◌≡◌, ◌∙◌, ◌+◌, ◌<◌, ◌≤◌, ◌^◌, ℕ, zero, suc, ℤ, pos, negsuc, ◌+ℤ◌, ◌≤ℤ◌, ◌<ℤ◌, Bool, true, false, cond, List, [], ◌∷◌, ◌++◌, map, All}
+use Rattle.std.proofs.Common.{Some, None, unwrap_or, refl, sym, ap₂, subst}
 use Rattle.std.proofs.lemmas.Int.{ints}
 use Rattle.std.proofs.lemmas.List.Elements.{All-nil, recursion_from_All}
 use Rattle.std.proofs.lemmas.Map.Views.{All-insert_key}
 use Rattle.std.specs.BTreeSet.{insert_key}
 use Rattle.std.specs.Int.{int_gap}
-use Rattle.std.specs.Int.RustNames.{unsigned_abs}
 use Rattle.std.specs.List.{AllByRecursion, enumerate_from, flat_map, fold}
 use Rattle.std.specs.Ordering.{int_cmp}
 use Rattle.std.specs.Str.{bytes_eq}
+use Rattle.sopl_base.proofs.Lists.{all_append, all_joined}
 use Rattle.sopl_ast.specs.Arrays.{Dimension, array_of, array_events, dimension_events, dimensions_of, indices, with_index}
 use Rattle.sopl_ast.specs.Cells.{Cell, IsPoint, cells, cells_of}
-use Rattle.sopl_ast.specs.Constants.{numbers_in, numbers_of, value, value_or_zero}
+use Rattle.sopl_ast.specs.Constants.{numbers_in, value_or_zero}
 use Rattle.sopl_ast.specs.Declarations.{Declared, behind, behind_all, constant_places, declaration_events, declarations_events, decisions_of, domain_events, domain_of}
 use Rattle.sopl_ast.specs.Declarations.{nothing_declared, outcome_events, outcome_of, set_of, stage_events, stage_of, stochastics_of}
 use Rattle.sopl_ast.specs.Histories.{histories}
-use Rattle.sopl_ast.specs.Instances.{Decision, Outcome, Problem, Stochastic}
+use Rattle.sopl_ast.specs.Instances.{Decision, Outcome, Stochastic}
 use Rattle.sopl_ast.specs.Known.{Between, Known, Listed, NamedSet, NumberSet, ascending, set_named}
 use Rattle.sopl_ast.specs.Lists.{trees_list}
 use Rattle.sopl_ast.specs.Numbers.{both_of, count_between, counted_up, up_to}
-use Rattle.sopl_ast.specs.Tree.{Ends, Named, Range, Tree, Trees, no_tree, tree, place_of}
+use Rattle.sopl_ast.specs.Tree.{Ends, Named, Range, Trees, no_tree, tree, place_of}
 use Rattle.sopl_ast.specs.UnfoldEvents.{Counted, UnfoldEvent, constant_place, range_events, too_many}
 use Rattle.sopl_ast.specs.Unfolding.{problem_of, text_events}
 use Rattle.sopl_ast.specs.Whole.{Declaration, DimTree, DvarDecl, IntDecl, ModelTree, RangeDecl, SetDecl, StochDecl}
 use Rattle.unfold_laws.specs.Bounds.{IsBoundedDecision, IsBoundedOutcome, IsBoundedStochastic}
 use Rattle.unfold_laws.specs.Passing.{IsConstant, NothingFails}
-use Rattle.unfold_laws.proofs.Declared.{all_append, all_map, each_joined, each_of, worth_small}
+use Rattle.unfold_laws.proofs.Declared.{all_map, each_of, worth_small}
 use Rattle.unfold_laws.proofs.Passing.{each_passes, parts_pass, value_given}
 use Rattle.unfold_laws.proofs.Stages.{all_by_stage}
 use Rattle.unfold_laws.proofs.Whole.{decisions_are_bounded, stochastics_are_bounded, text_parts}
-use Rattle.policy_read.specs.Printed.{AcceptedAreReadable, AreReadable, IsReadable}
+use Rattle.policy_read.specs.Printed.{AcceptedAreReadable, IsReadable}
 
 abbrev pub AreIndices : List ℤ → Type 0
 AreIndices zs = AllByRecursion IsReadable zs
@@ -122,7 +122,7 @@ dimensions_readable known dims sets is =
 indices_readable : (ds : List Dimension) → AreReadableDimensions ds → AllByRecursion AreIndices (indices ds)
 indices_readable [] all = (tt, tt)
 indices_readable (d ∷ ds) all =
-    each_joined AreIndices (λ number. map (λ later. number ∷ later) (indices ds)) d.numbers
+    all_joined AreIndices (λ number. map (λ later. number ∷ later) (indices ds)) d.numbers
     (each_of IsReadable (λ number. AllByRecursion AreIndices (map (λ later. number ∷ later) (indices ds)))
     (λ number small. all_map AreIndices AreIndices (λ later. number ∷ later) (λ later smaller. (small, smaller)) (indices ds) (indices_readable ds all.1)) d.numbers all.0)
 

@@ -1,17 +1,17 @@
 -- The values that are read of a text lie inside the domains of their cells.
 use native.Mathlib.Omega.{arith}
 use Rattle.std.proofs.Common.{◌≡◌, ◌∙◌, ◌+◌, ◌-◌, ℕ, codes, zero, suc, ℤ, ◌≤ℤ◌, Bool, true, false, ◌||◌, int_lt, List, [], ◌∷◌, ◌++◌, map, set, Option, Some, None}
-use Rattle.std.proofs.Common.{if◌then◌else◌, slice_get, refl, sym, ap, subst}
+use Rattle.std.proofs.Common.{if◌then◌else◌, slice_get, refl}
 use Rattle.std.proofs.lemmas.Int.{ints}
 use Rattle.std.specs.List.{AllByRecursion, enumerate_from, flat_map}
 use Rattle.std.specs.Option.{option_map_or}
 use Rattle.serde_json.specs.Data.{Data}
 use Rattle.serde_json.specs.Find.{get}
+use Rattle.sopl_base.proofs.Lists.{all_append}
 use Rattle.sopl_ast.specs.Cells.{Cell, IsPoint, cells_of}
 use Rattle.sopl_ast.specs.Histories.{histories}
 use Rattle.sopl_ast.specs.Instances.{Decision, Stochastic}
 use Rattle.unfold_laws.specs.Bounds.{IsBoundedDecision}
-use Rattle.unfold_laws.proofs.Declared.{all_append}
 use Rattle.sopl_scen.specs.Layout.{cells_for}
 use Rattle.policy_json.specs.LastStage.{last_stage}
 use Rattle.policy_read.specs.declared.domains.Domain.{Domain}
@@ -19,7 +19,7 @@ use Rattle.policy_read.specs.declared.entry.Told.{Told}
 use Rattle.policy_read.specs.Domains.{cell_domain, first_outside, is_outside, low_in}
 use Rattle.policy_read.specs.Forms.{Facing, all_told, facing, first_difference, nodes_of}
 use Rattle.policy_read.specs.Listed.{data_in}
-use Rattle.policy_read.specs.Policies.{Differs, HoldsPoint, NoJson, PolicyReading, data_read, form_for, node_read, nodes_policy, policy_in, policy_unless, put_all_at}
+use Rattle.policy_read.specs.Policies.{Differs, HoldsPoint, NoJson, data_read, form_for, node_read, nodes_policy, policy_in, policy_unless, put_all_at}
 use Rattle.policy_read.specs.Policies.{put_at, told_policy, values_unless}
 
 -- a value that is not outside lies between the ends

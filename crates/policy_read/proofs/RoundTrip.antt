@@ -4,6 +4,7 @@ use Rattle.std.proofs.Common.{◌≡◌, ◌∙◌, ◌+◌, ◌-◌, ◌++◌, 
 use Rattle.std.specs.List.{AllByRecursion, enumerate_from, flat_map}
 use Rattle.std.specs.Option.{option_map_or}
 use Rattle.serde_json.specs.Data.{Data}
+use Rattle.sopl_base.proofs.Lists.{all_joined}
 use Rattle.sopl_ast.specs.Cells.{IsPoint, cells, policy_at}
 use Rattle.sopl_ast.specs.Instances.{Decision, Problem}
 use Rattle.sopl_ast.specs.Policies.{IsKey, Key, Policy}
@@ -11,6 +12,7 @@ use Rattle.sopl_ast.specs.Unfolding.{problem_of}
 use Rattle.unfold_laws.proofs.Whole.{decisions_are_bounded}
 use Rattle.policy_tree.proofs.Bijection.{points_are_policies, points_differ}
 use Rattle.policy_tree.proofs.Members.{In}
+use Rattle.sopl_policy.proofs.Keeping.{point_long}
 use Rattle.policy_json.specs.Entries.{entry_of}
 use Rattle.policy_json.specs.LastStage.{last_stage}
 use Rattle.policy_json.specs.Nodes.{branch_at, decide_of, decided_at, decision_entry, node_at, node_of, numbered_in_stage, outcomes_after, policy_data}
@@ -31,15 +33,7 @@ use Rattle.policy_read.proofs.Indices.{accepted_are_readable}
 use Rattle.policy_read.proofs.Printing.{IsReadBack, decide_back}
 use Rattle.policy_read.proofs.Putting.{all_point, all_there, lows_lie, none_outside}
 use Rattle.policy_read.proofs.Small.{policy, prints_in_form, shown}
-use Rattle.policy_read.proofs.Visited.{At, IsSeen, IsTold, behind, both_at, decision_at, entry_list, first_all, form_there, key_at, next_seen, nodes_told, p, point_long, pos_of, q, second_all}
-
-joined : {B : Type 0} (P : B → Type 0) (ys zs : List B) → AllByRecursion P ys → AllByRecursion P zs → AllByRecursion P (ys ++ zs)
-joined P [] zs one two = two
-joined P (y ∷ ys) zs one two = (one.0, joined P ys zs one.1 two)
-
-flat_all : {A B : Type 0} (P : B → Type 0) (f : A → List B) (xs : List A) → AllByRecursion (λ x. AllByRecursion P (f x)) xs → AllByRecursion P (flat_map f xs)
-flat_all P f [] all = tt
-flat_all P f (x ∷ xs) all = joined P (f x) (flat_map f xs) all.0 (flat_all P f xs all.1)
+use Rattle.policy_read.proofs.Visited.{At, IsSeen, IsTold, behind, both_at, decision_at, entry_list, first_all, form_there, key_at, next_seen, nodes_told, p, pos_of, q, second_all}
 
 all_flat : {A B : Type 0} (P : B → Type 0) (f : A → List B) (xs : List A) → AllByRecursion P (flat_map f xs) → AllByRecursion (λ x. AllByRecursion P (f x)) xs
 all_flat P f [] all = tt
@@ -133,7 +127,7 @@ printed_is_read problem values staged bounded point small =
     let domains : List Domain = map cell_domain (cells problem) in
     let ws : List ℤ = put_all_at told (map low_in domains) in
     let are_told : AllByRecursion (IsTold problem values point staged small) told =
-    flat_all (IsTold problem values point staged small) told_by nodes (nodes_told problem values point staged small later 1 [] begun) in
+    all_joined (IsTold problem values point staged small) told_by nodes (nodes_told problem values point staged small later 1 [] begun) in
     let lows : IsPoint (cells problem) (map low_in domains) = lows_lie (cells problem) values point in
     let is_point : IsPoint (cells problem) ws = all_point values (cells problem) point told (map low_in domains) are_told lows in
     let wlong : length ws ≡ length (cells problem) = point_long (cells problem) ws is_point in

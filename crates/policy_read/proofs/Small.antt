@@ -1,10 +1,11 @@
 -- The numbers that are printed are read back, and the form shows the number of a cell where a policy shows its value.
 use native.Mathlib.Omega.{arith}
-use Rattle.std.proofs.Common.{◌≡◌, ◌∙◌, ◌+◌, ◌<◌, ◌^◌, ℕ, zero, suc, ℤ, pos, negsuc, List, [], ◌∷◌, map, filter, length, get_or, Bool, true, false, cond, Option, Some, None, if◌then◌else◌, unwrap_or, nat_eq, nat_lt, ◌-◌, ◌⊎◌, inl, inr, refl, sym, ap, subst, slice_get}
+use Rattle.std.proofs.Common.{◌≡◌, ◌∙◌, ◌+◌, ◌<◌, ◌^◌, ℕ, zero, suc, ℤ, pos, negsuc, List, [], ◌∷◌, map, length, get_or, true, Option, Some, None, if◌then◌else◌, unwrap_or, nat_eq, nat_lt, ◌-◌, ◌⊎◌, inl, inr, refl, sym, ap, subst}
 use Rattle.std.proofs.lemmas.Int.{ints}
 use Rattle.std.proofs.lemmas.List.{length-map}
 use Rattle.std.specs.List.{AllByRecursion, range_with_len, zip}
 use Rattle.std.specs.FinMap.{find, get}
+use Rattle.sopl_base.proofs.Lists.{all_at, all_filter, each_of}
 use Rattle.sopl_ast.specs.Cells.{Cell, cells, policy_at}
 use Rattle.sopl_ast.specs.Instances.{Decision, Outcome, Problem, Stochastic}
 use Rattle.sopl_ast.specs.Policies.{Key, Policy, key_cmp}
@@ -52,11 +53,6 @@ shown_at q (k ∷ ks) (v ∷ vs) n long =
           ]
     ]
 
-each_of : {A : Type 0} (P : A → Type 0) (xs : List A) (i : ℕ) (d : A) → AllByRecursion P xs → i < length xs → P (get_or xs i d)
-each_of P [] i d all below = absurd (omega (arith, below))
-each_of P (x ∷ xs) zero d all below = all.0
-each_of P (x ∷ xs) (suc i) d all below = each_of P xs i d all.1 (omega (arith, below))
-
 -- at a key of the cells, what stands in the form and in a policy
 module _ (problem : Problem) (values : List ℤ) (long : length values ≡ length (cells problem)) where
   abbrev pub form : Policy
@@ -88,23 +84,10 @@ module _ (problem : Problem) (values : List ℤ) (long : length values ≡ lengt
         | inr some ↦ subst IsReadBack (sym (ap (λ o. unwrap_or o (pos 0)) some.3)) (each_of IsReadBack values some.0 (pos 0) all some.1)
       ]
 
-got_of : {A : Type 0} (P : A → Type 0) (xs : List A) (i : ℕ) (x : A) → AllByRecursion P xs → slice_get xs i ≡ Some x → P x
-got_of P [] i x all is = cc
-got_of P (y ∷ ys) zero x all is = subst P (ap (λ o. unwrap_or o y) is) all.0
-got_of P (y ∷ ys) (suc i) x all is = got_of P ys i x all.1 is
-
 in_of : {A : Type 0} (P : A → Type 0) (xs : List A) (x : A) → AllByRecursion P xs → In x xs → P x
 in_of P [] x all within = absurd within
 in_of P (y ∷ ys) x all (inl is) = subst P is all.0
 in_of P (y ∷ ys) x all (inr within) = in_of P ys x all.1 within
-
-kept_of : {A : Type 0} (P : A → Type 0) (p : A → Bool) (xs : List A) → AllByRecursion P xs → AllByRecursion P (filter p xs)
-kept_of P p [] all = tt
-kept_of {A} P p (x ∷ xs) all = by (p x) (kept_of P p xs all.1)
-  where
-    by : (b : Bool) → AllByRecursion P (filter p xs) → AllByRecursion P (cond b (x ∷ filter p xs) (filter p xs))
-    by true later = (all.0, later)
-    by false later = later
 
 -- a stochastic variable whose indices and values are small
 abbrev pub IsDrawnSmall : Stochastic → Type 0
@@ -124,9 +107,9 @@ are_read_back problem values long small =
     record {
       numbers = numbers problem values long;
       values = read_values problem values long (all_read_back values small.valued);
-      decided = λ i (d : Decision) is. all_read_back d.index (got_of (λ (e : Decision). AllByRecursion IsReadable e.index) problem.decisions i d small.decided is);
+      decided = λ i (d : Decision) is. all_read_back d.index (all_at (λ (e : Decision). AllByRecursion IsReadable e.index) problem.decisions i d small.decided is);
       seen = λ stage vs within.
-          chosen_back (seen_after stage problem.stochastics) vs (kept_of IsDrawnSmall (λ (s : Stochastic). nat_eq s.stage stage) problem.stochastics small.drawn)
+          chosen_back (seen_after stage problem.stochastics) vs (all_filter IsDrawnSmall (λ (s : Stochastic). nat_eq s.stage stage) problem.stochastics small.drawn)
           (outcome_chosen stage problem.stochastics vs within);
     }
 

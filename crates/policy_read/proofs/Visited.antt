@@ -6,13 +6,15 @@ use Rattle.std.specs.Option.{option_map_or}
 use Rattle.std.specs.FinMap.{get}
 use Rattle.std.proofs.Math.Nat.{zero-add}
 use Rattle.serde_json.specs.Data.{Data}
-use Rattle.sopl_ast.specs.Cells.{Cell, IsPoint, cells}
+use Rattle.sopl_base.proofs.Lists.{all_append}
+use Rattle.sopl_ast.specs.Cells.{IsPoint, cells}
 use Rattle.sopl_ast.specs.Histories.{history}
 use Rattle.sopl_ast.specs.Instances.{Decision, Problem}
 use Rattle.sopl_ast.specs.Policies.{IsKey, Key, Policy}
 use Rattle.sopl_ast.specs.Scenarios.{Scenario, scenarios}
 use Rattle.policy_tree.proofs.Bijection.{points_are_policies}
 use Rattle.policy_tree.proofs.Members.{Contains-In, In, from_enumerate, from_filter}
+use Rattle.sopl_policy.proofs.Keeping.{point_long}
 use Rattle.policy_json.specs.Entries.{entry_of}
 use Rattle.policy_json.specs.Nodes.{decide_of, decided_at, decision_entry, node_at, node_of, numbered_in_stage, outcomes_after}
 use Rattle.policy_json.specs.Staged.{IsStaged}
@@ -49,19 +51,9 @@ next_seen problem stage seen values staged (vs, chosen, is) within =
     next_chosen stage 1 problem.stochastics vs values staged.ascending chosen (outcome_chosen stage problem.stochastics values within) in
     (next.0, next.1, next.2 ∙ ap (λ xs. xs ++ values) is)
 
-pub point_long : (cs : List Cell) (vs : List ℤ) → IsPoint cs vs → length vs ≡ length cs
-point_long [] [] point = refl
-point_long [] (v ∷ vs) point = absurd point
-point_long (c ∷ cs) [] point = absurd point
-point_long (c ∷ cs) (v ∷ vs) point = ap suc (point_long cs vs point.2)
-
 abbrev pub pos_of : ℤ → ℕ
 pos_of (pos n) = n
 pos_of (negsuc n) = 0
-
-both_all : {A : Type 0} (P : A → Type 0) (xs ys : List A) → AllByRecursion P xs → AllByRecursion P ys → AllByRecursion P (xs ++ ys)
-both_all P [] ys one two = two
-both_all P (x ∷ xs) ys one two = (one.0, both_all P xs ys one.1 two)
 
 pub first_all : {A : Type 0} (P : A → Type 0) (xs ys : List A) → AllByRecursion P (xs ++ ys) → AllByRecursion P xs
 first_all P [] ys all = tt
@@ -127,7 +119,7 @@ module _ (problem : Problem) (values : List ℤ) (point : IsPoint (cells problem
   entries_told stage seen possible ((place, d) ∷ nds) each =
       let first = each (place, d) (inl refl) in
       let at : At place seen = key_at (place, seen) first.0 in
-      both_all IsTold (told_list (decision_entry q seen (place, d)) (decision_entry p seen (place, d))) _
+      all_append IsTold (told_list (decision_entry q seen (place, d)) (decision_entry p seen (place, d))) _
       (subst (AllByRecursion IsTold) (sym (entry_list seen place d at first.1)) ((at.1, refl), tt))
       (entries_told stage seen possible nds (λ nd within. each nd (inr within)))
 
@@ -149,7 +141,7 @@ module _ (problem : Problem) (values : List ℤ) (point : IsPoint (cells problem
       (map (branch_after problem.decisions problem.stochastics p later stage seen) outcomes))
   told_each later stage seen [] each = tt
   told_each later stage seen (vs ∷ outcomes) each =
-      both_all (λ h. AllByRecursion IsTold (told_by h)) (nodes_of later (both_at later (stage + 1) (seen ++ vs))) _ (each vs (inl refl))
+      all_append (λ h. AllByRecursion IsTold (told_by h)) (nodes_of later (both_at later (stage + 1) (seen ++ vs))) _ (each vs (inl refl))
       (told_each later stage seen outcomes (λ us within. each us (inr within)))
 
   -- the nodes behind a node of what is printed

@@ -61,7 +61,7 @@ impl Propagator for Rise {
 }
 
 /// A member for each reason whose cells exist.
-#[tactic(auto, using(crate::proofs::Rising::all_none, crate::proofs::Rising::all_more))]
+#[tactic(auto, using(sopl_base::proofs::Lists::all_none, crate::proofs::Rising::all_more))]
 fn members(alloc: Global, program: &Rising) -> Result<Vec<Rise>, AllocError>
     ensures fit { IfOk result (λ list. All (λ rise. AreCells program.now.intervals.items rise.first rise.second) list.items) }
 {

@@ -1,5 +1,5 @@
 -- What the propagator of a linear comparison finds.
-use Rattle.std.proofs.Common.{◌≡◌, inl, inr, ℕ, ◌<◌, ◌≤◌, ℤ, pos, unsigned_abs, List, [], ◌∷◌, Option, Some, None, IfSome, option_map, Bool, true, false, get_or, slice_get, arith}
+use Rattle.std.proofs.Common.{◌≡◌, inl, inr, ℕ, ◌<◌, ◌≤◌, ℤ, pos, unsigned_abs, List, [], ◌∷◌, Option, Some, None, IfSome, option_map, Bool, true, false, slice_get, arith}
 use Rattle.std.proofs.Common.{ap, refl, sym, subst, ◌∙◌}
 use Rattle.std.specs.List.{All, Contains}
 use Rattle.std.specs.Option.{option_and_then, option_map_or}
@@ -34,6 +34,7 @@ use Rattle.term_program.specs.Programs.{problem_in, root_in}
 use Rattle.term_math.specs.declared.forms.Coefficient.{Coefficient}
 use Rattle.term_math.specs.Shown.{cells_of}
 use Rattle.term_store.proofs.OrderedForms.{Ordered}
+use Rattle.prop_core.proofs.Rising.{for_each, itself}
 use Rattle.prop_linear.specs.declared.balances.Difference.{Difference}
 use Rattle.prop_linear.specs.declared.comparisons.Linear as own
 use Rattle.prop_linear.specs.Balances.{AreAbove, Ascend, IsLight, box_of, closes, sum_over}
@@ -154,15 +155,6 @@ pub is_linear : (program : Program) (instance scenario : ℕ) (cond : Cond) → 
     → option_and_then (λ conditions. slice_get conditions scenario) (slice_get (problem_in program).hards instance) ≡ Some cond → shapes.shape_in (root_in program) cond ≡ Linear
 is_linear program instance scenario cond linear at =
     subst (λ (o : Option Cond). IfSome o (λ (c : Cond). shapes.shape_in (root_in program) c ≡ Linear)) at linear
-
--- a list of one reason
-itself : (mine : Reason) → Contains (mine ∷ []) mine
-itself mine = (0, omega arith, refl)
-
-for_each : (mine : Reason) (P : Reason → Type 0) → P mine → (reason : Reason) → Contains (mine ∷ []) reason → P reason
-for_each mine P holds reason here =
-    let first : here.0 ≡ 0 = omega (arith, here.1) in
-    subst P (sym (ap (λ n. get_or (mine ∷ []) n reason) first) ∙ here.2) holds
 
 -- a part of the problem's root is one of the program's
 pub inside_root : (program : Program) (b : Box) → Inside b (box_problem_of program).root → Inside b (root_in program)

@@ -12,13 +12,14 @@ use Rattle.sopl_base.specs.declared.reason.Reason.{Reason}
 use Rattle.sopl_base.specs.declared.reason.Side.{Side}
 use Rattle.sopl_base.specs.declared.reason.Side.TheVariants.{Le, Ge}
 use Rattle.sopl_base.specs.declared.reason.Step.{Step}
+use Rattle.sopl_base.proofs.Sizes.{sized}
 use Rattle.box_problem.specs.Box.{Box, IsBox, Inside, high, low}
 use Rattle.box_problem.proofs.Boxes.{part_of_itself}
 use Rattle.term_language.specs.Ends as rule
 use Rattle.term_language.specs.Forms.{cells_ends}
 use Rattle.term_language.specs.Marks.{none_compares}
 use Rattle.term_language.specs.Sizes.{cells_weight, weight_of}
-use Rattle.term_language.proofs.Bounds.{Bounds, small, sized, bounds_plus, bounds_scaled, bounds_weight}
+use Rattle.term_language.proofs.Bounds.{Bounds, small, bounds_plus, bounds_scaled, bounds_weight}
 use Rattle.prop_shave.specs.declared.shave_steps.CellEnd.{CellEnd}
 use Rattle.prop_shave.specs.declared.shave_steps.Shave.{Shave}
 use Rattle.prop_shave.specs.Ends.{highest, highest_at, lowest, lowest_at, step_at, upper_of}

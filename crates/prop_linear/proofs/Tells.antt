@@ -4,9 +4,12 @@ use Rattle.std.proofs.Common.{get_or, Option, Some, None, arith, ap, refl, sym, 
 use Rattle.std.proofs.lemmas.Bool.{cases_lt}
 use Rattle.std.proofs.lemmas.Int.{ints, clamps, unsigned_abs-mul}
 use Rattle.std.proofs.lemmas.List.{get_or_default}
+use Rattle.std.proofs.lemmas.Option.{none-some}
 use Rattle.sopl_base.specs.declared.comparison.CmpOp.{CmpOp}
-use Rattle.box_problem.specs.Box.{Box, IsBox, Inside, InBox}
+use Rattle.sopl_base.proofs.Sizes.{plus_size}
+use Rattle.box_problem.specs.Box.{Box, IsBox, Inside}
 use Rattle.box_problem.proofs.Boxes.{points_of_parts}
+use Rattle.box_problem.proofs.Shared.{lows_inside}
 use Rattle.term_language.specs.declared.answers.Defined.{Defined}
 use Rattle.term_language.specs.declared.answers.Defined.TheVariants.{Never, Maybe, Always}
 use Rattle.term_language.specs.Ends.{Ends, ends, exactly, plus, scaled, cell_ends}
@@ -29,7 +32,7 @@ use Rattle.term_nodes.specs.declared.nodes.Node.{Node}
 use Rattle.term_nodes.specs.declared.nodes.Node.TheVariants as node
 use Rattle.term_nodes.specs.Things.{Thing, cond_at, cond_in, thing_of, things}
 use Rattle.term_program.specs.Comparisons.{Difference, is_linear_pair, linear_in}
-use Rattle.term_math.proofs.Weights.{cells_weighted, combined_weighted, plus_size}
+use Rattle.term_math.proofs.Weights.{cells_weighted, combined_weighted}
 use Rattle.term_store.proofs.OrderedForms.{Ordered, form_ordered, once}
 
 -- both sides of a comparison are small and proper
@@ -98,9 +101,6 @@ difference op f = record { op = op; form = f }
 abbrev if_linear : Bool → Difference → Option Difference
 if_linear test d = if test then Some d else None
 
-none_some : {A : Type 0} (x : A) → None ≡ Some x → ⊥
-none_some x is = cc
-
 abbrev inner : Difference → Option Difference → Difference
 inner d None = d
 inner d (Some x) = x
@@ -121,14 +121,14 @@ pub pair_of : (root : Box) (c : Cond) (d : Difference) → linear_in root c ≡ 
 pair_of root (Compare op a b) d is =
     by_bool (λ test. if_linear test (difference op (plus_form (negsuc 0) (form root a) (form root b))) ≡ Some d → IsPair root (Compare op a b) d) (is_linear_pair root a b)
     (λ met same. pair_here root op a b d met (ap (inner d) same))
-    (λ unmet same. absurd (none_some d same))
+    (λ unmet same. absurd (none-some d same))
     is
-pair_of root (Not c) d is = absurd (none_some d is)
-pair_of root (All conds) d is = absurd (none_some d is)
-pair_of root (Any conds) d is = absurd (none_some d is)
-pair_of root (Implies a c) d is = absurd (none_some d is)
-pair_of root (AllDifferent terms) d is = absurd (none_some d is)
-pair_of root (Cumulative tasks capacity) d is = absurd (none_some d is)
+pair_of root (Not c) d is = absurd (none-some d is)
+pair_of root (All conds) d is = absurd (none-some d is)
+pair_of root (Any conds) d is = absurd (none-some d is)
+pair_of root (Implies a c) d is = absurd (none-some d is)
+pair_of root (AllDifferent terms) d is = absurd (none-some d is)
+pair_of root (Cumulative tasks capacity) d is = absurd (none-some d is)
 
 -- marks: what is Always defined over the root is never undefined over a box inside it
 both_always : (m n : Defined) → is_always (both m n) ≡ true → (m ≡ Always) × (n ≡ Always)
@@ -158,16 +158,9 @@ both_not_never Maybe Maybe first second is = cc
 both_not_never Maybe Always first second is = cc
 both_not_never Always n first second is = second is
 
-low_point : (b : Box) → IsBox b → InBox b b.lows
-low_point b is_box = record {
-  same_cells = refl;
-  from_low = λ cell exists. omega (arith, ints);
-  to_high = λ cell exists. is_box.ordered cell exists;
-}
-
 not_never : (root b : Box) (t : Term) → IsBox root → Inside b root → IsSoundTerm root t → mark Near root root t ≡ Always → ¬ mark Near root b t ≡ Never
 not_never root b t is_root inside sound always =
-    let point = low_point b inside.is_box in
+    let point = lows_inside b inside.is_box in
     known_not_never (mark Near root b t) (mark Near root root t) (value b.lows t)
     (marks_tell Near root b b.lows t inside.is_box point sound.proper)
     (marks_tell Near root root b.lows t is_root (points_of_parts b root b.lows inside point) sound.proper) always
@@ -175,7 +168,7 @@ not_never root b t is_root inside sound always =
 -- there nothing but cells is in the sum
 plain_clear : (root b : Box) (t : Term) → Inside b root → IsSoundTerm root t → (form root t).plain ≡ true → IsClear (atoms Near root b t)
 plain_clear root b t inside sound plain =
-    (read Near root b b.lows t inside.is_box (low_point b inside.is_box) sound.proper).clear plain
+    (read Near root b b.lows t inside.is_box (lows_inside b inside.is_box) sound.proper).clear plain
 
 judged_false : (m : Defined) (fails holds : Bool) → ¬ m ≡ Never → is_false (judged m fails holds) ≡ fails
 judged_false Never fails holds defined = absurd (defined refl)

@@ -17,7 +17,7 @@ use Rattle.sopl_ast.specs.Mistakes.{of_model, IsWellTyped, IsFirstMistake, IsNoL
 use Rattle.sopl_ast.specs.Instances.{Problem}
 use Rattle.sopl_ast.specs.UnfoldEvents.{first_failure}
 use Rattle.sopl_ast.specs.Unfolding.{problem_of, text_events}
-use Rattle.sopl_lex.proofs.Meet.{lexes_one}
+use Rattle.sopl_lex.proofs.Meet.{lexes_one, same_refusal}
 use Rattle.parse_grammar.proofs.Stops.{spells_one}
 use Rattle.parse_laws.specs.RefusalLaws as unread
 use Rattle.parse_laws.proofs.RefusalOnce.{one_refusal}
@@ -136,10 +136,6 @@ refused_not_limited text refusal excess reason limited = by_reason reason (limit
     by_reason (mistaken model is first) l = typing_there text refusal model l.model is first.among l.spelled l.typed
     by_reason (stopped model is typed stops) l =
         l.not_stopped refusal (ap (λ m. first_failure 0 (text_events m)) (one_model text l.model model l.spelled is) ∙ stops)
-
--- two refusals by one code at one place are one
-same_refusal : (a b : Refusal) → a.code ≡ b.code → a.at ≡ b.at → a ≡ b
-same_refusal a b one two = λ i. record { code = one i; at = two i }
 
 -- of two refusals that are no later than each other both are one
 not_later : (a b : Refusal) → IsNoLater a b → IsNoLater b a → a ≡ b

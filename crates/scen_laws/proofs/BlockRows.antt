@@ -5,10 +5,9 @@ use Rattle.std.proofs.lemmas.List.Concat.{get_or-flat_map}
 use Rattle.std.proofs.lemmas.List.Elements.{All-from_recursion}
 use Rattle.std.proofs.lemmas.List.Folds.{flat_map-map}
 use Rattle.std.specs.List.{AllByRecursion, flat_map}
+use Rattle.sopl_base.proofs.Lists.{all_append, map-flat_map, map-map}
 use Rattle.sopl_ast.specs.Instances.{Outcome, Stochastic}
 use Rattle.sopl_ast.specs.Scenarios.{Scenario, preceded_by, scenarios}
-use Rattle.lang_laws.proofs.ScenarioLaws.{map-map, map-flat_map}
-use Rattle.unfold_laws.proofs.Declared.{all_append}
 use Rattle.scen_laws.specs.Laws.{followed, rows, values_of}
 use Rattle.scen_laws.proofs.Splits.{scenarios_split}
 use Rattle.scen_laws.specs.BlockLaws.{RowsSplit, rows_behind}

@@ -4,16 +4,11 @@ use Rattle.std.proofs.Common.{ap, ◌∙◌, length-append}
 use Rattle.std.proofs.lemmas.Bool.{cases_order}
 use Rattle.std.proofs.lemmas.Bool.Decides.{nat_tests}
 use Rattle.std.proofs.lemmas.List.{append_assoc, append_cancel_left, get_or-append-add, get_or-take, length-take-le, take-append-drop}
+use Rattle.sopl_base.proofs.Tests.{nat_test, nat_untest}
 use Rattle.sopl_ast.specs.Instances.{Stochastic}
 use Rattle.scen_laws.specs.Laws.{IsByStage, seen_before}
 use Rattle.scen_laws.proofs.Stages.{AllFrom, from_later}
 use Rattle.scen_laws.specs.BlockLaws.{of_stage}
-
-pub below : (a b : ℕ) → a < b → nat_lt a b ≡ true
-below a b h = grind (arith, nat_tests)
-
-pub not_below : (a b : ℕ) → b ≤ a → nat_lt a b ≡ false
-not_below a b h = grind (arith, nat_tests)
 
 pub same : (a b : ℕ) → a ≡ b → nat_eq a b ≡ true
 same a b h = grind (arith, nat_tests)
@@ -25,7 +20,7 @@ differ a b (inr h) = grind (arith, nat_tests)
 -- of these none is seen before the stage
 none_before : (stage : ℕ) (ss : List Stochastic) → AllFrom stage ss → seen_before stage ss ≡ 0
 none_before stage [] all = refl
-none_before stage (s ∷ ss) all = λ i. cond (not_below s.stage stage all.0 i) (suc (seen_before stage ss)) 0
+none_before stage (s ∷ ss) all = λ i. cond (nat_untest s.stage stage all.0 i) (suc (seen_before stage ss)) 0
 
 -- of these none is of an earlier stage
 none_at : (stage later : ℕ) (ss : List Stochastic) → stage < later → AllFrom later ss → of_stage stage ss ≡ []
@@ -63,20 +58,20 @@ prefix_next stage (s ∷ ss) ascend =
     is_before : s.stage < stage → prefix_of (stage + 1) ss ≡ prefix_of stage ss ++ of_stage stage ss
         → prefix_of (stage + 1) (s ∷ ss) ≡ prefix_of stage (s ∷ ss) ++ of_stage stage (s ∷ ss)
     is_before earlier so =
-        turned true true false (below s.stage (stage + 1) (omega (arith, earlier))) (below s.stage stage earlier) (differ s.stage stage (inl earlier))
+        turned true true false (nat_test s.stage (stage + 1) (omega (arith, earlier))) (nat_test s.stage stage earlier) (differ s.stage stage (inl earlier))
         (ap (λ more. s ∷ more) so)
 
     is_at : s.stage ≡ stage → prefix_of (stage + 1) ss ≡ prefix_of stage ss ++ of_stage stage ss
         → prefix_of (stage + 1) (s ∷ ss) ≡ prefix_of stage (s ∷ ss) ++ of_stage stage (s ∷ ss)
     is_at here so =
-        turned true false true (below s.stage (stage + 1) (omega (arith, here))) (not_below s.stage stage (omega (arith, here))) (same s.stage stage here)
+        turned true false true (nat_test s.stage (stage + 1) (omega (arith, here))) (nat_untest s.stage stage (omega (arith, here))) (same s.stage stage here)
         (ap (λ more. s ∷ more)
         (so
         ∙ ap (λ n. take n ss ++ of_stage stage ss) (none_before stage ss (from_later stage s.stage (omega (arith, here)) ss ascend.0))))
 
     is_behind : stage < s.stage → prefix_of (stage + 1) (s ∷ ss) ≡ prefix_of stage (s ∷ ss) ++ of_stage stage (s ∷ ss)
     is_behind later =
-        turned false false false (not_below s.stage (stage + 1) (omega (arith, later))) (not_below s.stage stage (omega (arith, later))) (differ s.stage stage (inr later))
+        turned false false false (nat_untest s.stage (stage + 1) (omega (arith, later))) (nat_untest s.stage stage (omega (arith, later))) (differ s.stage stage (inr later))
         (sym (none_at stage s.stage ss later ascend.0))
 
 -- no more variables are seen than there are

@@ -3,11 +3,12 @@ use Rattle.std.proofs.Common.{◌≡◌, ◌++◌, ◌-◌, ◌^◌, ℕ, ℤ, p
 use Rattle.std.specs.Prelude.{int_le, if◌then◌else◌}
 use Rattle.std.specs.Int.{int_min}
 use Rattle.sopl_base.specs.declared.fault.Excess.{Excess}
+use Rattle.sopl_base.proofs.Integers.{*ℤ_assoc}
+use Rattle.sopl_base.proofs.Lists.{map-map}
 use Rattle.sopl_ast.specs.UnfoldEvents.{excess}
 use Rattle.sopl_ast.specs.Instances.{Stochastic}
 use Rattle.sopl_ast.specs.Limits.{first_above, prefixes}
-use Rattle.lang_laws.proofs.Integers.{*ℤ_assoc, one-*ℤ}
-use Rattle.lang_laws.proofs.ScenarioLaws.{map-map}
+use Rattle.lang_laws.proofs.Integers.{one-*ℤ}
 use Rattle.scen_laws.specs.Laws.{product_of, first_passed, ProductsRun}
 use Rattle.scen_laws.proofs.Splits.{times_one}
 

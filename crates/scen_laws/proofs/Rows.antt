@@ -8,11 +8,12 @@ use Rattle.std.specs.Prelude.{nat_lt}
 use Rattle.std.specs.Cmp.{IsEquivalence}
 use Rattle.std.proofs.lemmas.List.Elements.{All-from_recursion}
 use Rattle.std.specs.List.{AllByRecursion, IsDistinct, position_or_len}
+use Rattle.sopl_base.proofs.Lists.{map-map}
 use Rattle.sopl_ast.specs.Known.{same_values}
 use Rattle.sopl_ast.specs.Instances.{Stochastic}
 use Rattle.sopl_ast.specs.PlacedScenarios as placed
 use Rattle.lang_laws.specs.Laws.{HasDistinctOutcomes}
-use Rattle.lang_laws.proofs.ScenarioLaws.{map-map, scenarios_agree}
+use Rattle.lang_laws.proofs.ScenarioLaws.{scenarios_agree}
 use Rattle.lang_laws.proofs.Distinct.{scenarios_distinct}
 use Rattle.unfold_laws.specs.Bounds.{IsBoundedStochastic}
 use Rattle.scen_laws.specs.Laws.{values_of, rows, RowsDiffer, RowsAreNumbered}

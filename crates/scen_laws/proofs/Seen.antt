@@ -6,13 +6,12 @@ use Rattle.std.proofs.lemmas.Cmp.{int_eq_equiv, lists_equiv}
 use Rattle.std.proofs.lemmas.List.{append-nil}
 use Rattle.std.proofs.lemmas.List.Folds.{flat_map-map}
 use Rattle.std.specs.List.{AllByRecursion, IsDistinct, flat_map}
+use Rattle.sopl_base.proofs.Lists.{all_append, flat_map-flat_map, map-flat_map, map-map}
 use Rattle.sopl_ast.specs.Known.{same_values}
 use Rattle.sopl_ast.specs.Instances.{Outcome, Stochastic}
 use Rattle.sopl_ast.specs.Scenarios.{Scenario, preceded_by, scenarios}
 use Rattle.sopl_ast.specs.Histories.{history, distinct}
-use Rattle.lang_laws.proofs.ScenarioLaws.{map-map, map-flat_map, flat_map-flat_map}
 use Rattle.unfold_laws.specs.Bounds.{IsBoundedStochastic}
-use Rattle.unfold_laws.proofs.Declared.{all_append}
 use Rattle.scen_laws.specs.Laws.{HasOutcome, IsByStage, seen_before, rows, values_of, HistoriesArePrefixes, HistoriesAreRows}
 use Rattle.scen_laws.proofs.Counts.{some_scenario, first_part, last_part}
 use Rattle.scen_laws.proofs.Rows.{rows_differ}

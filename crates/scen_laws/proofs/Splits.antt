@@ -5,10 +5,12 @@ use Rattle.std.proofs.lemmas.List.{append-nil}
 use Rattle.std.proofs.lemmas.List.Concat.{flat_map_single}
 use Rattle.std.proofs.lemmas.List.Folds.{flat_map-map}
 use Rattle.std.specs.List.{flat_map}
+use Rattle.sopl_base.proofs.Integers.{*ℤ_assoc}
+use Rattle.sopl_base.proofs.Lists.{flat_map-flat_map, map-flat_map, map-map}
 use Rattle.sopl_ast.specs.Instances.{Outcome, Stochastic}
 use Rattle.sopl_ast.specs.Scenarios.{Scenario, preceded_by, scenarios}
-use Rattle.lang_laws.proofs.Integers.{*ℤ_assoc, one-*ℤ}
-use Rattle.lang_laws.proofs.ScenarioLaws.{map-same, map-map, map-flat_map, flat_map-flat_map}
+use Rattle.lang_laws.proofs.Integers.{one-*ℤ}
+use Rattle.lang_laws.proofs.ScenarioLaws.{map-same}
 use Rattle.scen_laws.specs.Laws.{followed, extended, ScenariosSplit, ScenariosExtend}
 
 -- the scenario of no variable

@@ -2,10 +2,10 @@
 use Rattle.std.proofs.Common.{◌≡◌, ◌++◌, ◌+◌, ◌≤◌, ℕ, zero, suc, Bool, true, false, cond, nat_eq, List, [], ◌∷◌, arith, refl}
 use Rattle.std.proofs.lemmas.Bool.{eqb-true}
 use Rattle.std.specs.List.{AllByRecursion, flat_map, filter, range_with_len}
+use Rattle.sopl_base.proofs.Lists.{all_append}
 use Rattle.sopl_ast.specs.Instances.{Stochastic}
 use Rattle.sopl_ast.specs.Declarations.{nothing_declared, behind_all}
 use Rattle.sopl_ast.specs.Unfolding.{by_stage, problem_of}
-use Rattle.unfold_laws.proofs.Declared.{all_append}
 use Rattle.scen_laws.specs.Laws.{IsByStage, StochasticsAscend}
 
 -- all of one stage

@@ -5,10 +5,10 @@ use Rattle.std.proofs.Math.Nat.{mul-le-mul}
 use Rattle.std.proofs.lemmas.Int.{ints}
 use Rattle.std.proofs.lemmas.List.{take-append-drop}
 use Rattle.std.specs.List.{AllByRecursion, flat_map}
+use Rattle.sopl_base.proofs.Lists.{all_append}
 use Rattle.sopl_ast.specs.Instances.{Outcome, Stochastic}
 use Rattle.sopl_ast.specs.Scenarios.{Scenario, preceded_by, scenarios, total_of, total_weight}
 use Rattle.unfold_laws.specs.Bounds.{IsBoundedOutcome, IsBoundedStochastic}
-use Rattle.unfold_laws.proofs.Declared.{all_append}
 use Rattle.scen_laws.specs.Laws.{HasOutcome, weight_factor, WeightsMultiply, ScenariosAreLight}
 use Rattle.scen_laws.proofs.Splits.{times_one}
 use Rattle.scen_laws.proofs.Products.{product_of-append}

@@ -123,7 +123,7 @@ final_same text a ts r b us s f g = by_order (meet text a ts r b us s f.cut g.cu
     by_order (inl o) = ends_there a ts r b us s o f.ends g.small
     by_order (inr o) = let same = ends_there b us s a ts r o g.ends f.small in record { place = sym same.place; tokens = sym same.tokens; left = sym same.left }
 
-same_refusal : (r s : Refusal) → r.code ≡ s.code → r.at ≡ s.at → r ≡ s
+pub same_refusal : (r s : Refusal) → r.code ≡ s.code → r.at ≡ s.at → r ≡ s
 same_refusal r s p q = λ i. record { code = p i; at = q i }
 
 tokens_refusal : (text : List ℕ) (ts : List Token) (r : Refusal) → Lexes text (Ok ts) → Refuses text r → ⊥

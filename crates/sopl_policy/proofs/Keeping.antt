@@ -6,6 +6,7 @@ use Rattle.std.proofs.lemmas.List.Quantifiers.{position-Some}
 use Rattle.std.proofs.lemmas.Option.{slice_get-map, slice_get-get_or, slice_get_within}
 use Rattle.std.specs.List.{AllByRecursion, enumerate_from}
 use Rattle.std.specs.FinMap.{get}
+use Rattle.sopl_base.proofs.Lists.{get_before, get_behind}
 use Rattle.sopl_ast.specs.Cells.{Cell, IsPoint, cells, cells_of}
 use Rattle.sopl_ast.specs.Histories.{histories, history, same_values}
 use Rattle.sopl_ast.specs.Instances.{Decision, Problem, Stochastic}
@@ -21,15 +22,6 @@ use Rattle.sopl_scen.specs.Layout.{IsTreeOf, Layout, cell_at, histories_in, hist
 use Rattle.sopl_policy.specs.Kept.{HasHistory, IsPolicyFor, PolicyCells, firsts_from, first_cell, policy_map, value_kept}
 use Rattle.sopl_policy.specs.Laid.{cells_end, laid_firsts}
 use Rattle.sopl_policy.proofs.Laid.{each_before_end}
-
-at_front : {X : Type 0} (xs ys : List X) (i : ℕ) (x : X) → slice_get xs i ≡ Some x → slice_get (xs ++ ys) i ≡ Some x
-at_front [] ys i x at = cc
-at_front (y ∷ xs) ys zero x at = at
-at_front (y ∷ xs) ys (suc i) x at = at_front xs ys i x at
-
-at_back : {X : Type 0} (xs ys : List X) (i : ℕ) → slice_get (xs ++ ys) (length xs + i) ≡ slice_get ys i
-at_back [] ys i = let same : 0 + i ≡ i = omega arith in ap (slice_get ys) same
-at_back (y ∷ xs) ys i = let same : suc (length xs) + i ≡ suc (length xs + i) = omega arith in ap (slice_get (y ∷ (xs ++ ys))) same ∙ at_back xs ys i
 
 -- by the histories that a tree tells, the cells of each decision begin where those of the definition do
 module _ (tree : Layout) (ss : List Stochastic) (counted : (stage : ℕ) → IsStage stage → histories_in tree stage ≡ length (histories stage ss)) where
@@ -88,7 +80,7 @@ module _ (ss : List Stochastic) where
         omega arith,
         next_first (first + length (histories e.stage ss)) ds ∙ ap (λ (x : Decision). first + length (histories x.stage ss)) same ∙ omega arith,
         ap (λ (x : Decision). slice_get (cells_of ss (n, x) ++ flat_map (cells_of ss) (enumerate_from (n + 1) ds)) (0 + h)) same
-            ∙ at_front (cells_of ss (n, d)) (flat_map (cells_of ss) (enumerate_from (n + 1) ds)) (0 + h) (cell_at n d seen) (ap (slice_get (cells_of ss (n, d))) (omega arith) ∙ here)
+            ∙ get_before (cells_of ss (n, d)) (flat_map (cells_of ss) (enumerate_from (n + 1) ds)) (0 + h) (cell_at n d seen) (ap (slice_get (cells_of ss (n, d))) (omega arith) ∙ here)
             ∙ ap (λ m. Some (cell_at m d seen)) (omega arith),
       )
     where
@@ -103,7 +95,7 @@ module _ (ss : List Stochastic) where
         length (histories e.stage ss) + more.0,
         more.1 ∙ omega arith,
         more.2 ∙ omega arith,
-        ap (slice_get (cells_of ss (n, e) ++ later)) where_is ∙ at_back (cells_of ss (n, e)) later (more.0 + h) ∙ more.3 ∙ ap (λ m. Some (cell_at m d seen)) (omega arith),
+        ap (slice_get (cells_of ss (n, e) ++ later)) where_is ∙ get_behind (cells_of ss (n, e)) later (more.0 + h) ∙ more.3 ∙ ap (λ m. Some (cell_at m d seen)) (omega arith),
       )
 
 firsts_long : (ss : List Stochastic) (first : ℕ) (ds : List Decision) → length (firsts_from ss first ds) ≡ suc (length ds)

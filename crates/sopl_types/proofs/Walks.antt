@@ -1,6 +1,7 @@
 -- Walks over lists: what is the first mistake so far, with the next element, and at the end.
 use Rattle.std.proofs.Common.{◌≡◌, refl, sym, ap, ◌∙◌, Bool, true, false, ◌||◌, ℕ, ◌+◌, ◌<◌, ◌≤◌, List, [], ◌∷◌, ◌++◌, length, get_or, drop, Option, append_assoc, arith}
 use Rattle.std.proofs.lemmas.List.{at_drop_more, at_drop_all}
+use Rattle.std.proofs.lemmas.Bool.{or_right}
 use Rattle.sopl_base.specs.declared.fault.Refusal.{Refusal}
 use Rattle.sopl_ast.specs.declared.operators.MulOp.{MulOp}
 use Rattle.sopl_ast.specs.Tree.{Tree}
@@ -83,18 +84,13 @@ module _ (scope : Scope) (xs : List BinderTree) (i : ℕ) where
   pub binders_end : (first : Option Refusal) → length xs ≤ i → earlier_of first (earliest (of_binders scope (binders (drop i xs)))) ≡ first
   binders_end first past = walk_end (λ ys. of_binders scope (binders ys)) first xs i refl past
 
--- a divisor is to be a constant, whatever is asked for
-pub asked : (constant asks : Bool) → asks ≡ true → (constant || asks) ≡ true
-asked true asks h = refl
-asked false asks h = h
-
 pub not_asked : (constant asks : Bool) → asks ≡ false → (constant || asks) ≡ constant
 not_asked true asks h = refl
 not_asked false asks h = h
 
 -- walks over lists
 pub ruleset walks = (
-  asked,
+  or_right,
   not_asked,
   counted,
   earlier_none,

@@ -1,39 +1,19 @@
 -- How many intervals lie between two numbers, and what it is to be crowded.
-use Rattle.std.proofs.Common.{◌≡◌, ℕ, suc, ◌+◌, ◌<◌, ◌≤◌, nat_lt, ℤ, ◌≤ℤ◌, ◌<ℤ◌, int_le, Bool, true, false, ◌&&◌, ◌||◌, if◌then◌else◌, List, [], ◌∷◌, length, arith, refl, ap}
+use Rattle.std.proofs.Common.{◌≡◌, ℕ, suc, ◌+◌, ◌<◌, ◌≤◌, nat_lt, ℤ, ◌≤ℤ◌, int_le, Bool, true, false, if◌then◌else◌, List, [], ◌∷◌, length, arith, refl, ap}
 use Rattle.std.specs.List.{filter}
 use Rattle.std.specs.Int.{int_gap}
 use Rattle.std.proofs.lemmas.Int.{ints}
 use Rattle.std.proofs.lemmas.Bool.Decides.{nat_tests}
+use Rattle.std.proofs.lemmas.Bool.{and_from, and_right}
+use Rattle.sopl_base.proofs.Tests.{le_test, le_tested, nat_test, nat_tested, nat_untest}
 use Rattle.box_problem.proofs.Counts.{gap_leads}
 use Rattle.term_language.specs.Ends.{Ends}
 use Rattle.term_language.specs.Globals.{is_inside, are_crowded}
 use Rattle.term_language.proofs.FormValues.{by_bool, and_first, and_second}
-use Rattle.term_language.proofs.Elements.{both_true}
-use Rattle.term_language.proofs.Different.{le_tested, nat_tested}
 use Rattle.term_crowds.specs.Crowds.{inside_count, IsTight}
-
-pub le_test : (y z : ℤ) → y ≤ℤ z → int_le y z ≡ true
-le_test y z order = grind (arith, ints)
-
-pub le_untest : (y z : ℤ) → z <ℤ y → int_le y z ≡ false
-le_untest y z order = grind (arith, ints)
-
-pub nat_test : (m n : ℕ) → m < n → nat_lt m n ≡ true
-nat_test m n order = grind (arith, nat_tests)
-
-pub nat_untest : (m n : ℕ) → n ≤ m → nat_lt m n ≡ false
-nat_untest m n order = grind (arith, nat_tests)
 
 pub nat_untested : (m n : ℕ) → nat_lt m n ≡ false → n ≤ m
 nat_untested m n is = grind (arith, nat_tests)
-
-pub or_left : (a b : Bool) → a ≡ true → (a || b) ≡ true
-or_left true b p = refl
-or_left false b p = absurd (cc)
-
-pub or_right : (a b : Bool) → b ≡ true → (a || b) ≡ true
-or_right true b p = refl
-or_right false b p = p
 
 -- how many lie between two numbers
 pub count_in : (a b : ℤ) (e : Ends) (es : List Ends) → is_inside a b e ≡ true → inside_count a b (e ∷ es) ≡ suc (inside_count a b es)
@@ -57,7 +37,7 @@ inside_wider : (a b c d : ℤ) (e : Ends) → c ≤ℤ a → b ≤ℤ d → is_i
 inside_wider a b c d e low high inside =
     let from = le_tested a e.low (and_first (int_le a e.low) (int_le e.high b) inside) in
     let to = le_tested e.high b (and_second (int_le a e.low) (int_le e.high b) inside) in
-    both_true (int_le c e.low) (int_le e.high d) (le_test c e.low (omega (arith, ints))) (le_test e.high d (omega (arith, ints)))
+    and_from (int_le c e.low) (int_le e.high d) (le_test c e.low (omega (arith, ints))) (le_test e.high d (omega (arith, ints)))
 
 -- more lie between wider numbers
 pub count_wider : (a b c d : ℤ) (es : List Ends) → c ≤ℤ a → b ≤ℤ d → inside_count a b es ≤ inside_count c d es
@@ -78,14 +58,10 @@ crowded_tested a b es full = (
 
 pub crowded_test : (a b : ℤ) (es : List Ends) → a ≤ℤ b → int_gap a b + 1 < inside_count a b es → are_crowded es a b ≡ true
 crowded_test a b es order more =
-    both_true (int_le a b) (nat_lt (int_gap a b + 1) (inside_count a b es)) (le_test a b order) (nat_test (int_gap a b + 1) (inside_count a b es) more)
-
-pub and_false : (a b : Bool) → b ≡ false → (a && b) ≡ false
-and_false true b p = p
-and_false false b p = refl
+    and_from (int_le a b) (nat_lt (int_gap a b + 1) (inside_count a b es)) (le_test a b order) (nat_test (int_gap a b + 1) (inside_count a b es) more)
 
 pub uncrowded_test : (a b : ℤ) (es : List Ends) → inside_count a b es ≤ int_gap a b + 1 → are_crowded es a b ≡ false
-uncrowded_test a b es few = and_false (int_le a b) (nat_lt (int_gap a b + 1) (inside_count a b es)) (nat_untest (int_gap a b + 1) (inside_count a b es) few)
+uncrowded_test a b es few = and_right (int_le a b) (nat_lt (int_gap a b + 1) (inside_count a b es)) (nat_untest (int_gap a b + 1) (inside_count a b es) few)
 
 -- a tight window by the gap between its ends, both ways
 pub tight_full : (es : List Ends) (a b : ℤ) → IsTight es a b → int_gap a b + 1 ≤ inside_count a b es

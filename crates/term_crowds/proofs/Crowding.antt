@@ -4,15 +4,16 @@ use Rattle.std.proofs.Common.{List, [], ◌∷◌, length, map, arith, refl, sym
 use Rattle.std.specs.List.{filter, list_any}
 use Rattle.std.specs.Int.{int_gap}
 use Rattle.std.proofs.lemmas.Int.{ints, by_lt_z}
+use Rattle.std.proofs.lemmas.Bool.{and_from, or_cases, or_from, or_left, or_right}
+use Rattle.sopl_base.proofs.Tests.{le_test, le_tested, le_untest, nat_tested}
 use Rattle.box_problem.proofs.Counts.{gap_leads}
 use Rattle.term_language.specs.Ends.{Ends}
 use Rattle.term_language.specs.Globals.{is_inside, are_crowded, never_differ, always_differ}
-use Rattle.term_language.proofs.FormValues.{by_bool, and_first, and_second, or_cases}
+use Rattle.term_language.proofs.FormValues.{by_bool, and_first, and_second}
 use Rattle.term_language.proofs.Lists.{AllLie}
-use Rattle.term_language.proofs.Elements.{both_true}
-use Rattle.term_language.proofs.Different.{le_tested, nat_tested, never_right, always_right}
+use Rattle.term_language.proofs.Different.{never_right, always_right}
 use Rattle.term_crowds.specs.Crowds.{AllOrdered, inside_count, HasCrowd, NoneCrowded, is_found, some_found}
-use Rattle.term_crowds.proofs.Counting.{le_test, le_untest, nat_untested, or_left, or_right, count_in, count_out, count_any, count_most, count_wider, crowded_tested, crowded_test, uncrowded_test}
+use Rattle.term_crowds.proofs.Counting.{nat_untested, count_in, count_out, count_any, count_most, count_wider, crowded_tested, crowded_test, uncrowded_test}
 
 -- the greatest upper end of those that lie between two numbers
 record Top (a b : ℤ) (es : List Ends) : Type 0 where
@@ -42,7 +43,7 @@ top_or a b (e ∷ es) ordered =
       | inl r ↦
           by_lt_z r.top e.high
           (λ above.
-          let inside : is_inside a e.high e ≡ true = both_true (int_le a e.low) (int_le e.high e.high) (le_test a e.low from) (le_test e.high e.high (omega (arith, ints))) in
+          let inside : is_inside a e.high e ≡ true = and_from (int_le a e.low) (int_le e.high e.high) (le_test a e.low from) (le_test e.high e.high (omega (arith, ints))) in
           inl (record {
             top = e.high;
             from = omega (arith, ints, ordered.0, from);
@@ -51,7 +52,7 @@ top_or a b (e ∷ es) ordered =
             kept = omega (arith, more, r.kept, count_wider a r.top a e.high es (omega (arith, ints)) (omega (arith, ints, above)), count_in a e.high e es inside);
           }))
           (λ below.
-          let inside : is_inside a r.top e ≡ true = both_true (int_le a e.low) (int_le e.high r.top) (le_test a e.low from) (le_test e.high r.top below) in
+          let inside : is_inside a r.top e ≡ true = and_from (int_le a e.low) (int_le e.high r.top) (le_test a e.low from) (le_test e.high r.top below) in
           inl (record {
             top = r.top;
             from = r.from;
@@ -60,7 +61,7 @@ top_or a b (e ∷ es) ordered =
             kept = omega (arith, more, r.kept, count_in a r.top e es inside);
           }))
       | inr none ↦
-          let inside : is_inside a e.high e ≡ true = both_true (int_le a e.low) (int_le e.high e.high) (le_test a e.low from) (le_test e.high e.high (omega (arith, ints))) in
+          let inside : is_inside a e.high e ≡ true = and_from (int_le a e.low) (int_le e.high e.high) (le_test a e.low from) (le_test e.high e.high (omega (arith, ints))) in
           inl (record {
             top = e.high;
             from = omega (arith, ints, ordered.0, from);
@@ -90,7 +91,7 @@ bottom_or a b (e ∷ es) ordered =
     let from : a ≤ℤ e.low = le_tested a e.low (and_first (int_le a e.low) (int_le e.high b) is) in
     let to : e.high ≤ℤ b = le_tested e.high b (and_second (int_le a e.low) (int_le e.high b) is) in
     let more = count_in a b e es is in
-    let own : is_inside e.low b e ≡ true = both_true (int_le e.low e.low) (int_le e.high b) (le_test e.low e.low (omega (arith, ints))) (le_test e.high b to) in
+    let own : is_inside e.low b e ≡ true = and_from (int_le e.low e.low) (int_le e.high b) (le_test e.low e.low (omega (arith, ints))) (le_test e.high b to) in
     elim (bottom_or a b es ordered.1) [
       | inl r ↦
           by_lt_z e.low r.bottom
@@ -103,7 +104,7 @@ bottom_or a b (e ∷ es) ordered =
             kept = omega (arith, more, r.kept, count_wider r.bottom b e.low b es (omega (arith, ints, below)) (omega (arith, ints)), count_in e.low b e es own);
           }))
           (λ above.
-          let inside : is_inside r.bottom b e ≡ true = both_true (int_le r.bottom e.low) (int_le e.high b) (le_test r.bottom e.low above) (le_test e.high b to) in
+          let inside : is_inside r.bottom b e ≡ true = and_from (int_le r.bottom e.low) (int_le e.high b) (le_test r.bottom e.low above) (le_test e.high b to) in
           inl (record {
             bottom = r.bottom;
             from = r.from;
@@ -184,14 +185,10 @@ none_narrower es a b width count is counted few none = record {
       uncrowded_test a c es (omega (arith, counted, count_wider a c a b es (omega (arith, ints)) within, gap_at_least a c (count - 1) far)));
 }
 
-pub neither : (a b : Bool) → a ≡ false → b ≡ false → (a || b) ≡ false
-neither true b p q = p
-neither false b p q = q
-
 none_of : (es all : List Ends) (a : ℤ) → NoneCrowded all a 0 → list_any (λ (y : Ends). are_crowded all a y.high) es ≡ false
 none_of [] all a none = refl
 none_of (e ∷ es) all a none =
-    neither (are_crowded all a e.high) (list_any (λ (y : Ends). are_crowded all a y.high) es)
+    or_from (are_crowded all a e.high) (list_any (λ (y : Ends). are_crowded all a y.high) es)
     (by_lt_z e.high a
     (λ before. ap (λ (t : Bool). t && nat_lt (int_gap a e.high + 1) (length (filter (is_inside a e.high) all))) (le_untest a e.high before))
     (λ at. none.each e.high (omega (arith, ints, at))))

@@ -4,15 +4,15 @@ use Rattle.std.specs.List.{filter, list_any}
 use Rattle.std.specs.Int.{int_gap}
 use Rattle.std.specs.Ordering.{int_eq}
 use Rattle.std.proofs.lemmas.Int.{ints, by_lt_z}
+use Rattle.std.proofs.lemmas.Bool.{and_from, or_cases, or_from}
+use Rattle.sopl_base.proofs.Tests.{equal_test, le_test, le_tested}
 use Rattle.box_problem.proofs.Counts.{gap_leads}
 use Rattle.term_language.specs.Ends.{Ends}
 use Rattle.term_language.specs.Globals.{is_inside, are_crowded, never_differ}
-use Rattle.term_language.proofs.FormValues.{by_bool, and_first, and_second, or_cases}
-use Rattle.term_language.proofs.Elements.{both_true}
-use Rattle.term_language.proofs.Different.{le_tested}
+use Rattle.term_language.proofs.FormValues.{by_bool, and_first, and_second}
 use Rattle.term_crowds.specs.Crowds.{AllOrdered, inside_count, among, at_low, at_high, IsTight, IsClear, HoldsWhole, HoldWhole, AreWhole, AreWholeFrom, LowsWhole}
-use Rattle.term_crowds.proofs.Counting.{le_test, nat_untested, count_most, count_wider, crowded_tested, crowded_test, tight_full, is_tight}
-use Rattle.term_crowds.proofs.Crowding.{bottom_or, crowded_ends, gap_at_least, neither}
+use Rattle.term_crowds.proofs.Counting.{nat_untested, count_most, count_wider, crowded_tested, crowded_test, tight_full, is_tight}
+use Rattle.term_crowds.proofs.Crowding.{bottom_or, crowded_ends, gap_at_least}
 
 -- what stands in the midst counts where it lies between the numbers
 abbrev one_if : Bool → ℕ
@@ -47,7 +47,7 @@ still_uncrowded before e p after ordered never clear a b =
     not_more a b order =
         by_bool (λ t. nat_lt (int_gap a b + 1) (inside_count a b (among before e after)) ≡ t → inside_count a b (among before e after) ≤ int_gap a b + 1)
         (nat_lt (int_gap a b + 1) (inside_count a b (among before e after)))
-        (λ met is. absurd (let full = crowded_ends a b (among before e after) ordered (both_true (int_le a b) _ (le_test a b order) is) in let no = sym full ∙ never in cc))
+        (λ met is. absurd (let full = crowded_ends a b (among before e after) ordered (and_from (int_le a b) _ (le_test a b order) is) in let no = sym full ∙ never in cc))
         (λ unmet is. nat_untested (int_gap a b + 1) (inside_count a b (among before e after)) is)
         refl
 
@@ -69,12 +69,12 @@ still_uncrowded before e p after ordered never clear a b =
 none_here : (all : List Ends) (a : ℤ) (fs : List Ends) → ((a b : ℤ) → are_crowded all a b ≡ false) → list_any (λ (y : Ends). are_crowded all a y.high) fs ≡ false
 none_here all a [] none = refl
 none_here all a (f ∷ fs) none =
-    neither (are_crowded all a f.high) (list_any (λ (y : Ends). are_crowded all a y.high) fs) (none a f.high) (none_here all a fs none)
+    or_from (are_crowded all a f.high) (list_any (λ (y : Ends). are_crowded all a y.high) fs) (none a f.high) (none_here all a fs none)
 
 uncrowded_list : (all es fs : List Ends) → ((a b : ℤ) → are_crowded all a b ≡ false) → list_any (λ (x : Ends). list_any (λ (y : Ends). are_crowded all x.low y.high) fs) es ≡ false
 uncrowded_list all [] fs none = refl
 uncrowded_list all (e ∷ es) fs none =
-    neither (list_any (λ (y : Ends). are_crowded all e.low y.high) fs) (list_any (λ (x : Ends). list_any (λ (y : Ends). are_crowded all x.low y.high) fs) es)
+    or_from (list_any (λ (y : Ends). are_crowded all e.low y.high) fs) (list_any (λ (x : Ends). list_any (λ (y : Ends). are_crowded all x.low y.high) fs) es)
     (none_here all e.low fs none) (uncrowded_list all es fs none)
 
 -- so they may differ as before
@@ -110,11 +110,8 @@ tight_low a b es ordered never tight test met =
       | inr none ↦ absurd (omega (arith, full, none))
     ]
 
-same_number : (z : ℤ) → int_eq z z ≡ true
-same_number z = grind (arith, ints)
-
 pub begin_at_lows : (a b : ℤ) (es : List Ends) → AllOrdered es → never_differ es ≡ false → IsTight es a b → list_any (λ (x : Ends). int_eq x.low a) es ≡ true
-begin_at_lows a b es ordered never tight = tight_low a b es ordered never tight (λ z. int_eq z a) (same_number a)
+begin_at_lows a b es ordered never tight = tight_low a b es ordered never tight (λ z. int_eq z a) (equal_test a)
 
 -- what windows of different widths tell
 pub whole_at_first : (es : List Ends) (a : ℤ) (n : ℕ) → length es ≤ n → AreWholeFrom es a n
@@ -158,7 +155,7 @@ pub lows_whole : (es : List Ends) → AllOrdered es → never_differ es ≡ fals
 lows_whole es ordered never whole = record {
   each = λ a b tight.
       let test : ℤ → Bool = λ z. int_le z a && int_le a z in
-      let own : test a ≡ true = both_true (int_le a a) (int_le a a) (le_test a a (omega (arith, ints))) (le_test a a (omega (arith, ints))) in
+      let own : test a ≡ true = and_from (int_le a a) (int_le a a) (le_test a a (omega (arith, ints))) (le_test a a (omega (arith, ints))) in
       (low_whole es es a whole (tight_low a b es ordered never tight test own)).each b (omega (arith, ints, tight.ordered)) tight;
 }
 

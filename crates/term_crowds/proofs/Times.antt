@@ -3,12 +3,13 @@ use Rattle.std.proofs.Common.{◌≡◌, ◌⊎◌, inl, inr, ◌↔◌, ℤ, po
 use Rattle.std.specs.List.{list_all, list_any}
 use Rattle.std.specs.Int.{int_max}
 use Rattle.std.proofs.lemmas.Int.{ints, clamps}
+use Rattle.std.proofs.lemmas.Bool.{and_from, or_cases, or_left as or_first}
+use Rattle.sopl_base.proofs.Tests.{le_test, le_tested, lt_test, lt_tested, lt_untested}
 use Rattle.term_language.specs.Ends.{Ends}
 use Rattle.term_language.specs.Globals.{TaskEnds, total, least_asked, most_asked, is_overfull, never_fit, is_enough, always_fit}
-use Rattle.term_language.proofs.FormValues.{by_if, by_bool, and_first, and_second, or_cases}
-use Rattle.term_language.proofs.Elements.{both_true}
+use Rattle.term_language.proofs.FormValues.{by_if, by_bool, and_first, and_second}
 use Rattle.term_language.proofs.Peaks.{Span, taken_by, NoneNegative, FitAtStarts, fit_always}
-use Rattle.term_language.proofs.Tasks.{le_tested, le_test, lt_tested, lt_test, widest_of, most_is, enough_fit, sound_ends, SoundEnds}
+use Rattle.term_language.proofs.Tasks.{widest_of, most_is, enough_fit, sound_ends, SoundEnds}
 use Rattle.term_crowds.specs.Crowds.{DemandsOrdered, some_negative, all_sound, HasPeak, IsEnough}
 
 -- the span in which a task surely runs
@@ -33,9 +34,6 @@ or_left false b p = refl
 or_right : (a b : Bool) → (a || b) ≡ false → b ≡ false
 or_right true b p = absurd (cc)
 or_right false b p = p
-
-lt_untested : (y z : ℤ) → int_lt y z ≡ false → z ≤ℤ y
-lt_untested y z tested = grind (arith, ints)
 
 no_peak : (capacity : Ends) (all es : List TaskEnds) → list_any (λ (t : TaskEnds). is_overfull all capacity t.start.high) es ≡ false → FitAtStarts capacity.high (surest_of all) (surest_of es)
 no_peak capacity all [] none = tt
@@ -97,11 +95,6 @@ most_total time [] ordered sound = omega (arith, ints)
 most_total time (t ∷ ts) ordered sound =
     omega (arith, ints, most_nonneg time t ordered.0 sound.1, most_total time ts ordered.1 sound.2)
 
--- tasks that never fit have a negative part, or a peak at some time
-or_first : (a b : Bool) → a ≡ true → (a || b) ≡ true
-or_first true b p = refl
-or_first false b p = absurd (cc)
-
 some_peak : (all ts : List TaskEnds) (capacity : Ends) → list_any (λ (t : TaskEnds). is_overfull all capacity t.start.high) ts ≡ true → HasPeak all capacity
 some_peak all [] capacity some = absurd (cc)
 some_peak all (t ∷ ts) capacity some =
@@ -135,7 +128,7 @@ any_time ts capacity = (
 enough_starts : (all ts : List TaskEnds) (capacity : Ends) → IsEnough all capacity → list_all (λ (t : TaskEnds). is_enough all capacity t.start.low) ts ≡ true
 enough_starts all [] capacity enough = refl
 enough_starts all (t ∷ ts) capacity enough =
-    both_true (is_enough all capacity t.start.low) (list_all (λ (t : TaskEnds). is_enough all capacity t.start.low) ts)
+    and_from (is_enough all capacity t.start.low) (list_all (λ (t : TaskEnds). is_enough all capacity t.start.low) ts)
     (le_test (total (map (most_asked t.start.low) all)) capacity.low (enough.each t.start.low)) (enough_starts all ts capacity enough)
 
 pub at_all_times : (ts : List TaskEnds) (capacity : Ends) → DemandsOrdered ts → (always_fit ts capacity ≡ true) ↔ ((all_sound ts ≡ true) × IsEnough ts capacity)
@@ -145,8 +138,8 @@ at_all_times ts capacity ordered = (
     record { each = λ time. le_tested (total (map (most_asked time) ts)) capacity.low (enough_always ts capacity time ordered always) },
   ),
   λ parts.
-      both_true (all_sound ts) (int_le (pos 0) capacity.low && list_all (λ (t : TaskEnds). is_enough ts capacity t.start.low) ts) parts.0
-      (both_true (int_le (pos 0) capacity.low) (list_all (λ (t : TaskEnds). is_enough ts capacity t.start.low) ts)
+      and_from (all_sound ts) (int_le (pos 0) capacity.low && list_all (λ (t : TaskEnds). is_enough ts capacity t.start.low) ts) parts.0
+      (and_from (int_le (pos 0) capacity.low) (list_all (λ (t : TaskEnds). is_enough ts capacity t.start.low) ts)
       (le_test (pos 0) capacity.low (omega (arith, ints, most_total (pos 0) ts ordered (sound_ends ts parts.0), parts.1.each (pos 0))))
       (enough_starts ts ts capacity parts.1)),
 )

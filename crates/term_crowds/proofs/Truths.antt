@@ -2,6 +2,8 @@
 use Rattle.std.proofs.Common.{◌≡◌, ◌⊎◌, inl, inr, ◌↔◌, ℤ, pos, ◌+ℤ◌, ◌≤ℤ◌, int_lt, int_le, Bool, true, false, ◌&&◌, ◌||◌, if◌then◌else◌, List, [], ◌∷◌, map, arith, refl, ap, ◌∙◌}
 use Rattle.std.specs.Int.{int_max}
 use Rattle.std.proofs.lemmas.Int.{ints, clamps}
+use Rattle.std.proofs.lemmas.Bool.{and_from, or_cases}
+use Rattle.sopl_base.proofs.Tests.{le_test, le_tested, lt_test, lt_tested}
 use Rattle.box_problem.specs.Box.{Box, IsBox, Inside}
 use Rattle.term_language.specs.Ends.{Ends}
 use Rattle.term_language.specs.Globals.{never_differ, always_differ, TaskEnds, total, least_asked, most_asked, never_fit, always_fit}
@@ -12,10 +14,9 @@ use Rattle.term_language.specs.Terms.{Term, Terms, no_term, term, Tasks, no_task
 use Rattle.term_language.specs.declared.answers.Defined.{Defined}
 use Rattle.term_language.specs.declared.answers.Defined.TheVariants.{Never, Maybe, Always}
 use Rattle.term_language.specs.declared.answers.Truth.TheVariants.{False, True}
-use Rattle.term_language.proofs.FormValues.{by_bool, and_first, and_second, or_cases}
-use Rattle.term_language.proofs.Elements.{both_true}
+use Rattle.term_language.proofs.FormValues.{by_bool, and_first, and_second}
 use Rattle.term_language.proofs.Sharpening.{intervals_narrow}
-use Rattle.term_language.proofs.Tasks.{SoundEnds, sound_ends, le_tested, le_test, lt_tested, lt_test}
+use Rattle.term_language.proofs.Tasks.{SoundEnds, sound_ends}
 use Rattle.term_crowds.specs.Crowds.{AllOrdered, HasCrowd, TasksOrdered, DemandsOrdered, some_negative, all_sound, HasPeak, IsEnough}
 use Rattle.term_crowds.proofs.Crowding.{any_crowd, apart_uncrowded}
 use Rattle.term_crowds.proofs.Times.{any_time, at_all_times}
@@ -70,7 +71,7 @@ ordered_tasks reading root b (task s d m later) is_box inside proper = (
   ),
 )
 
-ordered_demands : (ts : List TaskEnds) → TasksOrdered ts → DemandsOrdered ts
+pub ordered_demands : (ts : List TaskEnds) → TasksOrdered ts → DemandsOrdered ts
 ordered_demands [] ordered = tt
 ordered_demands (t ∷ ts) ordered = (ordered.1.1.0, ordered_demands ts ordered.1.1.1)
 
@@ -89,7 +90,7 @@ least_most time t starts durations demands long some =
     (λ is.
     let from = le_tested t.start.high time (and_first (int_le t.start.high time) (int_lt time (t.start.low +ℤ int_max t.duration.low (pos 0))) is) in
     let until = lt_tested time (t.start.low +ℤ int_max t.duration.low (pos 0)) (and_second (int_le t.start.high time) (int_lt time (t.start.low +ℤ int_max t.duration.low (pos 0))) is) in
-    both_true (int_le t.start.low time) (int_lt time (t.start.high +ℤ t.duration.high)) (le_test t.start.low time (omega (arith, ints, from, starts)))
+    and_from (int_le t.start.low time) (int_lt time (t.start.high +ℤ t.duration.high)) (le_test t.start.low time (omega (arith, ints, from, starts)))
     (lt_test time (t.start.high +ℤ t.duration.high) (omega (arith, ints, clamps, until, starts, durations, long))))
     (omega (arith, ints, clamps, demands, some)) (omega (arith, ints, demands, some))
 

@@ -8,17 +8,16 @@ use Rattle.box_problem.specs.Box.{Box, Inside}
 use Rattle.term_language.specs.Ends as ends
 use Rattle.term_language.specs.Forms.{Form, is_constant, atom_form, times_form, product_form, sign}
 use Rattle.std.specs.List.{list_all}
+use Rattle.box_problem.proofs.Shared.{lows_inside}
 use Rattle.term_language.specs.Arrays.{item_at}
 use Rattle.term_language.proofs.FormValues.{by_bool}
 use Rattle.term_language.specs.Rules.{Near, Wide, form, forms, element_form, item_form, atoms, sum_atoms, interval, folded, product_atoms}
 use Rattle.term_language.specs.Sizes.{product_weight, atoms_weight, sum_weight}
-use Rattle.term_language.specs.Laws.{AreProperParts}
 use Rattle.term_language.specs.Terms as term
 use Rattle.term_language.proofs.Bounds.{sign_size}
 use Rattle.term_language.proofs.Layers.{IsClear}
 use Rattle.term_language.proofs.Sharpening.{narrow_parts}
 use Rattle.term_language.proofs.Soundness.{read}
-use Rattle.term_math.proofs.Constants.{lows_in}
 use Rattle.term_math.proofs.Rules.{operation_form, extreme_form}
 use Rattle.term_math.specs.Shown.{box_in}
 use Rattle.term_nodes.specs.declared.nodes.Node.{Node}
@@ -26,12 +25,13 @@ use Rattle.term_nodes.specs.declared.nodes.Node.TheVariants as node
 use Rattle.term_nodes.specs.declared.nodes.Signed.{Signed}
 use Rattle.term_nodes.specs.declared.items.Item.{Item}
 use Rattle.term_nodes.specs.declared.evaluation.Evaluator.{Evaluator}
-use Rattle.term_nodes.specs.Built.{IsAt, IsBuilt}
+use Rattle.term_nodes.specs.Built.{IsAt}
 use Rattle.term_nodes.specs.Built as built
 use Rattle.term_nodes.specs.Seen.{IsReady, Sight}
 use Rattle.term_nodes.specs.Things.{Thing, nothing, table_at, term_in, term_at, thing_at, thing_of, parts_at, terms_at, things}
 use Rattle.term_nodes.proofs.Ready.{small_term}
 use Rattle.term_nodes.proofs.Steps.{next_part}
+use Rattle.term_store.proofs.Summing.{parts_proper}
 use Rattle.term_goals.specs.declared.sums.Atom.{Atom}
 use Rattle.term_goals.specs.Goals.{AtomsExist, all_weight, atoms_ends, listed_ends}
 use Rattle.term_goals.proofs.Steps.{next_atoms}
@@ -77,7 +77,7 @@ plain_added here b xs k id item ready at plain inside =
     let all = things here.items.now in
     let t = term_at all id in
     clear_added (listed_ends root b all xs) (atoms Near root b t) k
-    ((read Near root b b.lows t inside.is_box (lows_in b inside.is_box) (small_term root here.items.now id ready.built).proper).clear (sym (plain_form root all id item at) ∙ plain))
+    ((read Near root b b.lows t inside.is_box (lows_inside b inside.is_box) (small_term root here.items.now id ready.built).proper).clear (sym (plain_form root all id item at) ∙ plain))
 
 -- a node that is no sum and no product
 abbrev pub is_leaf : Node → Bool
@@ -134,10 +134,6 @@ term_is root all id item x at is = ap term_in at.thing ∙ ap (λ (n : Node). te
 
 pub other_at : (root : Box) (all : List Thing) (id : ℕ) (item : Item) → IsAt root all id item → item.facts.form.plain ≡ false → (form root (term_at all id)).plain ≡ false
 other_at root all id item at other = sym (plain_form root all id item at) ∙ other
-
-parts_proper : (root : Box) (items : List Item) (xs : List Signed) → IsBuilt root items → AreProperParts (parts_at (things items) xs)
-parts_proper root items [] all = tt
-parts_proper root items (x ∷ xs) all = ((small_term root items x.term all).proper, parts_proper root items xs all)
 
 scaled_ordered : (k : ℤ) (a : ends.Ends) → (ends.scaled k a).low ≤ℤ (ends.scaled k a).high
 scaled_ordered k a = omega (arith, ints, clamps)

@@ -5,6 +5,8 @@ use Rattle.std.specs.Ordering.{int_eq}
 use Rattle.std.proofs.lemmas.Int.{ints, clamps}
 use Rattle.std.proofs.Math.Nat.{mul-le-mul_left}
 use Rattle.std.proofs.Math.IntN.{*ℤ-zero}
+use Rattle.std.proofs.lemmas.Bool.{or_parts}
+use Rattle.sopl_base.proofs.Integers.{*ℤ-+ℤ, *ℤ_assoc}
 use Rattle.box_problem.specs.Box.{Box}
 use Rattle.term_language.specs.Ends as ends
 use Rattle.term_language.specs.Forms.{Form, is_constant, atom_form, times_form, product_form, sign, whole}
@@ -12,7 +14,7 @@ use Rattle.term_language.specs.Rules.{Near, Wide, form, sum_form, atoms, interva
 use Rattle.term_language.specs.Sizes.{weight_of, alone_weight, product_weight, atoms_weight, sum_weight}
 use Rattle.term_language.specs.Terms as term
 use Rattle.term_language.proofs.FormValues.{by_bool}
-use Rattle.term_language.proofs.Products.{*ℤ-+ℤ, *ℤ_assoc, up, down}
+use Rattle.term_language.proofs.Products.{up, down}
 use Rattle.term_goals.proofs.Summing.{zero_plus}
 
 -- a multiple of a sum of intervals, and a multiple of a multiple of an interval
@@ -90,10 +92,6 @@ and_or false b c none = inl refl
 and_or true false c none = inr refl
 and_or true true c none = cc
 
-split_or : (a b : Bool) → (a || b) ≡ false → (a ≡ false) × (b ≡ false)
-split_or true b none = cc
-split_or false b none = (refl, none)
-
 alone_weighs : (f : Form) (wide : ends.Ends) → f.plain ≡ false → 1 ≤ alone_weight f wide
 alone_weighs f wide other =
     subst (λ (p : Bool). 1 ≤ (if p then 0 else weight_of wide)) (sym other) (omega arith)
@@ -103,7 +101,7 @@ sum_other s p subtracted none = and_or s p (int_eq (sign subtracted) (pos 0)) no
 
 -- a product with a number that is not of cells alone
 pub times_other : (k : ℤ) (f : Form) → (times_form k f).plain ≡ false → (f.plain ≡ false) × (int_eq k (pos 0) ≡ false)
-times_other k f none = split_or f.plain (int_eq k (pos 0)) none
+times_other k f none = or_parts f.plain (int_eq k (pos 0)) none
 
 size_not_zero : (k : ℤ) → int_eq k (pos 0) ≡ false → 1 ≤ unsigned_abs k
 size_not_zero k other = grind (arith, ints)

@@ -11,11 +11,11 @@ use Rattle.term_language.specs.Rules.{Near, atoms}
 use Rattle.term_language.specs.Sizes.{weight_of, cells_weight, atoms_weight}
 use Rattle.term_language.proofs.Bounds.{Bounds, bounds_zero, bounds_plus, bounds_scaled, bounds_weight, bounded_cells}
 use Rattle.term_language.proofs.Narrowing.{within_cell, within_cells}
+use Rattle.term_language.proofs.Shared.{bounds_within}
 use Rattle.term_math.specs.declared.combinations.WideCoefficient.{WideCoefficient}
 use Rattle.term_math.specs.Shown.{box_in, ends_at}
 use Rattle.term_math.specs.Sums.{wide_cells}
-use Rattle.term_math.proofs.Fits.{bounds_within}
-use Rattle.term_math.proofs.Weighing.{times_back}
+use Rattle.term_math.proofs.Weighing.{times_back, drop_lighter}
 use Rattle.term_nodes.specs.declared.evaluation.Evaluator.{Evaluator}
 use Rattle.term_nodes.specs.Seen.{IsReady}
 use Rattle.term_nodes.specs.Things.{Thing, term_at, things}
@@ -51,11 +51,6 @@ cells_bounds : (root b : Box) (cells : List Coefficient) → IsBox root → Insi
 cells_bounds root b cells is_box inside =
     bounds_within (cells_ends b cells) (cells_ends root cells) (cells_weight root cells) (within_cells b root cells is_box inside) (bounded_cells root cells)
 
-cells_lighter : (root : Box) (i : ℕ) (xs : List WideCoefficient) → cells_weight root (wide_cells (drop i xs)) ≤ cells_weight root (wide_cells xs)
-cells_lighter root zero xs = omega arith
-cells_lighter root (suc i) [] = omega arith
-cells_lighter root (suc i) (x ∷ xs) = omega (arith, cells_lighter root i xs)
-
 pub times_cell_fit : (here : Evaluator) (xs : List WideCoefficient) (i : ℕ) (d : WideCoefficient) → IsReady here → cells_weight (box_in here.root) (wide_cells xs) < 2 ^ 127 → 0 < i → i ≤ length xs
     → IsWideFit (ends_at (get_or xs (i - 1) d).k (ends.cell_ends (box_in here.view) (get_or xs (i - 1) d).cell))
 times_cell_fit here xs i d ready room positive most =
@@ -82,7 +77,7 @@ cells_fit here xs i d times sum ready room positive most times_is sum_is =
     ∙ sym next in
     subst IsWideFit (sym same)
     (wide_fit (cells_ends b cells) (cells_weight (box_in here.root) cells) (cells_bounds (box_in here.root) b cells ready.root_is_box ready.inside)
-    (omega (arith, cells_lighter (box_in here.root) (i - 1) xs, room)))
+    (omega (arith, drop_lighter (box_in here.root) (i - 1) xs, room)))
 
 pub all_cells : (b : Box) (xs : List WideCoefficient) (i : ℕ) (r : ends.Ends) → i ≤ 0 → r ≡ cells_ends b (wide_cells (drop i xs)) → r ≡ cells_ends b (wide_cells xs)
 all_cells b xs i r none is =

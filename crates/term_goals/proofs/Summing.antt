@@ -7,7 +7,9 @@ use Rattle.std.specs.Option.{option_map_or}
 use Rattle.std.proofs.Math.Nat.{mul-le-mul_left}
 use Rattle.std.proofs.Math.IntN.{*ℤ-zero}
 use Rattle.sopl_base.specs.declared.direction.Direction.{Direction}
+use Rattle.sopl_base.proofs.Naturals.{spread, spread_left}
 use Rattle.box_problem.specs.Box.{Box, IsBox, Inside}
+use Rattle.box_problem.proofs.Shared.{lows_inside}
 use Rattle.term_language.specs.Ends as ends
 use Rattle.term_language.specs.Forms.{Form, plus_form, cells_ends, whole}
 use Rattle.term_language.specs.Rules.{Near, form, atoms, interval}
@@ -17,10 +19,8 @@ use Rattle.term_language.proofs.FormValues.{by_if}
 use Rattle.term_language.proofs.Layers.{IsClear}
 use Rattle.term_language.proofs.Soundness.{read}
 use Rattle.term_problem.specs.Objective.{expected_form, expected_atoms, expected_ends, worse_ends, worst_ends, greatest_size}
-use Rattle.term_math.proofs.Constants.{lows_in}
 use Rattle.term_math.specs.Shown.{box_in}
 use Rattle.term_math.specs.Sums.{mass_of, weight_in, wide_cells, wide_form}
-use Rattle.term_math.proofs.Weights.{spread, spread_left}
 use Rattle.term_nodes.specs.declared.items.Item.{Item}
 use Rattle.term_nodes.specs.declared.evaluation.Evaluator.{Evaluator}
 use Rattle.term_nodes.specs.Built.{AllBelow, IsBuilt}
@@ -92,7 +92,7 @@ atoms_are root b items (w ∷ ws) (id ∷ ids) built is_box inside =
     by_if (λ xs. atoms_ends root b all xs ≡ ends.plus (ends.scaled w (atoms Near root b t)) (expected_atoms root b ws (terms_of all ids))) (form root t).plain
     (others root all ws ids) (record { k = w; term = id } ∷ others root all ws ids)
     (λ plain. rest ∙ sym (clear_part w (atoms Near root b t) (expected_atoms root b ws (terms_of all ids))
-    ((read Near root b b.lows t inside.is_box (lows_in b inside.is_box) (small_term root items id built).proper).clear plain)))
+    ((read Near root b b.lows t inside.is_box (lows_inside b inside.is_box) (small_term root items id built).proper).clear plain)))
     (λ other. ap (ends.plus (ends.scaled w (atoms Near root b t))) rest)
 
 summed_at : (root b : Box) (items : List Item) (weights : List ℤ) (ids : List ℕ) (s : Summed) → IsBuilt root items → IsBox root → Inside b root → IsSummed root (things items) weights ids s
@@ -307,9 +307,6 @@ sound_goal root items ids goal summed exist terms is room = record {
   exist = subst (λ (n : ℕ). AllBelow n goal.terms.items) (sym (length_things items)) (subst (AllBelow (length items)) (sym terms) exist);
   room = subst (λ (s : Option Summed). IfSome s (HasRoom root (things items))) (sym is) room;
 }
-
-pub terms_there : (items : List Item) (ids : List ℕ) → AllBelow (length (things items)) ids → AllBelow (length items) ids
-terms_there items ids there = subst (λ (n : ℕ). AllBelow n ids) (length_things items) there
 
 -- the room for one size
 pub size_of_term : (root : Box) (items : List Item) (id : ℕ) (f : Form) (n m : ℕ) → f ≡ form root (term_at (things items) id) → n ≡ weight_in root f → m ≡ atoms_weight root (term_at (things items) id)

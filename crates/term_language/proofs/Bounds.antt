@@ -2,6 +2,7 @@
 use Rattle.std.proofs.Common.{◌≡◌, ℕ, ◌+◌, ◌*◌, ◌≤◌, ℤ, pos, negsuc, neg_ℤ, unsigned_abs, ◌+ℤ◌, ◌*ℤ◌, ◌≤ℤ◌, Bool, true, false, if◌then◌else◌, List, [], ◌∷◌, arith, refl, ap, subst, ◌∙◌}
 use Rattle.std.proofs.lemmas.Int.{ints, clamps, unsigned_abs-mul}
 use Rattle.std.proofs.Math.Nat.{mul-le-mul_left}
+use Rattle.sopl_base.proofs.Sizes.{sized}
 use Rattle.box_problem.specs.Box.{Box, IsBox, Inside}
 use Rattle.term_language.specs.Terms.{Term, Constant, Cell, Sum, Product, Quotient, Remainder, Least, Greatest, Size, Element, Number, Parts, no_part, part}
 use Rattle.term_language.specs.Ends.{Ends, exactly, plus, between, scaled, times, cell_ends}
@@ -28,10 +29,6 @@ small_multiple k z n below =
 pub record Bounds (a : Ends) (n : ℕ) : Type 0 where
   pub low : unsigned_abs a.low ≤ n
   pub high : unsigned_abs a.high ≤ n
-
-pub sized : (z : ℤ) (n : ℕ) → neg_ℤ (pos n) ≤ℤ z → z ≤ℤ pos n → unsigned_abs z ≤ n
-sized (pos a) n low high = omega (arith, ints)
-sized (negsuc a) n low high = omega (arith, ints)
 
 pub bounds_zero : (n : ℕ) → Bounds (exactly (pos 0)) n
 bounds_zero n = record { low = omega arith; high = omega arith }

@@ -3,6 +3,7 @@ use Rattle.std.proofs.Common.{◌≡◌, ℤ, negsuc, ◌-ℤ◌, Bool, true, fa
 use Rattle.std.proofs.lemmas.Int.{ints}
 use Rattle.sopl_base.specs.declared.comparison.CmpOp.{CmpOp}
 use Rattle.sopl_base.specs.declared.comparison.CmpOp.TheVariants.{Eq, Ne, Lt, Le, Gt, Ge}
+use Rattle.sopl_base.proofs.Booleans.{impossible}
 use Rattle.box_problem.specs.Box.{Box, IsBox, InBox}
 use Rattle.term_language.specs.declared.answers.Defined.{Defined}
 use Rattle.term_language.specs.declared.answers.Defined.TheVariants.{Never, Maybe, Always}
@@ -62,10 +63,6 @@ read_truth p t h tells = record {
   lies Unknown false tells = record { from_low = omega (arith, ints); to_high = omega (arith, ints) }
   lies True true tells = record { from_low = omega (arith, ints); to_high = omega (arith, ints) }
   lies True false tells = absurd tells
-
--- a test over a box, and at a point
-impossible : true ≡ false → ⊥
-impossible same = cc
 
 tells_maybe : (fails holds test : Bool) → (fails ≡ true → test ≡ false) → Tells (judged Maybe fails holds) test
 tells_maybe true holds true wrong = absurd (impossible (wrong refl))

@@ -1,11 +1,12 @@
 -- `allDifferent`: too many values between two numbers, and intervals with no number in common.
-use Rattle.std.proofs.Common.{◌≡◌, inl, inr, ℕ, zero, suc, ◌+◌, ◌<◌, ◌≤◌, nat_lt, ℤ, pos, ◌+ℤ◌, ◌-ℤ◌, ◌≤ℤ◌, ◌<ℤ◌, int_lt, int_le, Bool, true, false, not, ◌&&◌, ◌||◌, if◌then◌else◌}
+use Rattle.std.proofs.Common.{◌≡◌, inl, inr, ℕ, zero, suc, ◌+◌, ◌≤◌, nat_lt, ℤ, pos, ◌+ℤ◌, ◌-ℤ◌, ◌≤ℤ◌, int_lt, int_le, Bool, true, false, not, ◌||◌, if◌then◌else◌}
 use Rattle.std.proofs.Common.{List, [], ◌∷◌, length, Option, Some, None, IfSome, arith, refl, sym, subst}
 use Rattle.std.specs.List.{filter, list_all, list_any}
 use Rattle.std.specs.Int.{int_gap}
 use Rattle.std.specs.Ordering.{int_eq}
 use Rattle.std.proofs.lemmas.Int.{ints, by_lt_z}
-use Rattle.std.proofs.lemmas.Bool.Decides.{nat_tests}
+use Rattle.std.proofs.lemmas.Bool.{and_from, or_cases}
+use Rattle.sopl_base.proofs.Tests.{equal_tested, le_tested, lt_tested, nat_tested}
 use Rattle.box_problem.proofs.Counts.{gap_leads}
 use Rattle.term_language.specs.declared.answers.Defined.{Defined}
 use Rattle.term_language.specs.Ends.{Ends, Lies}
@@ -13,7 +14,7 @@ use Rattle.term_language.specs.Marks.{judged}
 use Rattle.term_language.specs.Globals.{is_inside, are_crowded, never_differ, are_apart, always_differ}
 use Rattle.term_language.specs.Values.{all_distinct, holds_of}
 use Rattle.term_language.specs.Laws.{Marks, Tells}
-use Rattle.term_language.proofs.FormValues.{by_if, by_bool, and_first, and_second, or_cases}
+use Rattle.term_language.proofs.FormValues.{by_if, by_bool, and_first, and_second}
 use Rattle.term_language.proofs.Lists.{AllLie}
 use Rattle.term_language.proofs.Conditions.{Decides, tells_judged}
 
@@ -54,9 +55,6 @@ abbrev without : ℤ → List ℤ → List ℤ
 without z [] = []
 without z (x ∷ xs) = if int_eq z x then without z xs else x ∷ without z xs
 
-equal_numbers : (x y : ℤ) → int_eq x y ≡ true → x ≡ y
-equal_numbers x y same = grind (arith, ints)
-
 unequal_numbers : (x y : ℤ) → int_eq x y ≡ false → ¬ x ≡ y
 unequal_numbers x y other same = grind (arith, ints)
 
@@ -77,13 +75,13 @@ nothing_lost : (z : ℤ) (xs : List ℤ) → NotIn z xs → length xs ≤ length
 nothing_lost z [] none = omega arith
 nothing_lost z (x ∷ xs) none =
     by_if (λ (ys : List ℤ). length (x ∷ xs) ≤ length ys) (int_eq z x) (without z xs) (x ∷ without z xs)
-    (λ same. absurd (none.0 (equal_numbers z x same))) (λ other. omega (arith, nothing_lost z xs none.1))
+    (λ same. absurd (none.0 (equal_tested z x same))) (λ other. omega (arith, nothing_lost z xs none.1))
 
 one_lost : (z : ℤ) (xs : List ℤ) → Distinct xs → length xs ≤ length (without z xs) + 1
 one_lost z [] all = omega arith
 one_lost z (x ∷ xs) all =
     by_if (λ (ys : List ℤ). length (x ∷ xs) ≤ length ys + 1) (int_eq z x) (without z xs) (x ∷ without z xs)
-    (λ same. omega (arith, nothing_lost z xs (subst (λ y. NotIn y xs) (sym (equal_numbers z x same)) all.0)))
+    (λ same. omega (arith, nothing_lost z xs (subst (λ y. NotIn y xs) (sym (equal_tested z x same)) all.0)))
     (λ other. omega (arith, one_lost z xs all.1))
 
 -- the greatest of the numbers taken out
@@ -127,12 +125,6 @@ distinct_kept a b (e ∷ es) (x ∷ xs) all =
     by_if Distinct (is_inside a b e) (x ∷ kept a b es xs) (kept a b es xs)
     (λ inside. (not_in_kept a b x es xs all.0, distinct_kept a b es xs all.1)) (λ out. distinct_kept a b es xs all.1)
 
-pub le_tested : (y z : ℤ) → int_le y z ≡ true → y ≤ℤ z
-le_tested y z tested = grind (arith, ints)
-
-pub lt_tested : (y z : ℤ) → int_lt y z ≡ true → y <ℤ z
-lt_tested y z tested = grind (arith, ints)
-
 between_kept : (a b : ℤ) (es : List Ends) (xs : List ℤ) → AllLie xs es → Between a b (kept a b es xs)
 between_kept a b [] xs lie = tt
 between_kept a b (e ∷ es) [] lie = tt
@@ -158,9 +150,6 @@ any_some test [] some = absurd (cc)
 any_some test (x ∷ xs) some =
     elim (or_cases (test x) (list_any test xs) some) [ inl here ↦ (x, here) | inr later ↦ any_some test xs later ]
 
-pub nat_tested : (m n : ℕ) → nat_lt m n ≡ true → m < n
-nat_tested m n tested = grind (arith, nat_tests)
-
 crowded : (a b : ℤ) (es : List Ends) (xs : List ℤ) → are_crowded es a b ≡ true → AllLie xs es → Distinct xs → ⊥
 crowded a b es xs full lie differ =
     let order = le_tested a b (and_first (int_le a b) (nat_lt (int_gap a b + 1) (length (filter (is_inside a b) es))) full) in
@@ -177,10 +166,6 @@ never_right es xs lie never =
     (λ all. absurd (crowded first.0.low second.0.high es xs second.1 lie (distinct xs all)))
     (λ other. refl)
 
-both_true : (a b : Bool) → a ≡ true → b ≡ true → (a && b) ≡ true
-both_true true b p q = q
-both_true false b p q = p
-
 neither_true : (a b : Bool) → a ≡ false → not b ≡ true → not (a || b) ≡ true
 neither_true true b p q = sym p
 neither_true false b p q = q
@@ -194,7 +179,7 @@ apart_numbers x y a e p q apart =
   where
     unequal : (x y : ℤ) → ¬ x ≡ y → int_eq x y ≡ false
     unequal x y differ =
-        by_bool (λ same. same ≡ false) (int_eq x y) (λ same. absurd (differ (equal_numbers x y same))) (λ other. refl)
+        by_bool (λ same. same ≡ false) (int_eq x y) (λ same. absurd (differ (equal_tested x y same))) (λ other. refl)
 
 none_equal : (x : ℤ) (a : Ends) (ys : List ℤ) (es : List Ends) → Lies x a → AllLie ys es → list_all (are_apart a) es ≡ true → not (list_any (int_eq x) ys) ≡ true
 none_equal x a [] es p lie apart = refl
@@ -209,7 +194,7 @@ always_right [] [] lie always = refl
 always_right [] (x ∷ xs) lie always = absurd lie
 always_right (a ∷ es) [] lie always = absurd lie
 always_right (a ∷ es) (x ∷ xs) lie always =
-    both_true (not (list_any (int_eq x) xs)) (all_distinct xs)
+    and_from (not (list_any (int_eq x) xs)) (all_distinct xs)
     (none_equal x a xs es lie.0 lie.1 (and_first (list_all (are_apart a) es) (always_differ es) always))
     (always_right es xs lie.1 (and_second (list_all (are_apart a) es) (always_differ es) always))
 

@@ -1,20 +1,20 @@
 -- `allDifferent` over a part of a box.
-use Rattle.std.proofs.Common.{◌≡◌, ◌⊎◌, inl, inr, ℕ, ◌+◌, ◌<◌, ◌≤◌, nat_lt, ℤ, ◌≤ℤ◌, ◌<ℤ◌, int_lt, int_le, Bool, true, false, ◌||◌, if◌then◌else◌, List, [], ◌∷◌, length, arith}
+use Rattle.std.proofs.Common.{◌≡◌, ◌⊎◌, inl, inr, ◌+◌, ◌<◌, ◌≤◌, nat_lt, ℤ, ◌≤ℤ◌, int_lt, int_le, Bool, true, false, ◌||◌, if◌then◌else◌, List, [], ◌∷◌, length, arith}
 use Rattle.std.proofs.Common.{refl, sym, ap, subst, ◌∙◌}
 use Rattle.std.specs.List.{filter, list_all, list_any}
 use Rattle.std.specs.Int.{int_gap}
 use Rattle.std.proofs.lemmas.Int.{ints, by_lt_z}
-use Rattle.std.proofs.lemmas.Bool.Decides.{nat_tests}
+use Rattle.std.proofs.lemmas.Bool.{and_from, or_cases}
+use Rattle.sopl_base.proofs.Tests.{le_test, le_tested, lt_test, lt_tested, nat_test, nat_tested}
 use Rattle.box_problem.proofs.Counts.{gap_leads}
 use Rattle.term_language.specs.declared.answers.Defined.{Defined}
 use Rattle.term_language.specs.Ends.{Ends}
 use Rattle.term_language.specs.Marks.{judged}
 use Rattle.term_language.specs.Globals.{is_inside, are_crowded, never_differ, are_apart, always_differ}
 use Rattle.term_language.specs.Laws.{Within, Sharper, Surer}
-use Rattle.term_language.proofs.FormValues.{by_if, by_bool, and_first, and_second, or_cases}
-use Rattle.term_language.proofs.Elements.{both_true}
-use Rattle.term_language.proofs.Different.{any_some, le_tested, lt_tested, nat_tested, never_right, always_right}
-use Rattle.term_language.proofs.ElementParts.{le_test, lows_of, lows_lie}
+use Rattle.term_language.proofs.FormValues.{by_if, by_bool, and_first, and_second}
+use Rattle.term_language.proofs.Different.{any_some, never_right, always_right}
+use Rattle.term_language.proofs.ElementParts.{lows_of, lows_lie}
 use Rattle.term_language.proofs.Narrowing.{AllWithin, surer_judged}
 
 -- an interval is among others
@@ -73,7 +73,7 @@ inside_narrower : (a b : ℤ) (x y : Ends) → Within x y → is_inside a b y �
 inside_narrower a b x y p inside =
     let from = le_tested a y.low (and_first (int_le a y.low) (int_le y.high b) inside) in
     let to = le_tested y.high b (and_second (int_le a y.low) (int_le y.high b) inside) in
-    both_true (int_le a x.low) (int_le x.high b) (le_test a x.low (omega (arith, ints, from, p.from_low))) (le_test x.high b (omega (arith, ints, to, p.to_high)))
+    and_from (int_le a x.low) (int_le x.high b) (le_test a x.low (omega (arith, ints, from, p.from_low))) (le_test x.high b (omega (arith, ints, to, p.to_high)))
 
 more_inside : (a b : ℤ) (narrow wide : List Ends) → AllWithin narrow wide → length (filter (is_inside a b) wide) ≤ length (filter (is_inside a b) narrow)
 more_inside a b [] [] all = omega arith
@@ -156,9 +156,6 @@ among_ordered (a ∷ narrow) [] x all among = absurd all
 among_ordered (a ∷ narrow) (c ∷ wide) x all (inl here) = subst (λ (y : Ends). y.low ≤ℤ y.high) here all.0.ordered
 among_ordered (a ∷ narrow) (c ∷ wide) x all (inr rest) = among_ordered narrow wide x all.1 rest
 
-pub nat_test : (m n : ℕ) → m < n → nat_lt m n ≡ true
-nat_test m n below = grind (arith, nat_tests)
-
 -- where the whole is crowded, so is the part, between ends of its own
 crowded_narrower : (a b : ℤ) (narrow wide : List Ends) → AllWithin narrow wide → are_crowded wide a b ≡ true → never_differ narrow ≡ true
 crowded_narrower a b narrow wide all crowded =
@@ -176,7 +173,7 @@ crowded_narrower a b narrow wide all crowded =
     let spread : first.one.low ≤ℤ last.one.high = omega (arith, ints, ordered, last.most first.one first.among) in
     let inner = count_more (is_inside a b) (is_inside first.one.low last.one.high) narrow
     (λ x among inside.
-    both_true (int_le first.one.low x.low) (int_le x.high last.one.high)
+    and_from (int_le first.one.low x.low) (int_le x.high last.one.high)
     (le_test first.one.low x.low (first.least x (among_kept (is_inside a b) narrow x among inside)))
     (le_test x.high last.one.high (last.most x (among_kept (is_inside a b) narrow x among inside)))) in
     let wide_gap = gap_leads a b order in
@@ -184,7 +181,7 @@ crowded_narrower a b narrow wide all crowded =
     let few : int_gap first.one.low last.one.high + 1 < length (filter (is_inside first.one.low last.one.high) narrow) = omega (arith, ints, more, count, inner, wide_gap, narrow_gap, from, to) in
     any_among (λ (x : Ends). list_any (λ (y : Ends). are_crowded narrow x.low y.high) narrow) narrow first.one first_in.0
     (any_among (λ (y : Ends). are_crowded narrow first.one.low y.high) narrow last.one last_in.0
-    (both_true (int_le first.one.low last.one.high) (nat_lt (int_gap first.one.low last.one.high + 1) (length (filter (is_inside first.one.low last.one.high) narrow)))
+    (and_from (int_le first.one.low last.one.high) (nat_lt (int_gap first.one.low last.one.high + 1) (length (filter (is_inside first.one.low last.one.high) narrow)))
     (le_test first.one.low last.one.high spread)
     (nat_test (int_gap first.one.low last.one.high + 1) (length (filter (is_inside first.one.low last.one.high) narrow)) few)))
 
@@ -193,10 +190,6 @@ never_narrower narrow wide all never =
     let first = any_some (λ (x : Ends). list_any (λ (y : Ends). are_crowded wide x.low y.high) wide) wide never in
     let second = any_some (λ (y : Ends). are_crowded wide first.0.low y.high) wide first.1 in
     crowded_narrower first.0.low second.0.high narrow wide all second.1
-
--- where the whole is apart, so is the part
-lt_test : (y z : ℤ) → y <ℤ z → int_lt y z ≡ true
-lt_test y z order = grind (arith, ints)
 
 apart_narrower : (a c x y : Ends) → Within a c → Within x y → are_apart c y ≡ true → are_apart a x ≡ true
 apart_narrower a c x y p q apart =
@@ -218,7 +211,7 @@ all_apart_narrower a c [] [] p all apart = refl
 all_apart_narrower a c [] (y ∷ wide) p all apart = absurd all
 all_apart_narrower a c (x ∷ narrow) [] p all apart = absurd all
 all_apart_narrower a c (x ∷ narrow) (y ∷ wide) p all apart =
-    both_true (are_apart a x) (list_all (are_apart a) narrow) (apart_narrower a c x y p all.0 (and_first (are_apart c y) (list_all (are_apart c) wide) apart))
+    and_from (are_apart a x) (list_all (are_apart a) narrow) (apart_narrower a c x y p all.0 (and_first (are_apart c y) (list_all (are_apart c) wide) apart))
     (all_apart_narrower a c narrow wide p all.1 (and_second (are_apart c y) (list_all (are_apart c) wide) apart))
 
 always_narrower : (narrow wide : List Ends) → AllWithin narrow wide → always_differ wide ≡ true → always_differ narrow ≡ true
@@ -226,7 +219,7 @@ always_narrower [] [] all always = refl
 always_narrower [] (y ∷ wide) all always = absurd all
 always_narrower (x ∷ narrow) [] all always = absurd all
 always_narrower (x ∷ narrow) (y ∷ wide) all always =
-    both_true (list_all (are_apart x) narrow) (always_differ narrow) (all_apart_narrower x y narrow wide all.0 all.1 (and_first (list_all (are_apart y) wide) (always_differ wide) always))
+    and_from (list_all (are_apart x) narrow) (always_differ narrow) (all_apart_narrower x y narrow wide all.0 all.1 (and_first (list_all (are_apart y) wide) (always_differ wide) always))
     (always_narrower narrow wide all.1 (and_second (list_all (are_apart y) wide) (always_differ wide) always))
 
 not_both_differ : (narrow wide : List Ends) → AllWithin narrow wide → always_differ narrow ≡ true → never_differ narrow ≡ false

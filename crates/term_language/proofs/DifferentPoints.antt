@@ -3,13 +3,13 @@ use Rattle.std.proofs.Common.{◌≡◌, inl, inr, ℕ, ◌+◌, ◌<◌, ◌≤
 use Rattle.std.specs.List.{filter, list_all, list_any}
 use Rattle.std.specs.Int.{int_gap}
 use Rattle.std.proofs.lemmas.Int.{ints}
+use Rattle.std.proofs.lemmas.Bool.{and_from}
+use Rattle.sopl_base.proofs.Tests.{le_test, nat_test}
 use Rattle.box_problem.proofs.Counts.{gap_leads}
 use Rattle.term_language.specs.Ends.{Ends}
 use Rattle.term_language.specs.Globals.{is_inside, are_crowded, never_differ, are_apart, always_differ}
 use Rattle.term_language.proofs.FormValues.{by_if, by_bool}
-use Rattle.term_language.proofs.Elements.{both_true}
-use Rattle.term_language.proofs.ElementParts.{le_test}
-use Rattle.term_language.proofs.DifferentParts.{Among, any_among, nat_test}
+use Rattle.term_language.proofs.DifferentParts.{Among, any_among}
 use Rattle.term_language.proofs.Exactness.{IsOne, AllOne}
 
 -- two intervals of one number each that are not apart are the same number
@@ -30,7 +30,7 @@ one_inside x [] z among is one = absurd among
 one_inside x (y ∷ later) z (inl here) is one =
     let same = ap (λ (e : Ends). e.low) here in
     let same_high = ap (λ (e : Ends). e.high) here in
-    let inside = both_true (int_le z y.low) (int_le y.high z) (le_test z y.low (omega (arith, ints, same, is))) (le_test y.high z (omega (arith, ints, same_high, is, one))) in
+    let inside = and_from (int_le z y.low) (int_le y.high z) (le_test z y.low (omega (arith, ints, same, is))) (le_test y.high z (omega (arith, ints, same_high, is, one))) in
     by_if (λ (es : List Ends). 1 ≤ length es) (is_inside z z y) (y ∷ filter (is_inside z z) later) (filter (is_inside z z) later)
     (λ met. omega arith) (λ unmet. absurd (cc))
 one_inside x (y ∷ later) z (inr rest) is one =
@@ -41,7 +41,7 @@ one_inside x (y ∷ later) z (inr rest) is one =
 twins_crowd : (x : Ends) (later : List Ends) → IsOne x → (y : Ends) → Among y later → y.low ≡ x.low → IsOne y → 2 ≤ length (filter (is_inside x.low x.low) (x ∷ later))
 twins_crowd x later p y among same q =
     let more = one_inside y later x.low among (sym same) q in
-    let inside = both_true (int_le x.low x.low) (int_le x.high x.low) (le_test x.low x.low (omega (arith, ints))) (le_test x.high x.low (omega (arith, ints, p))) in
+    let inside = and_from (int_le x.low x.low) (int_le x.high x.low) (le_test x.low x.low (omega (arith, ints))) (le_test x.high x.low (omega (arith, ints, p))) in
     by_if (λ (es : List Ends). 2 ≤ length es) (is_inside x.low x.low x) (x ∷ filter (is_inside x.low x.low) later) (filter (is_inside x.low x.low) later)
     (λ met. omega (arith, more)) (λ unmet. absurd (cc))
 
@@ -77,7 +77,7 @@ twins_never es t =
     subst (λ (z : ℤ). int_gap t.one.low z + 1 < length (filter (is_inside t.one.low z) es)) same (omega (arith, ints, t.two, gap_leads t.one.low t.one.low (omega (arith, ints)))) in
     any_among (λ (x : Ends). list_any (λ (y : Ends). are_crowded es x.low y.high) es) es t.one t.among
     (any_among (λ (y : Ends). are_crowded es t.one.low y.high) es t.one t.among
-    (both_true (int_le t.one.low t.one.high) (nat_lt (int_gap t.one.low t.one.high + 1) (length (filter (is_inside t.one.low t.one.high) es)))
+    (and_from (int_le t.one.low t.one.high) (nat_lt (int_gap t.one.low t.one.high + 1) (length (filter (is_inside t.one.low t.one.high) es)))
     (le_test t.one.low t.one.high (omega (arith, ints, same)))
     (nat_test (int_gap t.one.low t.one.high + 1) (length (filter (is_inside t.one.low t.one.high) es)) few)))
 

@@ -4,6 +4,8 @@ use Rattle.std.specs.List.{fold, filter, list_all, list_any}
 use Rattle.std.specs.Int.{int_gap}
 use Rattle.std.specs.Ordering.{int_eq}
 use Rattle.std.proofs.lemmas.Int.{ints, clamps}
+use Rattle.std.proofs.lemmas.Bool.{and_from}
+use Rattle.sopl_base.proofs.Tests.{le_test, le_tested}
 use Rattle.box_problem.specs.Box.{Box, IsBox, Inside}
 use Rattle.box_problem.proofs.Counts.{gap_leads}
 use Rattle.term_language.specs.declared.answers.Defined.{Defined}
@@ -14,7 +16,7 @@ use Rattle.term_language.specs.Rules.{Reading, Near, Wide, item_ends, if_any, el
 use Rattle.term_language.specs.Laws.{Within, Sharper}
 use Rattle.term_language.proofs.FormValues.{by_if, and_first, and_second}
 use Rattle.term_language.proofs.Lists.{AllLie}
-use Rattle.term_language.proofs.Elements.{Has, by_option, both_true, counted, all_in, mem_indices, is_found, reached_has}
+use Rattle.term_language.proofs.Elements.{Has, by_option, counted, all_in, mem_indices, is_found, reached_has}
 use Rattle.term_language.proofs.Narrowing.{AllWithin, within_exactly, within_cell, hull_within, sharper_both}
 
 -- an interval within the wider one of two is within their hull, and stays so
@@ -94,18 +96,11 @@ within_element Near part whole narrow wide table is_box inside =
     (λ none. empty_hull whole (entries table) (none_at_all (reached narrow table) (entries table) none))
     (each_any part c (reached narrow table) (entries table) (each_kept part c (λ (e : Entry). lies_in narrow e.index) (entries table) all) all)
 
--- indices that the part allows the whole allows
-pub le_test : (y z : ℤ) → y ≤ℤ z → int_le y z ≡ true
-le_test y z order = grind (arith, ints)
-
-pub le_tested : (y z : ℤ) → int_le y z ≡ true → y ≤ℤ z
-le_tested y z tested = grind (arith, ints)
-
 has_wider : (a c : Ends) (z : ℤ) → Within a c → has a z ≡ true → has c z ≡ true
 has_wider a c z p inside =
     let from = le_tested a.low z (and_first (int_le a.low z) (int_le z a.high) inside) in
     let to = le_tested z a.high (and_second (int_le a.low z) (int_le z a.high) inside) in
-    both_true (int_le c.low z) (int_le z c.high) (le_test c.low z (omega (arith, ints, from, p.from_low))) (le_test z c.high (omega (arith, ints, to, p.to_high)))
+    and_from (int_le c.low z) (int_le z c.high) (le_test c.low z (omega (arith, ints, from, p.from_low))) (le_test z c.high (omega (arith, ints, to, p.to_high)))
 
 allowed : (narrow wide : List Ends) (xs : List ℤ) → AllWithin narrow wide → lies_in narrow xs ≡ true → lies_in wide xs ≡ true
 allowed [] [] xs all inside = inside
@@ -113,7 +108,7 @@ allowed [] (c ∷ wide) xs all inside = absurd all
 allowed (a ∷ narrow) [] xs all inside = absurd all
 allowed (a ∷ narrow) (c ∷ wide) [] all inside = cc
 allowed (a ∷ narrow) (c ∷ wide) (x ∷ xs) all inside =
-    both_true (has c x) (lies_in wide xs) (has_wider a c x all.0 (and_first (has a x) (lies_in narrow xs) inside)) (allowed narrow wide xs all.1 (and_second (has a x) (lies_in narrow xs) inside))
+    and_from (has c x) (lies_in wide xs) (has_wider a c x all.0 (and_first (has a x) (lies_in narrow xs) inside)) (allowed narrow wide xs all.1 (and_second (has a x) (lies_in narrow xs) inside))
 
 none_kept : (few many : List ℤ → Bool) (es : List Entry) → ((xs : List ℤ) → few xs ≡ true → many xs ≡ true) → filter (λ (e : Entry). many e.index) es ≡ [] → filter (λ (e : Entry). few e.index) es ≡ []
 none_kept few many [] goes none = refl
@@ -131,7 +126,7 @@ none_kept few many (e ∷ later) goes none =
 pub all_counted : (test : ℤ → Bool) (z : ℤ) (n : ℕ) → ((x : ℤ) → z ≤ℤ x → x <ℤ (z +ℤ pos n) → test x ≡ true) → list_all test (counted_up z n) ≡ true
 all_counted test z zero each = refl
 all_counted test z (suc n) each =
-    both_true (test z) (list_all test (counted_up (z +ℤ pos 1) n)) (each z (omega (arith, ints)) (omega (arith, ints)))
+    and_from (test z) (list_all test (counted_up (z +ℤ pos 1) n)) (each z (omega (arith, ints)) (omega (arith, ints)))
     (all_counted test (z +ℤ pos 1) n (λ x low high. each x (omega (arith, ints)) (omega (arith, ints))))
 
 covered_narrower : (a c : Ends) (set : List ℤ) → Within a c → is_covered c set ≡ true → is_covered a set ≡ true
@@ -147,7 +142,7 @@ are_covered_narrower [] (c ∷ wide) sets all covered = absurd all
 are_covered_narrower (a ∷ narrow) [] sets all covered = absurd all
 are_covered_narrower (a ∷ narrow) (c ∷ wide) [] all covered = cc
 are_covered_narrower (a ∷ narrow) (c ∷ wide) (set ∷ sets) all covered =
-    both_true (is_covered a set) (are_covered narrow sets) (covered_narrower a c set all.0 (and_first (is_covered c set) (are_covered wide sets) covered))
+    and_from (is_covered a set) (are_covered narrow sets) (covered_narrower a c set all.0 (and_first (is_covered c set) (are_covered wide sets) covered))
     (are_covered_narrower narrow wide sets all.1 (and_second (is_covered c set) (are_covered wide sets) covered))
 
 abbrev pub lows_of : List Ends → List ℤ

@@ -1,9 +1,11 @@
 -- Elements of arrays on a box of one point.
-use Rattle.std.proofs.Common.{◌≡◌, ◌⊎◌, inl, inr, ℕ, zero, suc, ◌+◌, ◌<◌, ℤ, int_le, Bool, true, false, ◌||◌, List, [], ◌∷◌, ◌++◌, map, length, get_or, AllPairs, arith, refl, sym, subst, ◌∙◌}
+use Rattle.std.proofs.Common.{◌≡◌, ◌⊎◌, inl, inr, ℕ, zero, suc, ◌+◌, ◌<◌, ℤ, int_le, Bool, true, false, List, [], ◌∷◌, ◌++◌, map, length, get_or, AllPairs, arith, refl, sym, subst, ◌∙◌}
 use Rattle.std.specs.List.{filter, flat_map, list_any}
 use Rattle.std.specs.Int.{int_gap}
 use Rattle.std.specs.Ordering.{int_eq}
 use Rattle.std.proofs.lemmas.Int.{ints}
+use Rattle.std.proofs.lemmas.Bool.{and_from, or_left, or_right}
+use Rattle.sopl_base.proofs.Tests.{le_tested}
 use Rattle.box_problem.specs.Box.{Box, IsBox, IsPoint}
 use Rattle.box_problem.proofs.Counts.{gap_leads}
 use Rattle.term_language.specs.declared.answers.Defined.{Defined}
@@ -15,8 +17,8 @@ use Rattle.term_language.specs.Rules.{Near, unless_folded, item_ends, if_any, el
 use Rattle.term_language.specs.Laws.{Exact}
 use Rattle.term_language.proofs.FormValues.{by_if, and_first, and_second}
 use Rattle.term_language.proofs.Operations.{equal_tests}
-use Rattle.term_language.proofs.Elements.{Mem, AllIn, both_true}
-use Rattle.term_language.proofs.ElementParts.{le_tested, lows_of, item_intervals, all_counted}
+use Rattle.term_language.proofs.Elements.{Mem, AllIn}
+use Rattle.term_language.proofs.ElementParts.{lows_of, item_intervals, all_counted}
 use Rattle.term_language.proofs.Exactness.{IsOne, AllOne, one_cell, one_folded}
 
 -- no two lists are the same
@@ -78,7 +80,7 @@ only_index (a ∷ es) (x ∷ xs) one inside =
     cc
 
 -- an index of an array has its numbers in the sets
-mem_append : (xs : List ℤ) (first second : List (List ℤ)) → Mem xs (first ++ second) → Mem xs first ⊎ Mem xs second
+pub mem_append : (xs : List ℤ) (first second : List (List ℤ)) → Mem xs (first ++ second) → Mem xs first ⊎ Mem xs second
 mem_append xs [] second some = inr some
 mem_append xs (ys ∷ later) second (inl here) = inl (inl here)
 mem_append xs (ys ∷ later) second (inr rest) =
@@ -92,21 +94,13 @@ in_sets x set sets xs (ys ∷ lists) within goes (inl here) =
 in_sets x set sets xs (ys ∷ lists) within goes (inr rest) =
     in_sets x set sets xs lists within (λ zs among. goes zs (inr among)) rest
 
-or_first : (a b : Bool) → a ≡ true → (a || b) ≡ true
-or_first true b p = refl
-or_first false b p = absurd (cc)
-
-or_second : (a b : Bool) → b ≡ true → (a || b) ≡ true
-or_second true b p = refl
-or_second false b p = p
-
 in_all_sets : (some set : List ℤ) (sets : List (List ℤ)) (xs : List ℤ) (lists : List (List ℤ)) → ((x : ℤ) → list_any (int_eq x) some ≡ true → list_any (int_eq x) set ≡ true)
     → ((ys : List ℤ) → Mem ys lists → AllIn ys sets) → Mem xs (flat_map (λ number. map (λ later. number ∷ later) lists) some) → AllIn xs (set ∷ sets)
 in_all_sets [] set sets xs lists within goes among = absurd among
 in_all_sets (number ∷ some) set sets xs lists within goes among =
     elim (mem_append xs (map (λ later. number ∷ later) lists) (flat_map (λ n. map (λ later. n ∷ later) lists) some) among) [
-      | inl here ↦ in_sets number set sets xs lists (within number (or_first (int_eq number number) (list_any (int_eq number) some) (equal_tests number number refl))) goes here
-      | inr later ↦ in_all_sets some set sets xs lists (λ x in_some. within x (or_second (int_eq x number) (list_any (int_eq x) some) in_some)) goes later
+      | inl here ↦ in_sets number set sets xs lists (within number (or_left (int_eq number number) (list_any (int_eq number) some) (equal_tests number number refl))) goes here
+      | inr later ↦ in_all_sets some set sets xs lists (λ x in_some. within x (or_right (int_eq x number) (list_any (int_eq x) some) in_some)) goes later
     ]
 
 indices_in : (sets : List (List ℤ)) (xs : List ℤ) → Mem xs (indices sets) → AllIn xs sets
@@ -122,7 +116,7 @@ covered_at [] (set ∷ sets) one within = absurd within
 covered_at (a ∷ es) [] one within = absurd within
 covered_at (a ∷ es) (set ∷ sets) one within =
     let lead = gap_leads a.low a.high (omega (arith, ints, one.0)) in
-    both_true (is_covered a set) (are_covered es sets)
+    and_from (is_covered a set) (are_covered es sets)
     (all_counted (λ number. list_any (int_eq number) set) a.low (int_gap a.low a.high + 1)
     (λ x low high.
     let same : a.low ≡ x = omega (arith, ints, lead, one.0) in

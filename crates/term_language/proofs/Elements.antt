@@ -1,10 +1,12 @@
 -- Elements of arrays.
-use Rattle.std.proofs.Common.{◌≡◌, ◌⊎◌, inl, inr, ℕ, zero, suc, ◌+◌, ℤ, pos, ◌+ℤ◌, ◌≤ℤ◌, ◌<ℤ◌, int_le, Bool, true, false, ◌&&◌, if◌then◌else◌, List, [], ◌∷◌, ◌++◌, map, length}
+use Rattle.std.proofs.Common.{◌≡◌, ◌⊎◌, inl, inr, ℕ, zero, suc, ◌+◌, ℤ, pos, ◌+ℤ◌, ◌≤ℤ◌, ◌<ℤ◌, int_le, Bool, true, false, if◌then◌else◌, List, [], ◌∷◌, ◌++◌, map, length}
 use Rattle.std.proofs.Common.{Option, Some, None, option_map, option_and_then, IfSome, arith, refl, sym, ap, subst, ◌∙◌}
 use Rattle.std.specs.List.{fold, filter, flat_map, list_all, list_any}
 use Rattle.std.specs.Int.{int_gap}
 use Rattle.std.specs.Ordering.{int_eq}
 use Rattle.std.proofs.lemmas.Int.{ints, clamps, by_lt_z}
+use Rattle.std.proofs.lemmas.Bool.{and_from, or_cases}
+use Rattle.sopl_base.proofs.Tests.{equal_tested}
 use Rattle.box_problem.proofs.Counts.{gap_leads}
 use Rattle.box_problem.specs.Box.{Box, IsBox, InBox}
 use Rattle.term_language.specs.declared.answers.Defined.{Defined}
@@ -18,22 +20,22 @@ use Rattle.term_language.specs.Rules.{Reading, Near, Wide, unless_folded, item_f
 use Rattle.term_language.specs.Values.{item_value}
 use Rattle.term_language.specs.Laws.{Marks}
 use Rattle.term_language.proofs.Products.{in_exactly}
-use Rattle.term_language.proofs.FormValues.{by_if, by_bool, and_first, and_second, or_cases, Off, cell_lies}
+use Rattle.term_language.proofs.FormValues.{by_if, by_bool, and_first, and_second, Off, cell_lies}
 use Rattle.term_language.proofs.Layers.{IsClear, IsRead, marked_map, map_holds, off_atom, read_number, read_cell}
 use Rattle.term_language.proofs.Lists.{AllLie, constants, AreRead}
-use Rattle.term_language.proofs.Operations.{equal_tests, equals_tested}
+use Rattle.term_language.proofs.Operations.{equal_tests}
 
 -- an entry with this index and this item is in a list
 abbrev pub Has : List Entry → Item → List ℤ → Type 0
 Has [] item xs = ⊥
 Has (e ∷ es) item xs = ((e.index ≡ xs) × (e.item ≡ item)) ⊎ Has es item xs
 
-same_index_is : (xs ys : List ℤ) → same_index xs ys ≡ true → xs ≡ ys
+pub same_index_is : (xs ys : List ℤ) → same_index xs ys ≡ true → xs ≡ ys
 same_index_is [] [] same = refl
 same_index_is [] (y ∷ ys) same = cc
 same_index_is (x ∷ xs) [] same = cc
 same_index_is (x ∷ xs) (y ∷ ys) same =
-    let first = equals_tested x y (and_first (int_eq x y) (same_index xs ys) same) in
+    let first = equal_tested x y (and_first (int_eq x y) (same_index xs ys) same) in
     let later = same_index_is xs ys (and_second (int_eq x y) (same_index xs ys) same) in
     cc
 
@@ -47,13 +49,8 @@ found (e ∷ es) xs item is =
     (λ same here. inl (same_index_is e.index xs same, some_item e.item item here))
     (λ other here. inr (found es xs item here)) is
 
--- numbers that lie in intervals pass the test
-pub both_true : (a b : Bool) → a ≡ true → b ≡ true → (a && b) ≡ true
-both_true true b p q = q
-both_true false b p q = p
-
 has_it : (x : ℤ) (a : Ends) → Lies x a → has a x ≡ true
-has_it x a p = both_true (int_le a.low x) (int_le x a.high) (le_test a.low x p.from_low) (le_test x a.high p.to_high)
+has_it x a p = and_from (int_le a.low x) (int_le x a.high) (le_test a.low x p.from_low) (le_test x a.high p.to_high)
   where
     le_test : (y z : ℤ) → y ≤ℤ z → int_le y z ≡ true
     le_test y z order = grind (arith, ints)
@@ -62,7 +59,7 @@ lies_in_test : (xs : List ℤ) (es : List Ends) → AllLie xs es → lies_in es 
 lies_in_test [] [] lie = refl
 lies_in_test [] (a ∷ es) lie = absurd lie
 lies_in_test (x ∷ xs) [] lie = absurd lie
-lies_in_test (x ∷ xs) (a ∷ es) lie = both_true (has a x) (lies_in es xs) (has_it x a lie.0) (lies_in_test xs es lie.1)
+lies_in_test (x ∷ xs) (a ∷ es) lie = and_from (has a x) (lies_in es xs) (has_it x a lie.0) (lies_in_test xs es lie.1)
 
 has_kept : (test : List ℤ → Bool) (entries : List Entry) (item : Item) (xs : List ℤ) → test xs ≡ true → Has entries item xs → Has (filter (λ (e : Entry). test e.index) entries) item xs
 has_kept test [] item xs passes some = some
@@ -139,7 +136,7 @@ mem_set : (x : ℤ) (xs : List ℤ) (set : List ℤ) (lists : List (List ℤ)) �
 mem_set x xs [] lists within some = cc
 mem_set x xs (number ∷ set) lists within some =
     elim (or_cases (int_eq x number) (list_any (int_eq x) set) within) [
-      | inl here ↦ mem_left (x ∷ xs) (map (λ later. number ∷ later) lists) (flat_map (λ number. map (λ later. number ∷ later) lists) set) (mem_map x number xs lists (equals_tested x number here) some)
+      | inl here ↦ mem_left (x ∷ xs) (map (λ later. number ∷ later) lists) (flat_map (λ number. map (λ later. number ∷ later) lists) set) (mem_map x number xs lists (equal_tested x number here) some)
       | inr later ↦ mem_right (x ∷ xs) (map (λ later. number ∷ later) lists) (flat_map (λ number. map (λ later. number ∷ later) lists) set) (mem_set x xs set lists later some)
     ]
 
@@ -179,9 +176,9 @@ all_in (x ∷ xs) (a ∷ es) (set ∷ sets) covered lie =
       all_in xs es sets (and_second (is_covered a set) (are_covered es sets) covered) lie.1,
     )
 
-same_index_refl : (xs : List ℤ) → same_index xs xs ≡ true
+pub same_index_refl : (xs : List ℤ) → same_index xs xs ≡ true
 same_index_refl [] = refl
-same_index_refl (x ∷ xs) = both_true (int_eq x x) (same_index xs xs) (equal_tests x x refl) (same_index_refl xs)
+same_index_refl (x ∷ xs) = and_from (int_eq x x) (same_index xs xs) (equal_tests x x refl) (same_index_refl xs)
 
 -- an index that has an item is found
 pub is_found : (xs : List ℤ) (lists : List (List ℤ)) (items : List Item) → length items ≡ length lists → Mem xs lists → item_in (paired lists items) xs ≡ None → ⊥

@@ -1,5 +1,5 @@
 -- Intervals, marks and truths on a box of one point.
-use Rattle.std.proofs.Common.{◌≡◌, inl, inr, ℕ, ℤ, pos, negsuc, ◌*ℤ◌, ◌≤ℤ◌, int_le, Bool, true, false, if◌then◌else◌, List, [], ◌∷◌, length, arith, refl, sym, ap, ◌∙◌}
+use Rattle.std.proofs.Common.{◌≡◌, inl, inr, ℕ, ℤ, pos, negsuc, ◌*ℤ◌, int_le, Bool, true, false, if◌then◌else◌, List, [], ◌∷◌, length, arith, refl, sym, ap, ◌∙◌}
 use Rattle.std.specs.List.{fold}
 use Rattle.std.specs.Int.{int_min, int_max}
 use Rattle.std.specs.Int.RustNames.{int_div, int_rem}
@@ -8,6 +8,7 @@ use Rattle.std.proofs.lemmas.Int.{ints, clamps}
 use Rattle.std.proofs.lemmas.Bool.{cases_lt}
 use Rattle.sopl_base.specs.declared.comparison.CmpOp.{CmpOp}
 use Rattle.sopl_base.specs.declared.comparison.CmpOp.TheVariants.{Eq, Ne, Lt, Le, Gt, Ge}
+use Rattle.sopl_base.proofs.Tests.{le_tested}
 use Rattle.box_problem.specs.Box.{Box, IsBox, IsPoint}
 use Rattle.term_language.specs.declared.answers.Defined.{Defined}
 use Rattle.term_language.specs.declared.answers.Defined.TheVariants.{Never, Maybe, Always}
@@ -69,9 +70,6 @@ one_least a c p q = omega (arith, ints, clamps, p, q)
 
 pub one_greatest : (a c : Ends) → IsOne a → IsOne c → IsOne (greatest a c)
 one_greatest a c p q = omega (arith, ints, clamps, p, q)
-
-le_tested : (y z : ℤ) → int_le y z ≡ true → y ≤ℤ z
-le_tested y z tested = grind (arith, ints)
 
 pub one_sizes : (a : Ends) → IsOne a → IsOne (sizes a)
 one_sizes a p =

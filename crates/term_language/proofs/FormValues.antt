@@ -1,16 +1,17 @@
 -- What linear forms are worth at a point.
-use Rattle.std.proofs.Common.{◌≡◌, ◌⊎◌, inl, inr, ℕ, ◌≤◌, nat_lt, nat_eq, ℤ, pos, ◌+ℤ◌, ◌-ℤ◌, ◌*ℤ◌, Bool, true, false, ◌&&◌, ◌||◌, if◌then◌else◌, List, [], ◌∷◌, length, get_or, arith, refl, ap, ◌∙◌}
+use Rattle.std.proofs.Common.{◌≡◌, inl, inr, ℕ, ◌≤◌, nat_lt, nat_eq, ℤ, pos, ◌+ℤ◌, ◌-ℤ◌, ◌*ℤ◌, Bool, true, false, ◌&&◌, if◌then◌else◌, List, [], ◌∷◌, length, get_or, arith, refl, ap, ◌∙◌}
 use Rattle.std.proofs.lemmas.Int.{ints}
 use Rattle.std.proofs.lemmas.List.{get_or_past}
 use Rattle.std.proofs.lemmas.Bool.{cases_lt}
 use Rattle.std.proofs.lemmas.Bool.Decides.{nat_tests}
 use Rattle.std.proofs.Math.IntN.{zero-*ℤ, *ℤ-zero}
 use Rattle.std.specs.Ordering.{int_eq}
+use Rattle.sopl_base.proofs.Integers.{*ℤ-+ℤ, *ℤ_assoc, +ℤ-*ℤ}
 use Rattle.box_problem.specs.Box.{Box, IsBox, InBox}
 use Rattle.term_language.specs.Ends.{Ends, Lies, scaled, cell_ends}
 use Rattle.term_language.specs.Forms.{Coefficient, Form, number_form, cell_form, is_empty, is_constant, unless_zero, put, combined, plus_form, times_form, cells_ends, whole}
 use Rattle.term_language.specs.Values.{cell_value}
-use Rattle.term_language.proofs.Products.{*ℤ-+ℤ, +ℤ-*ℤ, *ℤ_assoc, one-*ℤ, in_exactly, in_plus, in_scaled}
+use Rattle.term_language.proofs.Products.{one-*ℤ, in_exactly, in_plus, in_scaled}
 
 -- what holds of both choices holds of the one that is made
 pub by_if : {A : Type 0} (P : A → Type 0) (b : Bool) (x y : A) → (b ≡ true → P x) → (b ≡ false → P y) → P (if b then x else y)
@@ -20,10 +21,6 @@ by_if P false x y met unmet = unmet refl
 pub by_bool : (P : Bool → Type 0) (b : Bool) → (b ≡ true → P true) → (b ≡ false → P false) → P b
 by_bool P true met unmet = met refl
 by_bool P false met unmet = unmet refl
-
-pub or_cases : (a b : Bool) → (a || b) ≡ true → (a ≡ true) ⊎ (b ≡ true)
-or_cases true b either = inl refl
-or_cases false b either = inr either
 
 pub and_first : (a b : Bool) → (a && b) ≡ true → a ≡ true
 and_first true b both = refl

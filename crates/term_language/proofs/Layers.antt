@@ -3,6 +3,7 @@ use Rattle.std.proofs.Common.{◌≡◌, inl, inr, ℤ, pos, ◌+ℤ◌, ◌-ℤ
 use Rattle.std.proofs.lemmas.Int.{ints, clamps}
 use Rattle.std.proofs.Math.IntN.{zero-*ℤ, *ℤ-zero, *ℤ_comm}
 use Rattle.std.specs.Ordering.{int_eq}
+use Rattle.std.proofs.lemmas.Bool.{or_cases}
 use Rattle.box_problem.specs.Box.{Box, IsBox, InBox}
 use Rattle.term_language.specs.declared.answers.Defined.{Defined}
 use Rattle.term_language.specs.declared.answers.Defined.TheVariants.{Never, Maybe, Always}
@@ -13,7 +14,7 @@ use Rattle.term_language.specs.Rules.{folds, folded, unless_folded, product_atom
 use Rattle.term_language.specs.Values.{both_of, cell_value}
 use Rattle.term_language.specs.Laws.{Marks}
 use Rattle.term_language.proofs.Products.{in_exactly, in_scaled, in_times, times_less}
-use Rattle.term_language.proofs.FormValues.{by_bool, and_first, and_second, or_cases, equal_numbers, Off}
+use Rattle.term_language.proofs.FormValues.{by_bool, and_first, and_second, equal_numbers, Off}
 use Rattle.term_language.proofs.FormValues.{form_value, plus_value, times_value, cell_form_value, constant_value, constant_plain, whole_lies}
 
 -- 0 alone

@@ -24,3 +24,4 @@ pub mod Forms
 pub mod Parts
 pub mod Agreement
 pub mod Points
+pub mod Shared

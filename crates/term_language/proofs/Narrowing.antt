@@ -9,6 +9,8 @@ use Rattle.std.proofs.lemmas.Int.{ints, clamps}
 use Rattle.std.proofs.lemmas.Bool.{cases_lt}
 use Rattle.sopl_base.specs.declared.comparison.CmpOp.{CmpOp}
 use Rattle.sopl_base.specs.declared.comparison.CmpOp.TheVariants.{Eq, Ne, Lt, Le, Gt, Ge}
+use Rattle.sopl_base.proofs.Tests.{equal_tested, le_tested}
+use Rattle.sopl_base.proofs.Booleans.{impossible}
 use Rattle.box_problem.specs.Box.{Box, IsBox, Inside}
 use Rattle.term_language.specs.declared.answers.Defined.{Defined}
 use Rattle.term_language.specs.declared.answers.Defined.TheVariants.{Never, Maybe, Always}
@@ -21,7 +23,7 @@ use Rattle.term_language.specs.Rules.{unless_folded, product_atoms, difference_e
 use Rattle.term_language.specs.Laws.{Within, Sharper, Surer}
 use Rattle.term_language.proofs.Products.{in_scaled, in_times}
 use Rattle.term_language.proofs.FormValues.{by_if, by_bool, missing, and_first, and_second}
-use Rattle.term_language.proofs.Operations.{in_quotients, in_remainders, in_sizes, equal_tests, equals_tested, one_quotient, squeezed, divides, remainder_low, remainder_high}
+use Rattle.term_language.proofs.Operations.{in_quotients, in_remainders, in_sizes, equal_tests, one_quotient, squeezed, divides, remainder_low, remainder_high}
 
 -- both ends lie in the wider interval
 low_lies : (a c : Ends) → Within a c → Lies a.low c
@@ -108,9 +110,6 @@ within_whole part b f a c is_box inside p =
     within_plus (exactly f.constant) (plus (cells_ends part f.cells) a) (exactly f.constant) (plus (cells_ends b f.cells) c) (within_exactly f.constant)
     (within_plus (cells_ends part f.cells) a (cells_ends b f.cells) c (within_cells part b f.cells is_box inside) p)
 
-le_tested : (y z : ℤ) → int_le y z ≡ true → y ≤ℤ z
-le_tested y z tested = grind (arith, ints)
-
 below_zero : (z : ℤ) → int_lt z (pos 0) ≡ true → z <ℤ pos 0
 below_zero z below = grind (arith, ints)
 
@@ -185,7 +184,7 @@ many_within k a c p differ =
     by_if (Within (ends (rem_low a.low (unsigned_abs k)) (rem_high a.high (unsigned_abs k)))) (int_eq (int_div c.low k) (int_div c.high k)) (ends (int_rem c.low k) (int_rem c.high k))
     (ends (rem_low c.low (unsigned_abs k)) (rem_high c.high (unsigned_abs k)))
     (λ same.
-    let one = equals_tested (int_div c.low k) (int_div c.high k) same in
+    let one = equal_tested (int_div c.low k) (int_div c.high k) same in
     let at_low = squeezed k a.low c (low_lies a c p) one in
     let at_high = squeezed k a.high c (high_lies a c p) one in
     let test = equal_tests (int_div a.low k) (int_div a.high k) (at_low ∙ sym at_high) in
@@ -201,7 +200,7 @@ within_remainders k a c p =
     by_if (λ (r : Ends). Within r (remainders c k)) (int_eq (int_div a.low k) (int_div a.high k)) (ends (int_rem a.low k) (int_rem a.high k))
     (ends (rem_low a.low (unsigned_abs k)) (rem_high a.high (unsigned_abs k)))
     (λ same.
-    let one = one_quotient k a.low a (record { from_low = omega (arith, ints); to_high = p.ordered }) (equals_tested (int_div a.low k) (int_div a.high k) same) in
+    let one = one_quotient k a.low a (record { from_low = omega (arith, ints); to_high = p.ordered }) (equal_tested (int_div a.low k) (int_div a.high k) same) in
     let low = in_remainders k a.low c (low_lies a c p) in
     let high = in_remainders k a.high c (high_lies a c p) in
     record { ordered = one.to_high; from_low = low.from_low; to_high = high.to_high })
@@ -279,9 +278,6 @@ within_truth True False p = absurd p
 within_truth False True p = absurd p
 within_truth Unknown True p = absurd p
 within_truth True True p = record { ordered = omega (arith, ints); from_low = omega (arith, ints); to_high = omega (arith, ints) }
-
-impossible : true ≡ false → ⊥
-impossible same = cc
 
 -- what fails or holds over a box does so over each part, and not both
 pub surer_judged : (m n : Defined) (fails holds fails_whole holds_whole : Bool) → Sharper m n → (fails_whole ≡ true → fails ≡ true) → (holds_whole ≡ true → holds ≡ true)

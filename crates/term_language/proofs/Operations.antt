@@ -6,6 +6,7 @@ use Rattle.std.specs.Ordering.{int_eq}
 use Rattle.std.proofs.Math.Nat.{div-mul-le_self, mod-le}
 use Rattle.std.proofs.lemmas.Nat.{le-div}
 use Rattle.std.proofs.lemmas.Int.{ints, clamps, by_lt_z, quot-rem, rem_below}
+use Rattle.sopl_base.proofs.Tests.{equal_tested}
 use Rattle.term_language.specs.Ends.{Ends, Lies, has, ends, quotients, remainders, least, greatest, size_of, sizes}
 use Rattle.term_language.proofs.FormValues.{by_if}
 
@@ -77,9 +78,6 @@ div_by_zero (negsuc a) = omega (arith, ints)
 pub equal_tests : (x y : ℤ) → x ≡ y → int_eq x y ≡ true
 equal_tests x y same = grind (arith, ints)
 
-pub equals_tested : (x y : ℤ) → int_eq x y ≡ true → x ≡ y
-equals_tested x y same = grind (arith, ints)
-
 -- where two quotients differ, the divisor is not 0
 pub divides : (l h c : ℤ) → int_eq (int_div l c) (int_div h c) ≡ false → 0 < unsigned_abs c
 divides l h (pos zero) differ =
@@ -123,7 +121,7 @@ pub in_remainders : (c x : ℤ) (a : Ends) → Lies x a → Lies (int_rem x c) (
 in_remainders c x a p =
     by_if (Lies (int_rem x c)) (int_eq (int_div a.low c) (int_div a.high c)) (ends (int_rem a.low c) (int_rem a.high c))
     (ends (if int_lt a.low (pos 0) then int_max a.low (pos 1 -ℤ pos (unsigned_abs c)) else pos 0) (if int_lt (pos 0) a.high then int_min a.high (pos (unsigned_abs c) -ℤ pos 1) else pos 0))
-    (λ same. one_quotient c x a p (equals_tested (int_div a.low c) (int_div a.high c) same))
+    (λ same. one_quotient c x a p (equal_tested (int_div a.low c) (int_div a.high c) same))
     (λ differ.
     let divisor = divides a.low a.high c differ in
     record { from_low = remainder_low c x a p divisor; to_high = remainder_high c x a p divisor })

@@ -1,9 +1,10 @@
 -- Spans of time that each ask for something: at no time do they ask for more than at the beginning of some span.
-use Rattle.std.proofs.Common.{◌≡◌, ◌⊎◌, inl, inr, ℤ, pos, ◌≤ℤ◌, ◌<ℤ◌, int_lt, int_le, Bool, true, false, ◌&&◌, if◌then◌else◌, List, [], ◌∷◌, map, arith, refl, ap}
+use Rattle.std.proofs.Common.{◌≡◌, ◌⊎◌, inl, inr, ℤ, pos, ◌≤ℤ◌, int_lt, int_le, Bool, true, false, ◌&&◌, if◌then◌else◌, List, [], ◌∷◌, map, arith, refl, ap}
 use Rattle.std.proofs.lemmas.Int.{ints, by_lt_z}
+use Rattle.std.proofs.lemmas.Bool.{and_from}
+use Rattle.sopl_base.proofs.Tests.{le_test, le_tested, lt_test, lt_tested}
 use Rattle.term_language.specs.Globals.{total}
 use Rattle.term_language.proofs.FormValues.{by_if, by_bool, and_first, and_second}
-use Rattle.term_language.proofs.Elements.{both_true}
 
 pub record Span : Type 0 where
   pub from : ℤ
@@ -28,18 +29,6 @@ FitAtStarts c all (s ∷ later) = (taken_by s.from all ≤ℤ c) × FitAtStarts 
 
 abbrev is_active : ℤ → Span → Bool
 is_active t s = int_le s.from t && int_lt t s.until
-
-le_tested : (y z : ℤ) → int_le y z ≡ true → y ≤ℤ z
-le_tested y z tested = grind (arith, ints)
-
-le_test : (y z : ℤ) → y ≤ℤ z → int_le y z ≡ true
-le_test y z order = grind (arith, ints)
-
-lt_tested : (y z : ℤ) → int_lt y z ≡ true → y <ℤ z
-lt_tested y z tested = grind (arith, ints)
-
-lt_test : (y z : ℤ) → y <ℤ z → int_lt y z ≡ true
-lt_test y z order = grind (arith, ints)
 
 -- each span that is active at the one time is so at the other
 abbrev AllActive : ℤ → ℤ → List Span → Type 0
@@ -72,7 +61,7 @@ all_active t u [] before all = tt
 all_active t u (s ∷ later) before all = (
   (λ active.
       let until = lt_tested t s.until (and_second (int_le s.from t) (int_lt t s.until) active) in
-      both_true (int_le s.from u) (int_lt u s.until) (le_test s.from u (all.0 active)) (lt_test u s.until (omega (arith, ints, until)))),
+      and_from (int_le s.from u) (int_lt u s.until) (le_test s.from u (all.0 active)) (lt_test u s.until (omega (arith, ints, until)))),
   all_active t u later before all.1,
 )
 

@@ -1,75 +1,10 @@
 -- Products of whole numbers, and of intervals.
-use Rattle.std.proofs.Common.{◌≡◌, zero, suc, ℤ, pos, negsuc, ◌+ℤ◌, ◌-ℤ◌, ◌*ℤ◌, ◌≤ℤ◌, arith, sym, ap, ◌∙◌}
-use Rattle.std.proofs.Math.IntN.{suc_ℤ, pred_ℤ, suc_ℤ-*ℤ, pred_ℤ-*ℤ, zero-*ℤ, *ℤ-one, *ℤ_comm, one, pos-*ℤ-pos}
+use Rattle.std.proofs.Common.{◌≡◌, ℤ, pos, negsuc, ◌+ℤ◌, ◌-ℤ◌, ◌*ℤ◌, ◌≤ℤ◌, arith, sym, ap, ◌∙◌}
+use Rattle.std.proofs.Math.IntN.{pred_ℤ-*ℤ, zero-*ℤ, *ℤ-one, *ℤ_comm, one, pos-*ℤ-pos}
 use Rattle.std.proofs.lemmas.Int.{ints, clamps, by_lt_z}
 use Rattle.std.specs.Int.{int_min, int_max}
+use Rattle.sopl_base.proofs.Integers.{*ℤ-+ℤ, +ℤ-*ℤ}
 use Rattle.term_language.specs.Ends.{Ends, Lies, exactly, plus, hull, scaled, times}
-
--- sums of the parts of two sums
-four_parts : (a b c d : ℤ) → (a +ℤ b) +ℤ (c +ℤ d) ≡ (a +ℤ c) +ℤ (b +ℤ d)
-four_parts a b c d = omega (arith, ints)
-
--- differences of the parts of two sums
-four_parts_less : (a b c d : ℤ) → (a +ℤ b) -ℤ (c +ℤ d) ≡ (a -ℤ c) +ℤ (b -ℤ d)
-four_parts_less a b c d = omega (arith, ints)
-
--- no times a sum
-zero_times : (b c : ℤ) → pos zero *ℤ (b +ℤ c) ≡ pos zero *ℤ b +ℤ pos zero *ℤ c
-zero_times b c =
-    zero-*ℤ (b +ℤ c) ∙ sym (ap (λ z. z +ℤ (pos zero *ℤ c)) (zero-*ℤ b) ∙ ap (λ z. pos zero +ℤ z) (zero-*ℤ c))
-
--- one more time a sum
-more_times : (a b c : ℤ) → a *ℤ (b +ℤ c) ≡ a *ℤ b +ℤ a *ℤ c → suc_ℤ a *ℤ (b +ℤ c) ≡ suc_ℤ a *ℤ b +ℤ suc_ℤ a *ℤ c
-more_times a b c so_far =
-    suc_ℤ-*ℤ a (b +ℤ c) ∙ (ap (λ z. z +ℤ (b +ℤ c)) so_far ∙ (four_parts (a *ℤ b) (a *ℤ c) b c ∙ sym (ap (λ z. z +ℤ (suc_ℤ a *ℤ c)) (suc_ℤ-*ℤ a b) ∙ ap (λ z. (a *ℤ b +ℤ b) +ℤ z) (suc_ℤ-*ℤ a c))))
-
--- one time less a sum
-less_times : (a b c : ℤ) → a *ℤ (b +ℤ c) ≡ a *ℤ b +ℤ a *ℤ c → pred_ℤ a *ℤ (b +ℤ c) ≡ pred_ℤ a *ℤ b +ℤ pred_ℤ a *ℤ c
-less_times a b c so_far =
-    pred_ℤ-*ℤ a (b +ℤ c) ∙ (ap (λ z. z -ℤ (b +ℤ c)) so_far ∙ (four_parts_less (a *ℤ b) (a *ℤ c) b c
-    ∙ sym (ap (λ z. z +ℤ (pred_ℤ a *ℤ c)) (pred_ℤ-*ℤ a b) ∙ ap (λ z. (a *ℤ b -ℤ b) +ℤ z) (pred_ℤ-*ℤ a c))))
-
--- a product of a sum
-pub *ℤ-+ℤ : (a b c : ℤ) → a *ℤ (b +ℤ c) ≡ a *ℤ b +ℤ a *ℤ c
-*ℤ-+ℤ (pos zero) b c = zero_times b c
-*ℤ-+ℤ (pos (suc n)) b c = more_times (pos n) b c (*ℤ-+ℤ (pos n) b c)
-*ℤ-+ℤ (negsuc zero) b c = less_times (pos zero) b c (zero_times b c)
-*ℤ-+ℤ (negsuc (suc n)) b c = less_times (negsuc n) b c (*ℤ-+ℤ (negsuc n) b c)
-
--- a product of a sum on the left
-pub +ℤ-*ℤ : (a b c : ℤ) → (a +ℤ b) *ℤ c ≡ a *ℤ c +ℤ b *ℤ c
-+ℤ-*ℤ a b c =
-    *ℤ_comm (a +ℤ b) c ∙ (*ℤ-+ℤ c a b ∙ (ap (λ z. z +ℤ (c *ℤ b)) (*ℤ_comm c a) ∙ ap (λ z. (a *ℤ c) +ℤ z) (*ℤ_comm c b)))
-
--- the same for a difference
-less_parts : (a b c d : ℤ) → a +ℤ b ≡ c → a ≡ c -ℤ b
-less_parts a b c d is = omega (arith, ints)
-
-back_and_forth : (a c : ℤ) → (a -ℤ c) +ℤ c ≡ a
-back_and_forth a c = omega (arith, ints)
-
-pub -ℤ-*ℤ : (a b c : ℤ) → (a -ℤ b) *ℤ c ≡ a *ℤ c -ℤ b *ℤ c
--ℤ-*ℤ a b c =
-    less_parts ((a -ℤ b) *ℤ c) (b *ℤ c) (a *ℤ c) c (sym (+ℤ-*ℤ (a -ℤ b) b c) ∙ ap (λ z. z *ℤ c) (back_and_forth a b))
-
--- one more and one less time a product
-more_assoc : (a b c : ℤ) → (a *ℤ b) *ℤ c ≡ a *ℤ (b *ℤ c) → (suc_ℤ a *ℤ b) *ℤ c ≡ suc_ℤ a *ℤ (b *ℤ c)
-more_assoc a b c so_far =
-    ap (λ z. z *ℤ c) (suc_ℤ-*ℤ a b) ∙ (+ℤ-*ℤ (a *ℤ b) b c ∙ (ap (λ z. z +ℤ (b *ℤ c)) so_far ∙ sym (suc_ℤ-*ℤ a (b *ℤ c))))
-
-less_assoc : (a b c : ℤ) → (a *ℤ b) *ℤ c ≡ a *ℤ (b *ℤ c) → (pred_ℤ a *ℤ b) *ℤ c ≡ pred_ℤ a *ℤ (b *ℤ c)
-less_assoc a b c so_far =
-    ap (λ z. z *ℤ c) (pred_ℤ-*ℤ a b) ∙ (-ℤ-*ℤ (a *ℤ b) b c ∙ (ap (λ z. z -ℤ (b *ℤ c)) so_far ∙ sym (pred_ℤ-*ℤ a (b *ℤ c))))
-
-zero_assoc : (b c : ℤ) → (pos zero *ℤ b) *ℤ c ≡ pos zero *ℤ (b *ℤ c)
-zero_assoc b c = ap (λ z. z *ℤ c) (zero-*ℤ b) ∙ (zero-*ℤ c ∙ sym (zero-*ℤ (b *ℤ c)))
-
--- products go together either way
-pub *ℤ_assoc : (a b c : ℤ) → (a *ℤ b) *ℤ c ≡ a *ℤ (b *ℤ c)
-*ℤ_assoc (pos zero) b c = zero_assoc b c
-*ℤ_assoc (pos (suc n)) b c = more_assoc (pos n) b c (*ℤ_assoc (pos n) b c)
-*ℤ_assoc (negsuc zero) b c = less_assoc (pos zero) b c (zero_assoc b c)
-*ℤ_assoc (negsuc (suc n)) b c = less_assoc (negsuc n) b c (*ℤ_assoc (negsuc n) b c)
 
 -- once, and minus once
 pub one-*ℤ : (a : ℤ) → pos 1 *ℤ a ≡ a

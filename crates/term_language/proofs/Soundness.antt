@@ -21,7 +21,7 @@ use Rattle.term_language.proofs.Operations.{in_quotients, in_remainders, in_size
 use Rattle.term_language.proofs.Conditions.{tells_not, tells_and, tells_or, read_truth, tells_compared}
 
 -- a value lies in the whole interval
-lies_some : (b : Box) (p : List ℤ) (v : Option ℤ) (f : Form) (a : Ends) → IsBox b → InBox b p → IfSome v (λ x. Off p x f a) → IfSome v (λ x. Lies x (whole b f a))
+pub lies_some : (b : Box) (p : List ℤ) (v : Option ℤ) (f : Form) (a : Ends) → IsBox b → InBox b p → IfSome v (λ x. Off p x f a) → IfSome v (λ x. Lies x (whole b f a))
 lies_some b p None f a is_box q off = tt
 lies_some b p (Some x) f a is_box q off = whole_lies b p x f a is_box q off
 

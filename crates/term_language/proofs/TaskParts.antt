@@ -3,18 +3,19 @@ use Rattle.std.proofs.Common.{◌≡◌, inl, inr, ℤ, pos, ◌+ℤ◌, ◌≤�
 use Rattle.std.specs.List.{list_all, list_any}
 use Rattle.std.specs.Int.{int_max}
 use Rattle.std.proofs.lemmas.Int.{ints, clamps}
+use Rattle.std.proofs.lemmas.Bool.{and_from, or_cases, or_left, or_parts, or_right}
+use Rattle.sopl_base.proofs.Tests.{le_test, le_tested, lt_test, lt_tested, lt_untested}
 use Rattle.term_language.specs.declared.answers.Defined.{Defined}
 use Rattle.term_language.specs.Ends.{Ends, Lies}
 use Rattle.term_language.specs.Marks.{judged}
 use Rattle.term_language.specs.Globals.{TaskEnds, total, least_asked, most_asked, is_overfull, never_fit, is_enough, always_fit}
 use Rattle.term_language.specs.Values.{TaskValues, task_values}
 use Rattle.term_language.specs.Laws.{Within, Sharper, Surer}
-use Rattle.term_language.proofs.FormValues.{by_if, by_bool, and_first, and_second, or_cases}
-use Rattle.term_language.proofs.Elements.{both_true}
+use Rattle.term_language.proofs.FormValues.{by_if, by_bool, and_first, and_second}
 use Rattle.term_language.proofs.Narrowing.{surer_judged}
 use Rattle.term_language.proofs.Exactness.{IsOne}
 use Rattle.term_language.proofs.Peaks.{Span, taken_by, NoneNegative, FitAtStarts, fit_always}
-use Rattle.term_language.proofs.Tasks.{TasksLie, widest_of, most_is, SoundEnds, sound_ends, enough_fit, always_right, never_right, le_tested, le_test, lt_tested, lt_test}
+use Rattle.term_language.proofs.Tasks.{TasksLie, widest_of, most_is, SoundEnds, sound_ends, enough_fit, always_right, never_right, overfull_some}
 
 -- tasks over a part
 pub record TaskWithin (e f : TaskEnds) : Type 0 where
@@ -43,17 +44,10 @@ surest_nonneg : (es : List TaskEnds) → NoneNegative (surest_of es)
 surest_nonneg [] = tt
 surest_nonneg (e ∷ es) = (omega (arith, ints, clamps), surest_nonneg es)
 
-or_false : (a b : Bool) → (a || b) ≡ false → (a ≡ false) × (b ≡ false)
-or_false true b none = absurd (cc)
-or_false false b none = (refl, none)
-
-lt_untested : (y z : ℤ) → int_lt y z ≡ false → z ≤ℤ y
-lt_untested y z untested = grind (arith, ints)
-
 none_overfull : (capacity : Ends) (all es : List TaskEnds) → list_any (λ (t : TaskEnds). is_overfull all capacity t.start.high) es ≡ false → FitAtStarts capacity.high (surest_of all) (surest_of es)
 none_overfull capacity all [] none = tt
 none_overfull capacity all (e ∷ es) none =
-    let parts = or_false (is_overfull all capacity e.start.high) (list_any (λ (t : TaskEnds). is_overfull all capacity t.start.high) es) none in
+    let parts = or_parts (is_overfull all capacity e.start.high) (list_any (λ (t : TaskEnds). is_overfull all capacity t.start.high) es) none in
     (subst (λ z. z ≤ℤ capacity.high) (least_is e.start.high all) (lt_untested capacity.high (total (map (least_asked e.start.high) all)) parts.0), none_overfull capacity all es parts.1)
 
 -- over a part no less is surely asked, and no more may be
@@ -63,7 +57,7 @@ least_more time e f p =
     (λ sure.
     let from = le_tested f.start.high time (and_first (int_le f.start.high time) (int_lt time (f.start.low +ℤ int_max f.duration.low (pos 0))) sure) in
     let until = lt_tested time (f.start.low +ℤ int_max f.duration.low (pos 0)) (and_second (int_le f.start.high time) (int_lt time (f.start.low +ℤ int_max f.duration.low (pos 0))) sure) in
-    let too = both_true (int_le e.start.high time) (int_lt time (e.start.low +ℤ int_max e.duration.low (pos 0)))
+    let too = and_from (int_le e.start.high time) (int_lt time (e.start.low +ℤ int_max e.duration.low (pos 0)))
     (le_test e.start.high time (omega (arith, ints, from, p.start.to_high)))
     (lt_test time (e.start.low +ℤ int_max e.duration.low (pos 0)) (omega (arith, ints, clamps, until, p.start.from_low, p.duration.from_low))) in
     by_if (λ z. int_max f.demand.low (pos 0) ≤ℤ z) (int_le e.start.high time && int_lt time (e.start.low +ℤ int_max e.duration.low (pos 0))) (int_max e.demand.low (pos 0)) (pos 0)
@@ -84,7 +78,7 @@ most_less time e f p demand =
     (λ may.
     let from = le_tested e.start.low time (and_first (int_le e.start.low time) (int_lt time (e.start.high +ℤ e.duration.high)) may) in
     let until = lt_tested time (e.start.high +ℤ e.duration.high) (and_second (int_le e.start.low time) (int_lt time (e.start.high +ℤ e.duration.high)) may) in
-    let too = both_true (int_le f.start.low time) (int_lt time (f.start.high +ℤ f.duration.high))
+    let too = and_from (int_le f.start.low time) (int_lt time (f.start.high +ℤ f.duration.high))
     (le_test f.start.low time (omega (arith, ints, from, p.start.from_low)))
     (lt_test time (f.start.high +ℤ f.duration.high) (omega (arith, ints, until, p.start.to_high, p.duration.to_high))) in
     by_if (λ z. e.demand.high ≤ℤ z) (int_le f.start.low time && int_lt time (f.start.high +ℤ f.duration.high)) f.demand.high (pos 0)
@@ -99,15 +93,6 @@ most_sums time [] (f ∷ fs) all sound = absurd all
 most_sums time (e ∷ es) [] all sound = absurd all
 most_sums time (e ∷ es) (f ∷ fs) all sound = omega (arith, ints, most_less time e f all.0 sound.1, most_sums time es fs all.1 sound.2)
 
--- what never fits over the whole never fits over the part
-or_first : (a b : Bool) → a ≡ true → (a || b) ≡ true
-or_first true b p = refl
-or_first false b p = absurd (cc)
-
-or_second : (a b : Bool) → b ≡ true → (a || b) ≡ true
-or_second true b p = refl
-or_second false b p = p
-
 abbrev is_negative : TaskEnds → Bool
 is_negative t = int_lt t.duration.high (pos 0) || int_lt t.demand.high (pos 0)
 
@@ -117,22 +102,13 @@ negative_narrower [] (f ∷ fs) all some = absurd all
 negative_narrower (e ∷ es) [] all some = absurd all
 negative_narrower (e ∷ es) (f ∷ fs) all some =
     elim (or_cases (is_negative f) (list_any is_negative fs) some) [
-      | inl here ↦ or_first (is_negative e) (list_any is_negative es) (elim (or_cases (int_lt f.duration.high (pos 0)) (int_lt f.demand.high (pos 0)) here) [
-        | inl short ↦ or_first (int_lt e.duration.high (pos 0)) (int_lt e.demand.high (pos 0))
+      | inl here ↦ or_left (is_negative e) (list_any is_negative es) (elim (or_cases (int_lt f.duration.high (pos 0)) (int_lt f.demand.high (pos 0)) here) [
+        | inl short ↦ or_left (int_lt e.duration.high (pos 0)) (int_lt e.demand.high (pos 0))
             (lt_test e.duration.high (pos 0) (omega (arith, ints, lt_tested f.duration.high (pos 0) short, all.0.duration.to_high)))
-        | inr little ↦ or_second (int_lt e.duration.high (pos 0)) (int_lt e.demand.high (pos 0))
+        | inr little ↦ or_right (int_lt e.duration.high (pos 0)) (int_lt e.demand.high (pos 0))
             (lt_test e.demand.high (pos 0) (omega (arith, ints, lt_tested f.demand.high (pos 0) little, all.0.demand.to_high)))
       ])
-      | inr later ↦ or_second (is_negative e) (list_any is_negative es) (negative_narrower es fs all.1 later)
-    ]
-
-some_time : (capacity : Ends) (all es : List TaskEnds) → list_any (λ (t : TaskEnds). is_overfull all capacity t.start.high) es ≡ true
-    → (time : ℤ) × (capacity.high <ℤ total (map (least_asked time) all))
-some_time capacity all [] some = absurd (cc)
-some_time capacity all (e ∷ es) some =
-    elim (or_cases (is_overfull all capacity e.start.high) (list_any (λ (t : TaskEnds). is_overfull all capacity t.start.high) es) some) [
-      | inl here ↦ (e.start.high, lt_tested capacity.high (total (map (least_asked e.start.high) all)) here)
-      | inr later ↦ some_time capacity all es later
+      | inr later ↦ or_right (is_negative e) (list_any is_negative es) (negative_narrower es fs all.1 later)
     ]
 
 -- where the capacity is passed at some time it is below 0, or passed at a greatest start
@@ -154,13 +130,13 @@ overfull_at time capacity es over =
 never_narrower : (es fs : List TaskEnds) (a c : Ends) → TasksWithin es fs → Within a c → never_fit fs c ≡ true → never_fit es a ≡ true
 never_narrower es fs a c all p never =
     elim (or_cases (list_any is_negative fs) (int_lt c.high (pos 0) || list_any (λ (t : TaskEnds). is_overfull fs c t.start.high) fs) never) [
-      | inl negative ↦ or_first (list_any is_negative es) (int_lt a.high (pos 0) || list_any (λ (t : TaskEnds). is_overfull es a t.start.high) es) (negative_narrower es fs all negative)
-      | inr other ↦ or_second (list_any is_negative es) (int_lt a.high (pos 0) || list_any (λ (t : TaskEnds). is_overfull es a t.start.high) es)
+      | inl negative ↦ or_left (list_any is_negative es) (int_lt a.high (pos 0) || list_any (λ (t : TaskEnds). is_overfull es a t.start.high) es) (negative_narrower es fs all negative)
+      | inr other ↦ or_right (list_any is_negative es) (int_lt a.high (pos 0) || list_any (λ (t : TaskEnds). is_overfull es a t.start.high) es)
           (elim (or_cases (int_lt c.high (pos 0)) (list_any (λ (t : TaskEnds). is_overfull fs c t.start.high) fs) other) [
-            | inl below ↦ or_first (int_lt a.high (pos 0)) (list_any (λ (t : TaskEnds). is_overfull es a t.start.high) es)
+            | inl below ↦ or_left (int_lt a.high (pos 0)) (list_any (λ (t : TaskEnds). is_overfull es a t.start.high) es)
                 (lt_test a.high (pos 0) (omega (arith, ints, lt_tested c.high (pos 0) below, p.to_high)))
             | inr full ↦
-                let over = some_time c fs fs full in
+                let over = overfull_some c fs fs full in
                 overfull_at over.0 a es (omega (arith, ints, over.1, least_sums over.0 es fs all, p.to_high))
           ])
     ]
@@ -174,8 +150,8 @@ sound_narrower [] [] all sound = refl
 sound_narrower [] (f ∷ fs) all sound = absurd all
 sound_narrower (e ∷ es) [] all sound = absurd all
 sound_narrower (e ∷ es) (f ∷ fs) all sound =
-    both_true (is_sound e) (list_all is_sound es)
-    (both_true (int_le (pos 0) e.duration.low) (int_le (pos 0) e.demand.low) (le_test (pos 0) e.duration.low (omega (arith, ints, sound.0, all.0.duration.from_low)))
+    and_from (is_sound e) (list_all is_sound es)
+    (and_from (int_le (pos 0) e.duration.low) (int_le (pos 0) e.demand.low) (le_test (pos 0) e.duration.low (omega (arith, ints, sound.0, all.0.duration.from_low)))
     (le_test (pos 0) e.demand.low (omega (arith, ints, sound.1, all.0.demand.from_low))))
     (sound_narrower es fs all.1 sound.2)
 
@@ -189,7 +165,7 @@ widest_nonneg (e ∷ es) (f ∷ fs) all sound =
 enough_each : (capacity : Ends) (all es : List TaskEnds) → ((time : ℤ) → total (map (most_asked time) all) ≤ℤ capacity.low) → list_all (λ (t : TaskEnds). is_enough all capacity t.start.low) es ≡ true
 enough_each capacity all [] enough = refl
 enough_each capacity all (e ∷ es) enough =
-    both_true (is_enough all capacity e.start.low) (list_all (λ (t : TaskEnds). is_enough all capacity t.start.low) es)
+    and_from (is_enough all capacity e.start.low) (list_all (λ (t : TaskEnds). is_enough all capacity t.start.low) es)
     (le_test (total (map (most_asked e.start.low) all)) capacity.low (enough e.start.low)) (enough_each capacity all es enough)
 
 always_narrower : (es fs : List TaskEnds) (a c : Ends) → TasksWithin es fs → Within a c → always_fit fs c ≡ true → always_fit es a ≡ true
@@ -199,9 +175,9 @@ always_narrower es fs a c all p always =
     let room = le_tested (pos 0) c.low (and_first (int_le (pos 0) c.low) (list_all (λ (t : TaskEnds). is_enough fs c t.start.low) fs) rest) in
     let starts = enough_fit c fs fs (and_second (int_le (pos 0) c.low) (list_all (λ (t : TaskEnds). is_enough fs c t.start.low) fs) rest) in
     let nonneg = widest_nonneg es fs all sound in
-    both_true (list_all is_sound es) (int_le (pos 0) a.low && list_all (λ (t : TaskEnds). is_enough es a t.start.low) es)
+    and_from (list_all is_sound es) (int_le (pos 0) a.low && list_all (λ (t : TaskEnds). is_enough es a t.start.low) es)
     (sound_narrower es fs all sound)
-    (both_true (int_le (pos 0) a.low) (list_all (λ (t : TaskEnds). is_enough es a t.start.low) es) (le_test (pos 0) a.low (omega (arith, ints, room, p.from_low)))
+    (and_from (int_le (pos 0) a.low) (list_all (λ (t : TaskEnds). is_enough es a t.start.low) es) (le_test (pos 0) a.low (omega (arith, ints, room, p.from_low)))
     (enough_each a es es (λ time. omega (arith, ints, most_sums time es fs all sound, most_is time fs, fit_always time c.low (widest_of fs) nonneg room starts, p.from_low))))
 
 -- not both, since some values lie in the intervals
@@ -248,7 +224,7 @@ most_least time e one duration =
     (λ may.
     let from = le_tested e.start.low time (and_first (int_le e.start.low time) (int_lt time (e.start.high +ℤ e.duration.high)) may) in
     let until = lt_tested time (e.start.high +ℤ e.duration.high) (and_second (int_le e.start.low time) (int_lt time (e.start.high +ℤ e.duration.high)) may) in
-    let sure = both_true (int_le e.start.high time) (int_lt time (e.start.low +ℤ int_max e.duration.low (pos 0)))
+    let sure = and_from (int_le e.start.high time) (int_lt time (e.start.low +ℤ int_max e.duration.low (pos 0)))
     (le_test e.start.high time (omega (arith, ints, from, one.start)))
     (lt_test time (e.start.low +ℤ int_max e.duration.low (pos 0)) (omega (arith, ints, clamps, until, one.start, one.duration))) in
     by_if (λ z. e.demand.high ≤ℤ z) (int_le e.start.high time && int_lt time (e.start.low +ℤ int_max e.duration.low (pos 0))) (int_max e.demand.low (pos 0)) (pos 0)
@@ -260,27 +236,27 @@ most_least time e one duration =
 most_least_sums : (time : ℤ) (es : List TaskEnds) → TasksOne es → list_any is_negative es ≡ false → total (map (most_asked time) es) ≤ℤ total (map (least_asked time) es)
 most_least_sums time [] one none = omega (arith, ints)
 most_least_sums time (e ∷ es) one none =
-    let parts = or_false (is_negative e) (list_any is_negative es) none in
-    let here = or_false (int_lt e.duration.high (pos 0)) (int_lt e.demand.high (pos 0)) parts.0 in
+    let parts = or_parts (is_negative e) (list_any is_negative es) none in
+    let here = or_parts (int_lt e.duration.high (pos 0)) (int_lt e.demand.high (pos 0)) parts.0 in
     omega (arith, ints, most_least time e one.0 (lt_untested e.duration.high (pos 0) here.0), most_least_sums time es one.1 parts.1)
 
 sound_at : (es : List TaskEnds) → TasksOne es → list_any is_negative es ≡ false → list_all is_sound es ≡ true
 sound_at [] one none = refl
 sound_at (e ∷ es) one none =
-    let parts = or_false (is_negative e) (list_any is_negative es) none in
-    let here = or_false (int_lt e.duration.high (pos 0)) (int_lt e.demand.high (pos 0)) parts.0 in
-    both_true (is_sound e) (list_all is_sound es)
-    (both_true (int_le (pos 0) e.duration.low) (int_le (pos 0) e.demand.low) (le_test (pos 0) e.duration.low (omega (arith, ints, lt_untested e.duration.high (pos 0) here.0, one.0.duration)))
+    let parts = or_parts (is_negative e) (list_any is_negative es) none in
+    let here = or_parts (int_lt e.duration.high (pos 0)) (int_lt e.demand.high (pos 0)) parts.0 in
+    and_from (is_sound e) (list_all is_sound es)
+    (and_from (int_le (pos 0) e.duration.low) (int_le (pos 0) e.demand.low) (le_test (pos 0) e.duration.low (omega (arith, ints, lt_untested e.duration.high (pos 0) here.0, one.0.duration)))
     (le_test (pos 0) e.demand.low (omega (arith, ints, lt_untested e.demand.high (pos 0) here.1, one.0.demand))))
     (sound_at es one.1 parts.1)
 
 pub never_or_always : (es : List TaskEnds) (a : Ends) → TasksOne es → IsOne a → never_fit es a ≡ false → always_fit es a ≡ true
 never_or_always es a one p some =
-    let parts = or_false (list_any is_negative es) (int_lt a.high (pos 0) || list_any (λ (t : TaskEnds). is_overfull es a t.start.high) es) some in
-    let rest = or_false (int_lt a.high (pos 0)) (list_any (λ (t : TaskEnds). is_overfull es a t.start.high) es) parts.1 in
+    let parts = or_parts (list_any is_negative es) (int_lt a.high (pos 0) || list_any (λ (t : TaskEnds). is_overfull es a t.start.high) es) some in
+    let rest = or_parts (int_lt a.high (pos 0)) (list_any (λ (t : TaskEnds). is_overfull es a t.start.high) es) parts.1 in
     let room = lt_untested a.high (pos 0) rest.0 in
     let starts = none_overfull a es es rest.1 in
-    both_true (list_all is_sound es) (int_le (pos 0) a.low && list_all (λ (t : TaskEnds). is_enough es a t.start.low) es)
+    and_from (list_all is_sound es) (int_le (pos 0) a.low && list_all (λ (t : TaskEnds). is_enough es a t.start.low) es)
     (sound_at es one parts.0)
-    (both_true (int_le (pos 0) a.low) (list_all (λ (t : TaskEnds). is_enough es a t.start.low) es) (le_test (pos 0) a.low (omega (arith, ints, room, p)))
+    (and_from (int_le (pos 0) a.low) (list_all (λ (t : TaskEnds). is_enough es a t.start.low) es) (le_test (pos 0) a.low (omega (arith, ints, room, p)))
     (enough_each a es es (λ time. omega (arith, ints, most_least_sums time es one parts.0, least_is time es, fit_always time a.high (surest_of es) (surest_nonneg es) room starts, p))))

@@ -13,23 +13,12 @@ use Rattle.term_language.specs.Values.{both_of, holds_of, TaskValues, task_value
 use Rattle.term_language.specs.Laws.{Marks, Tells, IsSound}
 use Rattle.std.specs.List as list
 use Rattle.std.proofs.lemmas.List.Elements.{All-nil, All-cons, All-head, All-tail}
-use Rattle.term_language.proofs.FormValues.{by_if, by_bool, and_first, and_second, or_cases}
+use Rattle.std.proofs.lemmas.Bool.{and_from, or_cases}
+use Rattle.sopl_base.proofs.Tests.{le_test, le_tested, lt_test, lt_tested}
+use Rattle.term_language.proofs.FormValues.{by_if, by_bool, and_first, and_second}
 use Rattle.term_language.proofs.Layers.{marked_both, both_hold}
-use Rattle.term_language.proofs.Elements.{both_true}
 use Rattle.term_language.proofs.Conditions.{Decides, tells_judged}
 use Rattle.term_language.proofs.Peaks.{Span, taken, taken_by, NoneNegative, FitAtStarts, fit_always}
-
-pub le_tested : (y z : ℤ) → int_le y z ≡ true → y ≤ℤ z
-le_tested y z tested = grind (arith, ints)
-
-pub le_test : (y z : ℤ) → y ≤ℤ z → int_le y z ≡ true
-le_test y z order = grind (arith, ints)
-
-pub lt_tested : (y z : ℤ) → int_lt y z ≡ true → y <ℤ z
-lt_tested y z tested = grind (arith, ints)
-
-pub lt_test : (y z : ℤ) → y <ℤ z → int_lt y z ≡ true
-lt_test y z order = grind (arith, ints)
 
 -- a task's numbers lie in its intervals
 pub record TaskLies (t : TaskValues) (e : TaskEnds) : Type 0 where
@@ -81,8 +70,8 @@ sound_values (t ∷ ts) all =
 test_values : (ts : List TaskValues) → SoundValues ts → list_all (λ (t : TaskValues). int_le (pos 0) t.duration && int_le (pos 0) t.demand) ts ≡ true
 test_values [] all = refl
 test_values (t ∷ ts) all =
-    both_true (int_le (pos 0) t.duration && int_le (pos 0) t.demand) (list_all (λ (t : TaskValues). int_le (pos 0) t.duration && int_le (pos 0) t.demand) ts)
-    (both_true (int_le (pos 0) t.duration) (int_le (pos 0) t.demand) (le_test (pos 0) t.duration all.0) (le_test (pos 0) t.demand all.1)) (test_values ts all.2)
+    and_from (int_le (pos 0) t.duration && int_le (pos 0) t.demand) (list_all (λ (t : TaskValues). int_le (pos 0) t.duration && int_le (pos 0) t.demand) ts)
+    (and_from (int_le (pos 0) t.duration) (int_le (pos 0) t.demand) (le_test (pos 0) t.duration all.0) (le_test (pos 0) t.demand all.1)) (test_values ts all.2)
 
 values_nonneg : (ts : List TaskValues) → SoundValues ts → NoneNegative (spans_of ts)
 values_nonneg [] all = tt
@@ -101,7 +90,7 @@ least_below time t e lies duration demand =
     (λ sure.
     let from = le_tested e.start.high time (and_first (int_le e.start.high time) (int_lt time (e.start.low +ℤ int_max e.duration.low (pos 0))) sure) in
     let until = lt_tested time (e.start.low +ℤ int_max e.duration.low (pos 0)) (and_second (int_le e.start.high time) (int_lt time (e.start.low +ℤ int_max e.duration.low (pos 0))) sure) in
-    let active = both_true (int_le t.start time) (int_lt time (t.start +ℤ t.duration))
+    let active = and_from (int_le t.start time) (int_lt time (t.start +ℤ t.duration))
     (le_test t.start time (omega (arith, ints, from, lies.start.to_high)))
     (lt_test time (t.start +ℤ t.duration) (omega (arith, ints, clamps, until, lies.start.from_low, lies.duration.from_low, duration))) in
     by_if (λ z. int_max e.demand.low (pos 0) ≤ℤ z) (int_le t.start time && int_lt time (t.start +ℤ t.duration)) t.demand (pos 0)
@@ -123,7 +112,7 @@ most_above time t e lies demand =
     (λ active.
     let from = le_tested t.start time (and_first (int_le t.start time) (int_lt time (t.start +ℤ t.duration)) active) in
     let until = lt_tested time (t.start +ℤ t.duration) (and_second (int_le t.start time) (int_lt time (t.start +ℤ t.duration)) active) in
-    let may = both_true (int_le e.start.low time) (int_lt time (e.start.high +ℤ e.duration.high))
+    let may = and_from (int_le e.start.low time) (int_lt time (e.start.high +ℤ e.duration.high))
     (le_test e.start.low time (omega (arith, ints, from, lies.start.from_low)))
     (lt_test time (e.start.high +ℤ e.duration.high) (omega (arith, ints, until, lies.start.to_high, lies.duration.to_high))) in
     by_if (λ z. t.demand ≤ℤ z) (int_le e.start.low time && int_lt time (e.start.high +ℤ e.duration.high)) e.demand.high (pos 0)
@@ -179,7 +168,7 @@ values_sound (t ∷ ts) (e ∷ es) lie sound =
 all_kept : (c : ℤ) (all ts : List TaskValues) → ((time : ℤ) → taken_by time (spans_of all) ≤ℤ c) → list_all (λ (t : TaskValues). is_kept c all t.start) ts ≡ true
 all_kept c all [] fits = refl
 all_kept c all (t ∷ ts) fits =
-    both_true (is_kept c all t.start) (list_all (λ (t : TaskValues). is_kept c all t.start) ts)
+    and_from (is_kept c all t.start) (list_all (λ (t : TaskValues). is_kept c all t.start) ts)
     (le_test (total (map (asked t.start) all)) c (subst (λ z. z ≤ℤ c) (sym (asked_is t.start all)) (fits t.start))) (all_kept c all ts fits)
 
 pub always_right : (ts : List TaskValues) (c : ℤ) (es : List TaskEnds) (capacity : Ends) → TasksLie ts es → Lies c capacity → always_fit es capacity ≡ true → do_fit ts c ≡ true
@@ -191,9 +180,9 @@ always_right ts c es capacity lie lies fit =
     let room = le_tested (pos 0) capacity.low (and_first (int_le (pos 0) capacity.low) (list_all (λ (t : TaskEnds). is_enough es capacity t.start.low) es) rest) in
     let starts = enough_fit capacity es es (and_second (int_le (pos 0) capacity.low) (list_all (λ (t : TaskEnds). is_enough es capacity t.start.low) es) rest) in
     let nonneg = ends_nonneg ts es lie sound in
-    both_true (list_all (λ (t : TaskValues). int_le (pos 0) t.duration && int_le (pos 0) t.demand) ts) (int_le (pos 0) c && list_all (λ (t : TaskValues). is_kept c ts t.start) ts)
+    and_from (list_all (λ (t : TaskValues). int_le (pos 0) t.duration && int_le (pos 0) t.demand) ts) (int_le (pos 0) c && list_all (λ (t : TaskValues). is_kept c ts t.start) ts)
     (test_values ts (values_sound ts es lie sound))
-    (both_true (int_le (pos 0) c) (list_all (λ (t : TaskValues). is_kept c ts t.start) ts) (le_test (pos 0) c (omega (arith, ints, room, lies.from_low)))
+    (and_from (int_le (pos 0) c) (list_all (λ (t : TaskValues). is_kept c ts t.start) ts) (le_test (pos 0) c (omega (arith, ints, room, lies.from_low)))
     (all_kept c ts ts (λ time. omega (arith, ints, most_sum time ts es lie sound, fit_always time capacity.low (widest_of es) nonneg room starts, lies.from_low))))
 
 -- tasks that never fit do not
@@ -211,7 +200,7 @@ negative_some (t ∷ ts) (e ∷ es) lie sound some =
       | inr later ↦ negative_some ts es lie.1 sound.2 later
     ]
 
-overfull_some : (capacity : Ends) (all es : List TaskEnds) → list_any (λ (t : TaskEnds). is_overfull all capacity t.start.high) es ≡ true
+pub overfull_some : (capacity : Ends) (all es : List TaskEnds) → list_any (λ (t : TaskEnds). is_overfull all capacity t.start.high) es ≡ true
     → (time : ℤ) × (capacity.high <ℤ total (map (least_asked time) all))
 overfull_some capacity all [] some = absurd (cc)
 overfull_some capacity all (e ∷ es) some =
@@ -330,9 +319,9 @@ all_fit ts c all fits =
     let sound = all_sound ts all in
     let some = nothing_taken (pos 0) (spans_of ts) (values_nonneg ts sound) in
     let first_time = subst (λ z. z ≤ℤ c) (asked_is (pos 0) ts) (fits (pos 0)) in
-    both_true (list_all (λ (t : TaskValues). int_le (pos 0) t.duration && int_le (pos 0) t.demand) ts) (int_le (pos 0) c && list_all (λ (t : TaskValues). is_kept c ts t.start) ts)
+    and_from (list_all (λ (t : TaskValues). int_le (pos 0) t.duration && int_le (pos 0) t.demand) ts) (int_le (pos 0) c && list_all (λ (t : TaskValues). is_kept c ts t.start) ts)
     (test_values ts sound)
-    (both_true (int_le (pos 0) c) (list_all (λ (t : TaskValues). is_kept c ts t.start) ts) (le_test (pos 0) c (omega (arith, ints, some, first_time)))
+    (and_from (int_le (pos 0) c) (list_all (λ (t : TaskValues). is_kept c ts t.start) ts) (le_test (pos 0) c (omega (arith, ints, some, first_time)))
     (all_kept c ts ts (λ time. subst (λ z. z ≤ℤ c) (asked_is time ts) (fits time))))
 
 pub tasks_fit_at_all_times : (tasks : List TaskValues) (capacity : ℤ) → do_fit tasks capacity ≡ true ↔ (list.All IsSound tasks × ((time : ℤ) → total (map (asked time) tasks) ≤ℤ capacity))

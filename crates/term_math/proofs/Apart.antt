@@ -1,13 +1,12 @@
 -- That no index stands twice in an array that is written out: by a test of its indices.
 use Rattle.std.proofs.Common.{◌≡◌, ℕ, zero, suc, ◌<◌, ℤ, pos, Bool, true, ◌&&◌, ◌||◌, not, List, [], ◌∷◌, length, slice_index_or, AllPairs, Vec, Global, arith, refl, ap, subst, sym, ◌∙◌}
 use Rattle.std.specs.List.{list_any}
-use Rattle.std.specs.Ordering.{int_eq}
-use Rattle.std.proofs.lemmas.Int.{ints}
 use Rattle.std.proofs.lemmas.List.{length-map}
 use Rattle.std.proofs.lemmas.List.Kept.{AllPairs-cons}
 use Rattle.term_language.specs.Arrays.{indices, same_index}
 use Rattle.term_language.specs.Laws.{IsTable}
 use Rattle.term_language.proofs.FormValues.{by_bool, and_first, and_second}
+use Rattle.term_language.proofs.Elements.{same_index_refl}
 use Rattle.term_math.specs.Kept.{item_of, sets_of, table_of}
 use Rattle.term_math.specs.declared.tables.Table.{Table}
 
@@ -16,20 +15,10 @@ abbrev pub none_twice : List (List ℤ) → Bool
 none_twice [] = true
 none_twice (xs ∷ lists) = not (list_any (same_index xs) lists) && none_twice lists
 
-both_true : (a b : Bool) → a ≡ true → b ≡ true → (a && b) ≡ true
-both_true a b p q = ap (λ (c : Bool). c && b) p ∙ q
-
-same_number : (x : ℤ) → int_eq x x ≡ true
-same_number x = grind (arith, ints)
-
-same_itself : (xs : List ℤ) → same_index xs xs ≡ true
-same_itself [] = refl
-same_itself (x ∷ xs) = both_true (int_eq x x) (same_index xs xs) (same_number x) (same_itself xs)
-
 not_any : (xs ys : List ℤ) (lists : List (List ℤ)) → not (list_any (same_index xs) (ys ∷ lists)) ≡ true → (¬ xs ≡ ys) × (not (list_any (same_index xs) lists) ≡ true)
 not_any xs ys lists none =
     by_bool (λ b. not (b || list_any (same_index xs) lists) ≡ true → (¬ xs ≡ ys) × (not (list_any (same_index xs) lists) ≡ true)) (same_index xs ys)
-    (λ same here. absurd (cc)) (λ other here. (λ is. let itself = sym (same_itself xs) ∙ ap (same_index xs) is ∙ other in absurd (cc), here)) none
+    (λ same here. absurd (cc)) (λ other here. (λ is. let itself = sym (same_index_refl xs) ∙ ap (same_index xs) is ∙ other in absurd (cc), here)) none
 
 apart_from : (xs : List ℤ) (lists : List (List ℤ)) → not (list_any (same_index xs) lists) ≡ true → (k : ℕ) (d : List ℤ) → k < length lists → ¬ xs ≡ slice_index_or lists k d
 apart_from xs [] none k d below = absurd (omega (arith, below))

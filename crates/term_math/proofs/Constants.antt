@@ -2,7 +2,8 @@
 use Rattle.std.proofs.Common.{◌≡◌, ℤ, pos, true, List, [], ◌∷◌, map, arith, refl, ap, ◌∙◌}
 use Rattle.std.specs.List.{list_all}
 use Rattle.std.proofs.lemmas.Int.{ints}
-use Rattle.box_problem.specs.Box.{Box, IsBox, InBox}
+use Rattle.box_problem.specs.Box.{Box, IsBox}
+use Rattle.box_problem.proofs.Shared.{lows_inside}
 use Rattle.term_language.specs.Ends as ends
 use Rattle.term_language.specs.Terms.{Term, Terms, no_term, term}
 use Rattle.term_language.specs.Forms.{Coefficient, Form, is_empty, is_constant, cells_ends, whole}
@@ -11,9 +12,6 @@ use Rattle.term_language.specs.Laws.{IsProper, AreProper}
 use Rattle.term_language.proofs.FormValues.{and_first, and_second, constant_plain}
 use Rattle.term_language.proofs.Layers.{IsClear}
 use Rattle.term_language.proofs.Soundness.{read}
-
-pub lows_in : (b : Box) → IsBox b → InBox b b.lows
-lows_in b is_box = record { same_cells = refl; from_low = λ cell there. omega (arith, ints); to_high = is_box.ordered }
 
 empty_ends : (b : Box) (cells : List Coefficient) → is_empty cells ≡ true → cells_ends b cells ≡ ends.exactly (pos 0)
 empty_ends b [] empty = refl
@@ -32,7 +30,7 @@ constant_whole b f a constant clear =
 pub constant_interval : (reading : Reading) (root b : Box) (t : Term) → IsBox b → IsProper t → is_constant (form root t) ≡ true → interval reading root b t ≡ ends.exactly (form root t).constant
 constant_interval reading root b t is_box proper constant =
     constant_whole b (form root t) (atoms reading root b t) constant
-    ((read reading root b b.lows t is_box (lows_in b is_box) proper).clear (constant_plain (form root t) constant))
+    ((read reading root b b.lows t is_box (lows_inside b is_box) proper).clear (constant_plain (form root t) constant))
 
 pub constant_intervals : (reading : Reading) (root b : Box) (ts : Terms) → IsBox b → AreProper ts → list_all is_constant (forms root ts) ≡ true → intervals reading root b ts
     ≡ map ends.exactly (map (λ (f : Form). f.constant) (forms root ts))

@@ -1,9 +1,11 @@
 -- Whether each number of an interval is in a set, number by number.
-use Rattle.std.proofs.Common.{◌≡◌, ℕ, zero, suc, ◌+◌, ◌<◌, ◌||◌, get_or, ℤ, pos, negsuc, ◌+ℤ◌, ◌≤ℤ◌, ◌<ℤ◌, Bool, true, false, ◌&&◌, List, [], ◌∷◌, length, arith, refl, ap, ◌∙◌}
+use Rattle.std.proofs.Common.{◌≡◌, ℕ, zero, suc, ◌+◌, ◌<◌, ◌||◌, get_or, ℤ, pos, negsuc, ◌+ℤ◌, ◌≤ℤ◌, ◌<ℤ◌, Bool, true, false, List, [], ◌∷◌, length, arith, refl, ap, ◌∙◌}
 use Rattle.std.specs.Int.{int_gap}
 use Rattle.std.specs.List.{list_all, list_any}
 use Rattle.std.specs.Ordering.{int_eq}
 use Rattle.std.proofs.lemmas.Int.{ints}
+use Rattle.std.proofs.lemmas.Bool.{and_left}
+use Rattle.sopl_base.proofs.Booleans.{and_true}
 use Rattle.box_problem.proofs.Counts.{gap_leads}
 use Rattle.term_language.specs.Arrays.{counted_up, is_covered}
 use Rattle.term_language.specs.Ends.{ends}
@@ -25,26 +27,20 @@ gap_over (pos a) (negsuc b) past = refl
 gap_over (negsuc a) (pos b) past = absurd (omega (arith, ints, past))
 gap_over (negsuc a) (negsuc b) past = omega (arith, ints, past)
 
-there_is : (b c : Bool) → b ≡ true → (b && c) ≡ c
-there_is b c is = ap (λ (x : Bool). x && c) is
-
-is_not : (b c : Bool) → b ≡ false → (b && c) ≡ false
-is_not b c is = ap (λ (x : Bool). x && c) is
-
 pub next_covered : (number high : ℤ) (set : List ℤ) → list_any (int_eq number) set ≡ true → number <ℤ high → is_covered (ends number high) set ≡ is_covered (ends (number +ℤ pos 1) high) set
 next_covered number high set there below =
     ap (all_in set number) (gap_shorter number high below)
-    ∙ there_is (list_any (int_eq number) set) (all_in set (number +ℤ pos 1) (int_gap (number +ℤ pos 1) high + 1)) there
+    ∙ and_true (list_any (int_eq number) set) (all_in set (number +ℤ pos 1) (int_gap (number +ℤ pos 1) high + 1)) there
 
 pub not_covered : (number high : ℤ) (set : List ℤ) → list_any (int_eq number) set ≡ false → is_covered (ends number high) set ≡ false
 not_covered number high set missing =
     ap (all_in set number) (counted_more (int_gap number high))
-    ∙ is_not (list_any (int_eq number) set) (all_in set (number +ℤ pos 1) (int_gap number high)) missing
+    ∙ and_left (list_any (int_eq number) set) (all_in set (number +ℤ pos 1) (int_gap number high)) missing
 
 pub last_covered : (number high : ℤ) (set : List ℤ) → list_any (int_eq number) set ≡ true → high ≤ℤ number → is_covered (ends number high) set ≡ true
 last_covered number high set there past =
     ap (λ (n : ℕ). all_in set number (n + 1)) (gap_over number high past)
-    ∙ there_is (list_any (int_eq number) set) true there
+    ∙ and_true (list_any (int_eq number) set) true there
 
 -- a number that stands at a place of a set
 pub number_there : (number : ℤ) (set : List ℤ) (place : ℕ) (here : ℤ) → place < length set → here ≡ get_or set place here → int_eq here number ≡ true → list_any (int_eq number) set ≡ true

@@ -5,9 +5,10 @@ use Rattle.std.proofs.Math.Seq.{drop-nil}
 use Rattle.std.specs.Ordering.{int_eq}
 use Rattle.std.proofs.lemmas.Nat.{mul-le}
 use Rattle.std.proofs.lemmas.List.{get_or_append_left, get_or-append-add}
+use Rattle.sopl_base.proofs.Tests.{equal_tested}
 use Rattle.term_language.specs.Arrays.{indices}
 use Rattle.term_language.proofs.FormValues.{by_bool}
-use Rattle.term_language.proofs.Operations.{equal_tests, equals_tested}
+use Rattle.term_language.proofs.Operations.{equal_tests}
 use Rattle.term_math.specs.Kept.{block, sets_of}
 use Rattle.term_math.proofs.Blocks.{under, all_under, length_under, length_all, dimension_is}
 
@@ -20,7 +21,7 @@ later_differ here set differ = λ i j d before exists. differ (suc i) (suc j) d 
 unmet : (here : ℤ) (set : List ℤ) (p : ℕ) (number : ℤ) → Differ (here ∷ set) → p < length set → get_or set p number ≡ number → int_eq here number ≡ false
 unmet here set p number differ below is =
     by_bool (λ b. int_eq here number ≡ b → b ≡ false) (int_eq here number)
-    (λ met same. absurd (differ zero (suc p) number (omega arith) (omega (arith, below)) (equals_tested here number same ∙ sym is)))
+    (λ met same. absurd (differ zero (suc p) number (omega arith) (omega (arith, below)) (equal_tested here number same ∙ sym is)))
     (λ other same. refl) refl
 
 placed : {A : Type 0} (number : ℤ) (set : List ℤ) (width : ℕ) (xs : List A) (p : ℕ) → Differ set → p < length set → get_or set p number ≡ number → block number set width xs

@@ -1,6 +1,5 @@
 -- Entries of a tree as the cells of a form.
 use Rattle.std.proofs.Common.{◌≡◌, ℕ, ◌+◌, ◌<◌, ◌≤◌, nat_lt, nat_eq, ℤ, pos, ◌+ℤ◌, unsigned_abs, true, false, not, List, [], ◌∷◌, map, Some, None, arith, refl, ap, subst, sym, ◌∙◌, if◌then◌else◌}
-use Rattle.std.proofs.lemmas.Int.{ints}
 use Rattle.std.proofs.lemmas.Bool.Decides.{nat_tests}
 use Rattle.std.specs.Option.{unwrap_or}
 use Rattle.std.specs.List.{AllByRecursion, filter}
@@ -10,6 +9,7 @@ use Rattle.std.specs.declared.cmp.Ordering.{Ordering}
 use Rattle.std.specs.declared.cmp.Ordering.TheVariants.{Less, Equal, Greater}
 use Rattle.std.specs.Map.{keys_of, lookup}
 use Rattle.std.specs.BTreeMap.{insert_entry, is_at}
+use Rattle.sopl_base.proofs.Integers.{zero_plus}
 use Rattle.term_language.specs.Forms.{Coefficient, unless_zero, put}
 use Rattle.term_language.proofs.FormValues.{by_if, by_bool, equal_numbers}
 use Rattle.term_math.specs.Sums.{coefficient_at, is_there, mass, nonzero, wide_cells}
@@ -74,9 +74,6 @@ put_behind cell k d v later less =
     let before : nat_lt d cell ≡ true = grind (arith, nat_tests) in
     by_bool (λ zero. put cell k (if zero then later else record { cell = d; k = v } ∷ later) ≡ (if zero then put cell k later else record { cell = d; k = v } ∷ put cell k later)) (int_eq v (pos 0))
     (λ zero. refl) (λ other. rw before refl)
-
-zero_plus : (k : ℤ) → pos 0 +ℤ k ≡ k
-zero_plus k = omega (arith, ints)
 
 put_here : (cell : ℕ) (k : ℤ) (v : ℤ) (es : List (ℕ × ℤ)) → Above cell es → unless_zero cell (v +ℤ k) (nonzero es) ≡ put cell k (unless_zero cell v (nonzero es))
 put_here cell k v es above =

@@ -2,14 +2,15 @@
 use Rattle.std.proofs.Common.{◌≡◌, ℕ, ◌+◌, ◌*◌, ◌<◌, ◌≤◌, ◌^◌, ℤ, negsuc, ◌*ℤ◌, unsigned_abs, true, false, List, length, get_or, drop, w64, arith, refl, subst}
 use Rattle.std.proofs.lemmas.Int.{ints, clamps, unsigned_abs-mul, fits_signed_from_abs}
 use Rattle.std.proofs.Math.Nat.{mul-le-mul_left}
+use Rattle.sopl_base.proofs.Sizes.{sized}
 use Rattle.box_problem.specs.Box.{Box, IsBox, Inside}
 use Rattle.term_language.specs.Ends as rule
 use Rattle.term_language.specs.Forms.{is_constant, cells_ends, whole}
 use Rattle.term_language.specs.Rules.{product_atoms}
 use Rattle.term_language.specs.Sizes.{weight_of, cells_weight}
-use Rattle.term_language.specs.Laws.{Within}
-use Rattle.term_language.proofs.Bounds.{Bounds, small, sized, bounds_plus, bounds_scaled, bounds_weight, bounded_cells}
+use Rattle.term_language.proofs.Bounds.{Bounds, small, bounds_plus, bounds_scaled, bounds_weight, bounded_cells}
 use Rattle.term_language.proofs.Narrowing.{within_cell, within_cells}
+use Rattle.term_language.proofs.Shared.{bounds_within}
 use Rattle.term_math.specs.declared.forms.Coefficient.{Coefficient}
 use Rattle.term_math.specs.declared.forms.Form.{Form}
 use Rattle.term_math.specs.Shown.{IsFit, CellsFit, WholeFits, ProductFits, DifferenceFits, ends_at, cells_of, form_of}
@@ -26,16 +27,6 @@ fit_at k a n bounds room = record {
   low = fits_signed_from_abs w64 (k *ℤ a.low) (omega (arith, unsigned_abs-mul k a.low, mul-le-mul_left (unsigned_abs k) bounds.low, room));
   high = fits_signed_from_abs w64 (k *ℤ a.high) (omega (arith, unsigned_abs-mul k a.high, mul-le-mul_left (unsigned_abs k) bounds.high, room));
 }
-
--- an interval within another has no larger number
-pub bounds_within : (a c : rule.Ends) (n : ℕ) → Within a c → Bounds c n → Bounds a n
-bounds_within a c n within bounds =
-    let low = small c.low n bounds.low in
-    let high = small c.high n bounds.high in
-    record {
-      low = sized a.low n (omega (arith, ints, low.0, within.from_low)) (omega (arith, ints, high.1, within.to_high, within.ordered));
-      high = sized a.high n (omega (arith, ints, low.0, within.from_low, within.ordered)) (omega (arith, ints, high.1, within.to_high));
-    }
 
 pub bounds_more : (a : rule.Ends) (m n : ℕ) → Bounds a m → m ≤ n → Bounds a n
 bounds_more a m n bounds more = record { low = omega (arith, bounds.low, more); high = omega (arith, bounds.high, more) }

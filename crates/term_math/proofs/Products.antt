@@ -3,9 +3,10 @@ use Rattle.std.proofs.Common.{◌≡◌, ◌⊎◌, inl, inr, ℕ, ◌*◌, ◌�
 use Rattle.std.proofs.lemmas.Int.{ints, clamps, unsigned_abs-mul}
 use Rattle.std.proofs.lemmas.Bool.{cases_lt}
 use Rattle.std.proofs.Math.Nat.{mul-le-mul_left, mul-le-mul_right}
+use Rattle.sopl_base.proofs.Sizes.{sized}
 use Rattle.term_language.specs.Ends as rule
 use Rattle.term_language.specs.Sizes.{weight_of}
-use Rattle.term_language.proofs.Bounds.{Bounds, small, sized}
+use Rattle.term_language.proofs.Bounds.{Bounds, small}
 
 -- a bound on both ends of a hull is one on all four numbers, and the other way round
 hull_bounds : (x y z w : ℤ) (n : ℕ) → unsigned_abs x ≤ n → unsigned_abs y ≤ n → unsigned_abs z ≤ n → unsigned_abs w ≤ n → Bounds (rule.hull (rule.between x y) (rule.between z w)) n

@@ -1,21 +1,10 @@
 -- What is made of small numbers has room.
-use Rattle.std.proofs.Common.{◌≡◌, ℕ, zero, suc, ◌/◌, ◌-◌, ◌<◌, ◌≤◌, ◌^◌, ℤ, pos, negsuc, neg_ℤ, unsigned_abs, FitsSigned, of_z, false, arith, refl, sym, subst, w64}
-use Rattle.std.proofs.Math.Nat.{div-le_self}
-use Rattle.std.proofs.lemmas.Int.{ints, fits_signed_from_abs, quot_is, rem_is}
+use Rattle.std.proofs.Common.{◌≡◌, zero, suc, ◌-◌, ◌<◌, ◌≤◌, ◌^◌, ℤ, pos, negsuc, neg_ℤ, unsigned_abs, FitsSigned, of_z, false, arith, w64}
+use Rattle.std.proofs.lemmas.Int.{fits_signed_from_abs, quot_is, rem_is}
 use Rattle.std.specs.Int.{cast_signed, cast_unsigned}
 use Rattle.std.specs.Int.RustNames.{int_div, int_rem}
 use Rattle.std.specs.Ordering.{int_eq}
-use Rattle.term_language.specs.Ends.{size_of}
-
-size_neg : (n : ℕ) → unsigned_abs (neg_ℤ (pos n)) ≡ n
-size_neg zero = refl
-size_neg (suc n) = refl
-
-quotient_size : (x y : ℤ) → unsigned_abs (int_div x y) ≤ unsigned_abs x
-quotient_size (pos a) (pos b) = div-le_self a b
-quotient_size (pos a) (negsuc b) = subst (λ n. n ≤ a) (sym (size_neg (a / suc b))) (div-le_self a (suc b))
-quotient_size (negsuc a) (pos b) = subst (λ n. n ≤ suc a) (sym (size_neg (suc a / b))) (div-le_self (suc a) b)
-quotient_size (negsuc a) (negsuc b) = div-le_self (suc a) (suc b)
+use Rattle.sopl_base.proofs.Sizes.{quotient_size}
 
 pub small_fits : (x : ℤ) → unsigned_abs x ≤ 2 ^ 40 → FitsSigned w64 x
 small_fits x small = fits_signed_from_abs w64 x (omega (arith, small))

@@ -22,7 +22,7 @@ next_weight root xs i x below at =
 pub no_weight : (root : Box) (xs : List WideCoefficient) (i : ℕ) → length xs ≤ i → cells_weight root (wide_cells (drop i xs)) ≡ 0
 no_weight root xs i past = at_drop_all (λ ys. cells_weight root (wide_cells ys)) xs i past
 
-drop_lighter : (root : Box) (i : ℕ) (xs : List WideCoefficient) → cells_weight root (wide_cells (drop i xs)) ≤ cells_weight root (wide_cells xs)
+pub drop_lighter : (root : Box) (i : ℕ) (xs : List WideCoefficient) → cells_weight root (wide_cells (drop i xs)) ≤ cells_weight root (wide_cells xs)
 drop_lighter root zero xs = omega arith
 drop_lighter root (suc i) [] = omega arith
 drop_lighter root (suc i) (x ∷ xs) = omega (arith, drop_lighter root i xs)

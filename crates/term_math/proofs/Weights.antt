@@ -1,11 +1,13 @@
 -- How large the numbers of sums of forms get.
-use Rattle.std.proofs.Common.{◌≡◌, ℕ, ◌+◌, ◌*◌, ◌-◌, ◌<◌, ◌≤◌, ◌^◌, zero, suc, nat_lt, nat_eq, ℤ, pos, negsuc, ◌+ℤ◌, ◌*ℤ◌, unsigned_abs, List, [], ◌∷◌, length, get_or, drop, arith}
+use Rattle.std.proofs.Common.{◌≡◌, ℕ, ◌+◌, ◌*◌, ◌-◌, ◌<◌, ◌≤◌, ◌^◌, zero, suc, nat_lt, nat_eq, ℤ, pos, ◌+ℤ◌, ◌*ℤ◌, unsigned_abs, List, [], ◌∷◌, length, get_or, drop, arith}
 use Rattle.std.proofs.Common.{SFits, FitsSigned, to_z, of_z, refl, ap, subst, sym, ◌∙◌, if◌then◌else◌}
-use Rattle.std.proofs.lemmas.Int.{ints, unsigned_abs-mul, to_z-of_z, fits_signed_from_abs}
+use Rattle.std.proofs.lemmas.Int.{unsigned_abs-mul, to_z-of_z, fits_signed_from_abs}
 use Rattle.std.proofs.lemmas.List.{at_drop_more, get_or_default}
 use Rattle.std.proofs.Math.Nat.{mul-le-mul_right, mul-le-mul_left, mul_assoc}
 use Rattle.std.specs.Int.{w128}
 use Rattle.std.specs.Ordering.{int_eq}
+use Rattle.sopl_base.proofs.Sizes.{plus_size}
+use Rattle.sopl_base.proofs.Naturals.{spread, spread_left}
 use Rattle.box_problem.specs.Box.{Box}
 use Rattle.term_language.specs.Ends.{cell_ends}
 use Rattle.term_language.specs.Forms.{Coefficient, Form, number_form, unless_zero, put, combined}
@@ -14,18 +16,6 @@ use Rattle.term_language.proofs.FormValues.{by_if, same_cell}
 use Rattle.term_math.specs.declared.forms.Coefficient as own
 use Rattle.term_math.specs.Shown.{cells_of}
 use Rattle.term_math.specs.Sums.{weighted, mass, mass_of}
-
-pub plus_size : (x y : ℤ) → unsigned_abs (x +ℤ y) ≤ unsigned_abs x + unsigned_abs y
-plus_size (pos a) (pos b) = omega (arith, ints)
-plus_size (pos a) (negsuc b) = omega (arith, ints)
-plus_size (negsuc a) (pos b) = omega (arith, ints)
-plus_size (negsuc a) (negsuc b) = omega (arith, ints)
-
-pub spread : (a b c : ℕ) → (a + b) * c ≡ a * c + b * c
-spread a b c = omega arith
-
-pub spread_left : (a b c : ℕ) → a * (b + c) ≡ a * b + a * c
-spread_left a b c = omega arith
 
 unless_zero_weighted : (w : ℕ → ℕ) (cell : ℕ) (k : ℤ) (later : List Coefficient) → weighted w (unless_zero cell k later) ≤ unsigned_abs k * w cell + weighted w later
 unless_zero_weighted w cell k later =

@@ -113,7 +113,7 @@ fn value_at(cells: &BTreeMap<u32, i128>, cell: u32) -> WideCoefficient
 }
 
 /// So many times a cell more.
-#[tactic(auto, using(crate::proofs::Entries::put_entry, crate::proofs::Entries::value_mass, crate::proofs::Weights::plus_size))]
+#[tactic(auto, using(crate::proofs::Entries::put_entry, crate::proofs::Entries::value_mass, sopl_base::proofs::Sizes::plus_size))]
 fn put(cells: &mut BTreeMap<u32, i128>, more: &WideCoefficient) -> Result<(), AllocError>
     requires room { mass (nonzero cells.old.entries) + unsigned_abs more.now.k < 2 ^ 127 }
     ensures { OnOk result (nonzero cells.new.entries ≡ rule.put more.now.cell more.now.k (nonzero cells.old.entries)) }

@@ -2,6 +2,8 @@
 use Rattle.std.proofs.Common.{◌≡◌, ℕ, ◌+◌, ◌<◌, ◌≤◌, suc, ℤ, Bool, true, false, if◌then◌else◌, List, [], ◌∷◌, length, get_or, drop, arith, refl, ap, sym, subst, ◌∙◌}
 use Rattle.std.specs.List.{list_all, list_any}
 use Rattle.std.proofs.lemmas.List.{at_drop_more, at_drop_all}
+use Rattle.std.proofs.lemmas.Bool.{and_left}
+use Rattle.sopl_base.proofs.Booleans.{and_true}
 use Rattle.box_problem.specs.Box.{Box}
 use Rattle.term_language.specs.Ends.{Ends}
 use Rattle.term_language.specs.Globals.{is_inside, are_crowded, never_differ, are_apart, always_differ}
@@ -19,7 +21,7 @@ use Rattle.term_windows.specs.declared.windows.Window.{Window}
 use Rattle.term_windows.specs.Windows.{last_in, inside_in}
 use Rattle.term_windows.proofs.Crowding as windows
 use Rattle.term_windows.proofs.Crowding.{IsSearched, crowd_of}
-use Rattle.term_windows.proofs.Steps.{and_false, and_true, next_any, next_each, no_more, one_more, this_any, this_fails}
+use Rattle.term_windows.proofs.Steps.{next_any, next_each, no_more, one_more, this_any, this_fails}
 use Rattle.term_nodes.specs.declared.evaluation.Evaluator.{Evaluator}
 use Rattle.term_nodes.specs.Built.{AllBelow}
 use Rattle.term_nodes.specs.Seen.{IsReady}
@@ -115,7 +117,7 @@ pub first_touches : (root b : Box) (all : List Thing) (left later : List ℕ) (x
     → t ≡ list_all (are_apart e) (spans root b all later) → t ≡ false → always_differ (spans root b all left) ≡ false
 first_touches root b all left later x e t split is told unmet =
     ap (λ ys. always_differ (spans root b all ys)) split
-    ∙ and_false (list_all (are_apart (interval Near root b (term_at all x))) (spans root b all later)) (always_differ (spans root b all later))
+    ∙ and_left (list_all (are_apart (interval Near root b (term_at all x))) (spans root b all later)) (always_differ (spans root b all later))
     (ap (λ (f : Ends). list_all (are_apart f) (spans root b all later)) (sym is) ∙ sym told ∙ unmet)
 
 pub none_touches : (root b : Box) (all : List Thing) (left : List ℕ) → length left ≡ 0 → always_differ (spans root b all left) ≡ true

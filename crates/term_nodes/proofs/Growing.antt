@@ -23,12 +23,12 @@ pub things_more : (items : List Item) (item : Item) → things (items ++ item �
 things_more items item = things_after [] items item
 
 -- what stands below stays
-stays : (all : List Thing) (more : Thing) (id : ℕ) → id < length all → thing_at (all ++ more ∷ []) id ≡ thing_at all id
+pub stays : (all : List Thing) (more : Thing) (id : ℕ) → id < length all → thing_at (all ++ more ∷ []) id ≡ thing_at all id
 stays [] more id there = let empty : ⊥ = omega (arith, there) in elim empty [ ]
 stays (x ∷ all) more zero there = refl
 stays (x ∷ all) more (suc id) there = stays all more id (omega (arith, there))
 
-last_is : (all : List Thing) (more : Thing) → thing_at (all ++ more ∷ []) (length all) ≡ more
+pub last_is : (all : List Thing) (more : Thing) → thing_at (all ++ more ∷ []) (length all) ≡ more
 last_is [] more = refl
 last_is (x ∷ all) more = last_is all more
 

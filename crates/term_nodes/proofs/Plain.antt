@@ -1,6 +1,7 @@
 -- A term of cells alone that is Always defined over the root has nothing but cells over each box inside it.
 use Rattle.std.proofs.Common.{◌≡◌, ℤ, pos, true, ◌&&◌, refl, ap, subst, sym, ◌∙◌}
 use Rattle.box_problem.specs.Box.{Box, IsBox, Inside}
+use Rattle.box_problem.proofs.Shared.{lows_inside}
 use Rattle.term_language.specs.declared.answers.Defined.{Defined}
 use Rattle.term_language.specs.declared.answers.Defined.TheVariants.{Never, Maybe, Always}
 use Rattle.term_language.specs.Ends as ends
@@ -12,7 +13,6 @@ use Rattle.term_language.proofs.FormValues.{and_first, and_second}
 use Rattle.term_language.proofs.Layers.{IsClear}
 use Rattle.term_language.proofs.Soundness.{read}
 use Rattle.term_language.proofs.Sharpening.{narrow}
-use Rattle.term_math.proofs.Constants.{lows_in}
 use Rattle.term_math.specs.Shown.{box_in}
 use Rattle.term_nodes.specs.declared.items.Item.{Item}
 use Rattle.term_nodes.specs.declared.evaluation.Evaluator.{Evaluator}
@@ -41,7 +41,7 @@ pub plain_sight : (root b : Box) (t : Term) → IsBox root → Inside b root →
     ≡ record { ends = ends.exactly (pos 0); mark = Always }
 plain_sight root b t is_box inside proper plain always =
     let sharper : Sharper (mark Near root b t) (mark Wide root root t) = (narrow Near root b root t is_box inside proper).sharper in
-    clear_sight (atoms Near root b t) (mark Near root b t) ((read Near root b b.lows t inside.is_box (lows_in b inside.is_box) proper).clear plain)
+    clear_sight (atoms Near root b t) (mark Near root b t) ((read Near root b b.lows t inside.is_box (lows_inside b inside.is_box) proper).clear plain)
     (always_of (mark Near root b t) (subst (Sharper (mark Near root b t)) always sharper))
 
 pub plain_seen : (here : Evaluator) (id : _) (item : Item) → IsReady here → IsAt (box_in here.root) (things here.items.now) id item → (item.facts.form.plain && is_always item.facts.wide_mark)

@@ -12,8 +12,8 @@ use Rattle.term_language.specs.declared.answers.Defined.{Defined}
 use Rattle.term_language.specs.declared.answers.Defined.TheVariants.{Never, Maybe, Always}
 use Rattle.term_language.proofs.Bounds.{bounded_whole}
 use Rattle.term_language.proofs.Sharpening.{intervals_narrow}
+use Rattle.term_language.proofs.Shared.{bounds_within}
 use Rattle.term_math.specs.Shown.{box_in}
-use Rattle.term_math.proofs.Fits.{bounds_within}
 use Rattle.term_math.specs.declared.extremes.Extreme.{Extreme}
 use Rattle.term_math.specs.declared.operations.Operation.{Operation}
 use Rattle.term_math.specs.Made.{IsSmall, operation_term, extreme_term, made, made_of, chosen_by, picked}

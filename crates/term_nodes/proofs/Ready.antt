@@ -3,6 +3,7 @@ use Rattle.std.proofs.Common.{◌≡◌, inl, inr, ℕ, ◌+◌, ◌-◌, ◌*�
 use Rattle.std.proofs.lemmas.Bool.{cases_lt}
 use Rattle.std.proofs.lemmas.Int.{unsigned_abs-mul}
 use Rattle.std.proofs.lemmas.List.{get_or_default}
+use Rattle.sopl_base.proofs.Sizes.{plus_size}
 use Rattle.box_problem.specs.Box.{Box, IsBox, Inside}
 use Rattle.term_language.specs.Ends as ends
 use Rattle.term_language.specs.Forms as forms
@@ -12,10 +13,11 @@ use Rattle.term_language.specs.Sizes.{weight_of, cells_weight, atoms_weight, sum
 use Rattle.term_language.specs.Laws.{IsProper, AreProper, AreProperParts, IsTable}
 use Rattle.term_language.proofs.Bounds.{Bounds, bounded, bounded_parts, sign_size}
 use Rattle.term_language.proofs.Sharpening.{narrow, narrow_parts}
+use Rattle.term_language.proofs.Shared.{bounds_within}
 use Rattle.term_math.specs.declared.forms.Form.{Form}
 use Rattle.term_math.specs.Shown.{IsFit, WholeFits, ProductFits, DifferenceFits, cells_of, ends_at, ends_of, form_of, box_in}
-use Rattle.term_math.proofs.Fits.{fit, fit_at, bounds_within, product_fits, difference_fits, whole_fits}
-use Rattle.term_math.proofs.Weights.{combined_weighted, cells_weighted, plus_size}
+use Rattle.term_math.proofs.Fits.{fit, fit_at, product_fits, difference_fits, whole_fits}
+use Rattle.term_math.proofs.Weights.{combined_weighted, cells_weighted}
 use Rattle.term_nodes.specs.declared.nodes.Signed.{Signed}
 use Rattle.term_nodes.specs.declared.items.Item.{Item}
 use Rattle.term_nodes.specs.declared.evaluation.Evaluator.{Evaluator}

@@ -10,7 +10,6 @@ use Rattle.term_language.specs.Marks.{both, judged}
 use Rattle.term_language.specs.Rules.{Near, interval, mark, task_ends, task_mark}
 use Rattle.term_language.specs.declared.answers.Defined.{Defined}
 use Rattle.term_language.specs.declared.answers.Defined.TheVariants.{Always}
-use Rattle.term_language.specs.declared.answers.Truth.{Truth}
 use Rattle.term_language.specs.declared.answers.Truth.TheVariants.{False, Unknown, True}
 use Rattle.term_language.proofs.Sharpening.{intervals_narrow}
 use Rattle.term_language.proofs.Tasks.{SoundEnds, sound_ends}
@@ -239,6 +238,3 @@ surely_fit never always t s told unmet also met = ap (λ (p : Bool). judged Alwa
 
 pub not_surely_fit : (never always : Bool) (t s : Bool) → t ≡ never → t ≡ false → s ≡ always → s ≡ false → judged Always never always ≡ Unknown
 not_surely_fit never always t s told unmet also met = ap (λ (p : Bool). judged Always p always) (sym told ∙ unmet) ∙ ap (λ (p : Bool). if p then True else Unknown) (sym also ∙ met)
-
-pub judged_tasks : (m n : Defined) (never always : Bool) (r : Truth) → m ≡ n → r ≡ judged m never always → r ≡ judged n never always
-judged_tasks m n never always r same is = is ∙ ap (λ (k : Defined). judged k never always) same

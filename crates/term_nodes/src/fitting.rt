@@ -253,7 +253,7 @@ impl<'a> Evaluator<'a> {
 
     /// The truth of `cumulative` over the box.
     #[cycle(seen)]
-    #[tactic(auto, using(crate::proofs::Tasking::judged_tasks))]
+    #[tactic(auto, using(crate::proofs::Crowding::judged_by))]
     pub(crate) fn cumulative(&self, limit: u32, tasks: &[Task], capacity: u32) -> Truth
         requires ready { IsReady self.now }
         requires exists { limit ≤ length self.now.items.now }

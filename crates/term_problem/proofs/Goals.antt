@@ -15,11 +15,10 @@ use Rattle.term_language.specs.Rules.{Near, form, atoms, mark, interval}
 use Rattle.term_language.specs.Terms.{Term}
 use Rattle.term_language.specs.Values.{value}
 use Rattle.term_language.proofs.Exactness.{IsOne, exact_part, one_whole, one_least, one_greatest}
-use Rattle.term_language.proofs.FormValues.{Off, whole_lies}
 use Rattle.term_language.proofs.Layers.{IsRead, both_hold, read_number, read_part}
 use Rattle.term_language.proofs.OnPoints.{points_exact}
 use Rattle.term_language.proofs.Operations.{in_least, in_greatest}
-use Rattle.term_language.proofs.Soundness.{read, values_lie}
+use Rattle.term_language.proofs.Soundness.{read, values_lie, lies_some}
 use Rattle.term_problem.specs.Points.{expected_value, worse, worst_value, goal_value}
 use Rattle.term_problem.specs.Problems.{GoalTerms}
 use Rattle.term_problem.proofs.Worth.{behind_first}
@@ -37,10 +36,6 @@ exact_there Never fact None exact marked there = absurd (cc)
 exact_there Never fact (Some x) exact marked there = absurd marked
 exact_there Maybe fact v exact marked there = absurd exact
 exact_there Always fact v exact marked there = exact
-
-in_whole : (b : Box) (p : List ℤ) (v : Option ℤ) (f : Form) (a : Ends) → IsBox b → InBox b p → IfSome v (λ x. Off p x f a) → IfSome v (λ x. Lies x (whole b f a))
-in_whole b p None f a is_box inside off = tt
-in_whole b p (Some x) f a is_box inside off = whole_lies b p x f a is_box inside off
 
 -- the worse of two
 worse_lies : (direction : Direction) (x y : ℤ) (a c : Ends) → Lies x a → Lies y c → Lies (worse direction x y) (worse_ends direction a c)
@@ -65,7 +60,7 @@ module _ (root b : Box) (point : List ℤ) (is_box : IsBox b) (inside : InBox b 
 
   expected_lies : (weights : List ℤ) (terms : List Term) → AllByRecursion IsProper terms → IfSome (expected_value point weights terms) (λ z. Lies z (expected_ends root b weights terms))
   expected_lies weights terms proper =
-      in_whole b point (expected_value point weights terms) (expected_form root weights terms) (expected_atoms root b weights terms) is_box inside (expected_read weights terms proper).off
+      lies_some b point (expected_value point weights terms) (expected_form root weights terms) (expected_atoms root b weights terms) is_box inside (expected_read weights terms proper).off
 
   worst_lies : (direction : Direction) (terms : List Term) → AllByRecursion IsProper terms → IfSome (worst_value (worse direction) point terms) (λ z. Lies z (worst_ends direction root b terms))
   worst_lies direction [] proper = tt

@@ -11,6 +11,8 @@ use Rattle.sopl_base.specs.declared.direction.Direction.TheVariants.{Minimize, M
 use Rattle.sopl_base.specs.declared.reason.Reason.{Reason}
 use Rattle.sopl_base.specs.declared.reason.Reason.TheVariants.{Hard, Chance, Undefined, Bound}
 use Rattle.sopl_base.specs.Better.{IsBetter}
+use Rattle.sopl_base.proofs.Tests.{lt_untest}
+use Rattle.sopl_base.proofs.Lists.{each_at}
 use Rattle.box_problem.specs.Box.{Box, IsBox, InBox, IsPoint}
 use Rattle.box_problem.specs.BoxProblem.{Beats, Follows, Lawful}
 use Rattle.box_problem.proofs.Boxes.{one_point}
@@ -32,7 +34,7 @@ use Rattle.term_problem.specs.Problems.{ChanceTerms, GoalTerms, ProblemTerms, Is
 use Rattle.term_problem.specs.Refuted.{is_false, is_never, weight_left, none_better, refutes}
 use Rattle.term_problem.specs.Search.{numbers_to, reasons_of, problem_over}
 use Rattle.term_problem.proofs.Goals.{goal_lies, one_goal}
-use Rattle.term_problem.proofs.Lists.{at_some, to_some, chained, fails, each_at, all_at, all_from, contains_map, contains_flat_map, contains_number}
+use Rattle.term_problem.proofs.Lists.{at_some, to_some, chained, fails, all_at, all_from, contains_map, contains_flat_map, contains_number}
 use Rattle.term_problem.proofs.Points.{points_are_told}
 use Rattle.term_problem.proofs.Worth.{some_terms, worth_there}
 use Rattle.term_problem.proofs.Weights.{never_false, known_holds, where_or_left, left_at_point}
@@ -95,9 +97,6 @@ there_at_point Always fact (Some x) exact marked some = refl
 
 at_most : (x y : ℤ) → int_lt y x ≡ false → x ≤ℤ y
 at_most x y tested = grind (arith, ints)
-
-not_less : (x y : ℤ) → y ≤ℤ x → int_lt x y ≡ false
-not_less x y less = grind (arith, ints)
 
 -- a value that is there
 there_lies : (o : Option ℤ) (a : Ends) → IsSome o → IfSome o (λ z. Lies z a) → Lies (unwrap_or o (pos 0)) a
@@ -180,7 +179,7 @@ module _ (root : Box) (terms : ProblemTerms) (is : IsProblem terms) where
         let positive = made.positive in
         let more = up chance.q (weight_where point terms.weights chance.conditions) (weight_left root b terms.weights chance.conditions) (omega (arith, ints, positive))
         (where_or_left root b point is_box inside terms.weights chance.conditions is.weighs proper) in
-        not_less (chance.q *ℤ weight_left root b terms.weights chance.conditions) (chance.p *ℤ terms.whole) (omega (arith, ints, enough, more)))
+        lt_untest (chance.q *ℤ weight_left root b terms.weights chance.conditions) (chance.p *ℤ terms.whole) (omega (arith, ints, enough, more)))
     kept (Undefined s) v all better =
         fails (λ (goal : GoalTerms). option_map_or (λ term. is_never (mark Near root b term)) (slice_get goal.terms s) false) terms.goal
         (λ goal is_goal.

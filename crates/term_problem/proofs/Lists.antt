@@ -1,19 +1,16 @@
 -- Elements of a list by their places, and what a list has.
 use Rattle.std.proofs.Common.{◌≡◌, refl, sym, ap, subst, ◌∙◌, arith, ℕ, zero, suc, ◌<◌, Bool, true, false, ◌&&◌, List, [], ◌∷◌, map, All, Contains, Option, Some, None, IfSome}
-use Rattle.std.proofs.Common.{option_and_then, unwrap_or, slice_get, get_or}
+use Rattle.std.proofs.Common.{option_and_then, slice_get, get_or}
 use Rattle.std.proofs.lemmas.List.Elements.{Contains-append_left, Contains-append_right}
 use Rattle.std.proofs.lemmas.List.FromFn.{length-range_with_len, get_or-range_with_len}
-use Rattle.std.proofs.lemmas.Option.{slice_get-get_or, slice_get_within, get_or_from_slice_get}
-use Rattle.std.specs.List.{AllByRecursion, list_all, flat_map, range_with_len}
+use Rattle.std.proofs.lemmas.Option.{slice_get-get_or, slice_get_within, get_or_from_slice_get, same_Some}
+use Rattle.std.specs.List.{list_all, flat_map, range_with_len}
 use Rattle.std.specs.Option.{option_map_or}
-
-pub same_some : {A : Type 0} (x y : A) → Some x ≡ Some y → x ≡ y
-same_some x y same = ap (λ o. unwrap_or o x) same
 
 -- what is there, where nothing else may be
 pub at_some : {A : Type 0} (P : A → Type 0) (o : Option A) (x : A) → IfSome o P → o ≡ Some x → P x
 at_some P None x all is = absurd (cc)
-at_some P (Some y) x all is = subst P (same_some y x is) all
+at_some P (Some y) x all is = subst P (same_Some y x is) all
 
 pub to_some : {A : Type 0} (P : A → Type 0) (o : Option A) → ((x : A) → o ≡ Some x → P x) → IfSome o P
 to_some P None each = tt
@@ -33,12 +30,6 @@ chained (Some x) f y is = record { first = x; is_first = refl; is_second = is }
 pub fails : {A : Type 0} (test : A → Bool) (o : Option A) → ((x : A) → o ≡ Some x → test x ≡ false) → option_map_or test o false ≡ false
 fails test None each = refl
 fails test (Some x) each = each x refl
-
--- what holds of each element holds of one
-pub each_at : {A : Type 0} (P : A → Type 0) (xs : List A) → AllByRecursion P xs → (k : ℕ) (x : A) → slice_get xs k ≡ Some x → P x
-each_at P [] all k x at = absurd (cc)
-each_at P (y ∷ ys) all zero x at = subst P (same_some y x at) all.0
-each_at P (y ∷ ys) all (suc k) x at = each_at P ys all.1 k x at
 
 pub all_at : {A : Type 0} (P : A → Type 0) (xs : List A) → All P xs → (k : ℕ) (x : A) → slice_get xs k ≡ Some x → P x
 all_at P xs all k x at = subst P (get_or_from_slice_get xs k x x at) (all k x (slice_get_within xs k x at))

@@ -8,36 +8,27 @@ use Rattle.std.specs.Option.{option_map_or}
 use Rattle.std.specs.Ordering.{int_eq}
 use Rattle.sopl_base.specs.declared.direction.Direction.{Direction}
 use Rattle.sopl_base.specs.declared.direction.Direction.TheVariants.{Minimize, Maximize, Nothing}
+use Rattle.sopl_base.proofs.Sizes.{plus_size, sized}
+use Rattle.sopl_base.proofs.Naturals.{spread, spread_left}
 use Rattle.box_problem.specs.Box.{Box, IsBox, Inside}
 use Rattle.term_language.specs.Ends.{Ends, exactly, plus, scaled, cell_ends}
 use Rattle.term_language.specs.Forms.{Coefficient, unless_zero, put, combined, cells_ends}
 use Rattle.term_language.specs.Globals.{total}
-use Rattle.term_language.specs.Laws.{Within, IsAtMost, IsProper}
+use Rattle.term_language.specs.Laws.{IsAtMost, IsProper}
 use Rattle.term_language.specs.Rules.{Near, Wide, form, atoms, interval}
 use Rattle.term_language.specs.Sizes.{weight_of, cells_weight, atoms_weight, size}
 use Rattle.term_language.specs.Terms.{Term}
-use Rattle.term_language.proofs.Bounds.{Bounds, small, sized, bounds_zero, bounds_plus, bounds_scaled, bounded, bounded_cells, bounded_whole}
+use Rattle.term_language.proofs.Bounds.{Bounds, small, bounds_zero, bounds_plus, bounds_scaled, bounded, bounded_cells, bounded_whole}
 use Rattle.term_language.proofs.FormValues.{by_if, same_cell}
 use Rattle.term_language.proofs.Narrowing.{within_cells}
 use Rattle.term_language.proofs.Sharpening.{narrow, intervals_narrow}
+use Rattle.term_language.proofs.Shared.{bounds_within}
 use Rattle.term_problem.specs.Laws.{GoalsAreBounded}
 use Rattle.term_problem.specs.Objective.{expected_form, expected_atoms, expected_ends, worse_ends, worst_ends, goal_ends_of, goal_ends, greatest_size, goal_size}
 use Rattle.term_problem.specs.Points.{worse}
 use Rattle.term_problem.specs.Problems.{GoalTerms}
 
 -- Sums of forms.
-
-plus_size : (x y : ℤ) → unsigned_abs (x +ℤ y) ≤ unsigned_abs x + unsigned_abs y
-plus_size (pos a) (pos b) = omega (arith, ints)
-plus_size (pos a) (negsuc b) = omega (arith, ints)
-plus_size (negsuc a) (pos b) = omega (arith, ints)
-plus_size (negsuc a) (negsuc b) = omega (arith, ints)
-
-spread : (a b c : ℕ) → (a + b) * c ≡ a * c + b * c
-spread a b c = omega arith
-
-spread_left : (a b c : ℕ) → a * (b + c) ≡ a * b + a * c
-spread_left a b c = omega arith
 
 module _ (root : Box) where
   abbrev cell_weight : ℕ → ℕ
@@ -130,15 +121,6 @@ module _ (root : Box) where
       omega (arith, sizes_at_most weights later weigh.1, here, more, sum)
 
 -- Over a box inside the root.
-
-bounds_within : (a c : Ends) (n : ℕ) → Within a c → Bounds c n → Bounds a n
-bounds_within a c n within bounds =
-    let low = small c.low n bounds.low in
-    let high = small c.high n bounds.high in
-    record {
-      low = sized a.low n (omega (arith, ints, low.0, within.from_low)) (omega (arith, ints, high.1, within.to_high, within.ordered));
-      high = sized a.high n (omega (arith, ints, low.0, within.from_low, within.ordered)) (omega (arith, ints, high.1, within.to_high));
-    }
 
 bounds_more : (a : Ends) (m n : ℕ) → m ≤ n → Bounds a m → Bounds a n
 bounds_more a m n more bounds = record { low = omega (arith, bounds.low, more); high = omega (arith, bounds.high, more) }

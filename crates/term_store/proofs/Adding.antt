@@ -2,9 +2,7 @@
 use Rattle.std.proofs.Common.{◌≡◌, inl, inr, ℕ, ℤ, ◌<◌, ◌≤◌, ◌^◌, unsigned_abs, Vec, Global, List, [], ◌∷◌, length, get_or, arith, refl, ap, subst, sym, ◌∙◌}
 use Rattle.std.proofs.lemmas.Bool.{cases_lt}
 use Rattle.std.proofs.lemmas.List.{get_or_default}
-use Rattle.box_problem.specs.Box.{Box, IsBox, box_of}
-use Rattle.box_problem.proofs.Boxes.{intervals_make_a_box}
-use Rattle.sopl_base.specs.declared.interval.Interval.{Interval}
+use Rattle.box_problem.specs.Box.{Box}
 use Rattle.term_language.specs.Terms as rule
 use Rattle.term_language.specs.Marks.{opposite, or_truth, truth_ends}
 use Rattle.term_language.specs.Rules.{Wide, truth, all_truth, any_truth}
@@ -114,12 +112,6 @@ pub none_built : (root : Box) (items : List Item) → items ≡ [] → IsBuilt r
 none_built root items none = record {
   each = λ id item there at. let empty : ⊥ = omega (arith, there, ap length none) in elim empty [ ];
 }
-
--- the box of intervals is one
-pub made_box : (roots : List Interval) (lows highs : List ℤ) → lows ≡ (box_of roots).lows → highs ≡ (box_of roots).highs → IsBox (record { lows = lows; highs = highs })
-made_box roots lows highs lows_are highs_are =
-    subst (λ (xs : List ℤ). IsBox (record { lows = xs; highs = highs })) (sym lows_are)
-    (subst (λ (ys : List ℤ). IsBox (record { lows = (box_of roots).lows; highs = ys })) (sym highs_are) (intervals_make_a_box roots))
 
 -- new terms
 pub new_term : (root : Box) (items : List Item) (n : Node) (facts : own.Facts) (t : rule.Term) → thing_of (things items) n ≡ a_term t → IsBelow (length items) n → kept facts

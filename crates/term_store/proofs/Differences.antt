@@ -1,6 +1,8 @@
 -- Forms of differences have room.
 use Rattle.std.proofs.Common.{◌≡◌, ℕ, ◌+◌, ◌*◌, ◌<◌, ◌≤◌, ◌^◌, ℤ, pos, negsuc, ◌*ℤ◌, unsigned_abs, List, length, arith, ap, subst, sym, ◌∙◌}
 use Rattle.std.proofs.lemmas.Int.{unsigned_abs-mul}
+use Rattle.sopl_base.proofs.Sizes.{plus_size}
+use Rattle.sopl_base.proofs.Naturals.{spread_left}
 use Rattle.box_problem.specs.Box.{Box, IsBox}
 use Rattle.box_problem.proofs.Boxes.{part_of_itself}
 use Rattle.term_language.specs.Ends as ends
@@ -13,7 +15,7 @@ use Rattle.term_math.specs.declared.forms.Form as own
 use Rattle.term_math.specs.Shown.{DifferenceFits, ends_of, form_of}
 use Rattle.term_math.specs.Sums.{mass, mass_of}
 use Rattle.term_math.proofs.Fits.{difference_fits}
-use Rattle.term_math.proofs.Weights.{combined_weighted, mass_weight, plus_size, spread_left}
+use Rattle.term_math.proofs.Weights.{combined_weighted, mass_weight}
 use Rattle.term_nodes.specs.declared.nodes.Comparison.{Comparison}
 use Rattle.term_nodes.specs.declared.nodes.Node.TheVariants as node
 use Rattle.term_nodes.specs.declared.items.Item.{Item}

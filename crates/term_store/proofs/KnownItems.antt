@@ -1,11 +1,12 @@
 -- An element whose indices are numbers, and an index of the array's, is as defined as its indices.
-use Rattle.std.proofs.Common.{◌≡◌, ◌⊎◌, inl, inr, ℕ, ◌+◌, ◌<◌, ◌≤◌, ℤ, Bool, true, false, ◌||◌, if◌then◌else◌, List, [], ◌∷◌, ◌++◌, map, length, get_or, drop, Option, Some, arith}
+use Rattle.std.proofs.Common.{◌≡◌, inl, inr, ℕ, ◌+◌, ◌<◌, ◌≤◌, ℤ, Bool, true, false, if◌then◌else◌, List, [], ◌∷◌, map, length, get_or, drop, Option, Some, arith}
 use Rattle.std.proofs.Common.{refl, ap, subst, sym, ◌∙◌}
 use Rattle.std.specs.List.{filter, flat_map, list_all, list_any}
 use Rattle.std.specs.Int.{int_gap}
 use Rattle.std.specs.Ordering.{int_eq}
 use Rattle.std.proofs.lemmas.Int.{ints}
 use Rattle.std.proofs.lemmas.List.{at_drop_more, at_drop_all}
+use Rattle.std.proofs.lemmas.Bool.{and_from, or_left, or_right}
 use Rattle.box_problem.specs.Box.{Box, IsBox}
 use Rattle.box_problem.proofs.Counts.{gap_leads}
 use Rattle.term_language.specs.Arrays.{Entry, indices, paired, item_at, lies_in, reached, is_covered, are_covered}
@@ -22,9 +23,10 @@ use Rattle.term_language.specs.declared.answers.Truth.TheVariants.{True}
 use Rattle.term_language.proofs.FormValues.{by_if, by_bool}
 use Rattle.term_language.proofs.Products.{in_exactly}
 use Rattle.term_language.proofs.Lists.{AllLie, constants}
-use Rattle.term_language.proofs.Elements.{Has, Mem, by_option, both_true, reached_has}
+use Rattle.term_language.proofs.Elements.{Has, Mem, by_option, reached_has}
 use Rattle.term_language.proofs.ElementParts.{all_counted}
 use Rattle.term_language.proofs.Operations.{equal_tests}
+use Rattle.term_language.proofs.ElementPoints.{mem_append}
 use Rattle.term_math.proofs.Constants.{constant_intervals}
 use Rattle.term_nodes.proofs.Ranges.{both_always, both_grouped}
 use Rattle.term_nodes.specs.Things.{Thing, a_term, term_at, terms_at}
@@ -46,15 +48,6 @@ has_index test (ys ∷ lists) (i ∷ items) item xs some =
     ])
     (λ out kept. more kept) some
 
-mem_either : (xs : List ℤ) (first second : List (List ℤ)) → Mem xs (first ++ second) → Mem xs first ⊎ Mem xs second
-mem_either xs [] second some = inr some
-mem_either xs (ys ∷ later) second (inl here) = inl (inl here)
-mem_either xs (ys ∷ later) second (inr rest) =
-    elim (mem_either xs later second rest) [
-      | inl first ↦ inl (inr first)
-      | inr behind ↦ inr behind
-    ]
-
 -- an index under a number begins with it
 none_under : (number : ℤ) (lists : List (List ℤ)) → Mem [] (map (λ later. number ∷ later) lists) → ⊥
 none_under number [] some = some
@@ -71,29 +64,21 @@ mem_under x number xs (ys ∷ lists) (inr rest) =
 none_empty : (set : List ℤ) (lists : List (List ℤ)) → Mem [] (flat_map (λ number. map (λ later. number ∷ later) lists) set) → ⊥
 none_empty [] lists some = some
 none_empty (number ∷ set) lists some =
-    elim (mem_either [] (map (λ later. number ∷ later) lists) (flat_map (λ number. map (λ later. number ∷ later) lists) set) some) [
+    elim (mem_append [] (map (λ later. number ∷ later) lists) (flat_map (λ number. map (λ later. number ∷ later) lists) set) some) [
       | inl here ↦ none_under number lists here
       | inr rest ↦ none_empty set lists rest
     ]
 
-either_first : (a b : Bool) → a ≡ true → (a || b) ≡ true
-either_first true b is = refl
-either_first false b is = cc
-
-either_second : (a b : Bool) → b ≡ true → (a || b) ≡ true
-either_second true b is = refl
-either_second false b is = is
-
 mem_numbers : (x : ℤ) (xs set : List ℤ) (lists : List (List ℤ)) → Mem (x ∷ xs) (flat_map (λ number. map (λ later. number ∷ later) lists) set) → (list_any (int_eq x) set ≡ true) × Mem xs lists
 mem_numbers x xs [] lists some = absurd some
 mem_numbers x xs (number ∷ set) lists some =
-    elim (mem_either (x ∷ xs) (map (λ later. number ∷ later) lists) (flat_map (λ number. map (λ later. number ∷ later) lists) set) some) [
+    elim (mem_append (x ∷ xs) (map (λ later. number ∷ later) lists) (flat_map (λ number. map (λ later. number ∷ later) lists) set) some) [
       | inl here ↦
           (let found = mem_under x number xs lists here in
-          (either_first (int_eq x number) (list_any (int_eq x) set) (equal_tests x number (sym found.0)), found.1))
+          (or_left (int_eq x number) (list_any (int_eq x) set) (equal_tests x number (sym found.0)), found.1))
       | inr rest ↦
           (let found = mem_numbers x xs set lists rest in
-          (either_second (int_eq x number) (list_any (int_eq x) set) found.0, found.1))
+          (or_right (int_eq x number) (list_any (int_eq x) set) found.0, found.1))
     ]
 
 -- a number that a set has is covered by it
@@ -111,7 +96,7 @@ mem_covered (x ∷ xs) [] (inr rest) = absurd rest
 mem_covered [] (set ∷ sets) some = absurd (none_empty set (indices sets) some)
 mem_covered (x ∷ xs) (set ∷ sets) some =
     let found = mem_numbers x xs set (indices sets) some in
-    both_true (is_covered (ends.exactly x) set) (are_covered (map ends.exactly xs) sets) (number_covered x set found.0) (mem_covered xs sets found.1)
+    and_from (is_covered (ends.exactly x) set) (are_covered (map ends.exactly xs) sets) (number_covered x set found.0) (mem_covered xs sets found.1)
 
 -- numbers lie in their own intervals
 lie_exactly : (xs : List ℤ) → AllLie xs (map ends.exactly xs)

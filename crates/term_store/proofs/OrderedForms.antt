@@ -1,9 +1,10 @@
 -- The cells of a form ascend, and none of them is there 0 times; so once the form, and nothing else, is the form.
 use Rattle.std.proofs.Common.{◌≡◌, ℕ, ◌<◌, nat_lt, nat_eq, ℤ, pos, ◌+ℤ◌, ◌*ℤ◌, Bool, true, false, ◌||◌, List, [], ◌∷◌, map, Option, Some, None, if◌then◌else◌, arith, refl, ap, subst, ◌∙◌}
-use Rattle.std.proofs.lemmas.Int.{ints}
 use Rattle.std.proofs.lemmas.Bool.Decides.{nat_tests}
 use Rattle.std.specs.Ordering.{int_eq}
 use Rattle.std.specs.List.{list_all}
+use Rattle.sopl_base.proofs.Tests.{nat_tested}
+use Rattle.sopl_base.proofs.Integers.{zero_plus}
 use Rattle.term_language.specs.Arrays.{item_at}
 use Rattle.box_problem.specs.Box.{Box}
 use Rattle.term_language.specs.Forms.{Coefficient, Form, number_form, atom_form, is_constant, unless_zero, put, combined, plus_form, times_form, product_form, sign}
@@ -45,14 +46,11 @@ unless_zero_ordered cell k later above ordered =
 behind_less : (a b : ℕ) → nat_lt a b ≡ false → nat_eq a b ≡ false → b < a
 behind_less a b behind other = grind (arith, nat_tests)
 
-is_before : (a b : ℕ) → nat_lt a b ≡ true → a < b
-is_before a b before = grind (arith, nat_tests)
-
 put_ordered : (cell : ℕ) (k : ℤ) (cells : List Coefficient) → Ordered cells → Ordered (put cell k cells)
 put_ordered cell k [] ordered = unless_zero_ordered cell k [] tt tt
 put_ordered cell k (c ∷ later) ordered =
     by_if Ordered (nat_lt c.cell cell) (c ∷ put cell k later) (if nat_eq c.cell cell then unless_zero cell (c.k +ℤ k) later else unless_zero cell k (c ∷ later))
-    (λ before. (put_above c.cell cell k later (is_before c.cell cell before) ordered.0, ordered.1, put_ordered cell k later ordered.2))
+    (λ before. (put_above c.cell cell k later (nat_tested c.cell cell before) ordered.0, ordered.1, put_ordered cell k later ordered.2))
     (λ behind.
     by_if Ordered (nat_eq c.cell cell) (unless_zero cell (c.k +ℤ k) later) (unless_zero cell k (c ∷ later))
     (λ same. unless_zero_ordered cell (c.k +ℤ k) later (subst (λ (n : ℕ). Above n later) (same_cell c.cell cell same) ordered.0) ordered.2)
@@ -117,9 +115,6 @@ once_cells (c ∷ later) ordered =
     ap (λ (k : ℤ). put c.cell k (combined (pos 1) [] later)) (one-*ℤ c.k)
     ∙ ap (put c.cell c.k) (once_cells later ordered.2)
     ∙ put_front c later ordered.0 ordered.1
-
-zero_plus : (z : ℤ) → pos 0 +ℤ z ≡ z
-zero_plus z = omega (arith, ints)
 
 once_plain : (b : Bool) → (b || int_eq (pos 1) (pos 0)) ≡ b
 once_plain true = refl

@@ -10,8 +10,8 @@ use Rattle.term_language.specs.Marks.{both, judged}
 use Rattle.term_language.specs.Rules.{Wide, interval, intervals, mark, task_ends, task_mark}
 use Rattle.term_language.specs.declared.answers.Defined.{Defined}
 use Rattle.term_language.specs.declared.answers.Truth.{Truth}
-use Rattle.term_crowds.specs.Crowds.{AllOrdered, DemandsOrdered, TasksOrdered}
-use Rattle.term_crowds.proofs.Truths.{ordered_intervals, ordered_tasks}
+use Rattle.term_crowds.specs.Crowds.{AllOrdered, DemandsOrdered}
+use Rattle.term_crowds.proofs.Truths.{ordered_intervals, ordered_tasks, ordered_demands}
 use Rattle.term_math.specs.declared.ends.Ends as own
 use Rattle.term_math.specs.Shown.{ends_of}
 use Rattle.term_windows.specs.declared.tasks.TaskRange.{TaskRange}
@@ -89,14 +89,10 @@ tasks_proper root items [] all = tt
 tasks_proper root items (x ∷ xs) all =
     ((small_term root items x.start all).proper, (small_term root items x.duration all).proper, (small_term root items x.demand all).proper, tasks_proper root items xs all)
 
-demands_of : (ts : List TaskEnds) → TasksOrdered ts → DemandsOrdered ts
-demands_of [] ordered = tt
-demands_of (t ∷ ts) ordered = (ordered.1.1.0, demands_of ts ordered.1.1.1)
-
 pub demands_ordered : (root : Box) (items : List Item) (xs : List Task) (ts : List TaskEnds) → IsBox root → IsBuilt root items → ts ≡ wide_tasks root (things items) xs → DemandsOrdered ts
 demands_ordered root items xs ts is_box all is =
     subst DemandsOrdered (sym is)
-    (demands_of (wide_tasks root (things items) xs)
+    (ordered_demands (wide_tasks root (things items) xs)
     (ordered_tasks Wide root root (tasks_at (things items) xs) is_box (part_of_itself root is_box) (tasks_proper root items xs all)))
 
 -- the marks of several tasks

@@ -2,6 +2,8 @@
 use Rattle.std.proofs.Common.{◌≡◌, ℕ, ◌+◌, ◌-◌, ◌*◌, ◌<◌, ◌≤◌, ◌^◌, zero, suc, ℤ, ◌*ℤ◌, unsigned_abs, List, [], ◌∷◌, length, get_or, drop, Vec, Global, arith, ap, subst, sym, ◌∙◌}
 use Rattle.std.proofs.lemmas.Int.{unsigned_abs-mul}
 use Rattle.std.proofs.lemmas.List.{at_drop_more, at_drop_all, get_or_default}
+use Rattle.sopl_base.proofs.Sizes.{plus_size}
+use Rattle.sopl_base.proofs.Naturals.{spread_left}
 use Rattle.box_problem.specs.Box.{Box}
 use Rattle.term_language.specs.Ends as ends
 use Rattle.term_language.specs.Forms as forms
@@ -14,7 +16,7 @@ use Rattle.term_language.proofs.Bounds.{bounded, bounded_parts, sign_size}
 use Rattle.term_math.specs.Shown.{IsFit, ends_at, ends_of}
 use Rattle.term_math.specs.Sums.{mass_of, weight_in, weighted}
 use Rattle.term_math.proofs.Fits.{fit, fit_at}
-use Rattle.term_math.proofs.Weights.{combined_weighted, cells_weighted, mass_weight, plus_size, spread_left}
+use Rattle.term_math.proofs.Weights.{combined_weighted, cells_weighted, mass_weight}
 use Rattle.term_nodes.specs.declared.nodes.Node.TheVariants as node
 use Rattle.term_nodes.specs.declared.nodes.Signed.{Signed}
 use Rattle.term_nodes.specs.declared.items.Item.{Item}
@@ -59,7 +61,7 @@ all_wide root all xs i r none is =
     let at_zero : i ≡ 0 = omega (arith, none) in
     is ∙ ap (λ (j : ℕ). wide_sum root (parts_at all (drop j xs))) at_zero
 
-parts_proper : (root : Box) (items : List Item) (xs : List Signed) → IsBuilt root items → AreProperParts (parts_at (things items) xs)
+pub parts_proper : (root : Box) (items : List Item) (xs : List Signed) → IsBuilt root items → AreProperParts (parts_at (things items) xs)
 parts_proper root items [] all = tt
 parts_proper root items (x ∷ xs) all = ((small_term root items x.term all).proper, parts_proper root items xs all)
 

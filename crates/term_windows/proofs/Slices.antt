@@ -2,16 +2,18 @@
 use Rattle.std.proofs.Common.{◌≡◌, ℕ, suc, ◌+◌, ◌<◌, ◌≤◌, ℤ, int_le, Bool, true, false, List, [], ◌∷◌, length, get_or, drop, arith, refl, ap, sym, ◌∙◌}
 use Rattle.std.specs.List.{list_all, list_any}
 use Rattle.std.proofs.lemmas.List.{at_drop_more, at_drop_all}
+use Rattle.std.proofs.lemmas.Bool.{and_left}
+use Rattle.sopl_base.proofs.Tests.{le_tested}
+use Rattle.sopl_base.proofs.Booleans.{and_true}
 use Rattle.term_language.specs.Ends as rule
 use Rattle.term_language.specs.Globals.{is_inside, are_crowded, are_apart, always_differ}
 use Rattle.term_language.proofs.FormValues.{and_first, and_second}
-use Rattle.term_language.proofs.Different.{le_tested}
 use Rattle.term_crowds.specs.Crowds.{AllOrdered}
 use Rattle.term_math.specs.Shown.{ends_of}
 use Rattle.term_math.specs.declared.ends.Ends.{Ends}
 use Rattle.term_windows.specs.declared.windows.Window.{Window}
 use Rattle.term_windows.specs.Windows.{last_in, inside_in, spans}
-use Rattle.term_windows.proofs.Steps.{and_true, and_false, next_any, this_any, next_each, this_fails, one_more, no_more}
+use Rattle.term_windows.proofs.Steps.{next_any, this_any, next_each, this_fails, one_more, no_more}
 use Rattle.term_windows.proofs.Crowding.{IsSearched, crowd_of, first_window}
 
 pub split : (xs : List Ends) (i : ℕ) (x : Ends) → i < length xs → x ≡ get_or xs i x → spans (drop i xs) ≡ ends_of x ∷ spans (drop (i + 1) xs)
@@ -70,7 +72,7 @@ pub first_apart : (left later : List Ends) (x : Ends) (t : Bool) → left ≡ x 
 first_apart left later x t split told met = ap (λ ys. always_differ (spans ys)) split ∙ and_true (list_all (are_apart (ends_of x)) (spans later)) (always_differ (spans later)) (sym told ∙ met)
 
 pub first_touches : (left later : List Ends) (x : Ends) (t : Bool) → left ≡ x ∷ later → t ≡ list_all (are_apart (ends_of x)) (spans later) → t ≡ false → always_differ (spans left) ≡ false
-first_touches left later x t split told unmet = ap (λ ys. always_differ (spans ys)) split ∙ and_false (list_all (are_apart (ends_of x)) (spans later)) (always_differ (spans later)) (sym told ∙ unmet)
+first_touches left later x t split told unmet = ap (λ ys. always_differ (spans ys)) split ∙ and_left (list_all (are_apart (ends_of x)) (spans later)) (always_differ (spans later)) (sym told ∙ unmet)
 
 pub none_touches : (left : List Ends) → length left ≡ 0 → always_differ (spans left) ≡ true
 none_touches [] none = refl

@@ -2,11 +2,12 @@
 use Rattle.std.proofs.Common.{◌≡◌, ℕ, ◌+◌, ◌<◌, ◌≤◌, ℤ, pos, ◌-ℤ◌, ◌≤ℤ◌, ◌<ℤ◌, int_lt, int_le, Bool, true, false, ◌&&◌, ◌||◌, List, [], ◌∷◌, length, get_or, drop, ap, sym, subst, ◌∙◌}
 use Rattle.std.specs.List.{list_all}
 use Rattle.std.proofs.lemmas.List.{at_drop_more, at_drop_all, get_or_default}
+use Rattle.sopl_base.proofs.Tests.{le_tested}
 use Rattle.term_language.specs.Ends as rule
 use Rattle.term_language.specs.Globals.{TaskEnds, least_asked, most_asked, is_overfull, is_enough}
 use Rattle.term_language.specs.declared.answers.Defined.TheVariants.{Never}
 use Rattle.term_language.proofs.FormValues.{and_first, and_second}
-use Rattle.term_language.proofs.Tasks.{SoundEnds, sound_ends, le_tested}
+use Rattle.term_language.proofs.Tasks.{SoundEnds, sound_ends}
 use Rattle.term_crowds.specs.Crowds.{DemandsOrdered, some_negative, all_sound}
 use Rattle.term_crowds.proofs.Times.{most_nonneg}
 use Rattle.term_windows.specs.declared.tasks.TaskRange.{TaskRange}

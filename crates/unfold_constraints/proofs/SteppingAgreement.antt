@@ -3,6 +3,7 @@ use Rattle.std.proofs.Common.{◌≡◌, refl, sym, ap, subst, ◌∙◌, ℕ, �
 use Rattle.std.proofs.lemmas.List.{append_assoc, append-nil}
 use Rattle.std.specs.List.{flat_map}
 use Rattle.std.specs.Option.{unwrap_or}
+use Rattle.std.proofs.lemmas.Grind.{flat_map-append}
 use Rattle.sopl_base.specs.declared.fault.Fault.{Fault}
 use Rattle.sopl_ast.specs.Constants as c
 use Rattle.sopl_ast.specs.Constants.{value_or_zero}
@@ -62,10 +63,6 @@ places here ns = option_map joined (all_of here ns)
 abbrev at_all : (Known → List ConstraintInstance) → Found → Option (List Known) → Option Found
 at_all result found v = option_map (λ heres. behind found (flat_map result heres)) v
 
-flat_map_append : {A B : Type 0} (f : A → List B) (xs ys : List A) → flat_map f (xs ++ ys) ≡ flat_map f xs ++ flat_map f ys
-flat_map_append f [] ys = refl
-flat_map_append f (x ∷ xs) ys = ap (λ rest. f x ++ rest) (flat_map_append f xs ys) ∙ sym (append_assoc (f x) (flat_map f xs) (flat_map f ys))
-
 -- what is found for one number more
 more_places : (result : Known → List ConstraintInstance) (found more : Found) (v : Option (List Known)) (vs : Option (List (List Known))) → at_all result found v ≡ Some more
     → at_all result more (option_map joined vs) ≡ at_all result found (option_map joined (both_of (λ x xs. x ∷ xs) v vs))
@@ -74,7 +71,7 @@ more_places result found more (Some heres) None is = refl
 more_places result found more (Some heres) (Some later) is =
     ap (λ o. Some (behind (unwrap_or o more) (flat_map result (joined later)))) (sym is)
     ∙ ap Some (behind_both found (flat_map result heres) (flat_map result (joined later)))
-    ∙ ap (λ xs. Some (behind found xs)) (sym (flat_map_append result heres (joined later)))
+    ∙ ap (λ xs. Some (behind found xs)) (sym (flat_map-append result heres (joined later)))
 
 -- what is found for each of some numbers
 agree_each : (result : Known → List ConstraintInstance) (next : ℤ → Found → Step Found) (marks : ℤ → List UnfoldEvent) (here : ℤ → Option (List Known))

@@ -6,6 +6,7 @@ use Rattle.std.specs.List.{flat_map, fold}
 use Rattle.std.specs.Option.{unwrap_or}
 use Rattle.std.specs.Ordering.{int_cmp}
 use Rattle.sopl_base.specs.declared.fault.Fault.{Fault}
+use Rattle.sopl_base.proofs.Lists.{map-map, map_same}
 use Rattle.sopl_ast.specs.Tree.{Tree, Trees, no_tree, tree}
 use Rattle.sopl_ast.specs.Lists.{trees_list}
 use Rattle.sopl_ast.specs.Whole.{DimTree, InitTree, InitTrees, One, Many, no_init, init, inits_list}
@@ -20,7 +21,7 @@ use Rattle.unfold_constants.proofs.TraversalAgreement.{meets_unless}
 use Rattle.unfold_declarations.specs.Declaring as s
 use Rattle.unfold_declarations.specs.Declaring.{Entry}
 use Rattle.unfold_declarations.specs.Places.{each_number}
-use Rattle.unfold_declarations.proofs.Indices.{map_twice, map_same, flat_map_indices, map_indices, one_longer}
+use Rattle.unfold_declarations.proofs.Indices.{flat_map_indices, map_indices, one_longer}
 
 -- what is met, and then an answer
 pub agree_reached : {A : Type 0} (events : List UnfoldEvent) (x : A) → Agrees (s.reached events x) events (Some x)
@@ -89,7 +90,7 @@ behind_from : (index : List ℤ) (n : ℤ) (entries : List Entry) → behind (in
 behind_from index n entries =
     map_same (λ (entry : Entry). ((index ++ n ∷ []) ++ entry.0, entry.1)) (λ (entry : Entry). (index ++ n ∷ entry.0, entry.1))
     (λ entry. ap (λ whole. (whole, entry.1)) (one_longer index entry.0 n)) entries
-    ∙ sym (map_twice (λ (entry : Entry). (index ++ entry.0, entry.1)) (λ (entry : Entry). (n ∷ entry.0, entry.1)) entries)
+    ∙ sym (map-map (λ (entry : Entry). (index ++ entry.0, entry.1)) (λ (entry : Entry). (n ∷ entry.0, entry.1)) entries)
 
 mutual
   pub agree_part : (x : InitTree) (known : Known) (ds : List Dimension) (index : List ℤ) (found : List Entry)
@@ -97,7 +98,7 @@ mutual
   agree_part (One e) known ds index found =
       agree_value
       (ap (λ entries. Some (found ++ entries))
-      (sym (map_twice (λ (entry : Entry). (index ++ entry.0, entry.1)) (λ later. (later, value_or_zero (with_index ds later known) e)) (indices ds))))
+      (sym (map-map (λ (entry : Entry). (index ++ entry.0, entry.1)) (λ later. (later, value_or_zero (with_index ds later known) e)) (indices ds))))
       (agree_fill ds known e index found)
   agree_part (Many at parts) known [] index found = agree_done found (Some (found ++ [])) (ap Some (append-nil found))
   agree_part (Many at parts) known (d ∷ ds) index found =

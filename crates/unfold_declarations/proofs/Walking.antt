@@ -1,6 +1,6 @@
 -- Dimensions that are open inside one another: what is left to do goes on from turn to turn.
 use Rattle.std.proofs.Common.{◌≡◌, refl, sym, ap, subst, ◌∙◌, ℕ, zero, suc, ◌+◌, ◌<◌, ◌≤◌, ℤ, Bool, true, false, if◌then◌else◌, nat_eq, ◌||◌, List, [], ◌∷◌, ◌++◌, length, drop, get_or, map, reverse}
-use Rattle.std.proofs.Common.{Option, Some, None, is_some, Result, Ok, Err, T, arith}
+use Rattle.std.proofs.Common.{Option, Some, None, is_some, Result, Ok, T, arith}
 use Rattle.std.proofs.lemmas.List.{at_drop_more, at_drop_all, drop_all, reverse-append, map-append, length-reverse, length-map}
 use Rattle.std.proofs.lemmas.List.Sums.{sum_by-cons}
 use Rattle.std.proofs.lemmas.Option.{slice_get_read}
@@ -11,24 +11,19 @@ use Rattle.sopl_base.specs.declared.fault.Fault.TheVariants as fault
 use Rattle.sopl_ast.specs.Arrays.{Dimension}
 use Rattle.unfold_constants.specs.Choosing.{OpenChoice, Among, advanced, left}
 use Rattle.unfold_constants.specs.CountedAnswers.{Fails}
-use Rattle.unfold_constants.specs.Evaluation.{Step, ◌>>=◌, continued}
+use Rattle.unfold_constants.specs.Evaluation.{Step, continued}
 use Rattle.unfold_constants.proofs.Bindings.{take_prefix}
-use Rattle.unfold_constants.proofs.Choosing.{name_left}
+use Rattle.unfold_constants.proofs.Choosing.{name_left, continued_twice}
 use Rattle.unfold_declarations.specs.declared.arrays.Dimension as d
 use Rattle.unfold_declarations.specs.Places.{Place, give_dimension, leave_dimension, each_number, remaining, entered, any_empty, turns, turns_left}
 use Rattle.unfold_declarations.specs.Shown.{dimension_in, dimensions_in, open_dimension}
-
--- a step behind a step behind a step
-behind_both : {A B C : Type 0} (r : Result (A × ℕ) Fault) (f : A → Step B) (g : B → Step C) → continued (continued r f) g ≡ continued r (λ x. f x >>= g)
-behind_both (Ok x) f g = refl
-behind_both (Err f) g h = refl
 
 module _ {S F A : Type 0} (give : F → ℤ → S → S) (leave : F → S → S) (law : (f : F) (n : ℤ) (here : S) → leave f (give f n here) ≡ here) (inside : ℕ → S → A → Step A) where
   -- a dimension takes its next number
   next_taken : (here : S) (f : F) (n : ℤ) (ns : List ℤ) (outer : List (OpenChoice F)) (found : A) (count : ℕ)
       → remaining give leave inside here (Among f (n ∷ ns) ∷ outer) found count ≡ entered give leave inside (give f n here) (Among f ns ∷ outer) found count
   next_taken here f n ns outer found count =
-      behind_both (inside (suc (length outer)) (give f n here) found count) (λ more. each_number (λ m later. inside (suc (length outer)) (give f m here) later) ns more)
+      continued_twice (inside (suc (length outer)) (give f n here) found count) (λ more. each_number (λ m later. inside (suc (length outer)) (give f m here) later) ns more)
       (λ more. remaining give leave inside (left leave here outer) outer more)
       ∙ ap (λ s. continued (inside (suc (length outer)) (give f n here) found count) (λ more. remaining give leave inside s (Among f ns ∷ outer) more)) (sym (law f n here))
 

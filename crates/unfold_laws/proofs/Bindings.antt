@@ -2,6 +2,7 @@
 use Rattle.std.proofs.Common.{◌≡◌, refl, sym, subst, ◌∙◌, ℕ, ℤ, List, [], ◌∷◌, ◌++◌, Option, Some, None, option_map, option_and_then}
 use Rattle.std.specs.List.{flat_map, AllByRecursion}
 use Rattle.std.specs.Option.{unwrap_or}
+use Rattle.sopl_base.proofs.Lists.{all_append}
 use Rattle.sopl_ast.specs.Tree.{Range, Named, Ends, Binders, no_binder, binder, place_of}
 use Rattle.sopl_ast.specs.Numbers.{both_of, all_of, joined, up_to, count_between}
 use Rattle.sopl_ast.specs.Known.{Known, with_bound, set_named, ascending}
@@ -9,7 +10,6 @@ use Rattle.sopl_ast.specs.Constants.{value_or_zero, bindings, all_bindings, numb
 use Rattle.sopl_ast.specs.UnfoldEvents.{UnfoldEvent, Counted, too_many, constant_place, range_events, binding_events}
 use Rattle.unfold_laws.specs.Passing.{NothingFails}
 use Rattle.unfold_laws.proofs.Passing.{parts_pass, passes_counted, value_given}
-use Rattle.unfold_laws.proofs.Declared.{all_append}
 
 -- a range has numbers
 range_there : (known : Known) (range : Range) → NothingFails (range_events known None range) → (ns : List ℤ) × (numbers_of known range ≡ Some ns)

@@ -1,8 +1,10 @@
 -- What is met in the conditions of constraints.
-use Rattle.std.proofs.Common.{◌≡◌, refl, sym, ap, subst, ◌∙◌, ℕ, ◌+◌, ℤ, pos, ◌≤ℤ◌, int_le, true, ◌&&◌, List, [], ◌∷◌, ◌++◌, length, Option, Some, None, IfSome, slice_get, arith}
-use Rattle.std.proofs.lemmas.Int.{ints}
+use Rattle.std.proofs.Common.{◌≡◌, refl, sym, ap, subst, ◌∙◌, ℕ, ◌+◌, ℤ, pos, int_le, true, ◌&&◌, List, [], ◌∷◌, ◌++◌, length, Option, Some, None, IfSome, slice_get}
 use Rattle.std.proofs.lemmas.List.{append_assoc, append-nil, length-append}
 use Rattle.std.specs.List.{AllByRecursion}
+use Rattle.std.proofs.lemmas.Bool.{and_parts}
+use Rattle.sopl_base.proofs.Tests.{le_tested}
+use Rattle.sopl_base.proofs.Lists.{all_append, all_joined}
 use Rattle.sopl_ast.specs.Tree.{Tree, place_of}
 use Rattle.sopl_ast.specs.Whole.{ConsTree, ConsTrees, ForallTree, BlockTree, HardTree, ChanceTree, no_cons, cons, conses, GoalTree, ModelTree}
 use Rattle.sopl_ast.specs.Known.{Known, with_bound}
@@ -14,7 +16,7 @@ use Rattle.sopl_ast.specs.Unfolding.{chances_among, is_threshold, threshold_even
 use Rattle.unfold_laws.specs.Passing.{NothingFails}
 use Rattle.unfold_laws.specs.Conditions.{placed, IsMet, IsThreshold, HardsAreMet, ChancesAreMet, ObjectiveIsMet}
 use Rattle.unfold_laws.proofs.Passing.{parts_pass, passes_counted, test_holds}
-use Rattle.unfold_laws.proofs.Declared.{all_append, both_true, each_joined, each_of}
+use Rattle.unfold_laws.proofs.Declared.{each_of}
 use Rattle.unfold_laws.proofs.Bindings.{all_given}
 use Rattle.unfold_laws.proofs.Whole.{found_in, text_parts}
 
@@ -35,21 +37,18 @@ IsPlaced known here = here ≡ placed known here.bound
 placed_further : (known : Known) (name : List ℕ) (n : ℤ) (here : Known) → IsPlaced known here → IsPlaced known (with_bound name n here)
 placed_further known name n here is = λ i. placed (is i) (with_bound name n here).bound
 
-ordered : (a b : ℤ) → int_le a b ≡ true → a ≤ℤ b
-ordered a b is = omega (arith, ints, is)
-
 threshold_there : (p q : ℤ) → is_threshold p q ≡ true → IsThreshold p q
 threshold_there p q is =
-    let first = both_true (int_le (pos 0) p) (int_le p q && (int_le (pos 1) q && int_le q (pos 1048576))) is in
-    let second = both_true (int_le p q) (int_le (pos 1) q && int_le q (pos 1048576)) first.1 in
-    let third = both_true (int_le (pos 1) q) (int_le q (pos 1048576)) second.1 in
-    record { least = ordered (pos 0) p first.0; most = ordered p q second.0; positive = ordered (pos 1) q third.0; small = ordered q (pos 1048576) third.1 }
+    let first = and_parts (int_le (pos 0) p) (int_le p q && (int_le (pos 1) q && int_le q (pos 1048576))) is in
+    let second = and_parts (int_le p q) (int_le (pos 1) q && int_le q (pos 1048576)) first.1 in
+    let third = and_parts (int_le (pos 1) q) (int_le q (pos 1048576)) second.1 in
+    record { least = le_tested (pos 0) p first.0; most = le_tested p q second.0; positive = le_tested (pos 1) q third.0; small = le_tested q (pos 1048576) third.1 }
 
 mutual
   met_instances : (c : ConsTree) (before after : List Tree) (known here : Known) → IsPlaced known here → NothingFails (constraint_events here c)
       → AllByRecursion (IsMetInstance known (before ++ (conditions_of c ++ after))) (constraint_instances here (length before) c)
   met_instances (ForallTree bs c) before after known here is passes =
-      each_joined (IsMetInstance known (before ++ (conditions_of c ++ after))) (λ inner. constraint_instances inner (length before) c) (all_bindings here bs)
+      all_joined (IsMetInstance known (before ++ (conditions_of c ++ after))) (λ inner. constraint_instances inner (length before) c) (all_bindings here bs)
       (each_of (λ inner. IsPlaced known inner × NothingFails (constraint_events inner c))
       (λ inner. AllByRecursion (IsMetInstance known (before ++ (conditions_of c ++ after))) (constraint_instances inner (length before) c))
       (λ inner both. met_instances c before after known inner both.0 both.1) (all_bindings here bs)

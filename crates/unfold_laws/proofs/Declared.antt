@@ -6,6 +6,9 @@ use Rattle.std.proofs.lemmas.List.{append_assoc, append-nil}
 use Rattle.std.specs.List.{flat_map, list_any, AllByRecursion}
 use Rattle.std.specs.Option.{unwrap_or}
 use Rattle.std.specs.Str.{bytes_eq}
+use Rattle.std.proofs.lemmas.Bool.{and_parts}
+use Rattle.sopl_base.proofs.Tests.{equal_turned, le_tested}
+use Rattle.sopl_base.proofs.Lists.{all_append}
 use Rattle.sopl_ast.specs.Tree.{Tree, Range, Named, Ends, place_of}
 use Rattle.sopl_ast.specs.Whole.{DimTree, Declaration, IntDecl, RangeDecl, SetDecl, DvarDecl, StochDecl}
 use Rattle.sopl_ast.specs.Numbers.{natural, count_between, all_distinct}
@@ -22,10 +25,6 @@ use Rattle.unfold_laws.proofs.Passing.{parts_pass, each_passes, passes_counted, 
 
 -- Lists.
 
-pub all_append : {A : Type 0} (P : A → Type 0) (xs ys : List A) → AllByRecursion P xs → AllByRecursion P ys → AllByRecursion P (xs ++ ys)
-all_append P [] ys p q = q
-all_append P (x ∷ xs) ys p q = (p.0, all_append P xs ys p.1 q)
-
 pub all_map : {A B : Type 0} (P : B → Type 0) (Q : A → Type 0) (g : A → B) → ((x : A) → Q x → P (g x)) → (xs : List A) → AllByRecursion Q xs → AllByRecursion P (map g xs)
 all_map P Q g each [] q = tt
 all_map P Q g each (x ∷ xs) q = (each x q.0, all_map P Q g each xs q.1)
@@ -34,11 +33,6 @@ all_map P Q g each (x ∷ xs) q = (each x q.0, all_map P Q g each xs q.1)
 pub each_of : {A : Type 0} (P Q : A → Type 0) → ((x : A) → P x → Q x) → (xs : List A) → AllByRecursion P xs → AllByRecursion Q xs
 each_of P Q so [] all = tt
 each_of P Q so (x ∷ xs) all = (so x all.0, each_of P Q so xs all.1)
-
--- what holds of each part of each
-pub each_joined : {A B : Type 0} (P : B → Type 0) (f : A → List B) (xs : List A) → AllByRecursion (λ x. AllByRecursion P (f x)) xs → AllByRecursion P (flat_map f xs)
-each_joined P f [] all = tt
-each_joined P f (x ∷ xs) all = all_append P (f x) (flat_map f xs) all.0 (each_joined P f xs all.1)
 
 -- Values and ranges.
 
@@ -73,13 +67,10 @@ named_bounded name (first ∷ later) all = on (bytes_eq name first.name) (named_
 abbrev AreEnds : ℤ → ℤ → Type 0
 AreEnds lo hi = IsConstant lo × IsConstant hi × (lo ≤ℤ hi) × (count_between lo hi ≤ 65536)
 
-ordered : (lo hi : ℤ) → int_le lo hi ≡ true → lo ≤ℤ hi
-ordered lo hi is = omega (arith, ints, is)
-
 ends_bounded : (found : Option NumberSet) (at : ℕ) → IsBoundedIfThere found → NothingFails (refused_unless (int_le (ends_of found).0 (ends_of found).1) 111 at)
     → AreEnds (ends_of found).0 (ends_of found).1
 ends_bounded None at all is = absurd (true≢false (sym (test_holds false 111 at is)))
-ends_bounded (Some (Between lo hi)) at all is = (all.0, all.1, ordered lo hi (test_holds (int_le lo hi) 111 at is), all.2)
+ends_bounded (Some (Between lo hi)) at all is = (all.0, all.1, le_tested lo hi (test_holds (int_le lo hi) 111 at is), all.2)
 ends_bounded (Some (Listed numbers)) at all is = absurd (true≢false (sym (test_holds false 111 at is)))
 
 domain_bounded : (known : Known) (range : Range) → AreBoundedSets known.sets → NothingFails (domain_events known range) → AreEnds (domain_of known range).0 (domain_of known range).1
@@ -93,13 +84,9 @@ domain_bounded known (Ends lo hi) all is =
     (too_many 203 (count_between (value_or_zero known lo) (value_or_zero known hi))) second.1 in (
       worth_small known lo first.0,
       worth_small known hi second.0,
-      ordered (value_or_zero known lo) (value_or_zero known hi) (test_holds _ 111 (place_of lo) third.0),
+      le_tested (value_or_zero known lo) (value_or_zero known hi) (test_holds _ 111 (place_of lo) third.0),
       count_fits 203 (count_between (value_or_zero known lo) (value_or_zero known hi)) third.1,
     )
-
-pub both_true : (a b : Bool) → (a && b) ≡ true → (a ≡ true) × (b ≡ true)
-both_true true b is = (refl, is)
-both_true false b is = absurd (true≢false (sym is))
 
 number_is_stage : (x : ℤ) → int_le (pos 1) x ≡ true → int_le x (pos 24) ≡ true → IsStage (natural x)
 number_is_stage (pos n) low high = (omega (arith, ints, low), omega (arith, ints, high))
@@ -109,21 +96,13 @@ stage_bounded : (known : Known) (stage : Option Tree) → NothingFails (stage_ev
 stage_bounded known None is = (omega arith, omega arith)
 stage_bounded known (Some e) is =
     let parts = parts_pass (constant_place known e) (refused_unless (int_le (pos 1) (value_or_zero known e) && int_le (value_or_zero known e) (pos 24)) 114 (place_of e)) is in
-    let tests = both_true (int_le (pos 1) (value_or_zero known e)) (int_le (value_or_zero known e) (pos 24)) (test_holds _ 114 (place_of e) parts.1) in
+    let tests = and_parts (int_le (pos 1) (value_or_zero known e)) (int_le (value_or_zero known e) (pos 24)) (test_holds _ 114 (place_of e) parts.1) in
     number_is_stage (value_or_zero known e) tests.0 tests.1
 
 -- Outcomes.
 
 eq_turned : (x y : ℤ) → int_eq x y ≡ true → int_eq y x ≡ true
 eq_turned x y h = grind (arith, ints)
-
-tests_agree : (a b : Bool) → (a ≡ true → b ≡ true) → (b ≡ true → a ≡ true) → a ≡ b
-tests_agree true b f g = sym (f refl)
-tests_agree false true f g = absurd (true≢false (sym (g refl)))
-tests_agree false false f g = refl
-
-int_eq_turned : (x y : ℤ) → int_eq x y ≡ int_eq y x
-int_eq_turned x y = tests_agree (int_eq x y) (int_eq y x) (eq_turned x y) (eq_turned y x)
 
 none_of : (a b : Bool) → not (a || b) ≡ true → (a ≡ false) × (not b ≡ true)
 none_of true b is = absurd (true≢false (sym is))
@@ -140,9 +119,9 @@ absent_more (v ∷ vs) z w is other =
 distinct_more : (xs : List ℤ) (x : ℤ) → all_distinct xs ≡ true → not (list_any (int_eq x) xs) ≡ true → all_distinct (xs ++ x ∷ []) ≡ true
 distinct_more [] x all new = refl
 distinct_more (y ∷ ys) x all new =
-    let tests = both_true (not (list_any (int_eq y) ys)) (all_distinct ys) all in
+    let tests = and_parts (not (list_any (int_eq y) ys)) (all_distinct ys) all in
     let others = none_of (int_eq x y) (list_any (int_eq x) ys) new in
-    λ i. not (absent_more ys y x tests.0 (int_eq_turned y x ∙ others.0) i) && distinct_more ys x tests.1 others.1 i
+    λ i. not (absent_more ys y x tests.0 (equal_turned y x ∙ others.0) i) && distinct_more ys x tests.1 others.1 i
 
 -- Each outcome of a distribution, and that no value stands earlier in it.
 abbrev outcome_rest : Known → List ℤ → Tree × Tree → List (Tree × Tree) → List UnfoldEvent
@@ -173,7 +152,7 @@ outcomes_bounded (pair ∷ later) known earlier distinct is =
           value = worth_small known pair.0 first.0;
           weight = worth_small known pair.1 third.0;
           least =
-              ordered (pos 1) (value_or_zero known pair.1) (test_holds _ 113 (place_of pair.1) fourth.0);
+              le_tested (pos 1) (value_or_zero known pair.1) (test_holds _ 113 (place_of pair.1) fourth.0);
         },
         more.0,
       ),

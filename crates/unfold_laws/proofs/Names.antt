@@ -1,20 +1,20 @@
 -- The decisions and the stochastic variables of a text have names of the form of names.
 use Rattle.std.proofs.Common.{◌≡◌, refl, subst, ℕ, ℤ, Bool, true, false, ◌&&◌, List, [], ◌∷◌, ◌++◌, map, Option, IsTrue}
 use Rattle.std.specs.List.{AllByRecursion, list_all}
+use Rattle.sopl_base.proofs.Lists.{all_append}
 use Rattle.sopl_ast.specs.declared.token.Token.{Token}
 use Rattle.sopl_ast.specs.declared.token.TokenKind.TheVariants as k
 use Rattle.sopl_ast.specs.Tree.{Tree, Range}
 use Rattle.sopl_ast.specs.Whole.{DimTree, Declaration, IntDecl, RangeDecl, SetDecl, DvarDecl, StochDecl, ModelTree}
 use Rattle.sopl_ast.specs.Known.{Known}
 use Rattle.sopl_ast.specs.Pieces.{is_word}
-use Rattle.sopl_ast.specs.Origin.{HasForm, IsFromTokens}
+use Rattle.sopl_ast.specs.Origin.{HasForm}
 use Rattle.sopl_ast.specs.Grammar.{IsName, name_token, name_missing, IsVariable, variable, IsDeclaration, decision, stochastic, AreDeclarations}
 use Rattle.sopl_ast.specs.Grammar.{no_declaration, declaration, IsModel, model}
-use Rattle.sopl_ast.specs.Instances.{Decision, Stochastic, Problem, names_in}
+use Rattle.sopl_ast.specs.Instances.{Decision, Stochastic, names_in}
 use Rattle.sopl_ast.specs.Arrays.{dimensions_of, indices, with_index}
 use Rattle.sopl_ast.specs.Declarations.{Declared, nothing_declared, domain_of, outcome_of, stage_of, decisions_of, stochastics_of, behind, behind_all}
 use Rattle.sopl_ast.specs.Unfolding.{problem_of}
-use Rattle.unfold_laws.proofs.Declared.{all_append}
 use Rattle.unfold_laws.proofs.Stages.{all_by_stage}
 use Rattle.unfold_laws.specs.Laws.{IsWord, HasWord, NamesAreWords}
 use Rattle.unfold_laws.proofs.Behind.{Formed, formed_mark, formed_declaration}

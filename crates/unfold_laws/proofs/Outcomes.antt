@@ -2,6 +2,7 @@
 use Rattle.std.proofs.Common.{sym, subst, ℕ, ◌≤◌, ℤ, Bool, false, List, [], ◌∷◌, length, map, Option, arith}
 use Rattle.std.proofs.lemmas.List.{length-map}
 use Rattle.std.specs.List.{AllByRecursion}
+use Rattle.sopl_base.proofs.Lists.{all_append}
 use Rattle.sopl_ast.specs.declared.token.Token.{Token}
 use Rattle.sopl_ast.specs.Tree.{Tree}
 use Rattle.sopl_ast.specs.Whole.{DimTree, Declaration, IntDecl, RangeDecl, SetDecl, DvarDecl, StochDecl, ModelTree}
@@ -12,7 +13,6 @@ use Rattle.sopl_ast.specs.Arrays.{dimensions_of, indices, with_index}
 use Rattle.sopl_ast.specs.Declarations.{Declared, nothing_declared, outcome_of, stage_of, stochastics_of, behind, behind_all}
 use Rattle.sopl_ast.specs.Unfolding.{problem_of}
 use Rattle.unfold_laws.specs.Bounds.{StochasticsHaveOutcomes}
-use Rattle.unfold_laws.proofs.Declared.{all_append}
 use Rattle.unfold_laws.proofs.Stages.{all_by_stage}
 
 -- the distribution of a declaration, if it has one, is not empty

@@ -2,6 +2,7 @@
 use Rattle.std.proofs.Common.{sym, ap, ℕ, ℤ, List, [], ◌∷◌, ◌++◌, map, Option, Some}
 use Rattle.std.proofs.lemmas.List.{append_assoc, append-nil}
 use Rattle.std.specs.List.{flat_map}
+use Rattle.sopl_base.proofs.Lists.{map_same}
 use Rattle.sopl_ast.specs.Tree.{Tree, Range}
 use Rattle.sopl_ast.specs.Whole.{DimTree}
 use Rattle.sopl_ast.specs.Known.{Known}
@@ -12,7 +13,7 @@ use Rattle.unfold_constants.specs.Evaluation.{Step}
 use Rattle.unfold_constants.proofs.Steps.{Agrees, agree_value, agree_events, agree_done}
 use Rattle.unfold_declarations.proofs.DeclaringAgreement.{agree_reached}
 use Rattle.unfold_declarations.specs.Places.{each_number}
-use Rattle.unfold_declarations.proofs.Indices.{map_same, flat_map_indices, map_indices, one_longer}
+use Rattle.unfold_declarations.proofs.Indices.{flat_map_indices, map_indices, one_longer}
 use Rattle.unfold_variables.specs.Listing as s
 use Rattle.unfold_variables.proofs.ElementAgreement.{agree_next, agree_last, agree_decision, agree_stochastic}
 

@@ -15,9 +15,10 @@ use Rattle.compile_scene.specs.Works.{things_of}
 use Rattle.compile_scene.proofs.Growing.{extends_twice}
 use Rattle.sopl_term.specs.Built.{term_ids}
 use Rattle.term_nodes.specs.Things.{table_in, terms_at}
+use Rattle.sopl_term.proofs.Keeping.{all_below}
 use Rattle.compile_laws.specs.Instances.{elements, table_of}
 use Rattle.compile_exprs.specs.Made.{MakesTerm, MakesTerms}
-use Rattle.compile_exprs.proofs.Steps.{later_below, later_terms, term_made}
+use Rattle.compile_exprs.proofs.Steps.{later_terms, term_made}
 use Rattle.compile_exprs.proofs.elements.element.Goals as goal
 
 pub returns-in_err-ids : goal.returns-in_err-ids
@@ -34,7 +35,7 @@ pub element-requires-clause-exist : goal.element-requires-clause-exist
 element-requires-clause-exist c =
     let there = subst (λ r. IfOk r (λ (ids : Vec TermId Global). AreReady c.args.scene.now.setting.now c.args.work.now ids.items)) c.in_ok-ids.was c.requires.parts_exist in
     subst (λ l. AllBelow (length (things_of c.table.new.work)) (term_ids l)) (sym c.as_slice.ensures.value)
-    (later_below (length (things_of c.args.work.now)) (length (things_of c.table.new.work)) (term_ids c.in_ok-ids.ids.items) c.in_ok-table.ensures.extends.grows.more there.exist)
+    (all_below (length (things_of c.args.work.now)) (length (things_of c.table.new.work)) (term_ids c.in_ok-ids.ids.items) c.in_ok-table.ensures.extends.grows.more there.exist)
 
 pub returns : goal.returns
 returns c =

@@ -1,4 +1,5 @@
 use Rattle.std.proofs.Common.{rules, arith, ◌≡◌, ◌∙◌, ◌<◌, ap, sym, subst, length, map, Err, IfOk}
+use Rattle.sopl_base.proofs.Lists.{drop_next, mapped_next}
 use Rattle.term_language.specs.Terms as rule
 use Rattle.compile_laws.specs.Instances.{chain_instance, conditions, instance, instances, places, product_instance, tasks_of, terms_of}
 use Rattle.compile_laws.specs.Measured.{IsSizeFault}
@@ -19,7 +20,7 @@ use Rattle.term_program.specs.declared.ids.TermId.{TermId}
 use Rattle.unfold_constants.specs.Here.{known_in}
 use Rattle.compile_exprs.specs.Made.{AreTasks, IsUsable, MakesCond, MakesConds, MakesParts, MakesTask, MakesTasks, MakesTerm, MakesTerms}
 use Rattle.compile_exprs.proofs.Loops.{conds_end, conds_fault, left_first, left_holds, left_more, parts_end, parts_fault, tasks_end, tasks_fault, terms_end, terms_fault}
-use Rattle.compile_counts.proofs.Loops.{next_is, next_seen, none_is, none_seen}
+use Rattle.compile_counts.proofs.Loops.{none_is, none_seen}
 use Rattle.compile_exprs.proofs.Parts.{all_hold, chain_is, conditions_are, index_is, instances_are, places_are, task_instance, task_places_are, tasks_are, terms_are, terms_hold}
 use Rattle.compile_exprs.proofs.Products.{factored_fault, factored_holds, factored_more, product_fault}
 use Rattle.compile_exprs.proofs.Steps.{both_tasks, cond_is, demand_large, duration_large, start_large, task_made, term_is}
@@ -37,7 +38,7 @@ terms-term-requires s c = (
     (
       c.requires.placed,
       left_holds _ _ _ _ _ _ _ _ _ c.part-item.result _
-          (next_is c.args.parts.now c.parts.part-index c.part-item.result c.parts-test.true c.part-item.is) c.parts.invariant,
+          (drop_next c.args.parts.now c.parts.part-index c.part-item.result c.parts-test.true c.part-item.is) c.parts.invariant,
     ),
   ),
 )
@@ -47,14 +48,14 @@ terms-returns-in_err-id s c =
     let same : c.from_residual.result ≡ Err c.in_err-id.field-0.0 = search rules in
     record {
       made = subst (MakesTerms c.args.scene.now.setting.now c.args.work.now c.term.new.work (instances (place_of c.args.scene.now (known_in c.args.known.now)) (trees c.args.parts.now))) (sym same)
-          (terms_fault _ _ _ _ _ _ _ _ _ c.part-item.result _ c.in_err-id.field-0.0 (next_is c.args.parts.now c.parts.part-index c.part-item.result c.parts-test.true c.part-item.is)
+          (terms_fault _ _ _ _ _ _ _ _ _ c.part-item.result _ c.in_err-id.field-0.0 (drop_next c.args.parts.now c.parts.part-index c.part-item.result c.parts-test.true c.part-item.is)
           (instances_are (place_of c.args.scene.now (known_in c.args.known.now)) c.args.parts.now) c.in_err-id.ensures.made c.parts.invariant);
     }
 
 pub terms-parts-preserved : goal.terms-parts-preserved
 terms-parts-preserved s c =
     left_more _ _ _ _ _ _ _ _ _ c.part-item.result _ c.term.new.work c.in_ok-id.id c.listed.new.ids.items
-    (next_is c.args.parts.now c.parts.part-index c.part-item.result c.parts-test.true c.part-item.is)
+    (drop_next c.args.parts.now c.parts.part-index c.part-item.result c.parts-test.true c.part-item.is)
     c.in_ok-id.ensures.made.extends (c.in_ok-id.ensures.made.stands.exists, tt) (term_is _ _ _ c.in_ok-id.ensures.made.stands) c.in_ok-id.ensures.made.small c.in_ok-listed.ensures.more c.parts.invariant
 
 pub terms-returns : goal.terms-returns
@@ -76,7 +77,7 @@ conditions-condition-requires s c = (
     (
       c.requires.placed,
       left_holds _ _ _ _ _ _ _ _ _ c.part-item.result _
-          (next_is c.args.parts.now c.parts.part-index c.part-item.result c.parts-test.true c.part-item.is) c.parts.invariant,
+          (drop_next c.args.parts.now c.parts.part-index c.part-item.result c.parts-test.true c.part-item.is) c.parts.invariant,
     ),
   ),
 )
@@ -87,14 +88,14 @@ conditions-returns-in_err-id s c =
     record {
       made = subst (MakesConds c.args.scene.now.setting.now c.args.work.now c.condition.new.work
           (conditions (place_of c.args.scene.now (known_in c.args.known.now)) (trees c.args.parts.now))) (sym same)
-          (conds_fault _ _ _ _ _ _ _ _ _ c.part-item.result _ c.in_err-id.field-0.0 (next_is c.args.parts.now c.parts.part-index c.part-item.result c.parts-test.true c.part-item.is)
+          (conds_fault _ _ _ _ _ _ _ _ _ c.part-item.result _ c.in_err-id.field-0.0 (drop_next c.args.parts.now c.parts.part-index c.part-item.result c.parts-test.true c.part-item.is)
           (conditions_are (place_of c.args.scene.now (known_in c.args.known.now)) c.args.parts.now) c.in_err-id.ensures.made c.parts.invariant);
     }
 
 pub conditions-parts-preserved : goal.conditions-parts-preserved
 conditions-parts-preserved s c =
     left_more _ _ _ _ _ _ _ _ _ c.part-item.result _ c.condition.new.work c.in_ok-id.id c.listed.new.ids.items
-    (next_is c.args.parts.now c.parts.part-index c.part-item.result c.parts-test.true c.part-item.is)
+    (drop_next c.args.parts.now c.parts.part-index c.part-item.result c.parts-test.true c.part-item.is)
     c.in_ok-id.ensures.made.extends (c.in_ok-id.ensures.made.stands.exists, tt) (cond_is _ _ _ c.in_ok-id.ensures.made.stands) c.in_ok-id.ensures.made.small c.in_ok-listed.ensures.more c.parts.invariant
 
 pub conditions-returns : goal.conditions-returns
@@ -116,7 +117,7 @@ chain-term-requires s c = (
     (
       c.requires.placed,
       left_holds _ _ _ _ _ _ _ _ _ c.part-item.result _
-          (next_is c.args.parts.now c.parts.part-index c.part-item.result c.parts-test.true c.part-item.is) c.parts.invariant,
+          (drop_next c.args.parts.now c.parts.part-index c.part-item.result c.parts-test.true c.part-item.is) c.parts.invariant,
     ),
   ),
 )
@@ -127,14 +128,14 @@ chain-returns-in_err-id s c =
     record {
       made = subst (MakesParts c.args.scene.now.setting.now c.args.work.now c.term.new.work
           (chain_instance (place_of c.args.scene.now (known_in c.args.known.now)) (terms c.args.parts.now))) (sym same)
-          (parts_fault _ _ _ _ _ _ _ _ _ c.part-item.result _ c.in_err-id.field-0.0 (next_is c.args.parts.now c.parts.part-index c.part-item.result c.parts-test.true c.part-item.is)
+          (parts_fault _ _ _ _ _ _ _ _ _ c.part-item.result _ c.in_err-id.field-0.0 (drop_next c.args.parts.now c.parts.part-index c.part-item.result c.parts-test.true c.part-item.is)
           (chain_is (place_of c.args.scene.now (known_in c.args.known.now)) c.args.parts.now) c.in_err-id.ensures.made c.parts.invariant);
     }
 
 pub chain-parts-preserved : goal.chain-parts-preserved
 chain-parts-preserved s c =
     left_more _ _ _ _ _ _ _ _ _ c.part-item.result _ c.term.new.work (c.part-item.result.0, c.in_ok-id.id) c.listed_part.new.ids.items
-    (next_is c.args.parts.now c.parts.part-index c.part-item.result c.parts-test.true c.part-item.is)
+    (drop_next c.args.parts.now c.parts.part-index c.part-item.result c.parts-test.true c.part-item.is)
     c.in_ok-id.ensures.made.extends (c.in_ok-id.ensures.made.stands.exists, tt) (ap (λ x. (c.part-item.result.0, x)) (term_is _ _ _ c.in_ok-id.ensures.made.stands)) c.in_ok-id.ensures.made.small
     c.in_ok-listed_part.ensures.more c.parts.invariant
 
@@ -152,14 +153,14 @@ each-returns-in_err-id s c =
       made = subst (MakesTerms c.args.scene.now.setting.now c.args.work.now c.term.new.work
           (terms_of (map (λ known. (instance (place_of c.args.scene.now known) c.args.e.now).term) (map known_in c.args.here.now)))) (sym same)
           (terms_fault _ _ _ _ _ _ _ _ _ (known_in c.known-item.result) _ c.in_err-id.field-0.0
-          (next_seen known_in c.args.here.now c.here.known-index c.known-item.result c.here-test.true c.known-item.is) (terms_are _ (map known_in c.args.here.now)) c.in_err-id.ensures.made
+          (mapped_next known_in c.args.here.now c.here.known-index c.known-item.result c.here-test.true c.known-item.is) (terms_are _ (map known_in c.args.here.now)) c.in_err-id.ensures.made
           c.here.invariant);
     }
 
 pub each-here-preserved : goal.each-here-preserved
 each-here-preserved s c =
     left_more _ _ _ _ _ _ _ _ _ (known_in c.known-item.result) _ c.term.new.work c.in_ok-id.id c.listed.new.ids.items
-    (next_seen known_in c.args.here.now c.here.known-index c.known-item.result c.here-test.true c.known-item.is)
+    (mapped_next known_in c.args.here.now c.here.known-index c.known-item.result c.here-test.true c.known-item.is)
     c.in_ok-id.ensures.made.extends (c.in_ok-id.ensures.made.stands.exists, tt) (term_is _ _ _ c.in_ok-id.ensures.made.stands) c.in_ok-id.ensures.made.small
     c.in_ok-listed.ensures.more c.here.invariant
 
@@ -220,14 +221,14 @@ each_task-returns-in_err-id s c =
       made = subst (MakesTasks c.args.scene.now.setting.now c.args.work.now c.one_task.new.work
           (tasks_of (map (λ known. task_instance c.args.task.now.start.now c.args.task.now.duration.now c.args.task.now.demand.now (place_of c.args.scene.now known)) (map known_in c.args.here.now)))) (sym same)
           (tasks_fault _ _ _ _ _ _ _ _ _ (known_in c.known-item.result) _ c.in_err-id.field-0.0
-          (next_seen known_in c.args.here.now c.here.known-index c.known-item.result c.here-test.true c.known-item.is) (tasks_are _ (map known_in c.args.here.now)) c.in_err-id.ensures.made
+          (mapped_next known_in c.args.here.now c.here.known-index c.known-item.result c.here-test.true c.known-item.is) (tasks_are _ (map known_in c.args.here.now)) c.in_err-id.ensures.made
           c.here.invariant);
     }
 
 pub each_task-here-preserved : goal.each_task-here-preserved
 each_task-here-preserved s c =
     left_more _ _ _ _ _ _ _ _ _ (known_in c.known-item.result) _ c.one_task.new.work c.in_ok-id.id c.listed.new.ids.items
-    (next_seen known_in c.args.here.now c.here.known-index c.known-item.result c.here-test.true c.known-item.is)
+    (mapped_next known_in c.args.here.now c.here.known-index c.known-item.result c.here-test.true c.known-item.is)
     c.in_ok-id.ensures.made.extends c.in_ok-id.ensures.made.exist c.in_ok-id.ensures.made.is c.in_ok-id.ensures.made.small
     c.in_ok-listed.ensures.more c.here.invariant
 
@@ -313,7 +314,7 @@ multiply-factor-requires s c = (
       c.requires.placed,
       (
         c.parts.invariant.operand,
-        factored_holds _ _ _ _ _ _ _ _ c.part-item.result _ (next_is c.args.parts.now c.parts.part-index c.part-item.result c.parts-test.true c.part-item.is) c.parts.invariant,
+        factored_holds _ _ _ _ _ _ _ _ c.part-item.result _ (drop_next c.args.parts.now c.parts.part-index c.part-item.result c.parts-test.true c.part-item.is) c.parts.invariant,
       ),
     ),
   ),
@@ -325,13 +326,13 @@ multiply-returns-in_err-before s c =
     record {
       made = subst (MakesTerm c.args.scene.now.setting.now c.args.work.now c.factor.new.work
           (product_instance (place_of c.args.scene.now (known_in c.args.known.now)) (term_at (things_of c.args.work.now) c.args.first.0) (factors c.args.parts.now))) (sym same)
-          (factored_fault _ _ _ _ _ _ _ _ c.part-item.result _ c.in_err-before.field-0.0 (next_is c.args.parts.now c.parts.part-index c.part-item.result c.parts-test.true c.part-item.is)
+          (factored_fault _ _ _ _ _ _ _ _ c.part-item.result _ c.in_err-before.field-0.0 (drop_next c.args.parts.now c.parts.part-index c.part-item.result c.parts-test.true c.part-item.is)
           c.in_err-before.ensures.made c.parts.invariant);
     }
 
 pub multiply-parts-preserved : goal.multiply-parts-preserved
 multiply-parts-preserved s c =
-    factored_more _ _ _ _ _ _ _ _ c.part-item.result _ c.factor.new.work _ (next_is c.args.parts.now c.parts.part-index c.part-item.result c.parts-test.true c.part-item.is)
+    factored_more _ _ _ _ _ _ _ _ c.part-item.result _ c.factor.new.work _ (drop_next c.args.parts.now c.parts.part-index c.part-item.result c.parts-test.true c.part-item.is)
     c.in_ok-before.ensures.made c.parts.invariant
 
 pub product-returns-in_err-first : goal.product-returns-in_err-first

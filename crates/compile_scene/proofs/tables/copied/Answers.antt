@@ -1,5 +1,5 @@
 use Rattle.std.proofs.Common.{ℤ, Vec, Global}
-use Rattle.compile_scene.proofs.Copies.{all_copied}
+use Rattle.sopl_base.proofs.Lists.{all_copied}
 use Rattle.compile_scene.proofs.tables.copied.Goals as goal
 
 pub returns : goal.returns

@@ -1,8 +1,8 @@
 use Rattle.std.proofs.Common.{arith, ap, length}
 use Rattle.std.proofs.lemmas.List.{length-map}
 use Rattle.sopl_base.specs.declared.interval.Interval.{Interval}
+use Rattle.box_problem.proofs.Shared.{made_box}
 use Rattle.box_store.proofs.store.BoxStore.new.Goals as goal
-use Rattle.box_store.proofs.Trails.{made_box}
 
 pub invariant_of-result : goal.invariant_of-result
 invariant_of-result c = record {

@@ -1,7 +1,8 @@
 use Rattle.std.proofs.Common.{rules, ◌≤◌, ◌<◌, ◌∙◌, length}
+use Rattle.sopl_base.proofs.Lists.{all_copied, each_of}
 use Rattle.compile_names.specs.Variables.{OriginExists, item_from}
 use Rattle.term_math.specs.Kept.{item_of}
-use Rattle.compile_scene.proofs.Copies.{all_copied, each_of, one_copied}
+use Rattle.compile_scene.proofs.Copies.{one_copied}
 use Rattle.compile_scene.proofs.scene.NumberedScenario.elements.Goals as goal
 
 pub element-requires-clause-origins_exist : goal.element-requires-clause-origins_exist

@@ -1,5 +1,6 @@
 use Rattle.std.proofs.Common.{arith, ap, length}
-use Rattle.term_store.proofs.Adding.{made_box, none_built}
+use Rattle.box_problem.proofs.Shared.{made_box}
+use Rattle.term_store.proofs.Adding.{none_built}
 use Rattle.term_store.proofs.store.TermStore.new.Goals as goal
 
 pub returns-clause-sound : goal.returns-clause-sound
