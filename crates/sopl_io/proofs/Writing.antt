@@ -1,21 +1,10 @@
 -- What was written so far.
-use Rattle.std.proofs.Common.{◌≡◌, ℕ, ◌+◌, ◌-◌, ◌≤◌, List, [], ◌++◌, length, take, drop, Option, Some, None, sym, ap, ◌∙◌, append_assoc, arith}
+use Rattle.std.proofs.Common.{◌≡◌, ℕ, ◌+◌, ◌-◌, ◌≤◌, List, ◌++◌, length, take, drop, Option, Some, None, sym, ap, ◌∙◌, arith}
 use Rattle.std.proofs.Math.Seq.{take-add}
-use Rattle.std.proofs.lemmas.List.{append-nil, take_all, take-take}
+use Rattle.std.proofs.lemmas.List.{take_all, take-take}
 use Rattle.std.specs.Io.KnownBytes.{Appends, Keeps}
+use Rattle.std.proofs.KnownBytes.{Appends-trans}
 use Rattle.sopl_io.specs.Transfer.{AppendsPrefix}
-
-appends_more : (first now next : Option (List ℕ)) (bytes piece : List ℕ) → Appends first now bytes → Appends now next piece → Appends first next (bytes ++ piece)
-appends_more None now next bytes piece before more = tt
-appends_more (Some xs) None next bytes piece before more = absurd before
-appends_more (Some xs) (Some ys) None bytes piece before more = absurd more
-appends_more (Some xs) (Some ys) (Some zs) bytes piece before more =
-    more ∙ ap (λ (l : List ℕ). l ++ piece) before ∙ append_assoc xs bytes piece
-
--- no piece
-pub nothing_written : (taken : Option (List ℕ)) → Appends taken taken []
-nothing_written None = tt
-nothing_written (Some xs) = sym (append-nil xs)
 
 -- one more piece
 pub written_more : (first now next : Option (List ℕ)) (bytes : List ℕ) (at n : ℕ) → at + n ≤ length bytes → Appends first now (take at bytes)
@@ -23,7 +12,7 @@ pub written_more : (first now next : Option (List ℕ)) (bytes : List ℕ) (at n
 written_more first now next bytes at n within before more =
     let fits : take n (take (length bytes - at) (drop at bytes)) ≡ take n (drop at bytes) = take-take n (length bytes - at) (drop at bytes) (omega arith) in
     let whole = take-add at n bytes ∙ ap (λ (l : List ℕ). take at bytes ++ l) (sym fits) in
-    rw whole (appends_more first now next (take at bytes) _ before more)
+    rw whole (Appends-trans first now next (take at bytes) _ before more)
 
 -- all pieces
 pub written_whole : (first now : Option (List ℕ)) (bytes : List ℕ) (at : ℕ) → Appends first now (take at bytes) → length bytes ≤ at → Appends first now bytes

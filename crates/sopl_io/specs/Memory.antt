@@ -3,11 +3,12 @@ use Rattle.std.specs.Prelude.{ℕ, ◌<◌, ◌≤◌, Bool, List, [], map, leng
 use Rattle.std.specs.Str.{bytes_eq}
 use Rattle.std.specs.declared.alloc.Global.{Global}
 
--- a source of named texts: what is left of the text that was begun last, the numbers of the calls that fail,
--- the number of the next call, and how many calls failed
+-- a source of named texts: what is left of the text that was begun last, how many bytes it gives at most at once, the numbers of the calls
+-- that fail, the number of the next call, and how many calls failed
 pub record NamedInput : Type 0 where
   pub texts : List (List ℕ × List ℕ)
   pub left : List ℕ
+  pub most : ℕ
   pub failing : List ℕ
   pub calls : ℕ
   pub faults : ℕ
@@ -17,11 +18,12 @@ pub record OrderedInput : Type 0 where
   pub left : List ℕ
   pub later : List (List ℕ)
 
--- a sink: the bytes taken since the last `begin`, how many it can hold, the numbers of the calls that fail,
--- the number of the next call, and how many calls failed
+-- a sink: the bytes taken since the last `begin`, how many it can hold, how many it takes at most at once, the numbers of the calls that
+-- fail, the number of the next call, and how many calls failed
 pub record BufferedOutput : Type 0 where
   pub taken : List ℕ
   pub capacity : ℕ
+  pub most : ℕ
   pub failing : List ℕ
   pub calls : ℕ
   pub faults : ℕ

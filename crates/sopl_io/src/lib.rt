@@ -5,6 +5,7 @@
 mod fault;
 mod fault_plan;
 mod files;
+mod gather;
 mod give;
 mod memory_sink;
 mod memory_source;
@@ -14,6 +15,7 @@ mod source;
 mod transfer;
 
 pub use files::{FileSink, FileSource};
+pub use gather::Gather;
 pub use memory_sink::MemSink;
 pub use memory_source::MemSource;
 pub use plain_source::PlainSource;
@@ -100,6 +102,59 @@ mod tests {
         for expected in ["one", "two", "", ""] {
             let bytes = read_all(alloc, &mut source, "any", None)?;
             assert_eq!(rt; bytes.as_slice(), expected.as_bytes());
+        }
+        Ok(())
+    }
+
+    // How many bytes a source and a sink move at once.
+    const MOST: [usize; 4] = [1, 2, 5, 9];
+
+    #[test]
+    fn a_text_goes_in_drops(rt: HostRuntime) -> Result<(), Fail> {
+        let alloc = rt.alloc();
+        for most in MOST {
+            let name = String::from_str(alloc, "model")?;
+            let texts = vec![in alloc; (name, b"abcde".to_vec(alloc)?)]?;
+            let mut source = MemSource::dribbling(texts, Vec::new(alloc), most);
+            let bytes = read_all(alloc, &mut source, "model", None)?;
+            assert_eq!(rt; bytes.as_slice(), b"abcde".as_slice());
+
+            let mut sink = MemSink::dribbling(alloc, 8, Vec::new(alloc), most)?;
+            write_all(&mut sink, &bytes)?;
+            assert_eq!(rt; sink.bytes(), b"abcde".as_slice());
+        }
+        Ok(())
+    }
+
+    // How many bytes are gathered, how many the sink takes at once, which of its calls fails, what it holds before the flush, and in the end.
+    const GATHERED: [(usize, usize, &[u64], &str, &str); 7] = [
+        (16, 8, &[], "", "abcdefg"),
+        (4, 8, &[], "abcd", "abcdefg"),
+        (3, 8, &[], "abcdef", "abcdefg"),
+        (1, 8, &[], "abcdef", "abcdefg"),
+        (4, 1, &[], "abcd", "abcdefg"),
+        (4, 2, &[1], "ab", "ab"),
+        (4, 8, &[1], "abcd", "abcd"),
+    ];
+
+    fn gathered(gather: &mut Gather, sink: &mut MemSink) -> Result<(), Failed> {
+        for piece in ["ab", "", "cdefg"] {
+            gather.put(sink, piece.as_bytes())?;
+        }
+        Ok(())
+    }
+
+    #[test]
+    fn pieces_are_gathered(rt: HostRuntime) -> Result<(), Fail> {
+        let alloc = rt.alloc();
+        for (size, most, failing, before, after) in GATHERED {
+            let mut gather = Gather::new(alloc, size)?;
+            let mut sink = MemSink::dribbling(alloc, 16, failing.to_vec(alloc)?, most)?;
+            let put = gathered(&mut gather, &mut sink);
+            assert_eq!(rt; sink.bytes(), before.as_bytes(), "{size}, {most}");
+            let ended = put.is_ok() && gather.flush(&mut sink).is_ok();
+            assert_eq!(rt; sink.bytes(), after.as_bytes(), "{size}, {most}");
+            assert_eq!(rt; ended, after.len() == 7, "{size}, {most}");
         }
         Ok(())
     }

@@ -1,5 +1,5 @@
 //! A source of named texts in memory.
-ghost use Rattle.std.specs.Prelude.{◌≡◌, ◌↔◌, ◌⊎◌, ◌<◌, [], length, min, drop, Some, None, IsErr, IsNone, IfOk, OnOk, OnErr, Contains, position};
+ghost use Rattle.std.specs.Prelude.{◌≡◌, ◌↔◌, ◌⊎◌, ◌<◌, ◌≤◌, ◌-◌, ◌^◌, [], length, min, drop, Some, None, IsErr, IsNone, IfOk, OnOk, OnErr, Contains, position};
 ghost use Rattle.std.specs.Io.{ReadsAtMost};
 ghost use Rattle.std.specs.Io.KnownBytes.{ReadConsumes};
 ghost use Rattle.sopl_io.specs.Calls.{counted, outcome_of, with_call};
@@ -12,18 +12,19 @@ use crate::give::give;
 use crate::{Failed, Source};
 use std::marker::Model;
 
-/// Gives texts by name. A call fails where its number is listed: calls are numbered from 0, and the number
+/// Gives texts by name, at most so many bytes at once. A call fails where its number is listed: calls are numbered from 0, and the number
 /// stays at 2^64 - 1 once it is there.
 #[derive(Drop)]
 pub struct MemSource {
     texts: Vec<(String, Vec<u8>)>,
     current: Option<usize>,
     position: usize,
+    most: usize,
     plan: FaultPlan,
 }
 
 impl Model for MemSource {
-    ghost use Rattle.std.specs.Prelude.{drop};
+    ghost use Rattle.std.specs.Prelude.{◌≤◌, drop};
     ghost use Rattle.sopl_io.specs.Memory.{NamedInput, texts_of, text_at};
 
     ghost Value = { NamedInput };
@@ -31,10 +32,13 @@ impl Model for MemSource {
     ghost view = { λ s. record {
       texts = texts_of s.texts.items;
       left = drop s.position (text_at s.texts.items s.current);
+      most = s.most;
       failing = s.plan.failing.items;
       calls = s.plan.calls;
       faults = s.plan.faults;
     } };
+
+    ghost invariant = { λ s. 1 ≤ s.most };
 }
 
 impl MemSource {
@@ -44,6 +48,22 @@ impl MemSource {
         ensures texts { result.texts ≡ texts_of texts.items }
         ensures left { result.left ≡ [] }
         ensures names { ⟦<MemSource as Source>⟧.names result ≡ None }
+        ensures most { result.most ≡ 2 ^ 64 - 1 }
+        ensures failing { result.failing ≡ failing.items }
+        ensures calls { result.calls ≡ 0 }
+        ensures faults { result.faults ≡ 0 }
+    {
+        MemSource::dribbling(texts, failing, usize::MAX)
+    }
+
+    /// A source of these texts, of which none is begun, that gives at most so many bytes at once.
+    pub fn dribbling(texts: Vec<(String, Vec<u8>)>, failing: Vec<u64>, most: usize) -> MemSource
+        requires some { 1 ≤ most }
+        ensures stock { ⟦<MemSource as Source>⟧.stock result ≡ Some (named (texts_of texts.items)) }
+        ensures texts { result.texts ≡ texts_of texts.items }
+        ensures left { result.left ≡ [] }
+        ensures names { ⟦<MemSource as Source>⟧.names result ≡ None }
+        ensures most { result.most ≡ most }
         ensures failing { result.failing ≡ failing.items }
         ensures calls { result.calls ≡ 0 }
         ensures faults { result.faults ≡ 0 }
@@ -52,6 +72,7 @@ impl MemSource {
             texts,
             current: None,
             position: 0,
+            most,
             plan: FaultPlan::new(failing),
         }
     }
@@ -73,6 +94,7 @@ impl Source for MemSource {
         ensures text { OnOk result (named_text self.old.texts name.now ≡ Some self.new.left) }
         ensures nothing { OnErr result (self.new.left ≡ []) }
         ensures texts { self.new.texts ≡ self.old.texts }
+        ensures most { self.new.most ≡ self.old.most }
         ensures cause { HasCause self.old.faults self.new.faults result }
 
         // It fails exactly where its number is listed, or where no text has the name.
@@ -102,11 +124,12 @@ impl Source for MemSource {
         ensures bound { ReadsAtMost result buf.new }
         ensures bytes { ReadConsumes (Some self.old.left) (Some self.new.left) result buf.new }
         ensures texts { self.new.texts ≡ self.old.texts }
+        ensures most { self.new.most ≡ self.old.most }
         ensures cause { HasCause self.old.faults self.new.faults result }
 
-        // It fails exactly where its number is listed, and else fills what it can.
+        // It fails exactly where its number is listed, and else fills what it can, with at most so many bytes.
         ensures fails { IsErr result ↔ Contains self.old.failing self.old.calls }
-        ensures count { IfOk result (λ n. n ≡ min (length buf.old) (length self.old.left)) }
+        ensures count { IfOk result (λ n. n ≡ min (min (length buf.old) self.old.most) (length self.old.left)) }
         ensures failing { self.new.failing ≡ self.old.failing }
         ensures calls { self.new.calls ≡ one_more self.old.calls }
         ensures counted { self.new.faults ≡ count_after result self.old.faults }
@@ -116,7 +139,8 @@ impl Source for MemSource {
             return Err(self.plan.fail());
         }
         let text = text_at(&self.texts, self.current);
-        Ok(give(text, &mut self.position, buf))
+        let room = buf.len().min(self.most);
+        Ok(give(text, &mut self.position, &mut buf[..room]))
     }
 }
 

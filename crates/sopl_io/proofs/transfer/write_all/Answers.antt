@@ -1,14 +1,15 @@
 use Rattle.std.proofs.Common.{rules, arith, refl, ◌∙◌}
 use Rattle.std.proofs.lemmas.Grind.{pieces}
+use Rattle.std.proofs.KnownBytes.{Appends-nil}
 use Rattle.sopl_io.specs.Calls.{no_call}
 use Rattle.sopl_io.proofs.Calling.{call_made}
-use Rattle.sopl_io.proofs.Writing.{nothing_written, written_more}
+use Rattle.sopl_io.proofs.Writing.{written_more}
 use Rattle.sopl_io.proofs.transfer.write_all.Goals as goal
 
 pub pieces-init : goal.pieces-init
 pieces-init g c =
     record {
-      written = nothing_written (g.K.Sink.taken c.args.sink.now);
+      written = Appends-nil (g.K.Sink.taken c.args.sink.now);
       within = omega arith;
       calls = no_call;
       names = refl;
