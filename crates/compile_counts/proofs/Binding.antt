@@ -2,6 +2,7 @@
 use Rattle.std.proofs.Common.{◌≡◌, refl, sym, ap, subst, ◌∙◌, ℕ, ℤ, List, [], ◌∷◌, ◌++◌, Option, Some, None, is_some, T, option_map, option_and_then}
 use Rattle.std.specs.List.{flat_map, AllByRecursion}
 use Rattle.std.specs.Option.{unwrap_or}
+use Rattle.sopl_base.proofs.Lists.{all_joined}
 use Rattle.sopl_ast.specs.Tree.{Range, Named, Ends, Binders, no_binder, binder, place_of}
 use Rattle.sopl_ast.specs.Numbers.{both_of, all_of, joined, up_to, count_between}
 use Rattle.sopl_ast.specs.Known.{Known, with_bound}
@@ -9,7 +10,7 @@ use Rattle.sopl_ast.specs.Constants.{value_or_zero, bindings, all_bindings, numb
 use Rattle.sopl_ast.specs.UnfoldEvents.{Counted, too_many, constant_events, range_events, binding_events}
 use Rattle.unfold_laws.specs.Passing.{NothingFails}
 use Rattle.unfold_laws.proofs.Passing.{parts_pass, passes_counted, each_passes, value_given}
-use Rattle.unfold_laws.proofs.Declared.{each_joined, each_of}
+use Rattle.unfold_laws.proofs.Declared.{each_of}
 use Rattle.compile_counts.specs.Walked.{AreMet, RangesPass, BodiesPass}
 
 -- what is there is what stands in place of nothing
@@ -93,7 +94,7 @@ bodies_pass (binder name at range more) known whole each is =
     (flat_map (λ number. Counted ∷ binding_events (with_bound name number known) whole more each) (numbers_in known range)) is in
     subst (λ list. AllByRecursion (λ here. NothingFails (each here)) list)
     (sym (places_step known whole name at range more (ranges_pass (binder name at range more) known whole each is)))
-    (each_joined (λ here. NothingFails (each here)) (λ n. all_bindings (with_bound name n known) more) (numbers_in known range)
+    (all_joined (λ here. NothingFails (each here)) (λ n. all_bindings (with_bound name n known) more) (numbers_in known range)
     (each_of (λ n. NothingFails (Counted ∷ binding_events (with_bound name n known) whole more each))
     (λ n. AllByRecursion (λ here. NothingFails (each here)) (all_bindings (with_bound name n known) more))
     (λ n counted. bodies_pass more (with_bound name n known) whole each (passes_counted (binding_events (with_bound name n known) whole more each) counted))

@@ -1,7 +1,7 @@
 -- Sums of term nodes, part by part.
-use Rattle.std.proofs.Common.{◌≡◌, refl, sym, ap, subst, ◌∙◌, ℕ, ◌+◌, ◌<◌, ◌≤◌, ℤ, Bool, List, [], ◌∷◌, Option, length, get_or, drop, map, ◌⊎◌, inl, inr, arith}
-use Rattle.std.proofs.lemmas.List.{at_drop_more, at_drop_all}
+use Rattle.std.proofs.Common.{◌≡◌, refl, sym, ap, subst, ◌∙◌, ℕ, ◌+◌, ◌<◌, ◌≤◌, ℤ, Bool, List, [], ◌∷◌, Option, ◌⊎◌, inl, inr, arith}
 use Rattle.std.specs.List.{AllByRecursion, fold, sum_by}
+use Rattle.sopl_base.proofs.Naturals.{from_zero}
 use Rattle.sopl_ast.specs.declared.operators.MulOp.{MulOp}
 use Rattle.sopl_ast.specs.Tree.{Tree}
 use Rattle.sopl_ast.specs.Known.{Known}
@@ -10,19 +10,15 @@ use Rattle.sopl_ast.specs.TermNodes.{nodes, all_nodes, term_nodes, factor_nodes}
 use Rattle.compile_counts.specs.Walked.{IsWalked, AreWalked, TermsAreWalked, FactorsAreWalked, whole_of}
 use Rattle.compile_counts.specs.Counted.{capped}
 
--- A sum over a list, from the left and from the right.
-nothing_before : (n : ℕ) → 0 + n ≡ n
-nothing_before n = omega arith
-
 added : {A : Type 0} (f : A → ℕ) (xs : List A) (a : ℕ) → fold (λ b x. b + f x) a xs ≡ a + sum_by f xs
 added f [] a = omega arith
 added f (x ∷ xs) a =
     let all : fold (λ b y. b + f y) (a + f x) xs ≡ a + f x + sum_by f xs = added f xs (a + f x) in
-    let first : sum_by f (x ∷ xs) ≡ f x + sum_by f xs = ap (λ n. fold (λ b y. b + f y) n xs) (nothing_before (f x)) ∙ added f xs (f x) in
+    let first : sum_by f (x ∷ xs) ≡ f x + sum_by f xs = ap (λ n. fold (λ b y. b + f y) n xs) (from_zero (f x)) ∙ added f xs (f x) in
     all ∙ omega (arith, first)
 
 sum_more : {A : Type 0} (f : A → ℕ) (x : A) (xs : List A) → f x + sum_by f xs ≡ sum_by f (x ∷ xs)
-sum_more f x xs = sym (ap (λ n. fold (λ b y. b + f y) n xs) (nothing_before (f x)) ∙ added f xs (f x))
+sum_more f x xs = sym (ap (λ n. fold (λ b y. b + f y) n xs) (from_zero (f x)) ∙ added f xs (f x))
 
 -- The parts of an expression as lists.
 pub all_sum : (known : Known) (es : List Tree) → all_nodes known (trees es) ≡ sum_by (λ e. nodes known e) es

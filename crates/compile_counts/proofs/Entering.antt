@@ -6,6 +6,7 @@ use Rattle.std.proofs.lemmas.List.{append_assoc, append-nil}
 use Rattle.std.proofs.lemmas.List.Folds.{flat_map-map}
 use Rattle.std.specs.List.{flat_map, AllByRecursion, slice_get}
 use Rattle.std.specs.Option.{unwrap_or}
+use Rattle.sopl_base.proofs.Lists.{all_append}
 use Rattle.sopl_ast.specs.Tree.{Binders, no_binder, binder}
 use Rattle.sopl_ast.specs.Lists.{BinderTree, binders}
 use Rattle.sopl_ast.specs.Known.{Known, with_bound}
@@ -14,7 +15,6 @@ use Rattle.sopl_ast.specs.UnfoldEvents.{range_events}
 use Rattle.unfold_laws.specs.Passing.{NothingFails}
 use Rattle.unfold_constants.specs.Choosing.{OpenChoice, Among, advanced, left, give_name, leave_name}
 use Rattle.unfold_constants.proofs.Choosing.{name_left}
-use Rattle.unfold_laws.proofs.Declared.{all_append}
 use Rattle.compile_counts.specs.Walked.{AreMet}
 use Rattle.compile_counts.specs.Entering.{Place, inside, ended, waiting}
 use Rattle.compile_counts.proofs.Binding.{places_step}

@@ -1,10 +1,11 @@
 -- What is answered at a constant place that passes.
-use Rattle.std.proofs.Common.{◌≡◌, refl, sym, ap, subst, ◌∙◌, inl, inr, ℕ, ℤ, pos, Bool, true, false, not, List, [], Some, Result, Ok, Err, IfOk, IfErr, is_ok, true≢false}
+use Rattle.std.proofs.Common.{◌≡◌, sym, ap, subst, ◌∙◌, inl, inr, ℕ, ℤ, pos, true, false, not, List, [], Some, Result, Ok, Err, IfOk, IfErr, is_ok, true≢false}
 use Rattle.std.specs.Option.{unwrap_or}
 use Rattle.std.specs.Ordering.{int_eq}
 use Rattle.std.specs.declared.alloc.AllocError.{AllocError}
 use Rattle.sopl_base.specs.declared.fault.Fault.{Fault}
 use Rattle.sopl_base.specs.declared.fault.Fault.TheVariants.{NoMemory}
+use Rattle.sopl_base.proofs.Booleans.{not_true}
 use Rattle.sopl_ast.specs.Tree.{Tree, Range, place_of}
 use Rattle.sopl_ast.specs.Known.{Known}
 use Rattle.sopl_ast.specs.Constants.{value, numbers_of, numbers_in}
@@ -35,10 +36,6 @@ handed_further P Q so (Err f) holds = tt
 -- the parts of a divisor
 pub divisor_part : (known : Known) (e : Tree) → NothingFails (divisor_events known e) → NothingFails (constant_place known e)
 divisor_part known e is = (parts_pass (constant_place known e) (refused_unless (not (is_zero (value known e))) 110 (place_of e)) is).0
-
-not_true : (b : Bool) → not b ≡ true → b ≡ false
-not_true true is = absurd (true≢false (sym is))
-not_true false is = refl
 
 -- a divisor is not 0
 pub divisor_nonzero : (known : Known) (e : Tree) (x : ℤ) → NothingFails (divisor_events known e) → value known e ≡ Some x → int_eq x (pos 0) ≡ false

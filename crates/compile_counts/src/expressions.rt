@@ -13,15 +13,7 @@ use crate::bindings::all_places;
 use crate::counts::Nodes;
 use sopl_ast::{Binders, Expr, Factors, Kind, MulOp};
 use std::alloc::{AllocError, Global};
-use unfold_constants::ConstantScope;
-
-/// The start, the length and the demand of tasks, as the text gives them.
-#[derive(Clone, Copy)]
-struct TaskText<'a> {
-    start: &'a Expr,
-    duration: &'a Expr,
-    demand: &'a Expr,
-}
+use unfold_constants::{ConstantScope, TaskText};
 
 /// Where the constant expression begins that a factor is inside of, if any: a divisor is one of its own.
 fn whole_at(whole: Option<usize>, part: &(MulOp, Expr)) -> Option<usize>

@@ -9,6 +9,7 @@ use Rattle.std.specs.declared.alloc.Global.{Global}
 use Rattle.std.specs.declared.vec.Vec.{Vec}
 use Rattle.unfold_tables.specs.Tables.{items, tasks_of}
 use Rattle.std.specs.List.{AllByRecursion}
+use Rattle.sopl_base.proofs.Options.{zero_before}
 use Rattle.sopl_ast.specs.declared.operators.MulOp.{MulOp}
 use Rattle.sopl_ast.specs.declared.operators.MulOp.TheVariants.{Times, Div, Mod}
 use Rattle.sopl_ast.specs.Known.{Known}
@@ -16,7 +17,7 @@ use Rattle.sopl_ast.specs.Lists.{factors, terms, trees}
 use Rattle.sopl_ast.specs.Meanings.{Place, all_true, defined_values, knowing, meaning, product_value, some_true, sum_value}
 use Rattle.sopl_ast.specs.Numbers.{Task, all_of, both_of}
 use Rattle.sopl_ast.specs.Tree as t
-use Rattle.sopl_ast.specs.Tree.{Tree, Terms, Factors, Trees, Node, factor, no_factor, no_tree}
+use Rattle.sopl_ast.specs.Tree.{Tree, Factors, Trees, Node, factor, no_factor, no_tree}
 use Rattle.policy_values.specs.Listing.{task_numbers}
 use Rattle.policy_values.specs.Played.{place_of}
 use Rattle.policy_values.specs.Safe.{AreSafe, AreTestable, FactorsAreSafe, IsSafe, IsTestable, TermsAreSafe}
@@ -123,16 +124,12 @@ pub record IsSummed (place : Place) (sum : ℤ) (i : ℕ) (left : List (Bool × 
   pub bound : unsigned_abs sum ≤ 9223372036854775808 * i
   pub rest : option_map (λ y. sum +ℤ y) (sum_value place (terms left)) ≡ all
 
-nothing_before : (o : Option ℤ) → option_map (λ y. pos 0 +ℤ y) o ≡ o
-nothing_before None = refl
-nothing_before (Some y) = ap Some (+ℤ_idl y)
-
 pub summed_first : (place : Place) (sum : ℤ) (parts : List (Bool × Tree)) → sum ≡ pos 0 → TermsAreSafe place (terms parts) → IsSummed place sum 0 parts (sum_value place (terms parts))
 summed_first place sum parts zero safe =
     record {
       holds = safe;
       bound = subst (λ z. unsigned_abs z ≤ 9223372036854775808 * 0) (sym zero) (omega arith);
-      rest = ap (λ z. option_map (λ y. z +ℤ y) (sum_value place (terms parts))) zero ∙ nothing_before (sum_value place (terms parts));
+      rest = ap (λ z. option_map (λ y. z +ℤ y) (sum_value place (terms parts))) zero ∙ zero_before (sum_value place (terms parts));
     }
 
 module _ (place : Place) (sum : ℤ) (i : ℕ) (left : List (Bool × Tree)) (all : Option ℤ) where

@@ -1,9 +1,9 @@
 -- What a scenario gives a stochastic variable, and what the policy gives a decision.
-use Rattle.std.proofs.Common.{arith, ◌≡◌, refl, sym, ap, subst, ◌∙◌, ℕ, suc, ◌+◌, ◌<◌, ℤ, pos, Bool, true, false, List, [], ◌∷◌, get_or, length, map, slice_get, Option, Some, None, option_and_then, if◌then◌else◌}
+use Rattle.std.proofs.Common.{arith, ◌≡◌, refl, sym, ap, subst, ◌∙◌, ℕ, ◌+◌, ◌<◌, ℤ, pos, Bool, true, false, List, [], ◌∷◌, get_or, length, map, slice_get, Option, Some, None, option_and_then, if◌then◌else◌}
 use Rattle.std.specs.FinMap.{get}
 use Rattle.std.specs.List.{range_with_len}
-use Rattle.std.specs.Option.{unwrap_or}
 use Rattle.std.proofs.lemmas.Option.{none-some, same_Some, slice_get-get_or, slice_get_within}
+use Rattle.sopl_base.proofs.Lists.{by_elements}
 use Rattle.sopl_ast.specs.Cells.{policy_at}
 use Rattle.sopl_ast.specs.Histories.{history}
 use Rattle.sopl_ast.specs.Instances.{Decision, Stochastic, Problem}
@@ -39,15 +39,6 @@ module _ (name : List ℕ) (index : List ℤ) (value : ℕ → ℤ) where
         → (if b then Some (value n) else seen_value name index ss (map value (range_with_len (n + 1) (length ss)))) ≡ None
     by_test true later here = absurd (none-some n (sym here))
     by_test false later there = later there
-
--- a list by its elements
-by_elements : {A : Type 0} (f : ℕ → A) (first : ℕ) (xs : List A) → ((j : ℕ) → j < length xs → slice_get xs j ≡ Some (f (first + j))) → map f (range_with_len first (length xs)) ≡ xs
-by_elements f first [] each = refl
-by_elements {A} f first (x ∷ xs) each =
-    let here : f first ≡ x = ap f (omega arith) ∙ sym (ap (λ o. unwrap_or o x) (each 0 (omega arith))) in
-    let later : (j : ℕ) → j < length xs → slice_get xs j ≡ Some (f ((first + 1) + j)) =
-    λ j below. each (suc j) (omega (arith, below)) ∙ ap (λ k. Some (f k)) (omega arith) in
-    λ i. here i ∷ by_elements f (first + 1) xs later i
 
 -- what a tree gives in a scenario are the scenario's values
 pub drawn_are : (ds : List Decision) (ss : List Stochastic) (tree : Layout) (i : ℕ) (s : Scenario) → IsTreeOf ds ss tree → slice_get (scenarios ss) i ≡ Some s

@@ -3,4 +3,3 @@ pub mod Played
 -- For proofs alone: nothing is to be believed here
 pub mod Safe
 pub mod Listing
-pub mod Reckoned

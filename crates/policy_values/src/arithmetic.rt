@@ -10,10 +10,10 @@ ghost use Rattle.unfold_tables.specs.Tables.{items, tasks_of};
 ghost use Rattle.policy_values.specs.Safe.{HasConstantSize};
 
 use sopl_ast::MulOp;
-use sopl_base::CmpOp;
+use sopl_base::{CmpOp, Wide};
 use std::alloc::{AllocError, Global};
 use unfold_tables::{
-    Total, all_distinct, applied, are_within, compares, extreme, one_or_zero, total, within,
+    all_distinct, applied, are_within, compares, extreme, one_or_zero, total, within,
 };
 
 /// A number with its sign changed.
@@ -42,7 +42,7 @@ pub(crate) fn size_of(x: Option<i64>) -> Option<i64>
 
 /// A sum that is done.
 #[tactic(auto, using(crate::proofs::Sized::sized))]
-pub(crate) fn summed(sum: &Total) -> Option<i64>
+pub(crate) fn summed(sum: &Wide) -> Option<i64>
     ensures value { result ≡ constant_within sum.now.value }
 {
     within(sum.value)

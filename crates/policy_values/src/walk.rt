@@ -15,9 +15,8 @@ ghost use Rattle.sopl_ast.specs.UnfoldEvents.{divisor_events};
 ghost use Rattle.sopl_ast.specs.declared.operators.MulOp.TheVariants.{Times};
 ghost use Rattle.unfold_laws.specs.Passing.{NothingFails};
 ghost use Rattle.unfold_constants.specs.Here.{known_in};
-ghost use Rattle.unfold_tables.specs.Tables.{items};
+ghost use Rattle.unfold_tables.specs.Tables.{items, task_in};
 ghost use Rattle.policy_values.specs.Listing.{task_numbers};
-ghost use Rattle.policy_values.specs.Reckoned.{reckoned};
 ghost use Rattle.policy_values.specs.Played.{IsPlayed, place_of};
 ghost use Rattle.policy_values.specs.Safe.{AreSafe, AreTestable, FactorsAreSafe, HasConstantSize, IsSafe, IsTestable, OverIsSafe, ShapeIsSafe, TasksAreSafe};
 
@@ -28,35 +27,19 @@ use crate::arithmetic::{
 use crate::played::PlayedScenario;
 use compile_counts::{all_places, divisor};
 use sopl_ast::{Binders, Expr, Factors, Kind, MulOp, Name};
-use sopl_base::CmpOp;
+use sopl_base::{CmpOp, Wide};
 use std::alloc::AllocError;
-use unfold_constants::ConstantScope;
-use unfold_tables::{Total, add};
-
-/// The start, the length and the demand of tasks, as the text gives them.
-#[derive(Clone, Copy)]
-struct WrittenTask<'a> {
-    start: &'a Expr,
-    duration: &'a Expr,
-    demand: &'a Expr,
-}
-
-/// A task of three numbers.
-#[derive(Clone, Copy)]
-struct ReckonedTask {
-    start: i64,
-    duration: i64,
-    demand: i64,
-}
+use unfold_constants::{ConstantScope, TaskText};
+use unfold_tables::{TaskNumbers, add, with_number};
 
 /// A task of three numbers that are there.
-fn task_from(start: Option<i64>, duration: Option<i64>, demand: Option<i64>) -> Option<ReckonedTask>
-    ensures task { option_map reckoned result ≡ task_of start duration demand }
+fn task_from(start: Option<i64>, duration: Option<i64>, demand: Option<i64>) -> Option<TaskNumbers>
+    ensures task { option_map task_in result ≡ task_of start duration demand }
 {
     let start = start?;
     let duration = duration?;
     let demand = demand?;
-    Some(ReckonedTask {
+    Some(TaskNumbers {
         start,
         duration,
         demand,
@@ -64,7 +47,7 @@ fn task_from(start: Option<i64>, duration: Option<i64>, demand: Option<i64>) -> 
 }
 
 /// Adds the three numbers of a task.
-fn add_task(found: &mut Vec<i64>, task: &ReckonedTask) -> Result<(), AllocError>
+fn add_task(found: &mut Vec<i64>, task: &TaskNumbers) -> Result<(), AllocError>
     ensures added { OnOk result (found.new.items ≡ found.old.items ++ task.now.start ∷ task.now.duration ∷ task.now.demand ∷ []) }
 {
     found.push(task.start)?;
@@ -137,7 +120,7 @@ impl PlayedScenario<'_, '_> {
             Kind::Implies(a, b) => self.implication(known, a, b),
             Kind::AllDifferent(over, part) => self.different(known, over, part),
             Kind::Cumulative(over, start, duration, demand, capacity) => {
-                let task = WrittenTask {
+                let task = TaskText {
                     start,
                     duration,
                     demand,
@@ -265,12 +248,12 @@ impl PlayedScenario<'_, '_> {
         requires safe { ShapeIsSafe (place_of self.now (known_in known.now)) (t.Add (terms parts.now)) }
         ensures value { IfOk result (λ x. x ≡ sum_value (place_of self.now (known_in known.now)) (terms parts.now)) }
     {
-        let mut sum = Total { value: 0 };
+        let mut sum = Wide::of(0);
         'parts: for part in parts {
             let Some(x) = self.number(known, &part.1)? else {
                 return Ok(None);
             };
-            sum = sum.with(part.0, x);
+            sum = with_number(sum, part.0, x);
         }
         Ok(summed(&sum))
     }
@@ -498,7 +481,7 @@ impl PlayedScenario<'_, '_> {
         &self,
         known: &ConstantScope<'a>,
         over: &'a Binders,
-        task: &WrittenTask<'a>,
+        task: &TaskText<'a>,
         capacity: &'a Expr,
     ) -> Result<bool, AllocError>
         requires played { IsPlayed self.now }
@@ -518,7 +501,7 @@ impl PlayedScenario<'_, '_> {
         &self,
         known: &ConstantScope<'a>,
         over: &'a Binders,
-        task: &WrittenTask<'a>,
+        task: &TaskText<'a>,
     ) -> Result<Option<Vec<i64>>, AllocError>
         requires played { IsPlayed self.now }
         requires safe { TasksAreSafe (place_of self.now (known_in known.now)) (binders over.now) task.now.start.now task.now.duration.now task.now.demand.now }
@@ -535,7 +518,7 @@ impl PlayedScenario<'_, '_> {
     fn tasks_at<'a>(
         &self,
         here: &[ConstantScope<'a>],
-        task: &WrittenTask<'a>,
+        task: &TaskText<'a>,
     ) -> Result<Option<Vec<i64>>, AllocError>
         requires played { IsPlayed self.now }
         requires safe { AllByRecursion (λ (known : place.Known). IsSafe (place_of self.now known) task.now.start.now × IsSafe (place_of self.now known) task.now.duration.now
@@ -559,13 +542,13 @@ impl PlayedScenario<'_, '_> {
     fn task<'a>(
         &self,
         known: &ConstantScope<'a>,
-        task: &WrittenTask<'a>,
-    ) -> Result<Option<ReckonedTask>, AllocError>
+        task: &TaskText<'a>,
+    ) -> Result<Option<TaskNumbers>, AllocError>
         requires played { IsPlayed self.now }
         requires start { IsSafe (place_of self.now (known_in known.now)) task.now.start.now }
         requires duration { IsSafe (place_of self.now (known_in known.now)) task.now.duration.now }
         requires demand { IsSafe (place_of self.now (known_in known.now)) task.now.demand.now }
-        ensures task { IfOk result (λ found. option_map reckoned found ≡ task_of (meaning (place_of self.now (known_in known.now)) task.now.start.now).value
+        ensures task { IfOk result (λ found. option_map task_in found ≡ task_of (meaning (place_of self.now (known_in known.now)) task.now.start.now).value
             (meaning (place_of self.now (known_in known.now)) task.now.duration.now).value (meaning (place_of self.now (known_in known.now)) task.now.demand.now).value) }
     {
         let start = self.number(known, task.start)?;

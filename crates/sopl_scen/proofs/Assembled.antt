@@ -1,5 +1,5 @@
 -- The tables of a tree hold its scenarios, its histories and its cells.
-use Rattle.std.proofs.Common.{◌≡◌, ◌+◌, ◌-◌, ◌*◌, ◌≤◌, ◌<◌, ◌^◌, ℕ, zero, suc, ℤ, pos, ◌≤ℤ◌, nat_lt, Bool, true, false, cond, List, [], ◌∷◌, length, map, get_or, take, slice_get}
+use Rattle.std.proofs.Common.{◌≡◌, ◌+◌, ◌-◌, ◌*◌, ◌≤◌, ◌<◌, ◌^◌, ℕ, zero, suc, ℤ, pos, ◌≤ℤ◌, List, [], ◌∷◌, length, map, get_or, take, slice_get}
 use Rattle.std.proofs.Common.{unsigned_abs, Some, arith, refl, sym, ap, subst, ◌∙◌}
 use Rattle.std.proofs.Math.Seq.{take-length}
 use Rattle.std.proofs.lemmas.Int.{ints}
@@ -26,6 +26,7 @@ use Rattle.scen_laws.proofs.Counts.{prefixes_are_fewer, first_part}
 use Rattle.scen_laws.proofs.Weights.{scenarios_are_light}
 use Rattle.scen_laws.proofs.Rows.{rows_differ, rows_are_numbered}
 use Rattle.scen_laws.proofs.Seen.{histories_are_prefixes, histories_are_rows}
+use Rattle.scen_laws.proofs.Prefixes.{seen_within}
 use Rattle.sopl_scen.specs.declared.nodes.Node.{Node}
 use Rattle.sopl_scen.specs.declared.stages.Stage.{Stage}
 use Rattle.sopl_scen.specs.declared.cells.Place.{Place}
@@ -78,14 +79,6 @@ stage_found ss stage is = get_or-map-range_with_len (stage_in ss) 1 24 (stage - 
 pub stages_long : (ss : List Stochastic) → length (all_stages ss) ≡ 24
 unfolding stage_numbers
 stages_long ss = length-map-range_with_len (stage_in ss) 1 24
-
-pub seen_within : (stage : ℕ) (ss : List Stochastic) → seen_before stage ss ≤ length ss
-seen_within stage [] = omega arith
-seen_within stage (s ∷ ss) = on (nat_lt s.stage stage) (seen_within stage ss)
-  where
-    on : (b : Bool) → seen_before stage ss ≤ length ss → cond b (suc (seen_before stage ss)) 0 ≤ suc (length ss)
-    on true few = omega (arith, few)
-    on false few = omega arith
 
 -- variables of which a text states the values
 pub record AreSound (ss : List Stochastic) : Type 0 where

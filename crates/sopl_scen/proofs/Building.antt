@@ -2,11 +2,11 @@
 use Rattle.std.proofs.Common.{◌≡◌, ◌+◌, ◌≤◌, ◌<◌, ◌++◌, ℕ, ℤ, List, [], ◌∷◌, length, map, drop, get_or, append_assoc, refl, sym, ap, subst, ◌∙◌}
 use Rattle.std.proofs.lemmas.List.{append-nil, at_drop_more, at_drop_all}
 use Rattle.std.specs.List.{AllByRecursion}
+use Rattle.sopl_base.proofs.Lists.{mapped_next}
 use Rattle.sopl_ast.specs.Instances.{Outcome}
 use Rattle.unfold_variables.specs.Pairs.{outcome_in}
 use Rattle.sopl_scen.specs.declared.nodes.Node.{Node}
 use Rattle.sopl_scen.specs.Levels.{IsLight, child_of, children}
-use Rattle.sopl_scen.proofs.Parts.{part_next}
 
 -- parts of a list
 all_left : (P : Node → Type 0) (xs ys : List Node) → AllByRecursion P (xs ++ ys) → AllByRecursion P xs
@@ -41,7 +41,7 @@ children_left parent above pairs = map (child_of parent above) (map outcome_in p
 
 child_next : (parent : ℕ) (above : Node) (pairs : List (ℤ × ℤ)) (i : ℕ) (pair : ℤ × ℤ) → i < length pairs → pair ≡ get_or pairs i pair
     → children_left parent above (drop i pairs) ≡ outcome_node parent above pair ∷ children_left parent above (drop (i + 1) pairs)
-child_next parent above pairs i pair within is = ap (map (child_of parent above)) (part_next outcome_in pairs i pair within is)
+child_next parent above pairs i pair within is = ap (map (child_of parent above)) (mapped_next outcome_in pairs i pair within is)
 
 pub children_start : (initial all : List Node) → AllByRecursion IsLight all → IsMade (initial ++ all) initial all
 children_start initial all light = record { so_far = refl; light = light }

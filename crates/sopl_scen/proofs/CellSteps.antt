@@ -5,12 +5,12 @@ use Rattle.std.proofs.lemmas.Int.{ints}
 use Rattle.std.proofs.lemmas.List.{append-nil, at_drop_all}
 use Rattle.std.proofs.lemmas.List.Sums.{sum_by-cons}
 use Rattle.std.specs.List.{AllByRecursion, sum_by}
+use Rattle.sopl_base.proofs.Lists.{drop_next}
 use Rattle.sopl_ast.specs.Instances.{Decision}
 use Rattle.unfold_laws.specs.Bounds.{IsBoundedDecision}
 use Rattle.sopl_scen.specs.declared.stages.Stage.{Stage}
 use Rattle.sopl_scen.specs.declared.cells.Place.{Place}
 use Rattle.sopl_scen.specs.Stages.{cell_count, bit_count, places_from}
-use Rattle.sopl_scen.proofs.Parts.{left_next}
 
 -- the cells that are placed, and the decisions that are left
 pub record IsPlaced (stages : List Stage) (most : ℕ) (ds : List Decision) (places : List Place) (total i : ℕ) (left : List Decision) : Type 0 where
@@ -43,7 +43,7 @@ placed_next stages most ds places now total next i d within is one by up p =
     subst (λ list. IsPlaced stages most ds list next (i + 1) (drop (i + 1) ds)) (sym by)
     (subst (λ n. IsPlaced stages most ds (places ++ (record { first = total; stage = d.stage }) ∷ []) n (i + 1) (drop (i + 1) ds)) (sym up)
     (placed_more stages most ds places total i d (drop (i + 1) ds) one
-    (subst (IsPlaced stages most ds places total i) (left_next ds i d within is) p)))
+    (subst (IsPlaced stages most ds places total i) (drop_next ds i d within is) p)))
 
 pub placed_end : (stages : List Stage) (most : ℕ) (ds : List Decision) (places : List Place) (total i : ℕ) → length ds ≤ i
     → IsPlaced stages most ds places total i (drop i ds) → (places ≡ places_from 0 stages ds) × (total ≡ sum_by (cell_count stages) ds)
@@ -92,7 +92,7 @@ pub summed_next : (stages : List Stage) (ds : List Decision) (total part now : �
     → IsSummed stages ds total i (drop i ds) → IsSummed stages ds now (i + 1) (drop (i + 1) ds)
 summed_next stages ds total part now i d within is one by up s =
     subst (λ z. IsSummed stages ds z (i + 1) (drop (i + 1) ds)) (sym (up ∙ ap (λ z. total +ℤ z) by))
-    (summed_more stages ds total i d (drop (i + 1) ds) one (subst (IsSummed stages ds total i) (left_next ds i d within is) s))
+    (summed_more stages ds total i d (drop (i + 1) ds) one (subst (IsSummed stages ds total i) (drop_next ds i d within is) s))
 
 pub summed_end : (stages : List Stage) (ds : List Decision) (total : ℤ) (i : ℕ) → length ds ≤ i → IsSummed stages ds total i (drop i ds)
     → total ≡ pos (sum_by (bit_count stages) ds)
@@ -103,7 +103,7 @@ summed_end stages ds total i past s = end (subst (IsSummed stages ds total i) (a
 
 -- the next decision is bounded
 pub next_bounded : (ds : List Decision) (i : ℕ) (d : Decision) → i < length ds → d ≡ get_or ds i d → AllByRecursion IsBoundedDecision (drop i ds) → IsBoundedDecision d
-next_bounded ds i d within is all = (subst (AllByRecursion IsBoundedDecision) (left_next ds i d within is) all).0
+next_bounded ds i d within is all = (subst (AllByRecursion IsBoundedDecision) (drop_next ds i d within is) all).0
 
 -- what is summed is small
 pub summed_small : (total : ℤ) (i n : ℕ) → unsigned_abs total ≤ 2 ^ 40 * i → i < n → n < 2 ^ 32 → unsigned_abs total ≤ 2 ^ 100

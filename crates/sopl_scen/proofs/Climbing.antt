@@ -1,12 +1,11 @@
 -- Climbing from a node to those above it.
 use Rattle.std.proofs.Common.{◌≡◌, ◌+◌, ◌-◌, ◌≤◌, ◌<◌, ◌++◌, ℕ, zero, suc, ℤ, List, [], ◌∷◌, length, get_or, append_assoc, arith, sym, ap, subst, ◌∙◌}
 use Rattle.std.proofs.lemmas.Grind.{flat_map-append}
-use Rattle.std.proofs.lemmas.List.{append-nil, map-id}
+use Rattle.std.proofs.lemmas.List.{append-nil, map-id, get_or_default}
 use Rattle.std.proofs.lemmas.List.FromFn.{map-range_with_len_more}
 use Rattle.std.specs.List.{flat_map, range_with_len}
 use Rattle.sopl_scen.specs.declared.nodes.Node.{Node}
 use Rattle.sopl_scen.specs.Levels.{root}
-use Rattle.sopl_scen.proofs.Parts.{same_element}
 use Rattle.sopl_scen.specs.Tables.{node_at, row_up, path_up, IsLinked}
 
 -- what is pushed and what is left to be pushed
@@ -50,7 +49,7 @@ climb_more levels values nodes now_values next_values now_nodes next_nodes left 
     (climb_next levels values nodes now_values now_nodes left node linked some c)))
   where
     same : get_or level node root ≡ node_at levels left node
-    same = ap (λ list. get_or list node root) (is ∙ same_element levels left d [] c.level)
+    same = ap (λ list. get_or list node root) (is ∙ get_or_default levels left d [] c.level)
 
 pub climb_end : (levels : List (List Node)) (values : List ℤ) (nodes : List ℕ) (now_values : List ℤ) (now_nodes next_nodes : List ℕ) (left node : ℕ)
     → left ≤ 0 → next_nodes ≡ now_nodes ++ node ∷ [] → IsClimb levels values nodes now_values now_nodes left node → (now_values ≡ values) × (next_nodes ≡ nodes)

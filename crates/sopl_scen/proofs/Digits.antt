@@ -1,5 +1,5 @@
 -- The binary digits of a number.
-use Rattle.std.proofs.Common.{◌≡◌, ◌⊎◌, inl, inr, ◌+◌, ◌*◌, ◌≤◌, ◌<◌, ◌^◌, ℕ, zero, suc, ℤ, pos, negsuc, ◌-ℤ◌, ◌≤ℤ◌, ◌<ℤ◌, Bool, true, false, cond, nat_le, List, ◌∷◌, length}
+use Rattle.std.proofs.Common.{◌≡◌, ◌⊎◌, inl, inr, ◌+◌, ◌*◌, ◌≤◌, ◌<◌, ◌^◌, ℕ, zero, suc, ℤ, pos, negsuc, ◌-ℤ◌, ◌≤ℤ◌, ◌<ℤ◌, Bool, true, false, nat_le, List, length}
 use Rattle.std.proofs.Common.{filter, unsigned_abs, arith, refl, sym, ap, subst, ◌∙◌}
 use Rattle.std.proofs.Math.Nat.{pow-le-pow_right, pow-suc}
 use Rattle.std.proofs.lemmas.Bool.{le-leb}
@@ -7,28 +7,23 @@ use Rattle.std.proofs.lemmas.Int.{ints}
 use Rattle.std.specs.Int.{int_gap}
 use Rattle.std.specs.List.{range_with_len}
 use Rattle.std.proofs.Math.Nat.{mul-le-mul}
+use Rattle.sopl_base.proofs.Lists.{filter_drops, filter_keeps}
 use Rattle.sopl_ast.specs.Numbers.{binary_digits}
 use Rattle.sopl_ast.specs.Instances.{Decision}
 use Rattle.unfold_laws.specs.Bounds.{IsBoundedDecision}
 use Rattle.sopl_scen.specs.declared.stages.Stage.{Stage}
 use Rattle.sopl_scen.specs.Stages.{bit_count, cell_count}
 
-kept : (p : ℕ → Bool) (a : ℕ) (rest : List ℕ) → p a ≡ true → length (filter p (a ∷ rest)) ≡ suc (length (filter p rest))
-kept p a rest is = λ i. length (cond (is i) (a ∷ filter p rest) (filter p rest))
-
-left_out : (p : ℕ → Bool) (a : ℕ) (rest : List ℕ) → p a ≡ false → length (filter p (a ∷ rest)) ≡ length (filter p rest)
-left_out p a rest is = λ i. length (cond (is i) (a ∷ filter p rest) (filter p rest))
-
 none_left : (p : ℕ → Bool) (b a n : ℕ) → ((k : ℕ) → b ≤ k → p k ≡ false) → b ≤ a → length (filter p (range_with_len a n)) ≡ 0
 none_left p b a zero absent order = refl
-none_left p b a (suc n) absent order = left_out p a (range_with_len (a + 1) n) (absent a order) ∙ none_left p b (a + 1) n absent (omega (arith, order))
+none_left p b a (suc n) absent order = filter_drops p a (range_with_len (a + 1) n) (absent a order) ∙ none_left p b (a + 1) n absent (omega (arith, order))
 
 counted : (p : ℕ → Bool) (b a n m : ℕ) → ((k : ℕ) → k < b → p k ≡ true) → ((k : ℕ) → b ≤ k → p k ≡ false) → a + m ≡ b → m ≤ n
     → length (filter p (range_with_len a n)) ≡ m
 counted p b a n zero present absent sum few = none_left p b a n absent (omega (arith, sum))
 counted p b a zero (suc m) present absent sum few = absurd (omega (arith, few))
 counted p b a (suc n) (suc m) present absent sum few =
-    kept p a (range_with_len (a + 1) n) (present a (omega (arith, sum))) ∙ ap suc (counted p b (a + 1) n m present absent (omega (arith, sum)) (omega (arith, few)))
+    filter_keeps p a (range_with_len (a + 1) n) (present a (omega (arith, sum))) ∙ ap suc (counted p b (a + 1) n m present absent (omega (arith, sum)) (omega (arith, few)))
 
 not_le : (a b : ℕ) → b < a → nat_le a b ≡ false
 not_le a b is = grind (arith, is)

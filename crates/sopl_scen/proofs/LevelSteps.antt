@@ -2,10 +2,10 @@
 use Rattle.std.proofs.Common.{◌≡◌, ◌+◌, ◌<◌, ◌^◌, ◌++◌, ℕ, suc, List, [], ◌∷◌, length, map, get_or, add-one, arith, sym, ap, subst, ◌∙◌}
 use Rattle.std.proofs.lemmas.List.FromFn.{get_or-map-range_with_len, map-range_with_len_more, length-map-range_with_len}
 use Rattle.std.specs.List.{AllByRecursion, range_with_len}
+use Rattle.std.proofs.lemmas.List.{get_or_default}
 use Rattle.sopl_ast.specs.Instances.{Outcome, Stochastic}
 use Rattle.sopl_scen.specs.declared.nodes.Node.{Node}
 use Rattle.sopl_scen.specs.Levels.{IsLight, AreSmall, children, level_at, outcomes_at, no_variable}
-use Rattle.sopl_scen.proofs.Parts.{same_element}
 
 -- the levels of the first prefixes
 abbrev pub levels_of : List Stochastic → ℕ → List (List Node)
@@ -21,7 +21,7 @@ level_is ss n i found level d within made is =
 
 pub outcomes_are : (ss : List Stochastic) (i : ℕ) (s : Stochastic) (os : List Outcome) → i < length ss → s ≡ get_or ss i s → os ≡ s.outcomes → os ≡ outcomes_at ss i
 outcomes_are ss i s os within is by =
-    by ∙ ap (λ (t : Stochastic). t.outcomes) (is ∙ same_element ss i s no_variable within)
+    by ∙ ap (λ (t : Stochastic). t.outcomes) (is ∙ get_or_default ss i s no_variable within)
 
 pub level_few : (ss : List Stochastic) (i : ℕ) (above : List Node) → AreSmall ss → i < length ss → above ≡ level_at ss i → length above < 2 ^ 32
 level_few ss i above small within is = subst (λ list. length list < 2 ^ 32) (sym is) (small.few i (omega arith))

@@ -1,25 +1,19 @@
 -- Running products, one variable after the other.
-use Rattle.std.proofs.Common.{◌≡◌, ◌+◌, ◌-◌, ◌≤◌, ◌<◌, ◌^◌, ℕ, ℤ, pos, ◌*ℤ◌, ◌≤ℤ◌, ◌<ℤ◌, true, false, cond, List, [], ◌∷◌, length, drop, get_or, Some, None, arith, refl, sym, ap, subst, ◌∙◌}
+use Rattle.std.proofs.Common.{◌≡◌, ◌+◌, ◌-◌, ◌≤◌, ◌<◌, ◌^◌, ℕ, ℤ, pos, ◌*ℤ◌, ◌≤ℤ◌, ◌<ℤ◌, cond, List, [], ◌∷◌, length, drop, get_or, Some, None, arith, refl, sym, ap, subst, ◌∙◌}
 use Rattle.std.proofs.lemmas.Int.{ints}
 use Rattle.std.proofs.lemmas.List.{at_drop_all}
-use Rattle.std.specs.Prelude.{int_le}
 use Rattle.std.specs.Int.{int_min}
 use Rattle.sopl_base.specs.declared.fault.Excess.{Excess}
+use Rattle.sopl_base.proofs.Tests.{le_test, le_untest}
+use Rattle.sopl_base.proofs.Integers.{*ℤ_assoc}
+use Rattle.sopl_base.proofs.Lists.{drop_next}
 use Rattle.sopl_ast.specs.Instances.{Stochastic}
 use Rattle.sopl_ast.specs.UnfoldEvents.{excess}
 use Rattle.sopl_ast.specs.Limits.{first_above}
-use Rattle.lang_laws.proofs.Integers.{*ℤ_assoc, one-*ℤ}
+use Rattle.lang_laws.proofs.Integers.{one-*ℤ}
 use Rattle.scen_laws.specs.Laws.{first_passed, product_of}
 use Rattle.scen_laws.proofs.Weights.{products_within}
 use Rattle.scen_laws.proofs.Splits.{times_one}
-use Rattle.sopl_scen.proofs.Parts.{left_next}
-
--- tests of orders
-tested : (a b : ℤ) → a ≤ℤ b → int_le a b ≡ true
-tested a b is = grind (arith, ints)
-
-passed : (a b : ℤ) → b <ℤ a → int_le a b ≡ false
-passed a b is = grind (arith, ints)
 
 -- how far a product has run
 pub record IsRun (code limit : ℕ) (f : Stochastic → ℤ) (ss : List Stochastic) (so_far : ℤ) (left : List Stochastic) : Type 0 where
@@ -41,7 +35,7 @@ run_more : (code limit : ℕ) (f : Stochastic → ℤ) (ss : List Stochastic) (s
 run_more code limit f ss so_far s later least few r =
     record {
       run =
-          sym (λ i. cond (tested (so_far *ℤ f s) (pos limit) few i)
+          sym (λ i. cond (le_test (so_far *ℤ f s) (pos limit) few i)
           (first_passed code limit f (so_far *ℤ f s) later) (Some (excess code (int_min (so_far *ℤ f s) (pos (2 ^ 127 - 1))) (pos limit))))
           ∙ r.run;
       product = *ℤ_assoc so_far (f s) (product_of f later) ∙ r.product;
@@ -54,7 +48,7 @@ pub run_next : (code limit : ℕ) (f : Stochastic → ℤ) (ss : List Stochastic
     → IsRun code limit f ss so_far (drop i ss) → IsRun code limit f ss now (drop (i + 1) ss)
 run_next code limit f ss i s so_far factor now within is by least made few r =
     let same : now ≡ so_far *ℤ f s = made ∙ ap (λ z. so_far *ℤ z) by in
-    let left : drop i ss ≡ s ∷ drop (i + 1) ss = left_next ss i s within is in
+    let left : drop i ss ≡ s ∷ drop (i + 1) ss = drop_next ss i s within is in
     subst (λ z. IsRun code limit f ss z (drop (i + 1) ss)) (sym same)
     (run_more code limit f ss so_far s (drop (i + 1) ss) least (subst (λ z. z ≤ℤ pos limit) same few)
     (subst (IsRun code limit f ss so_far) left r))
@@ -64,10 +58,10 @@ pub run_stop : (code limit : ℕ) (f : Stochastic → ℤ) (ss : List Stochastic
     → e ≡ excess code (int_min (so_far *ℤ factor) (pos (2 ^ 127 - 1))) (pos limit)
     → IsRun code limit f ss so_far (drop i ss) → first_passed code limit f (pos 1) ss ≡ Some e
 run_stop code limit f ss i s so_far factor e within is by more made r =
-    let left : drop i ss ≡ s ∷ drop (i + 1) ss = left_next ss i s within is in
+    let left : drop i ss ≡ s ∷ drop (i + 1) ss = drop_next ss i s within is in
     sym r.run
     ∙ (ap (first_passed code limit f so_far) left
-    ∙ ((λ j. cond (passed (so_far *ℤ f s) (pos limit) (subst (λ z. pos limit <ℤ (so_far *ℤ z)) by more) j)
+    ∙ ((λ j. cond (le_untest (so_far *ℤ f s) (pos limit) (subst (λ z. pos limit <ℤ (so_far *ℤ z)) by more) j)
     (first_passed code limit f (so_far *ℤ f s) (drop (i + 1) ss)) (Some (excess code (int_min (so_far *ℤ f s) (pos (2 ^ 127 - 1))) (pos limit))))
     ∙ ((λ j. Some (excess code (int_min (so_far *ℤ sym by j) (pos (2 ^ 127 - 1))) (pos limit))) ∙ ap Some (sym made))))
 
@@ -81,9 +75,9 @@ run_end code limit f ss i so_far past r = (
 -- One number.
 
 pub one_within : (code limit : ℕ) (n : ℤ) → n ≤ℤ pos limit → first_above code limit (n ∷ []) ≡ None
-one_within code limit n few = λ i. cond (tested n (pos limit) few i) None (Some (excess code (int_min n (pos (2 ^ 127 - 1))) (pos limit)))
+one_within code limit n few = λ i. cond (le_test n (pos limit) few i) None (Some (excess code (int_min n (pos (2 ^ 127 - 1))) (pos limit)))
 
 pub one_above : (code limit : ℕ) (n : ℤ) (e : Excess) → pos limit <ℤ n → e ≡ excess code (int_min n (pos (2 ^ 127 - 1))) (pos limit)
     → first_above code limit (n ∷ []) ≡ Some e
 one_above code limit n e more made =
-    (λ i. cond (passed n (pos limit) more i) None (Some (excess code (int_min n (pos (2 ^ 127 - 1))) (pos limit)))) ∙ ap Some (sym made)
+    (λ i. cond (le_untest n (pos limit) more i) None (Some (excess code (int_min n (pos (2 ^ 127 - 1))) (pos limit)))) ∙ ap Some (sym made)

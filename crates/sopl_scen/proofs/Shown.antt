@@ -4,10 +4,9 @@ use Rattle.std.proofs.Math.Seq.{get_or-append_seam}
 use Rattle.std.proofs.lemmas.List.{map-append}
 use Rattle.std.proofs.lemmas.List.Elements.{All-from_recursion}
 use Rattle.std.specs.List.{AllByRecursion, flat_map}
+use Rattle.sopl_base.proofs.Lists.{all_append, map-map}
 use Rattle.sopl_ast.specs.Instances.{Outcome, Stochastic}
 use Rattle.sopl_ast.specs.Scenarios.{Scenario, scenarios}
-use Rattle.lang_laws.proofs.ScenarioLaws.{map-map}
-use Rattle.unfold_laws.proofs.Declared.{all_append}
 use Rattle.scen_laws.specs.Laws.{extended}
 use Rattle.scen_laws.proofs.Splits.{scenarios_extend}
 use Rattle.sopl_scen.specs.declared.nodes.Node.{Node}

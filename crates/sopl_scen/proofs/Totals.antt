@@ -3,11 +3,11 @@ use Rattle.std.proofs.Common.{◌≡◌, ◌+◌, ◌*◌, ◌≤◌, ◌<◌, �
 use Rattle.std.proofs.lemmas.Int.{ints}
 use Rattle.std.proofs.lemmas.List.{at_drop_all}
 use Rattle.std.specs.List.{AllByRecursion}
+use Rattle.sopl_base.proofs.Lists.{mapped_next}
 use Rattle.sopl_ast.specs.Instances.{Outcome}
 use Rattle.sopl_ast.specs.Scenarios.{total_of}
 use Rattle.unfold_laws.specs.Bounds.{IsBoundedOutcome}
 use Rattle.unfold_variables.specs.Pairs.{outcome_in}
-use Rattle.sopl_scen.proofs.Parts.{part_next}
 
 -- what a total has come to, and what is left
 pub record IsTotal (outcomes : List Outcome) (so_far : ℤ) (i : ℕ) (left : List Outcome) : Type 0 where
@@ -39,7 +39,7 @@ pub total_next : (outcomes : List Outcome) (pairs : List (ℤ × ℤ)) (i : ℕ)
 total_next outcomes pairs i pair so_far now within is t added =
     subst (λ n. IsTotal outcomes n (i + 1) (map outcome_in (drop (i + 1) pairs))) (sym added)
     (total_more outcomes so_far i (outcome_in pair) (map outcome_in (drop (i + 1) pairs))
-    (subst (IsTotal outcomes so_far i) (part_next outcome_in pairs i pair within is) t))
+    (subst (IsTotal outcomes so_far i) (mapped_next outcome_in pairs i pair within is) t))
 
 no_more : (a whole : ℤ) → a +ℤ pos 0 ≡ whole → a ≡ whole
 no_more a whole is = omega (arith, ints, is)

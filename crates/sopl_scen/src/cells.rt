@@ -8,9 +8,9 @@ ghost use Rattle.sopl_ast.specs.Numbers.{binary_digits};
 ghost use Rattle.unfold_laws.specs.Bounds.{IsBoundedDecision, IsStage};
 ghost use Rattle.sopl_scen.specs.Stages.{bit_count, cell_count, count_at, places_from};
 
-use crate::products::Number;
+use crate::products::within;
 use crate::stages::Stage;
-use sopl_base::{Excess, bits, codes, limits};
+use sopl_base::{Excess, Wide, bits, codes, limits};
 use std::alloc::{AllocError, Global};
 use unfold_variables::DecisionItem;
 
@@ -72,7 +72,7 @@ impl Cells {
 }
 
 /// The bits of all decisions, or the limit that they pass.
-pub(crate) fn bits_of_all(decisions: &[DecisionItem], stages: &[Stage]) -> Result<Number, Excess>
+pub(crate) fn bits_of_all(decisions: &[DecisionItem], stages: &[Stage]) -> Result<Wide, Excess>
     requires staged { length stages.now ≡ 24 }
     requires bounded { AllByRecursion IsBoundedDecision decisions.now }
     requires fewer { (stage : ℕ) → IsStage stage → count_at stages.now stage < 2 ^ 32 }
@@ -80,15 +80,15 @@ pub(crate) fn bits_of_all(decisions: &[DecisionItem], stages: &[Stage]) -> Resul
     ensures ok { IfOk result (λ n. first_above 204 1024 (pos (sum_by (bit_count stages.now) decisions.now) ∷ []) ≡ None) }
     ensures err { IfErr result (λ e. first_above 204 1024 (pos (sum_by (bit_count stages.now) decisions.now) ∷ []) ≡ Some e) }
 {
-    let mut total = Number { value: 0 };
+    let mut total = Wide::of(0);
     'decisions: for decision in decisions {
         total = total.plus(bits_of(decision, stages));
     }
-    total.within(codes::BITS, limits::BITS)
+    within(total, codes::BITS, limits::BITS)
 }
 
 /// The bits of a decision: those of its domain, in each of its cells.
-fn bits_of(decision: &DecisionItem, stages: &[Stage]) -> Number
+fn bits_of(decision: &DecisionItem, stages: &[Stage]) -> Wide
     requires staged { length stages.now ≡ 24 }
     requires bounded { IsBoundedDecision decision.now }
     requires fewer { (stage : ℕ) → IsStage stage → count_at stages.now stage < 2 ^ 32 }
@@ -100,11 +100,11 @@ fn bits_of(decision: &DecisionItem, stages: &[Stage]) -> Number
 }
 
 /// The product of two numbers.
-fn product(a: u32, b: u32) -> Number
+fn product(a: u32, b: u32) -> Wide
     ensures { result.value ≡ pos (a * b) }
 {
     let product = u64::from(a) * u64::from(b);
-    Number {
+    Wide {
         value: product as i128,
     }
 }

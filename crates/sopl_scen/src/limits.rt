@@ -8,12 +8,12 @@ ghost use Rattle.scen_laws.specs.Laws.{HasOutcome, count_factor, first_passed, p
 ghost use Rattle.unfold_laws.specs.Bounds.{IsBoundedStochastic};
 ghost use Rattle.sopl_scen.specs.Sizes.{early_excess};
 
-use crate::products::{Number, number_of_outcomes, total_of_outcomes};
-use sopl_base::{Excess, codes, limits};
+use crate::products::{number_of_outcomes, product_within, total_of_outcomes};
+use sopl_base::{Excess, Wide, codes, limits};
 use unfold_variables::StochItem;
 
 /// The total of a variable's weights.
-fn weight_of(stoch: &StochItem) -> Number
+fn weight_of(stoch: &StochItem) -> Wide
     requires has_outcomes { HasOutcome stoch.now }
     requires bounded { IsBoundedStochastic stoch.now }
     ensures value { result.value ≡ weight_factor stoch.now }
@@ -23,7 +23,7 @@ fn weight_of(stoch: &StochItem) -> Number
 }
 
 /// How many outcomes a variable has.
-fn count_of(stoch: &StochItem) -> Number
+fn count_of(stoch: &StochItem) -> Wide
     requires has_outcomes { HasOutcome stoch.now }
     ensures value { result.value ≡ count_factor stoch.now }
     ensures least { pos 1 ≤ℤ result.value }
@@ -32,7 +32,7 @@ fn count_of(stoch: &StochItem) -> Number
 }
 
 /// The weight of all scenarios, or the first running product of totals that passes its limit.
-pub(crate) fn weight_of_all(stochs: &[StochItem]) -> Result<Number, Excess>
+pub(crate) fn weight_of_all(stochs: &[StochItem]) -> Result<Wide, Excess>
     requires has_outcomes { AllByRecursion HasOutcome stochs.now }
     requires bounded { AllByRecursion IsBoundedStochastic stochs.now }
     ensures ok { IfOk result (λ total. first_passed 201 (2 ^ 100) weight_factor (pos 1) stochs.now ≡ None) }
@@ -40,48 +40,48 @@ pub(crate) fn weight_of_all(stochs: &[StochItem]) -> Result<Number, Excess>
     ensures few { IfOk result (λ total. total.value ≤ℤ pos (2 ^ 100)) }
     ensures err { IfErr result (λ e. first_passed 201 (2 ^ 100) weight_factor (pos 1) stochs.now ≡ Some e) }
 {
-    let mut product = Number { value: 1 };
+    let mut product = Wide::of(1);
     'stochs: for stoch in stochs {
         let total = weight_of(stoch);
-        product = product.times(total, codes::WEIGHT, limits::WEIGHT)?;
+        product = product_within(product, total, codes::WEIGHT, limits::WEIGHT)?;
     }
     Ok(product)
 }
 
 /// How many scenarios there are, or the first running product of numbers of outcomes that passes its limit.
-pub(crate) fn count_of_all(stochs: &[StochItem]) -> Result<Number, Excess>
+pub(crate) fn count_of_all(stochs: &[StochItem]) -> Result<Wide, Excess>
     requires has_outcomes { AllByRecursion HasOutcome stochs.now }
     ensures ok { IfOk result (λ count. first_passed 202 16384 count_factor (pos 1) stochs.now ≡ None) }
     ensures count { IfOk result (λ count. count.value ≡ product_of count_factor stochs.now) }
     ensures few { IfOk result (λ count. count.value ≤ℤ pos 16384) }
     ensures err { IfErr result (λ e. first_passed 202 16384 count_factor (pos 1) stochs.now ≡ Some e) }
 {
-    let mut product = Number { value: 1 };
+    let mut product = Wide::of(1);
     'stochs: for stoch in stochs {
         let outcomes = count_of(stoch);
-        product = product.times(outcomes, codes::SCENARIOS, limits::SCENARIOS)?;
+        product = product_within(product, outcomes, codes::SCENARIOS, limits::SCENARIOS)?;
     }
     Ok(product)
 }
 
 /// Instances times scenarios, or the limit that they pass.
-pub(crate) fn copies(instances: usize, scenarios: Number) -> Result<Number, Excess>
+pub(crate) fn copies(instances: usize, scenarios: Wide) -> Result<Wide, Excess>
     requires some { pos 0 ≤ℤ scenarios.value }
     ensures ok { IfOk result (λ n. first_above 209 1048576 ((pos instances *ℤ scenarios.value) ∷ []) ≡ None) }
     ensures few { IfOk result (λ n. (pos instances *ℤ scenarios.value) ≤ℤ pos 1048576) }
     ensures err { IfErr result (λ e. first_above 209 1048576 ((pos instances *ℤ scenarios.value) ∷ []) ≡ Some e) }
 {
-    let instances = Number {
+    let instances = Wide {
         value: instances as i128,
     };
-    instances.times(scenarios, codes::COPIES, limits::COPIES)
+    product_within(instances, scenarios, codes::COPIES, limits::COPIES)
 }
 
 /// What was measured before anything is built.
 #[derive(Clone, Copy)]
 pub(crate) struct Sizes {
-    pub total: Number,
-    pub count: Number,
+    pub total: Wide,
+    pub count: Wide,
 }
 
 impl Sizes {

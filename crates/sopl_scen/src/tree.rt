@@ -8,9 +8,8 @@ ghost use Rattle.sopl_scen.specs.Layout.{AreStated, IsProblemOf, IsTreeOf, cell_
 
 use crate::cells::{Cells, bits_of_all};
 use crate::limits::Sizes;
-use crate::products::Number;
 use crate::scenes::Scenes;
-use sopl_base::{Excess, Fault};
+use sopl_base::{Excess, Fault, Wide};
 use std::alloc::{AllocError, Global};
 use std::marker::Model;
 use unfold_variables::{DecisionItem, StochItem};
@@ -18,7 +17,7 @@ use unfold_variables::{DecisionItem, StochItem};
 /// The scenarios of stochastic variables, the numbers of their histories, and the cells of decisions.
 #[derive(Drop)]
 pub struct Tree {
-    total: Number,
+    total: Wide,
     variables: usize,
     scenes: Scenes,
     cells: Cells,

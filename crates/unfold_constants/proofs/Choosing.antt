@@ -13,7 +13,7 @@ use Rattle.unfold_constants.specs.Evaluation.{Step, ◌>>=◌, continued, done, 
 use Rattle.unfold_constants.proofs.Bindings.{take_prefix}
 
 -- a step behind a step behind a step
-continued_twice : {A B C : Type 0} (r : Result (A × ℕ) Fault) (f : A → Step B) (g : B → Step C) → continued (continued r f) g ≡ continued r (λ x. f x >>= g)
+pub continued_twice : {A B C : Type 0} (r : Result (A × ℕ) Fault) (f : A → Step B) (g : B → Step C) → continued (continued r f) g ≡ continued r (λ x. f x >>= g)
 continued_twice (Ok x) f g = refl
 continued_twice (Err fault) f g = refl
 

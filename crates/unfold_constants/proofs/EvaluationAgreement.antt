@@ -5,6 +5,7 @@ use Rattle.std.proofs.lemmas.List.{append-nil}
 use Rattle.std.specs.Option.{unwrap_or}
 use Rattle.std.specs.List.{flat_map, list_all, list_any}
 use Rattle.std.specs.Int.{int_min, int_max}
+use Rattle.sopl_base.proofs.Options.{zero_before}
 use Rattle.sopl_ast.specs.Tree as t
 use Rattle.sopl_ast.specs.Tree.{Tree, Shape, Trees, Terms, Factors, Binders, Range, Node, no_tree, tree, no_term, term, no_factor, factor, no_binder, binder, Named, Ends, place_of}
 use Rattle.sopl_ast.specs.Constants as c
@@ -17,7 +18,7 @@ use Rattle.unfold_constants.specs.Evaluation as w
 use Rattle.unfold_tables.specs.Tables.{tasks_of}
 use Rattle.unfold_constants.specs.Evaluation.{Step, ◌>>=◌, done, given, checked_between, for_each}
 use Rattle.unfold_constants.proofs.Steps.{Agrees, agree_value, agree_done, agree_bind, agree_bind_two, agree_then, agree_both, agree_given, agree_count, agree_checked}
-use Rattle.unfold_constants.proofs.Gathered.{gathered, three, nothing_before, zero_before, nothing_behind, more_found, more_added, gathered_all, more_gathered, one_each, task_each, three_more}
+use Rattle.unfold_constants.proofs.Gathered.{gathered, three, nothing_before, nothing_behind, more_found, more_added, gathered_all, more_gathered, one_each, task_each, three_more}
 
 -- a body adds what it finds at each place
 abbrev pub Adds : (Known → List ℤ → Step (List ℤ)) → (Known → List UnfoldEvent) → (Known → Option (List ℤ)) → Type 0

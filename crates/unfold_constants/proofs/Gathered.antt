@@ -21,10 +21,6 @@ pub nothing_before : {A : Type 0} (v : Option (List A)) → option_map (λ xs. [
 nothing_before None = refl
 nothing_before (Some xs) = refl
 
-pub zero_before : (v : Option ℤ) → option_map (λ s. pos 0 +ℤ s) v ≡ v
-zero_before None = refl
-zero_before (Some s) = ap Some (+ℤ_idl s)
-
 pub nothing_behind : (z : ℤ) → Some (z +ℤ pos 0) ≡ Some z
 nothing_behind z = ap Some (+ℤ_comm z (pos 0) ∙ +ℤ_idl z)
 

@@ -20,10 +20,11 @@ ghost use Rattle.unfold_constants.specs.Evaluation.{each_of, inside};
 use crate::binder_walk::BinderWalk;
 use crate::constant_scope::ConstantScope;
 use sopl_ast::{Binder, Binders, Expr, Exprs, Factors, Kind, MulOp, Name, RangeText};
-use sopl_base::{CmpOp, Fault, codes};
+use sopl_base::{CmpOp, Fault, Wide, codes};
 use unfold_tables::{
-    Count, Ends, Numbers, Total, add, all_distinct, all_true, applied, are_within, checked_between,
-    compares, extreme, is_true, one_or_zero, some_true, total, within as number_within,
+    Count, Ends, Numbers, add, all_distinct, all_true, applied, are_within, checked_between,
+    compares, extreme, is_true, one_or_zero, some_true, total, with_number,
+    within as number_within,
 };
 
 /// Expressions that are evaluated together, inside the constant expression that begins at `whole`.
@@ -35,7 +36,7 @@ struct Body<'a, 'b> {
 
 /// The start, the length and the demand of tasks, as the text gives them.
 #[derive(Clone, Copy)]
-pub(crate) struct TaskText<'a> {
+pub struct TaskText<'a> {
     pub start: &'a Expr,
     pub duration: &'a Expr,
     pub demand: &'a Expr,
@@ -317,18 +318,13 @@ impl<'a> ConstantScope<'a> {
 
     /// The sum of a chain of `+` and `-`.
     #[cycle(evaluate)]
-    fn sum(
-        &self,
-        count: &mut Count,
-        whole: usize,
-        parts: &'a [(bool, Expr)],
-    ) -> Result<Total, Fault>
+    fn sum(&self, count: &mut Count, whole: usize, parts: &'a [(bool, Expr)]) -> Result<Wide, Fault>
         ensures { Answers (λ x. x.value) count.new.counted result (spec.sum (known_in self.now) whole (pos 0) (terms parts.now) count.old.counted) }
     {
-        let mut total = Total { value: 0 };
+        let mut total = Wide::of(0);
         'parts: for part in parts {
             let number = self.number(count, whole, &part.1)?;
-            total = total.with(part.0, number);
+            total = with_number(total, part.0, number);
         }
         Ok(total)
     }

@@ -11,4 +11,5 @@ mod walk;
 
 pub use binder_walk::BinderWalk;
 pub use constant_scope::ConstantScope;
+pub use evaluate::TaskText;
 pub use refusals::unless;

@@ -6,7 +6,7 @@ use Rattle.std.proofs.lemmas.List.{at_drop_more, at_drop_all}
 use Rattle.std.specs.List.{fold, list_all}
 use Rattle.sopl_ast.specs.Numbers as n
 use Rattle.sopl_ast.specs.Numbers.{total, asked, demanded, is_sound, all_fit, are_within}
-use Rattle.unfold_tables.specs.declared.tasks.Task.{Task}
+use Rattle.unfold_tables.specs.declared.tasks.TaskNumbers.{TaskNumbers}
 use Rattle.unfold_tables.specs.Tables.{task_in}
 
 module _ {A B : Type 0} (f : B → A → B) (xs : List A) (i : ℕ) (before : B) where
@@ -34,9 +34,9 @@ total_folded xs = folded xs (pos 0) ∙ +ℤ_idl (total xs)
 
 pub ruleset totals = (fold_more, fold_end, total_folded)
 
-module _ (time : ℤ) (tasks : List Task) (i : ℕ) (before : ℤ) where
+module _ (time : ℤ) (tasks : List TaskNumbers) (i : ℕ) (before : ℤ) where
   -- one task more
-  pub demand_more : (t : Task) → i < length tasks → t ≡ get_or tasks i t
+  pub demand_more : (t : TaskNumbers) → i < length tasks → t ≡ get_or tasks i t
       → (before +ℤ asked time (task_in t)) +ℤ demanded time (map task_in (drop (i + 1) tasks)) ≡ before +ℤ demanded time (map task_in (drop i tasks))
   demand_more t below at =
       +ℤ_assoc before (asked time (task_in t)) (demanded time (map task_in (drop (i + 1) tasks)))
@@ -48,7 +48,7 @@ module _ (time : ℤ) (tasks : List Task) (i : ℕ) (before : ℤ) where
   demand_end past = ap (λ z. before +ℤ z) (at_drop_all (λ rest. demanded time (map task_in rest)) tasks i past) ∙ nothing_more before
 
 -- nothing before a sum
-pub demand_all : (time : ℤ) (tasks : List Task) → pos 0 +ℤ demanded time (map task_in tasks) ≡ demanded time (map task_in tasks)
+pub demand_all : (time : ℤ) (tasks : List TaskNumbers) → pos 0 +ℤ demanded time (map task_in tasks) ≡ demanded time (map task_in tasks)
 demand_all time tasks = +ℤ_idl (demanded time (map task_in tasks))
 
 pub ruleset demands = (demand_more, demand_end, demand_all)
@@ -66,7 +66,7 @@ at_least (pos n) h = le-leb 0 n (omega arith)
 at_least (negsuc n) h = absurd (true≢false h)
 
 -- tasks that keep within a capacity, and those that do not
-module _ (capacity : ℤ) (ts : List Task) (all : List n.Task) (is : map task_in ts ≡ all) (least : int_lt capacity (pos 0) ≡ false) where
+module _ (capacity : ℤ) (ts : List TaskNumbers) (all : List n.Task) (is : map task_in ts ≡ all) (least : int_lt capacity (pos 0) ≡ false) where
   abbrev sound : Bool
   sound = list_all (λ t. is_sound (task_in t)) ts
 
@@ -86,6 +86,6 @@ module _ (capacity : ℤ) (ts : List Task) (all : List n.Task) (is : map task_in
   sound_fit b f p q r = r ∙ sym (whole ∙ ap (λ c. c && fit) (sym p ∙ q))
 
 -- the same tasks, and the same capacity
-pub same_fit : {a b : ℤ} {ts us : List Task} → a ≡ b → ts ≡ us
+pub same_fit : {a b : ℤ} {ts us : List TaskNumbers} → a ≡ b → ts ≡ us
     → list_all (λ t. int_le (demanded (task_in t).start (map task_in ts)) a) ts ≡ list_all (λ t. int_le (demanded (task_in t).start (map task_in us)) b) us
 same_fit least is = λ i. list_all (λ t. int_le (demanded (task_in t).start (map task_in (is i))) (least i)) (is i)

@@ -6,6 +6,7 @@ use Rattle.std.specs.List.{filter, list_any}
 use Rattle.std.specs.Str.{bytes_eq}
 use Rattle.std.specs.declared.alloc.Global.{Global}
 use Rattle.std.specs.declared.vec.Vec.{Vec}
+use Rattle.std.proofs.lemmas.Bool.{or_parts}
 use Rattle.sopl_ast.specs.Known.{Constant}
 use Rattle.unfold_tables.specs.declared.elements.Elements.{Elements}
 use Rattle.unfold_tables.specs.declared.listed.ConstantElement.{ConstantElement}
@@ -13,7 +14,7 @@ use Rattle.unfold_tables.specs.declared.table.TableEntry.{TableEntry}
 use Rattle.unfold_tables.specs.declared.table.TableEntry.TheVariants as entity
 use Rattle.unfold_tables.specs.declared.table.Entry.{Entry}
 use Rattle.unfold_tables.specs.Listed.{element_shown, elements_named}
-use Rattle.unfold_tables.proofs.Placing.{has_name, none_of}
+use Rattle.unfold_tables.proofs.Placing.{has_name}
 use Rattle.unfold_tables.specs.Tables.{constants_in, constants_under, elements_in, items, named, pairs}
 
 -- the elements of a name in two lists
@@ -49,7 +50,7 @@ pub named_passed : (name : List ℕ) (n : ℕ) (es : List Entry) → list_any (h
 named_passed name zero es h = refl
 named_passed name (suc n) [] h = refl
 named_passed name (suc n) (e ∷ es) h =
-    let s = none_of (has_name name e) (list_any (has_name name) (take n es)) h in
+    let s = or_parts (has_name name e) (list_any (has_name name) (take n es)) h in
     named_passed name n es s.1
     ∙ sym (named_append name (constants_under (items e.name) e.entity) (constants_in es)
     ∙ ap (λ found. found ++ elements_named name (constants_in es)) (none_named name (items e.name) e.entity s.0))

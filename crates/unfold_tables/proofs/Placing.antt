@@ -11,6 +11,7 @@ use Rattle.std.specs.Str.{bytes_eq}
 use Rattle.std.specs.declared.alloc.Global.{Global}
 use Rattle.std.specs.declared.vec.Vec.{Vec}
 use Rattle.indexmap.specs.IndexMap.{insert_entry}
+use Rattle.std.proofs.lemmas.Bool.{or_from, or_parts}
 use Rattle.sopl_ast.specs.Numbers.{or_else}
 use Rattle.sopl_ast.specs.Known.{constant_value, set_named, same_values}
 use Rattle.unfold_tables.specs.declared.table.TableEntry.{TableEntry}
@@ -39,13 +40,6 @@ start_appended name (p ∷ ps) key n = on (start_appended name ps key n) (pointw
     on rest true = refl
     on rest false = rest
 
-pub none_of : (a b : Bool) → (a || b) ≡ false → (a ≡ false) × (b ≡ false)
-none_of true b h = absurd (true≢false h)
-none_of false b h = (refl, h)
-
-both_none : (a b : Bool) → a ≡ false → b ≡ false → (a || b) ≡ false
-both_none a b p q = (λ i. p i || q i)
-
 -- the prefix of a list does not change where more stands behind it
 prefix_any : {A : Type 0} (p : A → Bool) (xs ys : List A) (n : ℕ) → n ≤ length xs → list_any p (take n (xs ++ ys)) ≡ list_any p (take n xs)
 prefix_any p [] ys zero h = refl
@@ -58,10 +52,10 @@ whole_any p [] = refl
 whole_any p (x ∷ xs) = ap (λ rest. p x || rest) (whole_any p xs)
 
 one_more_any : {A : Type 0} (p : A → Bool) (xs : List A) (x : A) → list_any p xs ≡ false → p x ≡ false → list_any p (xs ++ x ∷ []) ≡ false
-one_more_any p [] x h q = both_none (p x) false q refl
+one_more_any p [] x h q = or_from (p x) false q refl
 one_more_any p (y ∷ ys) x h q =
-    let s = none_of (p y) (list_any p ys) h in
-    both_none (p y) (list_any p (ys ++ x ∷ [])) s.0 (one_more_any p ys x s.1 q)
+    let s = or_parts (p y) (list_any p ys) h in
+    or_from (p y) (list_any p (ys ++ x ∷ [])) s.0 (one_more_any p ys x s.1 q)
 
 module _ (ps : List (Vec ℕ Global × ℕ)) (es : List Entry) (x : Entry) (known : T (is_some (lookup (λ k. pointwise nat_eq x.name.items k.items) ps)))
     (within : (name : List ℕ) → start_of name ps (length es) ≤ length es)
@@ -126,7 +120,7 @@ pub element_passed : (name : List ℕ) (index : List ℤ) (n : ℕ) (es : List E
 element_passed name index zero es h = refl
 element_passed name index (suc n) [] h = refl
 element_passed name index (suc n) (e ∷ es) h =
-    let s = none_of (has_name name e) (list_any (has_name name) (take n es)) h in
+    let s = or_parts (has_name name e) (list_any (has_name name) (take n es)) h in
     element_passed name index n es s.1
     ∙ sym (constant_append name index (constants_under (items e.name) e.entity) (constants_in es)
     ∙ ap (λ o. or_else o (constant_value name index (constants_in es))) (no_element name index (items e.name) e.entity s.0))
@@ -137,7 +131,7 @@ pub set_passed : (name : List ℕ) (n : ℕ) (es : List Entry) → list_any (has
 set_passed name zero es h = refl
 set_passed name (suc n) [] h = refl
 set_passed name (suc n) (e ∷ es) h =
-    let s = none_of (has_name name e) (list_any (has_name name) (take n es)) h in
+    let s = or_parts (has_name name e) (list_any (has_name name) (take n es)) h in
     set_passed name n es s.1
     ∙ sym (set_append name (sets_under (items e.name) e.entity) (sets_in es)
     ∙ ap (λ o. or_else o (set_named name (sets_in es))) (no_set name (items e.name) e.entity s.0))

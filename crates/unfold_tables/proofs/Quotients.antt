@@ -1,23 +1,13 @@
 -- What the code's quotients and remainders are: they fit, since a quotient is no greater in size than what is divided.
-use Rattle.std.proofs.Common.{rules, ◌≡◌, refl, sym, ap, subst, ◌∙◌, ℕ, zero, suc, ◌≤◌, ◌/◌, ◌^◌, ℤ, pos, negsuc, neg_ℤ, FitsSigned, arith, int_eq, false, cond, Option, Some, None, option_and_then}
-use Rattle.std.proofs.Math.Nat.{div-le_self}
+use Rattle.std.proofs.Common.{rules, ◌≡◌, sym, ap, ◌∙◌, ◌≤◌, ◌^◌, ℤ, pos, FitsSigned, arith, int_eq, false, cond, Option, Some, None, option_and_then}
 use Rattle.std.proofs.lemmas.Int.{fits_signed_from_abs, quot_is, rem_is}
 use Rattle.std.specs.Int.{w64, w128, cast_signed, cast_unsigned}
 use Rattle.std.specs.Int.RustNames.{int_div, int_rem, unsigned_abs}
 use Rattle.std.specs.Int.Signed.{nat_abs-le}
+use Rattle.sopl_base.proofs.Sizes.{quotient_size}
 use Rattle.sopl_ast.specs.declared.operators.MulOp.TheVariants.{Div, Mod}
 use Rattle.sopl_ast.specs.Constants.{within}
 use Rattle.sopl_ast.specs.Numbers.{applied}
-
-size_neg : (n : ℕ) → unsigned_abs (neg_ℤ (pos n)) ≡ n
-size_neg zero = refl
-size_neg (suc n) = refl
-
-quotient_size : (x y : ℤ) → unsigned_abs (int_div x y) ≤ unsigned_abs x
-quotient_size (pos a) (pos b) = div-le_self a b
-quotient_size (pos a) (negsuc b) = subst (λ n. n ≤ a) (sym (size_neg (a / suc b))) (div-le_self a (suc b))
-quotient_size (negsuc a) (pos b) = subst (λ n. n ≤ suc a) (sym (size_neg (suc a / b))) (div-le_self (suc a) b)
-quotient_size (negsuc a) (negsuc b) = div-le_self (suc a) (suc b)
 
 quotient_fits : (x y : ℤ) → FitsSigned w64 x → FitsSigned w128 (int_div x y)
 quotient_fits x y fits =

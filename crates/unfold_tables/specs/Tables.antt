@@ -12,7 +12,7 @@ use Rattle.unfold_tables.specs.declared.table.TableEntry.{TableEntry}
 use Rattle.unfold_tables.specs.declared.table.TableEntry.TheVariants as entity
 use Rattle.unfold_tables.specs.declared.table.Entry.{Entry}
 use Rattle.unfold_tables.specs.declared.table.Table.{Table}
-use Rattle.unfold_tables.specs.declared.tasks.Task as task
+use Rattle.unfold_tables.specs.declared.tasks.TaskNumbers as task
 use Rattle.sopl_ast.specs.Numbers as n
 use Rattle.sopl_ast.specs.Numbers.{up_to}
 use Rattle.sopl_ast.specs.Known as k
@@ -78,7 +78,7 @@ abbrev pub table_known : Table → Known
 table_known table = record { bound = []; constants = constants_in (items table.entries); sets = sets_in (items table.entries) }
 
 -- a task
-abbrev pub task_in : task.Task → n.Task
+abbrev pub task_in : task.TaskNumbers → n.Task
 task_in t = record { start = t.start; duration = t.duration; demand = t.demand }
 
 -- tasks from their starts, lengths and demands, one behind the other

@@ -6,7 +6,8 @@ ghost use Rattle.std.specs.List.{list_all, list_any};
 ghost use Rattle.sopl_ast.specs.Constants as constants;
 ghost use Rattle.sopl_ast.specs.Numbers as spec;
 
-use crate::numbers::{Total, is_true};
+use crate::numbers::{is_true, with_number};
+use sopl_base::Wide;
 use std::alloc::{AllocError, Global};
 use std::collections::BTreeSet;
 
@@ -54,12 +55,12 @@ pub fn extreme(greatest: bool, numbers: &[i64]) -> Option<i64>
 
 /// The sum of the numbers.
 #[tactic(auto, using(crate::proofs::Folds::totals))]
-pub fn total(numbers: &[i64]) -> Total
+pub fn total(numbers: &[i64]) -> Wide
     ensures { result.value ≡ spec.total numbers.now }
 {
-    let mut total = Total { value: 0 };
+    let mut total = Wide::of(0);
     'numbers: for number in numbers {
-        total = total.with(false, *number);
+        total = with_number(total, false, *number);
     }
     total
 }

@@ -7,7 +7,7 @@ ghost use Rattle.sopl_ast.specs.Constants as constants;
 ghost use Rattle.sopl_ast.specs.Numbers as spec;
 
 use sopl_ast::MulOp;
-use sopl_base::{CmpOp, limits};
+use sopl_base::{CmpOp, Wide, limits};
 
 /// A number as a constant, if its size is at most 2^40.
 pub fn within(number: i128) -> Option<i64>
@@ -80,27 +80,15 @@ pub fn is_true(number: i64) -> bool
     number != 0
 }
 
-/// A sum, as it is added up.
-#[derive(Clone, Copy, Debug)]
-pub struct Total {
-    pub value: i128,
-}
-
-impl Total {
-    /// The sum with one number more, or less.
-    pub fn with(self, minus: bool, number: i64) -> Total
-        requires fits { unsigned_abs self.value + unsigned_abs number < 2 ^ 127 }
-        ensures { result.value ≡ self.value +ℤ (if minus then neg_ℤ number else number) }
-    {
-        let number = i128::from(number);
-        if minus {
-            Total {
-                value: self.value - number,
-            }
-        } else {
-            Total {
-                value: self.value + number,
-            }
-        }
+/// A sum with one number more, or less.
+pub fn with_number(sum: Wide, minus: bool, number: i64) -> Wide
+    requires fits { unsigned_abs sum.value + unsigned_abs number < 2 ^ 127 }
+    ensures { result.value ≡ sum.value +ℤ (if minus then neg_ℤ number else number) }
+{
+    let number = Wide::of(number);
+    if minus {
+        sum.minus(number)
+    } else {
+        sum.plus(number)
     }
 }

@@ -7,51 +7,44 @@ ghost use Rattle.unfold_tables.specs.Tables.{shown};
 ghost use Rattle.unfold_tables.specs.Walks.{Walks};
 
 use crate::sets::{Ends, Numbers};
-use sopl_base::{Excess, Fault, limits};
-
-/// How many numbers there are.
-#[derive(Clone, Copy, Debug)]
-struct Size {
-    numbers: i128,
-}
+use sopl_base::{Excess, Fault, Wide, limits};
 
 /// How many numbers there are from one end to another.
-fn size_of(ends: &Ends) -> Size
-    ensures { result.numbers ≡ pos (count_between ends.now.lo ends.now.hi) }
+fn size_of(ends: &Ends) -> Wide
+    ensures { result.value ≡ pos (count_between ends.now.lo ends.now.hi) }
 {
     if ends.hi < ends.lo {
-        return Size { numbers: 0 };
+        return Wide::of(0);
     }
-    Size {
-        numbers: i128::from(ends.hi) - i128::from(ends.lo) + 1,
-    }
+    let steps = Wide::of(ends.hi).minus(Wide::of(ends.lo));
+    steps.plus(Wide::of(1))
 }
 
 /// Passes the limit with this code where a range or a domain has too many numbers.
 pub fn checked_between(code: u16, ends: &Ends) -> Result<(), Fault>
     ensures { (count : ℕ) → Walks count count (too_many code (count_between ends.now.lo ends.now.hi)) result }
 {
-    checked_size(code, &size_of(ends))
+    checked_size(code, size_of(ends))
 }
 
 /// Passes the limit with this code where there are too many numbers.
 pub fn checked_count(code: u16, numbers: usize) -> Result<(), Fault>
     ensures { (count : ℕ) → Walks count count (too_many code numbers) result }
 {
-    let size = Size {
-        numbers: numbers as i128,
+    let size = Wide {
+        value: numbers as i128,
     };
-    checked_size(code, &size)
+    checked_size(code, size)
 }
 
 /// Passes the limit with this code where there are too many numbers.
-fn checked_size(code: u16, size: &Size) -> Result<(), Fault>
-    ensures { (n count : ℕ) → size.now.numbers ≡ pos n → Walks count count (too_many code n) result }
+fn checked_size(code: u16, size: Wide) -> Result<(), Fault>
+    ensures { (n count : ℕ) → size.value ≡ pos n → Walks count count (too_many code n) result }
 {
-    if size.numbers > limits::NUMBERS {
+    if size.value > limits::NUMBERS {
         return Err(Fault::Limit(Excess {
             code,
-            counted: size.numbers,
+            counted: size.value,
             limit: limits::NUMBERS,
         }));
     }
@@ -64,7 +57,7 @@ impl Numbers<'_> {
         ensures { result ≡ nat_eq count (length (shown self.now)) }
     {
         match self {
-            Numbers::Between(ends) => count as i128 == size_of(ends).numbers,
+            Numbers::Between(ends) => count as i128 == size_of(ends).value,
             Numbers::Listed(numbers) => count == numbers.len(),
         }
     }

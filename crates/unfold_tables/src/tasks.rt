@@ -5,26 +5,24 @@ ghost use Rattle.std.specs.List.{list_all};
 ghost use Rattle.sopl_ast.specs.Numbers as spec;
 ghost use Rattle.unfold_tables.specs.Tables.{task_in, tasks_of as tasks_in};
 
-use crate::numbers::Total;
+use crate::numbers::with_number;
+use sopl_base::Wide;
 use std::alloc::{AllocError, Global};
 
-/// A task: when it starts, how long it runs, and how much it asks for while it runs.
+/// A task in numbers: when it starts, how long it runs, and how much it asks for while it runs.
 #[derive(Clone, Copy, Debug)]
-pub struct Task {
+pub struct TaskNumbers {
     pub start: i64,
     pub duration: i64,
     pub demand: i64,
 }
 
-impl Task {
+impl TaskNumbers {
     /// Whether it runs at a time.
     fn runs(&self, time: i64) -> bool
         ensures { result ≡ spec.runs time (task_in self.now) }
     {
-        let start = Total {
-            value: i128::from(self.start),
-        };
-        let end = start.with(false, self.duration);
+        let end = Wide::of(self.start).plus(Wide::of(self.duration));
         self.start <= time && i128::from(time) < end.value
     }
 
@@ -45,25 +43,25 @@ impl Task {
 
 /// What tasks ask for together at a time.
 #[tactic(auto, using(crate::proofs::Folds::demands))]
-fn demanded(time: i64, tasks: &[Task]) -> Total
+fn demanded(time: i64, tasks: &[TaskNumbers]) -> Wide
     ensures { result.value ≡ spec.demanded time (map task_in tasks.now) }
 {
-    let mut total = Total { value: 0 };
+    let mut total = Wide::of(0);
     'tasks: for task in tasks {
-        total = total.with(false, task.asked(time));
+        total = with_number(total, false, task.asked(time));
     }
     total
 }
 
 /// Whether at the start of each task those that run then ask for the capacity at most.
-fn all_fit(capacity: i64, tasks: &[Task]) -> bool
+fn all_fit(capacity: i64, tasks: &[TaskNumbers]) -> bool
     ensures { result ≡ list_all (λ task. int_le (spec.demanded (task_in task).start (map task_in tasks.now)) capacity) tasks.now }
 {
     tasks.iter().all(|task| demanded(task.start, tasks).value <= i128::from(capacity))
 }
 
 /// Whether all tasks are sound.
-fn all_sound(tasks: &[Task]) -> bool
+fn all_sound(tasks: &[TaskNumbers]) -> bool
     ensures { result ≡ list_all (λ task. spec.is_sound (task_in task)) tasks.now }
 {
     tasks.iter().all(|task| task.is_sound())
@@ -71,14 +69,14 @@ fn all_sound(tasks: &[Task]) -> bool
 
 /// The first of the tasks that numbers give, three for each of them, and the numbers behind it.
 #[tactic(auto, using(crate::proofs::Prefixes::prefixes))]
-fn next_task(numbers: &[i64]) -> Option<(Task, &[i64])>
+fn next_task(numbers: &[i64]) -> Option<(TaskNumbers, &[i64])>
     ensures some { IfSome result (λ next. tasks_in numbers.now ≡ task_in next.0 ∷ tasks_in next.1.now) }
     ensures fewer { IfSome result (λ next. length next.1.now < length numbers.now) }
     ensures none { IfNone result (tasks_in numbers.now ≡ []) }
 {
     match numbers {
         [start, duration, demand, later @ ..] => {
-            let task = Task {
+            let task = TaskNumbers {
                 start: *start,
                 duration: *duration,
                 demand: *demand,
@@ -90,7 +88,7 @@ fn next_task(numbers: &[i64]) -> Option<(Task, &[i64])>
 }
 
 /// Tasks from numbers, three for each of them.
-fn tasks_of(alloc: Global, numbers: &[i64]) -> Result<Vec<Task>, AllocError>
+fn tasks_of(alloc: Global, numbers: &[i64]) -> Result<Vec<TaskNumbers>, AllocError>
     ensures { IfOk result (λ tasks. map task_in tasks.items ≡ tasks_in numbers.now) }
 {
     let mut tasks = Vec::new(alloc);

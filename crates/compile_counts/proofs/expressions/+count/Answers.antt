@@ -1,4 +1,5 @@
 use Rattle.std.proofs.Common.{rules, arith, ◌≡◌, ap, sym, subst, ◌∙◌}
+use Rattle.sopl_base.proofs.Lists.{drop_next, mapped_next}
 use Rattle.sopl_ast.proofs.Lighter.{weight-trees, weight-terms, weight-factors}
 use Rattle.sopl_ast.specs.Lists.{binders}
 use Rattle.sopl_ast.specs.Sight.{shape_of_kind}
@@ -10,7 +11,7 @@ use Rattle.unfold_constants.specs.Here.{known_in}
 use Rattle.compile_counts.specs.Walked.{IsWalked}
 use Rattle.compile_counts.specs.Counted.{capped}
 use Rattle.compile_counts.proofs.Counting.{all_sum, term_sum, factor_sum, all_walked, terms_walked, factors_walked, either, left_first, left_holds, left_more, left_none}
-use Rattle.compile_counts.proofs.Loops.{next_is, next_seen, none_is}
+use Rattle.compile_counts.proofs.Loops.{none_is}
 use Rattle.compile_counts.proofs.expressions.+count.Goals as goal
 
 pub nodes_of-returns-in_ok-inside-in-Cumulative : goal.nodes_of-returns-in_ok-inside-in-Cumulative
@@ -43,12 +44,12 @@ nodes_of_all-parts-init s c =
 pub nodes_of_all-nodes_of-requires : goal.nodes_of_all-nodes_of-requires
 nodes_of_all-nodes_of-requires s c = (
   omega (arith, weight-trees c.args.parts.now c.parts.part-index c.part-item.result c.parts-test.true, ap weight c.part-item.is),
-  left_holds _ _ _ _ _ c.part-item.result _ (next_is c.args.parts.now c.parts.part-index c.part-item.result c.parts-test.true c.part-item.is) c.parts.invariant,
+  left_holds _ _ _ _ _ c.part-item.result _ (drop_next c.args.parts.now c.parts.part-index c.part-item.result c.parts-test.true c.part-item.is) c.parts.invariant,
 )
 
 pub nodes_of_all-parts-preserved : goal.nodes_of_all-parts-preserved
 nodes_of_all-parts-preserved s c =
-    left_more _ _ _ _ _ c.part-item.result _ _ _ (next_is c.args.parts.now c.parts.part-index c.part-item.result c.parts-test.true c.part-item.is)
+    left_more _ _ _ _ _ c.part-item.result _ _ _ (drop_next c.args.parts.now c.parts.part-index c.part-item.result c.parts-test.true c.part-item.is)
     c.in_ok-inside.ensures.nodes c.plus-sum.ensures.both c.parts.invariant
 
 pub nodes_of_all-returns : goal.nodes_of_all-returns
@@ -65,7 +66,7 @@ nodes_of_terms-parts-init s c =
 pub nodes_of_terms-nodes_of-requires : goal.nodes_of_terms-nodes_of-requires
 nodes_of_terms-nodes_of-requires s c = (
   omega (arith, weight-terms c.args.parts.now c.parts.part-index c.part-item.result c.parts-test.true, ap (λ p. weight p.1) c.part-item.is),
-  left_holds _ _ _ _ _ c.part-item.result _ (next_is c.args.parts.now c.parts.part-index c.part-item.result c.parts-test.true c.part-item.is) c.parts.invariant,
+  left_holds _ _ _ _ _ c.part-item.result _ (drop_next c.args.parts.now c.parts.part-index c.part-item.result c.parts-test.true c.part-item.is) c.parts.invariant,
 )
 
 pub nodes_of_terms-returns : goal.nodes_of_terms-returns
@@ -83,7 +84,7 @@ pub nodes_of_factors-nodes_of-requires : goal.nodes_of_factors-nodes_of-requires
 nodes_of_factors-nodes_of-requires s c = (
   omega (arith, weight-factors c.args.parts.now c.parts.part-index c.part-item.result c.parts-test.true, ap (λ p. weight p.1) c.part-item.is),
   subst (λ w. IsWalked w (known_in c.args.known.now) c.part-item.result.1) (sym c.whole_at.ensures.whole)
-      (left_holds _ _ _ _ _ c.part-item.result _ (next_is c.args.parts.now c.parts.part-index c.part-item.result c.parts-test.true c.part-item.is) c.parts.invariant),
+      (left_holds _ _ _ _ _ c.part-item.result _ (drop_next c.args.parts.now c.parts.part-index c.part-item.result c.parts-test.true c.part-item.is) c.parts.invariant),
 )
 
 pub nodes_of_factors-returns : goal.nodes_of_factors-returns
@@ -95,10 +96,10 @@ nodes_of_factors-returns s c =
 
 pub nodes_at_each-places-preserved : goal.nodes_at_each-places-preserved
 nodes_at_each-places-preserved s c =
-    left_more _ _ _ _ _ (known_in c.place-item.result) _ _ _ (next_seen known_in c.args.places.now c.places.place-index c.place-item.result c.places-test.true c.place-item.is)
+    left_more _ _ _ _ _ (known_in c.place-item.result) _ _ _ (mapped_next known_in c.args.places.now c.places.place-index c.place-item.result c.places-test.true c.place-item.is)
     c.in_ok-inside.ensures.nodes c.plus-sum.ensures.both c.places.invariant
 
 pub nodes_of_each_task-places-preserved : goal.nodes_of_each_task-places-preserved
 nodes_of_each_task-places-preserved s c =
-    left_more _ _ _ _ _ (known_in c.place-item.result) _ _ _ (next_seen known_in c.args.places.now c.places.place-index c.place-item.result c.places-test.true c.place-item.is)
+    left_more _ _ _ _ _ (known_in c.place-item.result) _ _ _ (mapped_next known_in c.args.places.now c.places.place-index c.place-item.result c.places-test.true c.place-item.is)
     c.in_ok-inside.ensures.nodes c.plus-sum.ensures.both c.places.invariant

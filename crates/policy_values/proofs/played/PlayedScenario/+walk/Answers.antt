@@ -1,5 +1,6 @@
 use Rattle.std.proofs.Common.{rules, arith, ◌≡◌, ◌∙◌, refl, sym, ap, subst, option_map, ◌*◌, ◌+◌, ◌+ℤ◌, ◌++◌, ◌≤◌, ◌∷◌, [], unsigned_abs, neg_ℤ, None, map, if◌then◌else◌}
-use Rattle.compile_counts.proofs.Loops.{next_is, none_is}
+use Rattle.sopl_base.proofs.Lists.{drop_next}
+use Rattle.compile_counts.proofs.Loops.{none_is}
 use Rattle.sopl_ast.proofs.Lighter.{weight-trees, weight-terms, weight-factors}
 use Rattle.sopl_ast.specs.Constants.{all_bindings}
 use Rattle.sopl_ast.specs.Lists.{binders}
@@ -18,7 +19,7 @@ all-condition-requires t c = (
   omega (arith, weight-trees c.args.parts.now c.parts.part-index c.part-item.result c.parts-test.true, ap weight c.part-item.is),
   (
     c.requires.played,
-    tested_holds _ _ _ c.part-item.result _ (next_is c.args.parts.now c.parts.part-index c.part-item.result c.parts-test.true c.part-item.is) _ c.parts.invariant,
+    tested_holds _ _ _ c.part-item.result _ (drop_next c.args.parts.now c.parts.part-index c.part-item.result c.parts-test.true c.part-item.is) _ c.parts.invariant,
   ),
 )
 
@@ -27,7 +28,7 @@ some-condition-requires t c = (
   omega (arith, weight-trees c.args.parts.now c.parts.part-index c.part-item.result c.parts-test.true, ap weight c.part-item.is),
   (
     c.requires.played,
-    tested_holds _ _ _ c.part-item.result _ (next_is c.args.parts.now c.parts.part-index c.part-item.result c.parts-test.true c.part-item.is) _ c.parts.invariant,
+    tested_holds _ _ _ c.part-item.result _ (drop_next c.args.parts.now c.parts.part-index c.part-item.result c.parts-test.true c.part-item.is) _ c.parts.invariant,
   ),
 )
 
@@ -65,7 +66,7 @@ multiplied-factor-requires t c = (
   omega (arith, weight-factors c.args.parts.now c.parts.part-index c.part-item.result c.parts-test.true, ap (λ p. weight p.1) c.part-item.is),
   (
     c.requires.played,
-    multiplied_holds _ _ _ _ c.part-item.result _ (next_is c.args.parts.now c.parts.part-index c.part-item.result c.parts-test.true c.part-item.is) c.parts.invariant,
+    multiplied_holds _ _ _ _ c.part-item.result _ (drop_next c.args.parts.now c.parts.part-index c.part-item.result c.parts-test.true c.part-item.is) c.parts.invariant,
   ),
 )
 
@@ -74,16 +75,16 @@ sum-number-requires t c = (
   omega (arith, weight-terms c.args.parts.now c.parts.part-index c.part-item.result c.parts-test.true, ap (λ p. weight p.1) c.part-item.is),
   (
     c.requires.played,
-    summed_holds _ _ _ _ _ c.part-item.result _ (next_is c.args.parts.now c.parts.part-index c.part-item.result c.parts-test.true c.part-item.is) c.parts.invariant,
+    summed_holds _ _ _ _ _ c.part-item.result _ (drop_next c.args.parts.now c.parts.part-index c.part-item.result c.parts-test.true c.part-item.is) c.parts.invariant,
   ),
 )
 
 pub sum-parts-preserved : goal.sum-parts-preserved
 sum-parts-preserved t c =
     let small : unsigned_abs c.in-Some.x ≤ 9223372036854775808 = search rules in
-    let put : c.with-sum.result.value ≡ c.parts.sum.value +ℤ (if c.part-item.result.0 then neg_ℤ c.in-Some.x else c.in-Some.x) = search rules in
-    summed_more _ _ _ _ _ c.part-item.result _ c.in-Some.x c.with-sum.result.value (c.parts.part-index + 1)
-    (next_is c.args.parts.now c.parts.part-index c.part-item.result c.parts-test.true c.part-item.is) (sym c.in-Some.is ∙ c.in_ok-x.ensures.value) put
+    let put : c.with_number-sum.result.value ≡ c.parts.sum.value +ℤ (if c.part-item.result.0 then neg_ℤ c.in-Some.x else c.in-Some.x) = search rules in
+    summed_more _ _ _ _ _ c.part-item.result _ c.in-Some.x c.with_number-sum.result.value (c.parts.part-index + 1)
+    (drop_next c.args.parts.now c.parts.part-index c.part-item.result c.parts-test.true c.part-item.is) (sym c.in-Some.is ∙ c.in_ok-x.ensures.value) put
     (subst (λ z. unsigned_abs z ≤ 9223372036854775808 * (c.parts.part-index + 1)) (sym put)
     (bound_more c.parts.sum.value c.in-Some.x c.parts.part-index c.part-item.result.0 c.parts.invariant.bound small)) c.parts.invariant
 
@@ -96,7 +97,7 @@ values-number-requires t c = (
   omega (arith, weight-trees c.args.parts.now c.parts.part-index c.part-item.result c.parts-test.true, ap weight c.part-item.is),
   (
     c.requires.played,
-    left_holds _ _ _ _ _ _ c.part-item.result _ (next_is c.args.parts.now c.parts.part-index c.part-item.result c.parts-test.true c.part-item.is) c.parts.invariant,
+    left_holds _ _ _ _ _ _ c.part-item.result _ (drop_next c.args.parts.now c.parts.part-index c.part-item.result c.parts-test.true c.part-item.is) c.parts.invariant,
   ),
 )
 
@@ -104,7 +105,7 @@ pub values-returns-in_default : goal.values-returns-in_default
 values-returns-in_default t c =
     let none : c.in_ok-x.field-0 ≡ None = search rules in
     record {
-      values = left_undefined _ _ _ _ _ _ c.part-item.result _ (next_is c.args.parts.now c.parts.part-index c.part-item.result c.parts-test.true c.part-item.is)
+      values = left_undefined _ _ _ _ _ _ c.part-item.result _ (drop_next c.args.parts.now c.parts.part-index c.part-item.result c.parts-test.true c.part-item.is)
           (sym none ∙ c.in_ok-x.ensures.value) c.parts.invariant
           ∙ values_are (place_of c.args.self.now (known_in c.args.known.now)) c.args.parts.now;
     }
@@ -113,7 +114,7 @@ pub values-parts-preserved : goal.values-parts-preserved
 values-parts-preserved t c =
     let put : c.add.new.numbers.items ≡ c.parts.found.items ++ c.in-Some.x ∷ [] = search rules in
     left_more _ _ _ _ _ _ alone one_more c.part-item.result _ c.in-Some.x c.add.new.numbers.items
-    (next_is c.args.parts.now c.parts.part-index c.part-item.result c.parts-test.true c.part-item.is) (sym c.in-Some.is ∙ c.in_ok-x.ensures.value) put c.parts.invariant
+    (drop_next c.args.parts.now c.parts.part-index c.part-item.result c.parts-test.true c.part-item.is) (sym c.in-Some.is ∙ c.in_ok-x.ensures.value) put c.parts.invariant
 
 pub values-returns : goal.values-returns
 values-returns t c =

@@ -5,5 +5,5 @@ use Rattle.unfold_tables.proofs.sets.Numbers.has_length.Goals as goal
 
 pub returns-in-Between : goal.returns-in-Between
 returns-in-Between c =
-    ap (nat_eq c.args.count) (so_many c.in-Between.ends.lo c.in-Between.ends.hi c.size_of.result.numbers c.size_of.ensures)
+    ap (nat_eq c.args.count) (so_many c.in-Between.ends.lo c.in-Between.ends.hi c.size_of.result.value c.size_of.ensures)
     ∙ ap (λ numbers. nat_eq c.args.count (length (shown numbers))) (sym c.in-Between.is)
