@@ -24,11 +24,12 @@ use Rattle.parse_grammar.proofs.Tokens.{inside_way}
 use Rattle.parse_grammar.proofs.ReadBinders.{dim_by_name, dim_by_ends}
 use Rattle.parse_grammar.proofs.ReadDecls as decl
 use Rattle.parse_grammar.proofs.ReadWhole as whole
-use Rattle.parse_grammar.proofs.PrefixTokens.{Gives, GivesItem, GivesVariable, Lists, past_prefix, name_prefix, closed_prefix, none_left, Shuts, shut, nothing_left, shuts, shut_level}
+use Rattle.parse_grammar.proofs.PrefixTokens.{Gives, GivesItem, GivesVariable, Lists, past_prefix, name_prefix, closed_prefix, Shuts, shut, nothing_left, shuts, shut_level}
 use Rattle.parse_grammar.proofs.PrefixTokens.{shut_no_comma, shut_rests, Rests, rests, nothing_there}
 use Rattle.parse_grammar.proofs.PrefixStarts.{begins_sum, begins_expression, begins_init, begins_constraint}
 use Rattle.parse_grammar.proofs.PrefixReads as reads
 use Rattle.parse_grammar.proofs.CompletePrefixes.{sum_prefix, range_prefix, expression_prefix, bindings_prefix}
+use Rattle.parse_grammar.proofs.LocalChain.{none_left}
 
 -- a stage, or none
 stage_prefix : (n : ℕ) (ts : List Token) (o : Option Tree) (r : List Token) → IsStage true n ts o r → Shuts k.Semi r → Gives (p.stage (way true n) ts) r

@@ -79,7 +79,7 @@ no_head : (s : List Token) → head s ≡ None → s ≡ []
 no_head [] e = refl
 no_head (u ∷ us) e = absurd (cc)
 
-none_left : (s : List Token) → length s ≤ 0 → s ≡ []
+pub none_left : (s : List Token) → length s ≤ 0 → s ≡ []
 none_left [] h = refl
 none_left (u ∷ us) h = absurd (omega (arith, h))
 

@@ -78,7 +78,7 @@ range_after_name n below u bytes e =
     branch v None = as_other (λ cut m us. expressions.ends (way cut m) (u ∷ us)) (λ cut m us. refl) (ends_after_name n below u bytes e)
 
 -- a token that is seen as a name is one
-name_kind : (kind : TokenKind) (bytes : List ℕ) → h.name_bytes kind ≡ Some bytes → kind ≡ k.Name bytes
+pub name_kind : (kind : TokenKind) (bytes : List ℕ) → h.name_bytes kind ≡ Some bytes → kind ≡ k.Name bytes
 name_kind (k.Name other) bytes e = let same : other ≡ bytes = cc in ap (λ x. k.Name x) same
 name_kind kind bytes e = absurd (cc)
 

@@ -1,3 +1,4 @@
+-- Written by tools/proof_files from the constructors of `Grammar`.
 -- What is left behind an expression is never longer than its tokens.
 use Rattle.std.proofs.Common.{ℕ, suc, ◌<◌, ◌≤◌, Bool, List, ◌∷◌, length, arith}
 use Rattle.sopl_ast.specs.declared.operators.MulOp.{MulOp}
@@ -12,19 +13,19 @@ use Rattle.sopl_ast.specs.Grammar.{MoreFactors, IsProduct, MoreTerms, IsSum, IsC
 use Rattle.parse_grammar.proofs.Items.{IsFactor, a_factor}
 
 -- a mark takes one token or none
-pub is_kept : (cut : Bool) (kind : TokenKind) (ts r : List Token) → Is cut kind ts r → length r ≤ length ts
-is_kept cut kind _ _ (g.token u us h) = omega arith
-is_kept cut kind _ _ (g.token_missing h) = omega arith
+pub is_kept : (cut : Bool) (kind : TokenKind) (ts : List Token) (r : List Token) → Is cut kind ts r → length r ≤ length ts
+is_kept cut kind _ _ (g.token u us h0) = omega arith
+is_kept cut kind _ _ (g.token_missing h0) = omega arith
 
 -- a bracket takes one token or none
 pub opens_kept : (cut : Bool) (kind : TokenKind) (n : ℕ) (ts : List Token) (m : ℕ) (r : List Token) → Opens cut kind n ts m r → length r ≤ length ts
-opens_kept cut kind _ _ _ _ (g.bracket n u us h) = omega arith
-opens_kept cut kind _ _ _ _ (g.bracket_missing n h) = omega arith
+opens_kept cut kind _ _ _ _ (g.bracket n u us h0) = omega arith
+opens_kept cut kind _ _ _ _ (g.bracket_missing n h0) = omega arith
 
 -- a name takes one token or none
 pub name_kept : (cut : Bool) (ts : List Token) (bytes : List ℕ) (at : ℕ) (r : List Token) → IsName cut ts bytes at r → length r ≤ length ts
-name_kept cut _ _ _ _ (g.name_token u us bytes h) = omega arith
-name_kept cut _ _ _ _ (g.name_missing bytes at h) = omega arith
+name_kept cut _ _ _ _ (g.name_token u us bytes h0) = omega arith
+name_kept cut _ _ _ _ (g.name_missing bytes at h0) = omega arith
 
 -- what is left behind each kind of phrase
 mutual

@@ -1,3 +1,4 @@
+-- Written by tools/proof_files from the constructors of `Grammar`.
 -- What is left behind declarations, objectives and constraints is never longer than their tokens.
 use Rattle.std.proofs.Common.{ℕ, suc, ◌<◌, ◌≤◌, Bool, true, List, ◌∷◌, length, Option, arith}
 use Rattle.sopl_ast.specs.declared.token.Token.{Token}

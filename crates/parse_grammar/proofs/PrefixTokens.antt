@@ -16,6 +16,7 @@ use Rattle.parse_grammar.proofs.Chains.{Chained}
 use Rattle.parse_grammar.proofs.Ends.{binding, level, beginning, no_minus, no_total, no_not, no_bracket, no_brace, no_forall, no_prob}
 use Rattle.parse_grammar.proofs.MarkLaws.{no_mark}
 use Rattle.parse_grammar.proofs.Tokens.{mark_seen, inside_way}
+use Rattle.parse_grammar.proofs.LocalChain.{none_left}
 
 -- some value is read, and these tokens are left
 pub record Gives {A : Type 0} (o : Read A) (r : List Token) : Type 0 where
@@ -67,10 +68,6 @@ gives_closed o w mark make us r x e =
       value = make x.value;
       read = ap (λ l. l >>= (λ x. past w mark x.1 >>= (λ after. Ok (make x.0, after)))) x.read ∙ ap (λ l. l >>= (λ after. Ok (make x.value, after))) e;
     }
-
-pub none_left : (ts : List Token) → length ts ≤ 0 → ts ≡ []
-none_left [] low = refl
-none_left (u ∷ us) low = absurd (omega (arith, low))
 
 -- a mark is passed, or missing
 pub past_prefix : (n : ℕ) (mark : Mark) (ts us : List Token) → Is true (kind_of mark) ts us → past (way true n) mark ts ≡ Ok us

@@ -1,3 +1,4 @@
+-- Written by tools/proof_files from the constructors of `Grammar`.
 -- Each phrase takes tokens: what is left behind it is shorter. `cut` is false, so nothing is missing.
 use Rattle.std.proofs.Common.{ℕ, suc, ◌<◌, ◌≤◌, Bool, false, List, ◌∷◌, length, Option, arith}
 use Rattle.sopl_ast.specs.declared.operators.MulOp.{MulOp}

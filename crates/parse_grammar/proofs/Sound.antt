@@ -18,11 +18,12 @@ use Rattle.parse_grammar.specs.Phrases as p
 use Rattle.parse_grammar.specs.Expressions.{no_tree, no_binders}
 use Rattle.parse_grammar.specs.Phrases.{way}
 use Rattle.parse_grammar.proofs.Items.{Items, an_item, IsBehind, IsFactor, a_factor, IsTerm, a_term, IsIndex, an_index}
-use Rattle.parse_grammar.proofs.SoundBase.{steps, ok_value, kept, by_mark, by_kind, by_absent, past_sound, by_inside, Entered, enter_sound, name_kind, Found, chain_sound, chain_ends, behind_sound}
+use Rattle.parse_grammar.proofs.SoundBase.{steps, ok_value, kept, by_mark, by_kind, by_absent, past_sound, by_inside, Entered, enter_sound, Found, chain_sound, chain_ends, behind_sound}
 use Rattle.parse_grammar.proofs.NotLonger.{factor_shorter}
 use Rattle.parse_grammar.proofs.PartsBack.{indices_of_items, factors_of_items, terms_of_items, conjuncts_of_items, disjuncts_of_items}
 use Rattle.parse_grammar.proofs.Contents.{Operand, Product, Compared, Tasks, Below}
 use Rattle.parse_grammar.proofs.Missing.{missing_expression, missing_arguments, missing_compared, missing_tasks}
+use Rattle.parse_grammar.proofs.LocalWhole.{name_kind}
 
 -- a kind that has a number is a literal
 literal_kind : (kind : TokenKind) (value : ℤ) → literal_value kind ≡ Some value → kind ≡ k.Lit value

@@ -13,6 +13,7 @@ use Rattle.parse_grammar.specs.Reading.{Stop, Depth, Read, Next, Inner, ◌>>=�
 use Rattle.parse_grammar.specs.Phrases.{way, deeper, inner_of, some_read}
 use Rattle.parse_grammar.proofs.Items.{Items, no_item, an_item, IsBehind, behind}
 use Rattle.parse_grammar.proofs.MarkLaws.{marked_kind, no_mark}
+use Rattle.parse_grammar.proofs.LocalWhole.{name_kind}
 
 -- what was read first, and how it went on
 pub record Steps {A B : Type 0} (o : Result A Stop) (f : A → Result B Stop) (b : B) : Type 0 where
@@ -128,11 +129,6 @@ enter_sound {A} cut n mark value content Content sound missing ts q e =
     subst (λ l. Entered cut (kind_of mark) Content n l q.0 q.1) x.over
     (subst (λ (y : A × List Token). Entered cut (kind_of mark) Content n [] y.0 y.1) found
     (record { level = n; within = []; opens = g.bracket_missing n x.may_end; holds = missing x.may_end })))
-
--- a kind that has bytes is a name
-pub name_kind : (kind : TokenKind) (bytes : List ℕ) → h.name_bytes kind ≡ Some bytes → kind ≡ k.Name bytes
-name_kind (k.Name other) bytes e = cc
-name_kind kind bytes e = absurd (cc)
 
 -- a name that is read is the first token
 pub name_sound : (cut : Bool) (n : ℕ) (ts : List Token) (q : (List ℕ × ℕ) × List Token) → name (way cut n) ts ≡ Ok q → IsName cut ts q.0.0 q.0.1 q.1

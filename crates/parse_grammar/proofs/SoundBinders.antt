@@ -15,11 +15,12 @@ use Rattle.parse_grammar.specs.Phrases as p
 use Rattle.parse_grammar.specs.Expressions.{no_tree, no_binders}
 use Rattle.parse_grammar.specs.Phrases.{way}
 use Rattle.parse_grammar.proofs.Items.{IsBehind}
-use Rattle.parse_grammar.proofs.SoundBase.{steps, kept, past_sound, enter_sound, name_kind, name_sound, Found, chain_sound, behind_sound}
+use Rattle.parse_grammar.proofs.SoundBase.{steps, kept, past_sound, enter_sound, name_sound, Found, chain_sound, behind_sound}
 use Rattle.parse_grammar.proofs.PartsBack.{arguments_of_items, binders_of_items}
 use Rattle.parse_grammar.proofs.Contents.{Summed, Compared, Task, Tasks, Bound, some_bound, Below}
 use Rattle.parse_grammar.proofs.Missing.{missing_bound, missing_task}
 use Rattle.parse_grammar.proofs.Sound.{product_sound, sum_sound, expression_sound}
+use Rattle.parse_grammar.proofs.LocalWhole.{name_kind}
 
 -- a comma and an argument, if there are any
 argument_sound : (cut : Bool) (n : ℕ) → Below cut n → (ts : List Token) (q : Option Tree × List Token) → expressions.next_argument (way cut n) ts ≡ Ok q

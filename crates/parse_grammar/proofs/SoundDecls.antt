@@ -16,13 +16,14 @@ use Rattle.parse_grammar.specs.Phrases as p
 use Rattle.parse_grammar.specs.Expressions.{no_tree}
 use Rattle.parse_grammar.specs.Phrases.{way}
 use Rattle.parse_grammar.proofs.Items.{IsBehind, IsNextDim, a_dim}
-use Rattle.parse_grammar.proofs.SoundBase.{steps, kept, by_mark, past_sound, by_inside, enter_sound, name_kind, name_sound, Found, chain_sound, behind_sound, some_read_sound}
+use Rattle.parse_grammar.proofs.SoundBase.{steps, kept, by_mark, past_sound, by_inside, enter_sound, name_sound, Found, chain_sound, behind_sound, some_read_sound}
 use Rattle.parse_grammar.proofs.MarkLaws.{marked_kind}
 use Rattle.parse_grammar.proofs.PartsBack.{dims_of_items, inits_of_items, elements_of_items, outcomes_of_items, declarations_of_items}
 use Rattle.parse_grammar.proofs.Contents.{Outcomes, some_outcomes, Below}
 use Rattle.parse_grammar.proofs.Missing.{missing_outcomes}
 use Rattle.parse_grammar.proofs.Sound.{sum_sound, expression_sound}
 use Rattle.parse_grammar.proofs.SoundBinders.{range_sound}
+use Rattle.parse_grammar.proofs.LocalWhole.{name_kind}
 
 -- a stage, or none
 pub stage_sound : (cut : Bool) (n : ℕ) → Below cut n → (ts : List Token) (q : Option Tree × List Token) → p.stage (way cut n) ts ≡ Ok q → IsStage cut n ts q.0 q.1

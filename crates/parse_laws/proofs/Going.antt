@@ -1,3 +1,4 @@
+-- Written by tools/proof_files from the constructors of `Grammar`.
 -- Where tokens end too early, each phrase goes on: some tokens behind them spell what is missing, where enough brackets may be opened.
 use Rattle.std.proofs.Common.{refl, arith, ℕ, zero, suc, ◌+◌, ◌≤◌, pos, Bool, true, false, List, [], ◌∷◌, ◌++◌, Option, Some, None}
 use Rattle.sopl_ast.specs.declared.operators.MulOp.{MulOp}
@@ -94,7 +95,8 @@ mutual
         value = Node u.span.start (t.Index bytes (trees (x3.value ∷ x5.value)));
         nesting = suc (x3.nesting + x5.nesting);
         is = λ m le s. above (λ j. IsPrimary false j ((u ∷ (u1 ∷ us1)) ++ x3.others (x4.others (x5.others s))) (Node u.span.start (t.Index bytes (trees (x3.value ∷ x5.value)))) (r ++ s))
-            (x3.nesting + x5.nesting) m le (λ l low. g.element (suc l) u _ bytes x3.value x5.value _ i1
+            (x3.nesting + x5.nesting) m le
+            (λ l low. g.element (suc l) u _ bytes x3.value x5.value _ i1
             (g.more_index l u1 _ x3.value _ _ x5.value _ i2 (x3.is l (omega (arith, low)) (x4.others (x5.others s))) (x4.is (x5.others s)) (x5.is (suc l) (omega (arith, low)) s)));
       }
   goes_primary _ _ _ _ (g.parentheses n u us e vs r i1 i2 i3) =
@@ -126,8 +128,8 @@ mutual
         others = λ s. x2.others (x3.others (x4.others s));
         value = Node u.span.start (extreme_of greatest (trees x3.value));
         nesting = suc x3.nesting;
-        is = λ m le s. above (λ j. IsPrimary false j ((u ∷ us) ++ x2.others (x3.others (x4.others s))) (Node u.span.start (extreme_of greatest (trees x3.value))) (r ++ s)) x3.nesting
-            m le (λ l low. g.extreme (suc l) u _ greatest l _ x3.value _ _ i1 (x2.is l (x3.others (x4.others s))) (x3.is l low (x4.others s)) (x4.is s));
+        is = λ m le s. above (λ j. IsPrimary false j ((u ∷ us) ++ x2.others (x3.others (x4.others s))) (Node u.span.start (extreme_of greatest (trees x3.value))) (r ++ s)) x3.nesting m le
+            (λ l low. g.extreme (suc l) u _ greatest l _ x3.value _ _ i1 (x2.is l (x3.others (x4.others s))) (x3.is l low (x4.others s)) (x4.is s));
       }
   goes_primary _ _ _ _ (g.all_different n u us m vs bs ws e xs r i1 i2 i3 i4 i5) =
       let x2 = goes_opening k.ParenOpen n us m vs i2 in
@@ -139,8 +141,9 @@ mutual
         value = Node u.span.start (t.AllDifferent (binders x3.value) x4.value);
         nesting = suc (x3.nesting + x4.nesting);
         is = λ m le s. above (λ j. IsPrimary false j ((u ∷ us) ++ x2.others (x3.others (x4.others (x5.others s)))) (Node u.span.start (t.AllDifferent (binders x3.value) x4.value)) (r ++ s))
-            (x3.nesting + x4.nesting) m le (λ l low. g.all_different (suc l) u _ l _ x3.value _ x4.value _ _ i1 (x2.is l (x3.others (x4.others (x5.others s))))
-            (x3.is l (omega (arith, low)) (x4.others (x5.others s))) (x4.is l (omega (arith, low)) (x5.others s)) (x5.is s));
+            (x3.nesting + x4.nesting) m le
+            (λ l low. g.all_different (suc l) u _ l _ x3.value _ x4.value _ _ i1 (x2.is l (x3.others (x4.others (x5.others s)))) (x3.is l (omega (arith, low)) (x4.others (x5.others s)))
+            (x4.is l (omega (arith, low)) (x5.others s)) (x5.is s));
       }
   goes_primary _ _ _ _ (g.cumulative n u us m vs bs ws l xs start length demand ys zs ps capacity cs r i1 i2 i3 i4 i5 i6 i7 i8 i9) =
       let x2 = goes_opening k.ParenOpen n us m vs i2 in
@@ -324,8 +327,8 @@ mutual
         others = λ s. x2.others (x3.others s);
         value = Node u.span.start (t.Sum (binders x2.value) x3.value);
         nesting = suc (x2.nesting + x3.nesting);
-        is = λ m le s. above (λ j. IsOperand false j ((u ∷ us) ++ x2.others (x3.others s)) (Node u.span.start (t.Sum (binders x2.value) x3.value)) true (r ++ s)) (x2.nesting + x3.nesting)
-            m le (λ l low. g.total l u _ x2.value _ x3.value _ i1 (x2.is l (omega (arith, low)) (x3.others s)) (x3.is l (omega (arith, low)) s));
+        is = λ m le s. above (λ j. IsOperand false j ((u ∷ us) ++ x2.others (x3.others s)) (Node u.span.start (t.Sum (binders x2.value) x3.value)) true (r ++ s)) (x2.nesting + x3.nesting) m le
+            (λ l low. g.total l u _ x2.value _ x3.value _ i1 (x2.is l (omega (arith, low)) (x3.others s)) (x3.is l (omega (arith, low)) s));
       }
 
   -- factors
@@ -528,8 +531,8 @@ mutual
         others = λ s. x1.others (x3.others s);
         value = Node (place_of x1.value) (t.Implies x1.value x3.value);
         nesting = suc (x1.nesting + x3.nesting);
-        is = λ m le s. above (λ j. IsExpression false j (ts ++ x1.others (x3.others s)) (Node (place_of x1.value) (t.Implies x1.value x3.value)) (r ++ s)) (x1.nesting + x3.nesting) m
-            le (λ l low. g.implication l _ x1.value u _ x3.value _ (x1.is (suc l) (omega (arith, low)) (x3.others s)) i2 (x3.is l (omega (arith, low)) s));
+        is = λ m le s. above (λ j. IsExpression false j (ts ++ x1.others (x3.others s)) (Node (place_of x1.value) (t.Implies x1.value x3.value)) (r ++ s)) (x1.nesting + x3.nesting) m le
+            (λ l low. g.implication l _ x1.value u _ x3.value _ (x1.is (suc l) (omega (arith, low)) (x3.others s)) i2 (x3.is l (omega (arith, low)) s));
       }
 
 -- a stage

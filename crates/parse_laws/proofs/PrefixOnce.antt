@@ -1,9 +1,9 @@
 -- Tokens are misspelled by one code at one place.
 use Rattle.std.proofs.Common.{◌≡◌, ◌∙◌, refl, sym, ap, subst, ℕ, List, [], ◌∷◌, ◌++◌, append_assoc}
-use Rattle.sopl_base.specs.declared.fault.Refusal.{Refusal}
 use Rattle.sopl_ast.specs.declared.token.Token.{Token}
 use Rattle.sopl_ast.specs.Grammar.{Spells, IsPrefix}
 use Rattle.sopl_ast.specs.Misspelled.{place_in, NoneGoesOn, IsMisplaced, IsTooDeep, misplaced, too_deep}
+use Rattle.sopl_lex.proofs.Meet.{same_refusal}
 use Rattle.parse_laws.specs.Misspelled.{PrefixesAreClosed, MisspelledOnce}
 use Rattle.parse_laws.proofs.Prefixes.{prefixes_go_on}
 
@@ -97,9 +97,6 @@ not_both : (size : ℕ) (tokens : List Token) (at spot : ℕ) (a : IsMisplaced s
 unfolding misplaced_stops deep_stops
 not_both size tokens at spot a b same =
     no_prefix 65 b.before b.token b.behind (subst (λ l. NoneGoesOn b.before l) same.behind (subst (λ l. NoneGoesOn l a.behind) same.before a.stuck)) b.deeper
-
-same_refusal : (a b : Refusal) → a.code ≡ b.code → a.at ≡ b.at → a ≡ b
-same_refusal a b one two = λ i. record { code = one i; at = two i }
 
 pub misspelled_once : PrefixesAreClosed → MisspelledOnce
 unfolding misplaced_stops deep_stops

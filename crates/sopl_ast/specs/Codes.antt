@@ -1,3 +1,4 @@
+-- Written by tools/proof_files from the constructors of `Tree`.
 -- How a tree is written as a tree of numbers, one to one: by this a proof tells two trees apart.
 use Rattle.std.specs.Prelude.{◌≡◌, ℕ, Bool, List, refl}
 use Rattle.std.proofs.Common.{ap, arith, zero, suc}
