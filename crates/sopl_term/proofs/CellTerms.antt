@@ -2,6 +2,7 @@
 use Rattle.std.proofs.Common.{◌≡◌, ◌∙◌, refl, ap, sym, arith, ℕ, ◌+◌, ◌<◌, ◌≤◌, List, [], ◌∷◌, ◌++◌, map, length, get_or, subst}
 use Rattle.std.proofs.lemmas.List.FromFn.{get_or-map-range_with_len, length-map-range_with_len, map-range_with_len_more}
 use Rattle.std.specs.List.{range_with_len}
+use Rattle.sopl_base.proofs.Naturals.{from_zero}
 use Rattle.box_problem.specs.Box.{Box}
 use Rattle.term_language.specs.Terms.{Cell}
 use Rattle.term_nodes.specs.Things.{Thing, a_term, nothing, term_at, term_in}
@@ -15,9 +16,6 @@ as_term cell = a_term (Cell cell)
 
 abbrev itself : ℕ → ℕ
 itself cell = cell
-
-from_zero : (i : ℕ) → 0 + i ≡ i
-from_zero i = omega arith
 
 pub no_cell : (s : TermStore) → IsSoundStore s → all s ≡ [] → HasCells s s [] 0
 no_cell s sound empty = record { sound = sound; root = refl; things = empty; nodes = refl }

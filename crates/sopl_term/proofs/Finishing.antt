@@ -92,7 +92,7 @@ module _ (b : Builder) (g : Goal) (building : IsBuilding b) where
   ended_sound (first ∷ later) some fits direction listed = sound first later fits direction listed
 
 -- without terms
-empty : (terms : List TermId) → length terms ≡ 0 → terms ≡ []
+pub empty : (terms : List TermId) → length terms ≡ 0 → terms ≡ []
 empty [] none = refl
 empty (first ∷ later) none = absurd (omega (arith, none))
 

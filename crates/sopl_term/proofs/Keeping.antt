@@ -1,5 +1,5 @@
 -- What was built stays where more is added.
-use Rattle.std.proofs.Common.{◌≡◌, ◌∙◌, refl, ap, sym, subst, arith, ℕ, zero, suc, None, ◌<◌, ◌≤◌, List, [], ◌∷◌, ◌++◌, map, length, length-append, get_or, inl, inr, Option}
+use Rattle.std.proofs.Common.{◌≡◌, ◌∙◌, refl, ap, sym, subst, arith, ℕ, None, ◌<◌, ◌≤◌, List, [], ◌∷◌, map, length, length-append, get_or, inl, inr}
 use Rattle.std.proofs.lemmas.Bool.{cases_lt}
 use Rattle.std.proofs.lemmas.List.{get_or_past}
 use Rattle.std.specs.List.{AllByRecursion}
@@ -10,6 +10,7 @@ use Rattle.term_nodes.specs.Built.{AllBelow}
 use Rattle.term_language.specs.Terms.{Cell}
 use Rattle.term_goals.specs.Goals.{AreCells}
 use Rattle.term_nodes.specs.Things.{Thing, nothing, thing_at, cond_at, cond_in, term_at, term_in}
+use Rattle.term_nodes.proofs.Growing.{stays}
 use Rattle.term_store.specs.Stores.{IsSoundStore, IsAdded, root_of, all}
 use Rattle.term_store.specs.declared.store.TermStore.{TermStore}
 use Rattle.term_program.specs.declared.draft.Conditions.{Conditions}
@@ -18,11 +19,6 @@ use Rattle.term_program.specs.declared.draft.Draft.{Draft}
 use Rattle.sopl_term.specs.declared.builder.Builder.{Builder}
 use Rattle.term_program.specs.Drafts.{HasConditions, IsDraft, conditions_of, chance_of, draft_problem, draft_root, draft_things}
 use Rattle.sopl_term.specs.Built.{Grows, IsBuilding, IsKept, built}
-
-stays : (all : List Thing) (more : Thing) (id : ℕ) → id < length all → thing_at (all ++ more ∷ []) id ≡ thing_at all id
-stays [] more id there = absurd (omega (arith, there))
-stays (x ∷ all) more zero there = refl
-stays (x ∷ all) more (suc id) there = stays all more id (omega (arith, there))
 
 grows_added : (before after : List Thing) (id : ℕ) (thing : Thing) → IsAdded before after id thing → Grows before after
 grows_added before after id thing added = record {
@@ -61,7 +57,7 @@ same_chances before after (c ∷ chances) grows there =
     ∙ ap (λ (cs : List ChanceTerms). chance_of before c ∷ cs) (same_chances before after chances grows there.1)
 
 -- what is there is there among more
-all_below : (n m : ℕ) (ids : List ℕ) → n ≤ m → AllBelow n ids → AllBelow m ids
+pub all_below : (n m : ℕ) (ids : List ℕ) → n ≤ m → AllBelow n ids → AllBelow m ids
 all_below n m [] most below = tt
 all_below n m (id ∷ ids) most below = (omega (arith, most, below.0), all_below n m ids most below.1)
 

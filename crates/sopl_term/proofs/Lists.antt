@@ -1,15 +1,11 @@
 -- Lists that are made one after the other.
-use Rattle.std.proofs.Common.{◌≡◌, ◌∙◌, refl, ap, sym, ℕ, ◌+◌, ◌<◌, ◌≤◌, List, [], ◌∷◌, ◌++◌, map, length, get_or, drop}
-use Rattle.std.proofs.lemmas.List.{at_drop_more, at_drop_all}
+use Rattle.std.proofs.Common.{◌≡◌, ◌∙◌, refl, ap, sym, ℕ, ◌+◌, ◌<◌, List, [], ◌∷◌, ◌++◌, map, length, get_or, drop}
+use Rattle.std.proofs.lemmas.List.{at_drop_more}
 use Rattle.sopl_term.proofs.Hards.{map_more}
 
 behind : {B : Type 0} (done : List B) (y : B) (rest : List B) → (done ++ y ∷ []) ++ rest ≡ done ++ y ∷ rest
 behind [] y rest = refl
 behind (x ∷ done) y rest = ap (λ ys. x ∷ ys) (behind done y rest)
-
-nothing_behind : {B : Type 0} (done : List B) → done ++ [] ≡ done
-nothing_behind [] = refl
-nothing_behind (x ∷ done) = ap (λ ys. x ∷ ys) (nothing_behind done)
 
 pub list_more : {A B C : Type 0} (f : A → B) (g : C → B) (xs : List A) (i : ℕ) (x : A) (e : C) (list new : List C) → i < length xs → x ≡ get_or xs i x → g e ≡ f x → new ≡ list ++ e ∷ []
     → map g list ++ map f (drop i xs) ≡ map f xs → map g new ++ map f (drop (i + 1) xs) ≡ map f xs
@@ -20,10 +16,6 @@ list_more f g xs i x e list new below at same added so_far =
     ∙ ap (λ y. map g list ++ y ∷ map f (drop (i + 1) xs)) (same ∙ ap f at)
     ∙ sym (ap (λ ys. map g list ++ ys) (at_drop_more (map f) xs i x below))
     ∙ so_far
-
-pub list_done : {A B C : Type 0} (f : A → B) (g : C → B) (xs : List A) (i : ℕ) (list : List C) → length xs ≤ i → map g list ++ map f (drop i xs) ≡ map f xs → map g list ≡ map f xs
-list_done f g xs i list past so_far =
-    sym (nothing_behind (map g list)) ∙ sym (ap (λ ys. map g list ++ ys) (at_drop_all (map f) xs i past)) ∙ so_far
 
 pub map_same : {A : Type 0} (xs : List A) → map (λ x. x) xs ≡ xs
 map_same [] = refl

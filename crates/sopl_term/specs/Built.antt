@@ -16,6 +16,7 @@ use Rattle.term_program.specs.declared.ids.CondId.{CondId}
 use Rattle.sopl_term.specs.declared.builder.Builder.{Builder}
 use Rattle.box_problem.specs.Box.{Box}
 use Rattle.term_program.specs.Drafts.{IsDraft, draft_problem, draft_root, draft_things}
+pub use Rattle.term_program.specs.Globals.{term_ids}
 
 -- what stands at each number
 abbrev pub built : Builder → List Thing
@@ -76,10 +77,7 @@ pub record IsUnder (before after : Builder) : Type 0 where
   pub direction : asked_direction after ≡ asked_direction before
   pub worst : asked_worst after ≡ asked_worst before
 
--- the numbers of terms, of conditions, of the parts of a sum, and of tasks
-abbrev pub term_ids : List TermId → List ℕ
-term_ids ids = map (λ (id : TermId). id.0) ids
-
+-- the numbers of conditions, of the parts of a sum, and of tasks
 abbrev pub cond_ids : List CondId → List ℕ
 cond_ids ids = map (λ (id : CondId). id.0) ids
 

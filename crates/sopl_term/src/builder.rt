@@ -73,7 +73,7 @@ impl Builder {
 }
 
 /// The sum of weights.
-#[tactic(auto, using(term_program::proofs::Weighing::next_total, term_program::proofs::Weighing::no_total, term_program::proofs::Weighing::total_fits))]
+#[tactic(auto, using(term_program::proofs::Weighing::next_total, term_goals::proofs::Weights::no_total, term_program::proofs::Weighing::total_fits))]
 fn sum_of(weights: &[i128]) -> Sum
     requires weighs { AllByRecursion (λ weight. pos 1 ≤ℤ weight) weights.now }
     requires light { total weights.now ≤ℤ pos (2 ^ 100) }

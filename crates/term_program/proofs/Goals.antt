@@ -1,5 +1,5 @@
 -- What is asked of an objective over a box.
-use Rattle.std.proofs.Common.{◌≡◌, ◌∙◌, refl, ap, sym, subst, arith, ℕ, zero, suc, ◌<◌, ◌≤◌, ℤ, pos, Bool, false, if◌then◌else◌, List, [], ◌∷◌, length, get_or, Option, Some, None}
+use Rattle.std.proofs.Common.{◌≡◌, ◌∙◌, refl, ap, sym, subst, ℕ, ◌<◌, ◌≤◌, ℤ, pos, Bool, false, if◌then◌else◌, List, [], length, get_or, Option, Some, None}
 use Rattle.std.proofs.Common.{IfSome, IfNone, option_map, slice_get}
 use Rattle.std.proofs.lemmas.Option.{slice_get-map, slice_get_read, slice_get_past}
 use Rattle.std.specs.Option.{option_map_or}
@@ -16,19 +16,12 @@ use Rattle.term_program.specs.Drafts.{AreAtomsOf, IsDraft, IsGoalOf, draft_probl
 use Rattle.term_program.specs.Programs.{IsMade, problem_in, root_in, summed_form, things_in, with_goal}
 use Rattle.term_language.specs.Ends.{Ends, exactly, plus}
 use Rattle.term_problem.specs.Objective.{expected_ends, expected_form, goal_ends, goal_ends_of, worst_ends}
-use Rattle.term_nodes.specs.Built.{AllBelow}
 use Rattle.term_nodes.specs.Things.{Thing, term_at}
 use Rattle.term_goals.specs.Goals.{AtomsExist, IsSummed, IsWeighted, constant_of, goal_of, is_none, listed_ends, terms_of}
 use Rattle.term_goals.specs.declared.sums.Atom.{Atom}
 use Rattle.term_goals.specs.declared.sums.Summed.{Summed}
 use Rattle.term_language.specs.Forms.{Form, number_form}
 use Rattle.term_goals.specs.declared.goal.Goal.{Goal}
-
--- each term exists
-pub term_exists : (n : ℕ) (ids : List ℕ) (i x : ℕ) → AllBelow n ids → i < length ids → x ≡ get_or ids i x → x < n
-term_exists n [] i x all there at = absurd (omega (arith, there))
-term_exists n (y ∷ ys) zero x all there at = subst (λ (p : ℕ). p < n) (sym at) all.0
-term_exists n (y ∷ ys) (suc i) x all there at = term_exists n ys i x all.1 (omega (arith, there)) at
 
 -- over the same root and things
 pub ends_of_goal : (root view b c : Box) (things all : List Thing) (weights : List ℤ) (g : Goal) (ends : Ends) → root ≡ b → view ≡ c → things ≡ all → ends

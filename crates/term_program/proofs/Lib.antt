@@ -1,4 +1,5 @@
 pub mod Lists
+pub mod Listing
 pub mod Weighing
 pub mod Reasons
 pub mod Goals

@@ -1,7 +1,7 @@
 -- Cells that are kept.
-use Rattle.std.proofs.Common.{◌≡◌, ◌∙◌, refl, ap, sym, subst, arith, ℕ, zero, suc, ◌+◌, ◌<◌, ◌≤◌, Bool, true, false, cond, List, [], ◌∷◌, ◌++◌, length, get_or, take, Option, Some}
-use Rattle.std.proofs.Common.{None, IfSome, IsTrue, is_some, Vec, Global, Contains, ◌↔◌, slice_get}
-use Rattle.std.specs.BTreeMap.{BTreeMap, get, get_by, is_at}
+use Rattle.std.proofs.Common.{◌≡◌, ◌∙◌, refl, ap, sym, subst, arith, ℕ, zero, suc, ◌+◌, ◌<◌, ◌≤◌, true, cond, List, [], ◌∷◌, ◌++◌, length, get_or, take, Option, Some}
+use Rattle.std.proofs.Common.{IfSome, IsTrue, is_some, Vec, Global, Contains, ◌↔◌, slice_get}
+use Rattle.std.specs.BTreeMap.{get, is_at}
 use Rattle.std.specs.List.{AllByRecursion, flat_map}
 use Rattle.std.specs.FinMap.{nat_cmp-IsAntisymmetric}
 use Rattle.std.specs.Ordering.{is_eq, nat_cmp}
@@ -13,6 +13,7 @@ use Rattle.term_program.specs.declared.draft.ChanceConditions.{ChanceConditions}
 use Rattle.term_program.specs.declared.draft.Conditions.{Conditions}
 use Rattle.term_program.specs.declared.mentions.Mentions.{Mentions}
 use Rattle.std.specs.List.Sorted.{IsStrictlyIncreasing}
+use Rattle.sopl_base.proofs.Lists.{all_append}
 use Rattle.box_problem.specs.Box.{Box}
 use Rattle.term_language.specs.Mentions.{cond_mentions, mentions}
 use Rattle.term_nodes.specs.Things.{Thing, cond_at, term_at}
@@ -24,7 +25,7 @@ alike Less is = cc
 alike Equal is = refl
 alike Greater is = cc
 
-same_key : (k q : ℕ) → is_at (nat_cmp k) q ≡ true → k ≡ q
+pub same_key : (k q : ℕ) → is_at (nat_cmp k) q ≡ true → k ≡ q
 same_key k q is = nat_cmp-IsAntisymmetric k q (alike (nat_cmp k q) is)
 
 -- one list more
@@ -82,15 +83,11 @@ pub all_stay : (b c : Mentions) (ids : List ℕ) → ((id : ℕ) → IsTrue (Has
 all_stay b c [] stays all = tt
 all_stay b c (id ∷ ids) stays all = (stays id all.0, all_stay b c ids stays all.1)
 
-all_both : {A : Type 0} (P : A → Type 0) (xs ys : List A) → AllByRecursion P xs → AllByRecursion P ys → AllByRecursion P (xs ++ ys)
-all_both P [] ys one two = two
-all_both P (x ∷ xs) ys one two = (one.0, all_both P xs ys one.1 two)
-
 gained_both : (f : ℕ → List ℕ) (a b c : Mentions) (xs ys : List ℕ) → Gained f a b xs → Gained f b c ys → Gained f a c (xs ++ ys)
 gained_both f a b c xs ys one two = record {
   lists = two.lists;
   stays = λ id has. two.stays id (one.stays id has);
-  there = all_both (λ id. IsTrue (HasList c id)) xs ys (all_stay b c xs two.stays one.there) two.there;
+  there = all_append (λ id. IsTrue (HasList c id)) xs ys (all_stay b c xs two.stays one.there) two.there;
 }
 
 -- a list one after the other
@@ -111,10 +108,10 @@ taken_suc g (y ∷ ys) (suc i) x below at =
 one_more : (i : ℕ) → suc i ≡ i + 1
 one_more i = omega arith
 
-taken : {A : Type 0} (g : A → List ℕ) (xs : List A) (i : ℕ) (x : A) → i < length xs → x ≡ get_or xs i x → flat_map g (take (i + 1) xs) ≡ flat_map g (take i xs) ++ g x
+pub taken : {A : Type 0} (g : A → List ℕ) (xs : List A) (i : ℕ) (x : A) → i < length xs → x ≡ get_or xs i x → flat_map g (take (i + 1) xs) ≡ flat_map g (take i xs) ++ g x
 taken g xs i x below at = subst (λ (n : ℕ). flat_map g (take n xs) ≡ flat_map g (take i xs) ++ g x) (one_more i) (taken_suc g xs i x below at)
 
-all_taken : {A : Type 0} (xs : List A) (i : ℕ) → length xs ≤ i → take i xs ≡ xs
+pub all_taken : {A : Type 0} (xs : List A) (i : ℕ) → length xs ≤ i → take i xs ≡ xs
 all_taken [] zero past = refl
 all_taken [] (suc i) past = refl
 all_taken (x ∷ xs) zero past = absurd (omega (arith, past))
@@ -147,7 +144,7 @@ take_suc [] i x below at = absurd (omega (arith, below))
 take_suc (y ∷ ys) zero x below at = ap (λ z. z ∷ []) (sym at)
 take_suc (y ∷ ys) (suc i) x below at = ap (λ zs. y ∷ zs) (take_suc ys i x (omega (arith, below)) at)
 
-take_more : (xs : List ℕ) (i x : ℕ) → i < length xs → x ≡ get_or xs i x → take (i + 1) xs ≡ take i xs ++ x ∷ []
+pub take_more : (xs : List ℕ) (i x : ℕ) → i < length xs → x ≡ get_or xs i x → take (i + 1) xs ≡ take i xs ++ x ∷ []
 take_more xs i x below at = subst (λ (n : ℕ). take n xs ≡ take i xs ++ x ∷ []) (one_more i) (take_suc xs i x below at)
 
 pub gained_next : (f : ℕ → List ℕ) (a b c : Mentions) (ids : List ℕ) (i x : ℕ) → i < length ids → x ≡ get_or ids i x → Gained f a b (take i ids) → Gained f b c (x ∷ [])

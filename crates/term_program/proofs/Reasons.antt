@@ -6,6 +6,7 @@ use Rattle.std.proofs.lemmas.List.{length-map}
 use Rattle.std.proofs.lemmas.Option.{slice_get-map}
 use Rattle.std.specs.Option.{option_map_or, option_and_then}
 use Rattle.std.specs.List.{AllByRecursion}
+use Rattle.sopl_base.proofs.Lists.{all_at}
 use Rattle.box_problem.specs.Box.{Box}
 use Rattle.term_language.specs.Rules.{Near, truth}
 use Rattle.term_language.specs.Terms.{Cond}
@@ -50,17 +51,8 @@ chance_missing root b things weights whole chances i is =
     sym (ap (λ (o : Option ChanceTerms). option_map_or (fewer root b weights whole) o false) (slice_get-map (chance_of things) chances i
     ∙ ap (λ (o : Option ChanceConditions). option_map (chance_of things) o) is))
 
--- what all are, each is that is there
-each_there : {A : Type 0} (P : A → Type 0) (xs : List A) (i : ℕ) (x : A) → AllByRecursion P xs → slice_get xs i ≡ Some x → P x
-each_there P [] i x all is = cc
-each_there P (y ∷ ys) zero x all is = subst P (same y x is) all.0
-  where
-    same : {A : Type 0} (y x : A) → Some y ≡ Some x → y ≡ x
-    same y x e = cc
-each_there P (y ∷ ys) (suc i) x all is = each_there P ys i x all.1 is
-
 pub threshold_at : (chances : List ChanceConditions) (i : ℕ) (c : ChanceConditions) → AllByRecursion IsThreshold chances → slice_get chances i ≡ Some c → IsThreshold c
-threshold_at chances i c all is = each_there IsThreshold chances i c all is
+threshold_at chances i c all is = all_at IsThreshold chances i c all is
 
 pub chance_each : (terms : ProblemTerms) (things : List Thing) (chances : List ChanceConditions) (i : ℕ) (c : ChanceConditions) → AllByRecursion (IsChance terms) (map (chance_of things) chances)
     → slice_get chances i ≡ Some c → length c.conditions.ids.items ≡ length terms.weights
@@ -111,11 +103,11 @@ hard_each things (x ∷ xs) (suc i) n c all is = hard_each things xs i n c all.1
 -- the conditions of a constraint exist
 module _ (n : ℕ) where
   pub hard_exist : (hards : List Conditions) (i : ℕ) (c : Conditions) → AllByRecursion (HasConditions n) hards → slice_get hards i ≡ Some c → HasConditions n c
-  hard_exist hards i c all is = each_there (HasConditions n) hards i c all is
+  hard_exist hards i c all is = all_at (HasConditions n) hards i c all is
 
   pub chance_exist : (chances : List ChanceConditions) (i : ℕ) (c : ChanceConditions) → AllByRecursion (λ (c : ChanceConditions). HasConditions n c.conditions) chances → slice_get chances i
       ≡ Some c → HasConditions n c.conditions
-  chance_exist chances i c all is = each_there (λ (c : ChanceConditions). HasConditions n c.conditions) chances i c all is
+  chance_exist chances i c all is = all_at (λ (c : ChanceConditions). HasConditions n c.conditions) chances i c all is
 
   pub condition_exists : (ids : List ℕ) (i x : ℕ) → AllBelow n ids → slice_get ids i ≡ Some x → x < n
   condition_exists [] i x all is = cc

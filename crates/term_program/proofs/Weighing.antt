@@ -61,7 +61,7 @@ at_weighs (x ∷ xs) zero all below = all.0
 at_weighs (x ∷ xs) (suc i) all below = at_weighs xs i all.1 (omega (arith, below))
 
 -- one condition more
-left_step : (root b : Box) (w : ℤ) (ws : List ℤ) (c : Cond) (cs : List Cond) → weight_left root b (w ∷ ws) (c ∷ cs) ≡ kept (is_false (truth Near root b c)) w +ℤ weight_left root b ws cs
+pub left_step : (root b : Box) (w : ℤ) (ws : List ℤ) (c : Cond) (cs : List Cond) → weight_left root b (w ∷ ws) (c ∷ cs) ≡ kept (is_false (truth Near root b c)) w +ℤ weight_left root b ws cs
 left_step root b w ws c cs =
     by_bool (λ t. (if t then weight_left root b ws cs else w +ℤ weight_left root b ws cs) ≡ kept t w +ℤ weight_left root b ws cs) (is_false (truth Near root b c))
     (λ met. omega (arith, ints)) (λ unmet. refl)
@@ -111,9 +111,6 @@ sum_fits root b all ws ids whole i sum weighs is light each below left =
 -- the weight of all scenarios
 pub next_total : (ws : List ℤ) (i : ℕ) → i < length ws → total (drop i ws) ≡ get_or ws i (pos 0) +ℤ total (drop (i + 1) ws)
 next_total ws i below = at_drop_more total ws i (pos 0) below
-
-pub no_total : (ws : List ℤ) (i : ℕ) → length ws ≤ i → total (drop i ws) ≡ pos 0
-no_total ws i past = at_drop_all total ws i past
 
 pub total_fits : (ws : List ℤ) (i : ℕ) (sum : ℤ) → Weighs ws → total ws ≤ℤ pos (2 ^ 100) → i < length ws → sum ≡ total (drop (i + 1) ws) → FitsSigned w128 (get_or ws i (pos 0) +ℤ sum)
 total_fits ws i sum weighs light below is =

@@ -1,5 +1,6 @@
 pub mod Drafts
 pub mod Mentions
+pub mod Globals
 pub mod Programs
 pub mod Comparisons
 pub mod Stated

@@ -1,5 +1,5 @@
 -- Which problem in terms a program is.
-use Rattle.std.specs.Prelude.{◌≡◌, ℕ, pos, ℤ, Bool, if◌then◌else◌, List, [], IfSome, IfNone, IsTrue, Option, option_map}
+use Rattle.std.specs.Prelude.{◌≡◌, ℕ, pos, ℤ, Bool, if◌then◌else◌, List, [], length, IfSome, IfNone, IsTrue, Option, option_map}
 use Rattle.sopl_base.specs.declared.interval.Interval.{Interval}
 use Rattle.box_problem.specs.Box.{Box, with_low, with_high}
 use Rattle.term_language.specs.Ends.{Ends, ends}
@@ -11,6 +11,7 @@ use Rattle.term_nodes.specs.Things.{Thing}
 use Rattle.term_goals.specs.Goals.{goal_of}
 use Rattle.term_goals.specs.declared.goal.Goal.{Goal}
 use Rattle.term_program.specs.Drafts.{AreAtomsOf, IsDraft, IsGoalOf, draft_problem, draft_root, draft_things}
+use Rattle.term_program.specs.Globals.{AreTermsOf}
 use Rattle.term_program.specs.Mentions.{AreMentioned, HasList}
 use Rattle.term_program.specs.declared.program.Program.{Program}
 
@@ -45,6 +46,7 @@ pub record IsMade (p : Program) : Type 0 where
   pub atoms : IfSome p.goal (λ (g : Goal). AreAtomsOf p.draft g p.atoms.items)
   pub no_atoms : IfNone p.goal (p.atoms.items ≡ [])
   pub mentioned : AreMentioned p.draft p.goal p.atoms.items p.mentioned
+  pub globals : AreTermsOf (things_in p) (length (things_in p)) p.globals
 
 -- the cells that a condition, or a term, mentions are kept
 abbrev pub IsListed : Program → ℕ → Type 0

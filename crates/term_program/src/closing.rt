@@ -159,7 +159,7 @@ impl Program {
     }
 
     /// Whether the objective is Never defined in a scenario over a box.
-    #[tactic(auto, using(crate::proofs::Goals::term_exists))]
+    #[tactic(auto, using(term_nodes::proofs::Steps::cond_below))]
     fn never_in(&self, goal: &Goal, scenario: u32, view: &BoxView) -> bool
         requires made { IsMade self.now }
         requires kept { IsGoalOf self.now.draft goal.now }

@@ -5,6 +5,7 @@
 
 mod closing;
 mod draft;
+mod globals;
 mod ids;
 mod laws;
 mod mentions;
@@ -14,6 +15,7 @@ mod shapes;
 
 pub use closing::{refuted, refuted_in};
 pub use draft::{ChanceConditions, Conditions, Draft};
+pub use globals::GlobalTerms;
 pub use ids::{CondId, TermId};
 pub use laws::lawful_of;
 pub use mentions::{Mentioned, Mentions};

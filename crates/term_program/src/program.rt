@@ -6,15 +6,18 @@ ghost use Rattle.std.specs.List.{AllByRecursion};
 ghost use Rattle.box_problem.specs.Box.{Box, Inside, high, low};
 ghost use Rattle.term_language.specs.Ends.{exactly, plus};
 ghost use Rattle.term_problem.specs.Objective.{goal_ends};
-ghost use Rattle.term_nodes.specs.Things.{cond_at, term_at};
+ghost use Rattle.term_nodes.specs.Built.{AllBelow};
+ghost use Rattle.term_nodes.specs.Things.{cond_at, term_at, terms_at};
 ghost use Rattle.term_problem.specs.Problems.{IsProblem, denominator_in, direction_in};
 ghost use Rattle.term_goals.specs.Goals.{AtomsExist, goal_of, listed_ends};
 ghost use Rattle.term_program.specs.Drafts.{AreAtomsOf, IsDraft, IsGoalOf, draft_problem, draft_root, draft_things};
 ghost use Rattle.term_language.specs.Mentions.{cond_mentions, mentions};
+ghost use Rattle.term_program.specs.Globals.{global_terms, term_ids};
 ghost use Rattle.term_program.specs.Mentions.{IsListOf, atom_ids};
 ghost use Rattle.term_program.specs.Programs.{IsListed, IsListedTerm, IsMade, problem_in, root_in, summed_form, things_in, with_goal};
 
 use crate::draft::Draft;
+use crate::globals::GlobalTerms;
 use crate::ids::{CondId, TermId};
 use crate::mentions::Mentioned;
 use sopl_base::{Direction, Interval};
@@ -28,6 +31,7 @@ pub struct Program {
     pub(crate) goal: Option<Goal>,
     pub(crate) atoms: Vec<Atom>,
     pub(crate) mentioned: Mentioned,
+    pub(crate) globals: GlobalTerms,
 }
 
 /// What the sum of an objective has besides its constant.
@@ -69,11 +73,13 @@ impl Program {
     {
         let atoms = atoms_in(&draft, &goal)?;
         let mentioned = Mentioned::of(&draft, &goal, atoms.as_slice())?;
+        let globals = GlobalTerms::of(&draft)?;
         Ok(Program {
             draft,
             goal,
             atoms,
             mentioned,
+            globals,
         })
     }
 
@@ -164,6 +170,15 @@ impl Program {
         self.draft.chances[instance as usize]
             .conditions
             .at(scenario)
+    }
+
+    /// The terms of an `allDifferent`; of a `cumulative` the start, the length and the demand of each task, and then its capacity. Another condition has none.
+    pub fn terms(&self, cond: CondId) -> &[TermId]
+        requires made { IsMade self.now }
+        ensures terms { terms_at (things_in self.now) (term_ids result.now) ≡ global_terms (cond_at (things_in self.now) cond.0) }
+        ensures exist { AllBelow (length (things_in self.now)) (term_ids result.now) }
+    {
+        self.globals.of_cond(cond.0)
     }
 
     /// The cells that a condition mentions which `hard` or `chance` gave.

@@ -1,7 +1,7 @@
 -- Terms are there where that was tried of each.
 use Rattle.std.proofs.Common.{◌≡◌, ℕ, nat_lt, Bool, true, ◌&&◌, List, [], ◌∷◌, subst}
 use Rattle.std.specs.List.{list_all}
-use Rattle.term_language.proofs.Different.{nat_tested}
+use Rattle.sopl_base.proofs.Tests.{nat_tested}
 use Rattle.term_language.proofs.FormValues.{and_first, and_second}
 use Rattle.term_nodes.specs.declared.nodes.Task.{Task}
 use Rattle.term_nodes.specs.Built.{AllBelow, TasksBelow}

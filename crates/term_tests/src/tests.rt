@@ -347,5 +347,6 @@ fn elements_refused_for_their_size(rt: HostRuntime) {
 mod arrays;
 mod builders;
 mod global_conditions;
+mod global_terms;
 mod indices;
 mod mentions;

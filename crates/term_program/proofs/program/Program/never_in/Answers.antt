@@ -1,14 +1,15 @@
 use Rattle.std.proofs.Common.{rules, ◌∙◌, ◌<◌, ◌≤◌, length, sym, subst}
 use Rattle.term_math.specs.Shown.{box_in}
 use Rattle.term_nodes.specs.Built.{AllBelow}
+use Rattle.term_nodes.proofs.Steps.{cond_below}
 use Rattle.term_program.specs.Programs.{root_in, things_in}
-use Rattle.term_program.proofs.Goals.{term_exists, never_there, never_missing}
+use Rattle.term_program.proofs.Goals.{never_there, never_missing}
 use Rattle.term_program.proofs.program.Program.never_in.Goals as goal
 
 pub is_never-requires-clause-exists : goal.is_never-requires-clause-exists
 is_never-requires-clause-exists c =
     let there : c.args.scenario < length c.terms.result.now = search rules in
-    term_exists (length (things_in c.args.self.now)) c.terms.result.now c.args.scenario c.in-Some.term.now
+    cond_below (length (things_in c.args.self.now)) c.terms.result.now c.args.scenario c.in-Some.term.now
     (subst (AllBelow (length (things_in c.args.self.now))) (sym c.terms.ensures) c.requires.kept.sound.exist) there c.in-Some.ensures.lookup.1
 
 pub returns-in-Some : goal.returns-in-Some
