@@ -1,40 +1,21 @@
 -- The array of elements whose indices are all that some sets have, in whatever order, has these elements and no others.
 use Rattle.std.proofs.Common.{◌≡◌, ◌∙◌, refl, sym, ap, subst, arith, ℕ, zero, suc, ◌+◌, ◌<◌, ℤ, pos, ◌<ℤ◌, Bool, true, false, ◌||◌, List, [], ◌∷◌, length, map, get_or, ◌⊎◌, inl}
 use Rattle.std.proofs.Common.{inr, Option, Some, None, if◌then◌else◌}
-use Rattle.std.proofs.lemmas.Bool.{and_parts, and_from}
-use Rattle.std.proofs.lemmas.Int.{ints}
 use Rattle.std.specs.BTreeSet.{insert_key}
 use Rattle.std.specs.Cmp.{int_ranks}
 use Rattle.std.specs.List.{fold, list_any, range_with_len}
 use Rattle.std.specs.Option.{unwrap_or}
-use Rattle.std.specs.Ordering.{int_cmp, int_eq, match_ordering, MatchOrdering}
+use Rattle.std.specs.Ordering.{int_cmp, match_ordering, MatchOrdering}
 use Rattle.std.specs.declared.cmp.Ordering.{Ordering}
 use Rattle.std.specs.declared.cmp.Ordering.TheVariants.{Less, Equal, Greater}
 use Rattle.policy_tree.proofs.Members.{In, In-map, from_map, In-flat_map, from_flat_map}
 use Rattle.term_language.specs.Terms.{Item, Fixed}
 use Rattle.term_language.specs.Arrays.{Entry, indices, item_in, paired, same_index}
+use Rattle.term_language.proofs.Elements.{same_index_is, same_index_refl}
 use Rattle.compile_laws.specs.Instances.{sets_of}
 use Rattle.compile_laws.specs.Laws.{IsArray}
 
 -- Indices.
-
-eq_is : (x y : ℤ) → int_eq x y ≡ true → x ≡ y
-eq_is x y h = grind (arith, ints)
-
-eq_self : (x : ℤ) → int_eq x x ≡ true
-eq_self x = grind (arith, ints)
-
-same_is : (xs ys : List ℤ) → same_index xs ys ≡ true → xs ≡ ys
-same_is [] [] h = refl
-same_is [] (y ∷ ys) h = absurd (cc)
-same_is (x ∷ xs) [] h = absurd (cc)
-same_is (x ∷ xs) (y ∷ ys) h =
-    let parts = and_parts (int_eq x y) (same_index xs ys) h in
-    λ i. eq_is x y parts.0 i ∷ same_is xs ys parts.1 i
-
-pub same_self : (xs : List ℤ) → same_index xs xs ≡ true
-same_self [] = refl
-same_self (x ∷ xs) = and_from (int_eq x x) (same_index xs xs) (eq_self x) (same_self xs)
 
 -- whether an index is one of these
 abbrev is_listed : List (List ℤ) → List ℤ → Bool
@@ -42,7 +23,7 @@ is_listed is index = list_any (λ other. same_index other index) is
 
 listed : (is : List (List ℤ)) (index : List ℤ) → In index is → is_listed is index ≡ true
 listed [] index h = absurd h
-listed (i ∷ is) index (inl e) = ap (λ b. b || is_listed is index) (subst (λ j. same_index j index ≡ true) (sym e) (same_self index))
+listed (i ∷ is) index (inl e) = ap (λ b. b || is_listed is index) (subst (λ j. same_index j index ≡ true) (sym e) (same_index_refl index))
 listed (i ∷ is) index (inr h) = by_first (same_index i index) (listed is index h)
   where
     by_first : (b : Bool) → is_listed is index ≡ true → (b || is_listed is index) ≡ true
@@ -54,7 +35,7 @@ from_listed [] index h = absurd (cc)
 from_listed (i ∷ is) index h = by_first (same_index i index) refl h (from_listed is index)
   where
     by_first : (b : Bool) → same_index i index ≡ b → (b || is_listed is index) ≡ true → (is_listed is index ≡ true → In index is) → In index (i ∷ is)
-    by_first true e g later = inl (same_is i index e)
+    by_first true e g later = inl (same_index_is i index e)
     by_first false e g later = inr (later g)
 
 -- each number of an index stands in its set
@@ -203,7 +184,7 @@ found_in (e ∷ es) index item h = by_first (same_index e.index index) refl h (f
   where
     by_first : (b : Bool) → same_index e.index index ≡ b → (if b then Some e.item else item_in es index) ≡ Some item
         → (item_in es index ≡ Some item → In index (map (λ (e : Entry). e.index) es)) → In index (map (λ (e : Entry). e.index) (e ∷ es))
-    by_first true is g later = inl (same_is e.index index is)
+    by_first true is g later = inl (same_index_is e.index index is)
     by_first false is g later = inr (later g)
 
 -- what is found among all indices with what stands there
@@ -213,7 +194,7 @@ found_among f (i ∷ is) index = by_first (same_index i index) refl (found_among
   where
     by_first : (b : Bool) → same_index i index ≡ b → item_in (paired is (map f is)) index ≡ (if is_listed is index then Some (f index) else None)
         → (if b then Some (f i) else item_in (paired is (map f is)) index) ≡ (if b || is_listed is index then Some (f index) else None)
-    by_first true e later = ap (λ j. Some (f j)) (same_is i index e)
+    by_first true e later = ap (λ j. Some (f j)) (same_index_is i index e)
     by_first false e later = later
 
 -- the elements have all indices of the sets, and no others

@@ -1,7 +1,7 @@
 -- The initial values of a constant stand at all indices of its array, each once and in order, where no expression stands too deep and each bracket has
 -- as many parts as its index set has numbers.
 use Rattle.std.proofs.Common.{◌≡◌, ◌∙◌, refl, ap, arith, ℕ, ◌+◌, ◌<◌, nat_eq, nat_le, ℤ, Bool, true, false, ◌||◌, List, [], ◌∷◌, ◌++◌, length, map, ◌⊎◌, inl, inr, Option}
-use Rattle.std.proofs.lemmas.Bool.{eqb-true, leb-true}
+use Rattle.std.proofs.lemmas.Bool.{eqb-true, leb-true, or_cases}
 use Rattle.std.proofs.lemmas.List.{map-append}
 use Rattle.std.specs.List.{flat_map}
 use Rattle.sopl_base.specs.declared.fault.Refusal.{Refusal}
@@ -31,10 +31,6 @@ pub first_none : (rs : List Refusal) → first_of rs ≡ [] → rs ≡ []
 first_none [] is = refl
 first_none (r ∷ rs) is = absurd (cc)
 
-either_true : (a b : Bool) → (a || b) ≡ true → (a ≡ true) ⊎ (b ≡ true)
-either_true true b is = inl refl
-either_true false b is = inr is
-
 not_depth : (depth dims : ℕ) → dims < depth → (nat_eq depth 0 ≡ true) ⊎ (nat_eq depth dims ≡ true) → ⊥
 not_depth depth dims deep (inl is) = let h = eqb-true depth 0 is in omega (arith, h, deep)
 not_depth depth dims deep (inr is) = let h = eqb-true depth dims is in omega (arith, h, deep)
@@ -45,7 +41,7 @@ not_fewer depth dims deep is = let h = leb-true (depth + 1) dims is in omega (ar
 -- an initial value that stands in more brackets than there are dimensions is a mistake
 too_deep : (x : InitTree) (dims depth : ℕ) → dims < depth → wrong_depths dims depth x ≡ [] → ⊥
 too_deep (One e) dims depth deep right =
-    not_depth depth dims deep (either_true (nat_eq depth 0) (nat_eq depth dims) (no_mistake (nat_eq depth 0 || nat_eq depth dims) 108 (place_of e) right))
+    not_depth depth dims deep (or_cases (nat_eq depth 0) (nat_eq depth dims) (no_mistake (nat_eq depth 0 || nat_eq depth dims) 108 (place_of e) right))
 too_deep (Many at no_init) dims depth deep right = not_fewer depth dims (omega (arith, deep)) (no_mistake (nat_le (depth + 1) dims) 108 at right)
 too_deep (Many at (init x xs)) dims depth deep right =
     too_deep x dims (depth + 1) (omega (arith, deep)) (none_both (wrong_depths dims (depth + 1) x) (wrong_parts dims (depth + 1) xs) right).0

@@ -22,3 +22,4 @@ pub mod Near
 pub mod Counted
 pub mod Allowed
 pub mod Measuring
+pub mod Repeating

@@ -1,8 +1,7 @@
 -- What stands at an index of a name's elements is what a place of evaluation finds there.
-use Rattle.std.proofs.Common.{◌≡◌, ◌∙◌, refl, ap, arith, ℕ, ℤ, Bool, true, false, ◌&&◌, List, [], ◌∷◌, ◌++◌, Option, Some, None, option_map, if◌then◌else◌}
-use Rattle.std.proofs.lemmas.Int.{ints}
-use Rattle.std.specs.Ordering.{int_eq}
+use Rattle.std.proofs.Common.{◌≡◌, ◌∙◌, refl, ap, ℕ, ℤ, Bool, true, false, ◌&&◌, List, [], ◌∷◌, ◌++◌, Option, Some, None, option_map, if◌then◌else◌}
 use Rattle.std.specs.Str.{bytes_eq}
+use Rattle.sopl_base.proofs.Tests.{equal_turned}
 use Rattle.sopl_ast.specs.Numbers.{or_else}
 use Rattle.sopl_ast.specs.Known.{Binding, Constant, same_values, bound_value, constant_value}
 use Rattle.sopl_ast.specs.Instances.{Stochastic}
@@ -11,16 +10,12 @@ use Rattle.term_language.specs.Terms.{Item, Fixed}
 use Rattle.term_language.specs.Arrays.{Entry, item_in, same_index}
 use Rattle.compile_laws.specs.Instances.{bound_elements, constant_elements, seen_elements}
 
--- whole numbers compare alike from both sides
-eq_turned : (x y : ℤ) → int_eq x y ≡ int_eq y x
-eq_turned x y = grind (arith, ints)
-
 -- two lists of numbers are the same in both words
 pub same_turned : (xs ys : List ℤ) → same_index xs ys ≡ same_values ys xs
 same_turned [] [] = refl
 same_turned [] (y ∷ ys) = refl
 same_turned (x ∷ xs) [] = refl
-same_turned (x ∷ xs) (y ∷ ys) = λ i. eq_turned x y i && same_turned xs ys i
+same_turned (x ∷ xs) (y ∷ ys) = λ i. equal_turned x y i && same_turned xs ys i
 
 -- a choice between two tests in a row
 choose_both : {A : Type 0} (a b : Bool) (x y : A) → (if a && b then x else y) ≡ (if a then (if b then x else y) else y)

@@ -2,6 +2,7 @@
 use Rattle.std.proofs.Common.{◌≡◌, sym, subst, arith, inl, inr, refl, ℕ, zero, suc, ◌<◌, ℤ, pos, List, [], ◌∷◌, length, map, Some, slice_get, slice_index_or}
 use Rattle.std.proofs.lemmas.Int.{ints}
 use Rattle.std.specs.List.{AllByRecursion}
+use Rattle.std.proofs.lemmas.Option.{same_Some}
 use Rattle.sopl_ast.specs.Instances.{Decision, Problem}
 use Rattle.sopl_ast.specs.Cells.{Cell, cells}
 use Rattle.sopl_ast.specs.Unfolding.{problem_of}
@@ -11,7 +12,6 @@ use Rattle.unfold_laws.proofs.Whole.{decisions_are_bounded}
 use Rattle.policy_tree.proofs.Members.{In}
 use Rattle.policy_tree.proofs.CellsOf.{cell_is}
 use Rattle.box_problem.specs.Near.{IsNear}
-use Rattle.compile_laws.proofs.Numbers.{some_same}
 use Rattle.compile_laws.specs.RootLaws.{RootIsNear}
 
 abbrev low_of : Cell → ℤ
@@ -25,7 +25,7 @@ constant_near z small = record { above = omega (arith, ints, small); below = ome
 
 decided_at : (ds : List Decision) → AllByRecursion IsBoundedDecision ds → (k : ℕ) (d : Decision) → slice_get ds k ≡ Some d → IsBoundedDecision d
 decided_at [] all k d at = absurd (cc)
-decided_at (e ∷ ds) all zero d at = subst IsBoundedDecision (some_same e d at) all.0
+decided_at (e ∷ ds) all zero d at = subst IsBoundedDecision (same_Some e d at) all.0
 decided_at (e ∷ ds) all (suc k) d at = decided_at ds all.1 k d at
 
 -- the two ends of a cell

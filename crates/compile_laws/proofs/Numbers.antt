@@ -3,9 +3,10 @@ use Rattle.std.proofs.Common.{◌≡◌, ◌∙◌, refl, sym, ap, subst, arith,
 use Rattle.std.proofs.Common.{inr, Some, None, Contains, slice_get}
 use Rattle.std.proofs.lemmas.Bool.{lt-ltb}
 use Rattle.std.proofs.lemmas.List.{append_assoc, length-map, length-append}
-use Rattle.std.proofs.lemmas.Option.{slice_get-map}
+use Rattle.std.proofs.lemmas.Option.{slice_get-map, same_Some}
 use Rattle.std.specs.List.{enumerate_from, flat_map, position_or_len}
 use Rattle.std.specs.Option.{option_map, unwrap_or}
+use Rattle.sopl_base.proofs.Lists.{get_before, get_behind}
 use Rattle.sopl_ast.specs.Known.{same_values}
 use Rattle.sopl_ast.specs.Instances.{Decision, Stochastic}
 use Rattle.sopl_ast.specs.Scenarios.{Scenario, scenarios}
@@ -14,19 +15,11 @@ use Rattle.sopl_ast.specs.Cells.{Cell, cells_of, cells}
 use Rattle.policy_tree.proofs.Members.{In}
 use Rattle.policy_tree.proofs.Once.{Once, same_is}
 use Rattle.policy_tree.proofs.CellsOf.{keys_of, history_in, made, Once-cells}
+use Rattle.policy_tree.proofs.Found.{In-keys}
 use Rattle.compile_laws.specs.Whole.{numbers_from}
 use Rattle.compile_laws.specs.WholeLaws.{CellsAreNumbered, NumbersAreOne}
 
 -- Lists.
-
-get_behind : {A : Type 0} (xs ys : List A) (k : ℕ) → slice_get (xs ++ ys) (length xs + k) ≡ slice_get ys k
-get_behind [] ys k = let same : 0 + k ≡ k = omega arith in ap (slice_get ys) same
-get_behind (x ∷ xs) ys k = let same : suc (length xs) + k ≡ suc (length xs + k) = omega arith in ap (slice_get (x ∷ (xs ++ ys))) same ∙ get_behind xs ys k
-
-get_before : {A : Type 0} (xs ys : List A) (k : ℕ) (x : A) → slice_get xs k ≡ Some x → slice_get (xs ++ ys) k ≡ Some x
-get_before [] ys k x at = absurd (cc)
-get_before (y ∷ xs) ys zero x at = at
-get_before (y ∷ xs) ys (suc k) x at = get_before xs ys k x at
 
 -- Histories.
 
@@ -60,9 +53,6 @@ numbered_history stage ss seen h =
 
 -- Cells.
 
-pub some_same : {A : Type 0} (x y : A) → Some x ≡ Some y → x ≡ y
-some_same x y is = ap (λ o. unwrap_or o x) is
-
 module _ (ss : List Stochastic) (s : Scenario) (possible : Contains (scenarios ss) s) where
   -- how many numbers there are
   long : (first : ℕ) (ds : List Decision) → length (numbers_from first ss s.values ds) ≡ length ds
@@ -78,7 +68,7 @@ module _ (ss : List Stochastic) (s : Scenario) (possible : Contains (scenarios s
   numbered before number first [] same j d n at is = absurd (cc)
   numbered before number first (e ∷ ds) same zero d n at is =
       ap (slice_get (before ++ (cells_of ss (number, e) ++ later_cells (number + 1) ds)))
-      (sym (some_same (first + place) n is) ∙ ap (λ k. k + place) same)
+      (sym (same_Some (first + place) n is) ∙ ap (λ k. k + place) same)
       ∙ (get_behind before (cells_of ss (number, e) ++ later_cells (number + 1) ds) place
       ∙ get_before (cells_of ss (number, e)) (later_cells (number + 1) ds) place (made (number + 0) d (history d.stage ss s.values)) there)
     where
@@ -89,7 +79,7 @@ module _ (ss : List Stochastic) (s : Scenario) (possible : Contains (scenarios s
       there =
           slice_get-map (made number e) (histories e.stage ss) place
           ∙ (ap (option_map (made number e)) (numbered_history e.stage ss (history e.stage ss s.values) (history_in e.stage ss s possible))
-          ∙ (λ i. Some (made (add_none i) (some_same e d at i) (history (some_same e d at i).stage ss s.values))))
+          ∙ (λ i. Some (made (add_none i) (same_Some e d at i) (history (same_Some e d at i).stage ss s.values))))
         where
           add_none : number ≡ number + 0
           add_none = omega arith
@@ -119,18 +109,13 @@ cells_are_numbered problem s possible =
 
 -- Numbers that are the only ones.
 
-key_in : (cs : List Cell) (n : ℕ) (c : Cell) → slice_get cs n ≡ Some c → In c.key (keys_of cs)
-key_in [] n c at = absurd (cc)
-key_in (d ∷ cs) zero c at = inl (ap (λ (e : Cell). e.key) (some_same d c at))
-key_in (d ∷ cs) (suc n) c at = inr (key_in cs n c at)
-
 one_place : (cs : List Cell) → Once (keys_of cs) → (n m : ℕ) (c : Cell) → slice_get cs n ≡ Some c → slice_get cs m ≡ Some c → n ≡ m
 one_place [] once n m c at there = absurd (cc)
 one_place (d ∷ cs) once zero zero c at there = refl
 one_place (d ∷ cs) once zero (suc m) c at there =
-    absurd (once.0 (subst (λ k. In k (keys_of cs)) (sym (ap (λ (e : Cell). e.key) (some_same d c at))) (key_in cs m c there)))
+    absurd (once.0 (subst (λ k. In k (keys_of cs)) (sym (ap (λ (e : Cell). e.key) (same_Some d c at))) (In-keys cs m c there)))
 one_place (d ∷ cs) once (suc n) zero c at there =
-    absurd (once.0 (subst (λ k. In k (keys_of cs)) (sym (ap (λ (e : Cell). e.key) (some_same d c there))) (key_in cs n c at)))
+    absurd (once.0 (subst (λ k. In k (keys_of cs)) (sym (ap (λ (e : Cell). e.key) (same_Some d c there))) (In-keys cs n c at)))
 one_place (d ∷ cs) once (suc n) (suc m) c at there = ap suc (one_place cs once.1 n m c at there)
 
 same_numbers : (ds : List Decision) (xs ys : List ℕ) → length xs ≡ length ds → length ys ≡ length ds

@@ -1,7 +1,8 @@
 -- The points of the root box are those of the cells.
-use Rattle.std.proofs.Common.{◌≡◌, ◌∙◌, refl, sym, subst, arith, ℕ, zero, suc, ◌<◌, ℤ, pos, ◌≤ℤ◌, List, [], ◌∷◌, length, map, inl, inr, Some, slice_get, slice_index_or}
+use Rattle.std.proofs.Common.{◌≡◌, ◌∙◌, refl, sym, subst, arith, ℕ, zero, suc, ◌<◌, ℤ, pos, ◌≤ℤ◌, List, [], ◌∷◌, length, map, inl, inr, slice_index_or}
 use Rattle.std.proofs.lemmas.List.{length-map}
 use Rattle.std.specs.List.{AllByRecursion}
+use Rattle.sopl_base.proofs.Lists.{each_at}
 use Rattle.sopl_ast.specs.Instances.{Problem}
 use Rattle.sopl_ast.specs.Cells.{Cell, cells, IsPoint}
 use Rattle.sopl_ast.specs.Unfolding.{problem_of}
@@ -11,7 +12,6 @@ use Rattle.policy_tree.proofs.Members.{In}
 use Rattle.policy_tree.proofs.CellsOf.{cell_is}
 use Rattle.box_problem.specs.Box.{InBox}
 use Rattle.compile_laws.specs.Root.{root_box, PointsOfBox, RootIsBox}
-use Rattle.compile_laws.proofs.Numbers.{some_same}
 
 abbrev low_of : Cell → ℤ
 low_of c = c.lo
@@ -64,11 +64,6 @@ points_of_box all point = (
 
 -- the box
 
-all_at : {A : Type 0} (P : A → Type 0) (xs : List A) → AllByRecursion P xs → (k : ℕ) (x : A) → slice_get xs k ≡ Some x → P x
-all_at P [] all k x at = absurd (cc)
-all_at P (y ∷ ys) all zero x at = subst P (some_same y x at) all.0
-all_at P (y ∷ ys) all (suc k) x at = all_at P ys all.1 k x at
-
 in_order : (all : List Cell) → ((c : Cell) → In c all → c.lo ≤ℤ c.hi) → (k : ℕ) → k < length (map low_of all) → slice_index_or (map low_of all) k (pos 0) ≤ℤ slice_index_or (map high_of all) k (pos 0)
 in_order [] each k below = absurd (omega (arith, below))
 in_order (c ∷ all) each zero below = each c (inl refl)
@@ -79,7 +74,7 @@ ordered problem bounded c h =
     let is = cell_is problem c h in
     let low : ℤ → Type 0 = λ z. z ≤ℤ c.hi in
     let high : ℤ → Type 0 = λ z. is.decision.lo ≤ℤ z in
-    subst low (sym is.lo) (subst high (sym is.hi) (all_at IsBoundedDecision problem.decisions bounded c.key.0 is.decision is.decided).ordered)
+    subst low (sym is.lo) (subst high (sym is.hi) (each_at IsBoundedDecision problem.decisions bounded c.key.0 is.decision is.decided).ordered)
 
 pub root_is_box : RootIsBox
 root_is_box model passes =

@@ -18,10 +18,11 @@ use Rattle.unfold_laws.proofs.Whole.{text_parts}
 use Rattle.policy_tree.proofs.Members.{In, In-Contains, In-before, In-after, from_append, from_map, In-flat_map, from_flat_map, In-filter, from_filter}
 use Rattle.term_language.specs.Terms.{Item, Fixed, Free}
 use Rattle.term_language.specs.Arrays.{Entry, item_in, same_index}
+use Rattle.term_language.proofs.Elements.{same_index_refl}
 use Rattle.compile_laws.specs.Instances.{constant_elements, seen_elements, decided_elements}
 use Rattle.compile_laws.specs.Laws.{IsArray}
 use Rattle.compile_laws.specs.Stands.{ArraysStand, ScenariosAreWhole}
-use Rattle.compile_laws.proofs.Arrays.{full_array, same_self}
+use Rattle.compile_laws.proofs.Arrays.{full_array}
 use Rattle.compile_laws.proofs.Initials.{none_both}
 use Rattle.compile_laws.proofs.Owned.{IsOwned, in_named, from_named}
 use Rattle.compile_laws.proofs.Declared.{of_constants, of_stochastics, of_decisions, all_named, declared_owned}
@@ -117,7 +118,7 @@ found_back (e ∷ es) index h = by_first (same_index e.index index) refl h (foun
     by_first : (b : Bool) → same_index e.index index ≡ b → In index (map index_in (e ∷ es)) → (In index (map index_in es) → (item : Item) × (item_in es index ≡ Some item))
         → (item : Item) × ((if b then Some e.item else item_in es index) ≡ Some item)
     by_first true is here later = (e.item, refl)
-    by_first false is (inl same) later = absurd (true≢false (sym (subst (λ i. same_index e.index i ≡ true) same (same_self e.index)) ∙ is))
+    by_first false is (inl same) later = absurd (true≢false (sym (subst (λ i. same_index e.index i ≡ true) same (same_index_refl e.index)) ∙ is))
     by_first false is (inr there) later = later there
 
 swapped : (cs xs ys ds : List (List ℤ)) (index : List ℤ) → (In index xs → In index ys) → In index (cs ++ (xs ++ ds)) → In index (cs ++ (ys ++ ds))

@@ -1,5 +1,5 @@
 -- The problem in terms of a text is well made.
-use Rattle.std.proofs.Common.{◌≡◌, ◌∙◌, refl, sym, ap, subst, ℕ, ◌≤◌, ℤ, pos, ◌+ℤ◌, ◌≤ℤ◌, Bool, false, List, [], ◌∷◌, length, map, Option, Some, None, IfSome, option_map}
+use Rattle.std.proofs.Common.{◌≡◌, ◌∙◌, refl, sym, ap, subst, ℕ, ◌≤◌, ℤ, pos, ◌≤ℤ◌, Bool, false, List, [], ◌∷◌, length, map, Option, Some, None, IfSome, option_map}
 use Rattle.std.proofs.Math.Seq.{take-length}
 use Rattle.std.proofs.lemmas.List.{length-map}
 use Rattle.std.proofs.lemmas.Simd.{map-map}
@@ -37,6 +37,7 @@ use Rattle.compile_laws.specs.WellMade.{ProblemsAreWellMade, TextsAreLawful}
 use Rattle.compile_laws.specs.Whole.{place_at, condition_at, hard_terms, chance_terms, goal_terms, problem_terms}
 use Rattle.compile_laws.proofs.Proper.{problems_are_proper}
 use Rattle.compile_laws.proofs.Root.{root_is_box}
+use Rattle.compile_laws.proofs.Agreeing.{total_so}
 
 -- Directions.
 
@@ -60,15 +61,11 @@ model_directed (model n ts decls us objective vs ws xs m ys body zs r declared a
 abbrev weight_of : Scenario → ℤ
 weight_of s = s.weight
 
-total_same : (xs : List ℤ) → total xs ≡ ast.total xs
-total_same [] = refl
-total_same (x ∷ xs) = ap (λ z. x +ℤ z) (total_same xs)
-
 whole_is : (ss : List Stochastic) → total_weight ss ≡ total (map weight_of (scenarios ss))
 whole_is ss =
     sym (weights_sum ss)
     ∙ (ap ast.total (sym (map-map weight_of without_places (placed.scenarios ss)))
-    ∙ (ap (λ (list : List Scenario). ast.total (map weight_of list)) (scenarios_agree ss) ∙ sym (total_same (map weight_of (scenarios ss)))))
+    ∙ (ap (λ (list : List Scenario). ast.total (map weight_of list)) (scenarios_agree ss) ∙ sym (total_so (map weight_of (scenarios ss)))))
 
 all_weigh : (most : ℤ) (list : List Scenario) → AllByRecursion (λ (s : Scenario). (pos 1 ≤ℤ s.weight) × (s.weight ≤ℤ most)) list → AllByRecursion (λ weight. pos 1 ≤ℤ weight) (map weight_of list)
 all_weigh most [] light = tt

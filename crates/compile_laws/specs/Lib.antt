@@ -15,3 +15,4 @@ pub mod Measured
 pub mod Subterms
 pub mod Texts
 pub mod WorkedSizes
+pub mod Repeating

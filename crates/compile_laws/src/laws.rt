@@ -1,6 +1,7 @@
 //! The laws, as the contracts of empty functions.
 
 ghost use Rattle.compile_laws.specs.Laws.{InstancesMean, PlacesAgree};
+ghost use Rattle.compile_laws.specs.Repeating.{InstancesRepeat};
 ghost use Rattle.compile_laws.specs.Root.{PointsOfBox, RootIsBox};
 ghost use Rattle.compile_laws.specs.Stands.{ArraysStand, ScenariosAreWhole};
 ghost use Rattle.compile_laws.specs.Tables.{InstancesAreProper, ProblemsAreProper, TablesAreSound, TablesHaveSets};
@@ -11,6 +12,12 @@ ghost use Rattle.compile_laws.specs.WholeLaws.{BestIsOptimal, CellsAreNumbered, 
 /// truth likewise. It does nothing when it runs.
 pub fn instances_mean()
     ensures law { InstancesMean }
+{}
+
+/// An expression is the same in two scenarios in which the first variables have the same values, where all that stands in it follows
+/// from these. It does nothing when it runs.
+pub fn instances_repeat()
+    ensures law { InstancesRepeat }
 {}
 
 /// Where a problem's expressions are instantiated in a scenario, and where they are evaluated under the policy of a point, decisions

@@ -14,8 +14,9 @@ mod worked;
 
 pub use bound_laws::{bounds_hold, reached_is_worth, unbeaten_is_best, unreached_is_none};
 pub use laws::{
-    arrays_stand, best_is_optimal, cells_are_numbered, instances_mean, places_agree, points_of_box,
-    problems_are_well_made, problems_mean, searches_find_policies, tables_are_sound,
+    arrays_stand, best_is_optimal, cells_are_numbered, instances_mean, instances_repeat,
+    places_agree, points_of_box, problems_are_well_made, problems_mean, searches_find_policies,
+    tables_are_sound,
 };
 pub use root_laws::{bits_are_the_same, digits_are_the_same, root_has_few_bits, root_is_near};
 pub use size_laws::{objectives_are_measured, terms_are_measured};

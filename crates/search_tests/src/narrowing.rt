@@ -45,7 +45,8 @@ fn rest_in(alloc: Global, text: &str, best: Option<i128>) -> Result<Vec<i64>, Fa
 
 /// Texts, each with the best value that is known or none, and with the lower and then the upper ends of the cells; none where a reason
 /// closes the box. A chance constraint asks for enough weight; the expected value, and the worst one, is to be better than the best that is
-/// known, and nothing is better where there is no objective; and a bound and hard constraints narrow in turn. Three values are left for
+/// known, and nothing is better where there is no objective; and a bound and hard constraints narrow in turn. Scenarios
+/// that stand behind one another have what is seen first in common, and the decisions that follow it. Three values are left for
 /// three terms where two of them have two values, and none where there are fewer values than terms; tasks that may not run at once, and a
 /// length that is not negative; an index of its array.
 const RESTS: &str = "\
@@ -65,6 +66,9 @@ dvar int x in 0..9; subject to { x >= 3; } -> 0 :
 dvar int x in 0..5 stage 1; stoch int d in {1:1, 3:1} stage 1; dvar int y in 0..3 stage 2; maximize expected(4*y - 3*x); subject to { y <= d; y <= x; } -> none : 0 0 0 5 1 3
 dvar int x in 0..5 stage 1; stoch int d in {1:1, 3:1} stage 1; dvar int y in 0..3 stage 2; maximize expected(4*y - 3*x); subject to { y <= d; y <= x; } -> 1 : 0 0 0 1 1 1
 dvar int x in 0..5 stage 1; stoch int d in {1:1, 3:1} stage 1; dvar int y in 0..3 stage 2; maximize expected(4*y - 3*x); subject to { y <= d; y <= x; } -> 8 :
+dvar int x in 0..9; stoch int a in {1:1, 2:1}; stoch int b in {0:1, 3:1} stage 2; dvar int y in 0..9 stage 2; subject to { x >= a; y <= a; } -> none : 2 0 0 9 1 2
+dvar int x in 0..9; stoch int a in {1:1, 2:1}; stoch int b in {0:1, 3:1} stage 2; dvar int y in 0..9 stage 2; subject to { y >= b; } -> none : 0 3 3 9 9 9
+dvar int x in 0..9; stoch int a in {1:1, 2:1}; stoch int b in {0:1, 3:1} stage 2; dvar int y in 0..9 stage 2; maximize expected(y); subject to { y <= 2*a; } -> 10 : 0 2 4 9 2 4
 range R = 1..3; dvar int x[R] in 1..3; subject to { allDifferent(all(i in R) x[i]); x[1] <= 2; x[2] <= 2; } -> none : 1 1 3 2 2 3
 range R = 1..3; dvar int x[R] in 1..2; subject to { allDifferent(all(i in R) x[i]); } -> none :
 range R = 1..2; dvar int s[R] in 0..4; subject to { cumulative(all(i in R) (s[i], 2, 1), 1); s[1] <= 0; } -> none : 0 2 0 4

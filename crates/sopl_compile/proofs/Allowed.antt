@@ -1,6 +1,6 @@
 -- What the limits on scenarios and instances say of a problem's scenarios and cells.
-use Rattle.std.proofs.Common.{arith, ◌≡◌, ◌∙◌, refl, sym, ap, ℕ, suc, ◌+◌, ◌*◌, ◌<◌, ◌≤◌, ◌^◌, ◌-◌, ℤ, pos, ◌≤ℤ◌, int_le, Bool, true, false, not, List, [], ◌∷◌, length}
-use Rattle.std.proofs.Common.{length-append, map, filter, Option, Some, None, if◌then◌else◌}
+use Rattle.std.proofs.Common.{arith, ◌≡◌, ◌∙◌, refl, sym, ap, ℕ, suc, ◌+◌, ◌*◌, ◌<◌, ◌≤◌, ◌^◌, ◌-◌, ℤ, pos, ◌≤ℤ◌, int_le, Bool, not, List, [], ◌∷◌, length}
+use Rattle.std.proofs.Common.{length-append, map, filter, Option, None}
 use Rattle.std.proofs.lemmas.Int.{ints}
 use Rattle.std.proofs.lemmas.List.{length-map}
 use Rattle.std.proofs.lemmas.List.Filters.{length-filter_both}
@@ -20,32 +20,15 @@ use Rattle.sopl_ast.specs.UnfoldEvents.{excess}
 use Rattle.sopl_ast.specs.Scenarios.{Scenario, scenarios, total_weight}
 use Rattle.sopl_base.specs.declared.fault.Excess.{Excess}
 use Rattle.sopl_base.specs.declared.interval.Interval.{Interval}
+use Rattle.sopl_base.proofs.Tests.{le_tested}
+use Rattle.lang_laws.proofs.Shared.{first_none, later_none, passed, then_none}
 use Rattle.sopl_compile.specs.Posed.{IsSettingOf}
-
-first_none : {A : Type 0} (a b : Option A) → or_else a b ≡ None → a ≡ None
-first_none None b none = refl
-first_none (Some x) b none = absurd (cc)
-
-then_none : {A : Type 0} (a b : Option A) → or_else a b ≡ None → b ≡ None
-then_none None b none = none
-then_none (Some x) b none = absurd (cc)
-
-passed : (c : Bool) (e : Excess) (later : Option Excess) → (if c then later else Some e) ≡ None → c ≡ true
-passed true e later none = refl
-passed false e later none = absurd (cc)
-
-later_none : (c : Bool) (e : Excess) (later : Option Excess) → (if c then later else Some e) ≡ None → later ≡ None
-later_none true e later none = none
-later_none false e later none = absurd (cc)
-
-at_most : (n limit : ℤ) → int_le n limit ≡ true → n ≤ℤ limit
-at_most n limit test = omega (arith, ints, test)
 
 abbrev told : ℕ → ℕ → ℤ → Excess
 told code limit n = excess code (int_min n (pos (2 ^ 127 - 1))) (pos limit)
 
 whole_within : {A : Type 0} (code limit : ℕ) (f : List A → ℤ) (x : A) (xs : List A) → first_above code limit (map f (prefixes (x ∷ xs))) ≡ None → f (x ∷ xs) ≤ℤ pos limit
-whole_within code limit f x [] none = at_most (f (x ∷ [])) (pos limit) (passed (int_le (f (x ∷ [])) (pos limit)) (told code limit (f (x ∷ []))) None none)
+whole_within code limit f x [] none = le_tested (f (x ∷ [])) (pos limit) (passed (int_le (f (x ∷ [])) (pos limit)) (told code limit (f (x ∷ []))) None none)
 whole_within {A} code limit f x (y ∷ ys) none =
     let behind : List A → ℤ = λ (prefix : List A). f (x ∷ prefix) in
     let later : first_above code limit (map f (map (λ (prefix : List A). x ∷ prefix) (prefixes (y ∷ ys)))) ≡ None =
@@ -111,7 +94,7 @@ module _ (problem : Problem) (within : size_excess usual_limits problem ≡ None
       let none : copy_excess usual_limits problem ≡ None =
       first_none (copy_excess usual_limits problem) behind_copies
       (then_none (scenario_excess usual_limits problem) behind_scenarios (then_none (weight_excess usual_limits problem) behind_weight within)) in
-      let most : pos copies ≤ℤ pos 1048576 = at_most (pos copies) (pos 1048576) (passed (int_le (pos copies) (pos 1048576)) (told 209 1048576 (pos copies)) None none) in
+      let most : pos copies ≤ℤ pos 1048576 = le_tested (pos copies) (pos 1048576) (passed (int_le (pos copies) (pos 1048576)) (told 209 1048576 (pos copies)) None none) in
       let all = cells_few problem.stochastics 0 problem.decisions (length problem.stochastics + (length problem.hards + length problem.chances)) in
       omega (arith, ints, most, all)
 

@@ -41,10 +41,7 @@ use Rattle.term_program.specs.Programs.{problem_in, with_goal}
 use Rattle.term_program.specs.declared.ids.TermId.{TermId}
 use Rattle.term_program.specs.declared.program.Program.{Program}
 use Rattle.unfold_laws.specs.Passing.{NothingFails}
-
-empty : (ids : List TermId) → length ids ≡ 0 → ids ≡ []
-empty [] none = refl
-empty (first ∷ later) none = absurd (omega (arith, none))
+use Rattle.sopl_term.proofs.Finishing.{empty}
 
 fits_directed : (direction : Direction) (n : ℕ) (ids : List TermId) → ¬ direction ≡ Nothing → length ids ≡ n → FitsDirection direction n ids
 fits_directed Minimize n ids some many = many

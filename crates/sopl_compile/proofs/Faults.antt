@@ -1,13 +1,11 @@
 -- The sizes of a problem's terms, part by part.
 use Rattle.std.proofs.Common.{arith, ◌≡◌, ◌∙◌, refl, sym, ap, subst, ◌⊎◌, inl, inr, ℕ, ◌+◌, ◌-◌, ◌^◌, min, ℤ, pos, negsuc, ◌*ℤ◌, ◌≤ℤ◌, ◌<ℤ◌, false, List, [], ◌++◌, Option, Some}
 use Rattle.std.proofs.Common.{None, IfSome, option_map, unwrap_or, Result}
-use Rattle.std.proofs.Math.IntN.{*ℤ_comm}
 use Rattle.std.proofs.lemmas.Int.{ints, clamps}
 use Rattle.std.specs.Int.{int_min, saturate_signed, w128}
 use Rattle.std.specs.List.{flat_map}
 use Rattle.std.specs.Option.{option_map_or}
 use Rattle.box_problem.specs.Box.{Box}
-use Rattle.term_language.proofs.Products.{one-*ℤ}
 use Rattle.term_language.specs.Terms.{Term}
 use Rattle.compile_laws.specs.Whole.{goal_terms, problem_terms}
 use Rattle.term_problem.specs.Objective.{greatest_size}
@@ -21,6 +19,7 @@ use Rattle.sopl_ast.specs.UnfoldEvents.{excess}
 use Rattle.sopl_base.specs.declared.fault.Excess.{Excess}
 use Rattle.sopl_base.specs.declared.fault.Fault.{Fault}
 use Rattle.sopl_base.specs.declared.fault.Fault.TheVariants.{Limit, NoMemory}
+use Rattle.scen_laws.proofs.Splits.{times_one}
 use Rattle.sopl_compile.specs.Begun.{worst_of}
 use Rattle.sopl_compile.specs.Posed.{terms_asked}
 
@@ -73,9 +72,6 @@ nearest (pos n) from =
     let capped : saturate_signed w128 (pos n) ≡ pos (min n (2 ^ 127 - 1)) = refl in
     capped ∙ omega (arith, ints, clamps)
 nearest (negsuc n) from = absurd (omega (arith, ints, from))
-
-times_one : (z : ℤ) → z *ℤ pos 1 ≡ z
-times_one z = *ℤ_comm z (pos 1) ∙ one-*ℤ z
 
 none_larger : (z w : ℤ) → pos (2 ^ 126) <ℤ z → z ≡ w → w ≤ℤ pos (2 ^ 100) → ⊥
 none_larger z w large is light = omega (arith, ints, large, is, light)

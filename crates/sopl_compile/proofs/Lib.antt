@@ -11,3 +11,4 @@ mod Made
 mod Ending
 mod Faults
 mod Assembly
+mod Repeating

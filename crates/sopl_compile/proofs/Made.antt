@@ -1,9 +1,7 @@
 -- The problem in terms of a text that was read is well made, also where its tokens are not known.
-use Rattle.std.proofs.Common.{arith, ◌≡◌, ◌∙◌, ap, subst, ◌≤◌, ℤ, pos, ◌≤ℤ◌, int_le, true, List, [], ◌∷◌, length, Option, Some, IfSome, option_map}
+use Rattle.std.proofs.Common.{◌≡◌, ◌∙◌, ap, subst, ◌≤◌, pos, ◌≤ℤ◌, length, Option, Some, IfSome, option_map}
 use denote.Struct.Props.{props}
-use Rattle.std.proofs.Math.Bool.{Bool-set}
 use Rattle.std.proofs.Math.Logic.{∥∥₁_elim, ∥∥₁_map}
-use Rattle.std.proofs.lemmas.Int.{ints}
 use Rattle.std.specs.List.{AllByRecursion}
 use Rattle.term_language.specs.Globals.{total}
 use Rattle.compile_laws.proofs.WellMade.{problems_are_well_made}
@@ -13,25 +11,16 @@ use Rattle.sopl_ast.specs.Origin.{IsFromTokens}
 use Rattle.sopl_ast.specs.Unfolding.{objective_of, problem_of, text_events}
 use Rattle.sopl_ast.specs.Whole.{GoalTree, ModelTree}
 use Rattle.sopl_base.specs.declared.direction.Direction.TheVariants.{Nothing}
+use Rattle.sopl_base.proofs.Lists.{positive_there}
 use Rattle.sopl_compile.proofs.Objectives.{objective_is}
 use Rattle.unfold_laws.specs.Passing.{NothingFails}
-
-tested : (w : ℤ) → pos 1 ≤ℤ w → int_le (pos 1) w ≡ true
-tested w most = grind (arith, ints)
-
-passed : (w : ℤ) → int_le (pos 1) w ≡ true → pos 1 ≤ℤ w
-passed w test = omega (arith, ints, test)
-
-weights_there : (ws : List ℤ) → ∥ AllByRecursion (λ weight. pos 1 ≤ℤ weight) ws ∥₁ → AllByRecursion (λ weight. pos 1 ≤ℤ weight) ws
-weights_there [] held = tt
-weights_there (w ∷ ws) held = (passed w (∥∥₁_elim held (Bool-set _ _) (λ h. tested w h.0)), weights_there ws (∥∥₁_map held (λ h. h.1)))
 
 module _ (model : ModelTree) (from : ∥ IsFromTokens model ∥₁) (passes : NothingFails (text_events model)) where
   pub some_weight : 1 ≤ length (problem_terms (problem_of model)).weights
   some_weight = ∥∥₁_elim from (search props) (λ f. (problems_are_well_made model f passes).first)
 
   pub weights_weigh : AllByRecursion (λ weight. pos 1 ≤ℤ weight) (problem_terms (problem_of model)).weights
-  weights_weigh = weights_there (problem_terms (problem_of model)).weights (∥∥₁_map from (λ f. (problems_are_well_made model f passes).weighs))
+  weights_weigh = positive_there (problem_terms (problem_of model)).weights (∥∥₁_map from (λ f. (problems_are_well_made model f passes).weighs))
 
   pub whole_is : (problem_terms (problem_of model)).whole ≡ total (problem_terms (problem_of model)).weights
   whole_is = ∥∥₁_elim from (search props) (λ f. (problems_are_well_made model f passes).whole)

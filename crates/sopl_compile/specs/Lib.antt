@@ -3,3 +3,4 @@ pub mod Listed
 pub mod Posed
 pub mod Adding
 pub mod Begun
+pub mod Repeats

@@ -5,6 +5,7 @@
 
 mod constraints;
 mod objective;
+mod repeats;
 mod scenarios;
 mod start;
 mod whole;
