@@ -23,6 +23,7 @@ use Rattle.answer_texts.specs.declared.command.Command.TheVariants.{Solve}
 use Rattle.answer_texts.proofs.Ended.{accepted_end_once}
 use Rattle.answer_texts.proofs.Ends.{ends_alike, one_limit_on, one_refusal_on}
 use Rattle.answer_lines.specs.AnswerData.{limit_data, line_of, refused_data}
+use Rattle.answer_texts.proofs.Shared.{done_limit, done_refused, refused_limit}
 use Rattle.answer_check.specs.CheckData.{accepted_data, rejected_data, unreadable_data}
 use Rattle.answer_check.specs.Claims.{HoldsOfPolicies}
 use Rattle.answer_check.specs.CheckLaws.{ChecksEndOnce, IsSameReply, AcceptedLogsAreAnswered}
@@ -62,16 +63,6 @@ claim_of_text text problem rows claim solved right =
     subst (λ (p : Problem). HoldsOfPolicies p claim) solved.accepted.stated
     (claims_are_true solved.model rows claim (text_unfolded text problem solved)
     (subst (λ (p : Problem). Accepted (searched_problem p) rows claim) (sym solved.accepted.stated) right))
-
--- a text that `solve` refuses, or that passes a limit, is not solved, and not both
-done_refused : Done ≡ Refused → ⊥
-done_refused e = cc
-
-done_limit : Done ≡ Limit → ⊥
-done_limit e = cc
-
-refused_limit : Refused ≡ Limit → ⊥
-refused_limit e = cc
 
 not_refused : (text : List ℕ) (problem : Problem) (refusal : Refusal) → SolvedText text problem → IsRefusedOn text refusal Solve → ⊥
 not_refused text problem refusal solved broken =

@@ -11,12 +11,11 @@ use Rattle.sopl_ast.specs.Whole.{ModelTree}
 use Rattle.box_problem.specs.BoxProblem.{BoxProblem}
 use Rattle.log_rows.specs.declared.rows.Row.{Row}
 use Rattle.log_rows.specs.declared.rows.Footer.{Footer}
-use Rattle.term_problem.specs.Problems.{ProblemTerms, denominator_in}
+use Rattle.term_problem.specs.Problems.{denominator_in}
 use Rattle.term_program.specs.Programs.{problem_in as terms_in}
 use Rattle.term_program.specs.Stated.{box_problem_of}
 use Rattle.term_program.specs.declared.program.Program.{Program}
 use Rattle.compile_laws.specs.WellMade.{IsUnfolded}
-use Rattle.compile_laws.proofs.Best.{values_are_same}
 use Rattle.log_tree.specs.Reads.{IsReading, read, refused}
 use Rattle.log_check.specs.Verdicts.{IsVerdict}
 use Rattle.log_check.specs.declared.verdict.Verdict.{Verdict}
@@ -25,6 +24,7 @@ use Rattle.scen_accept.proofs.NamesFormed.{model_from_tokens}
 use Rattle.scen_accept.specs.Stated.{States, model_in, problem_in}
 use Rattle.scen_accept.specs.declared.accepted.AcceptedProblem.{AcceptedProblem}
 use Rattle.answer_lines.specs.AnswerData.{limit_data, line_of, refused_data}
+use Rattle.answer_texts.specs.Away.{IsTurnedAway}
 use Rattle.answer_texts.specs.Models.{IsSolvable}
 use Rattle.answer_texts.specs.Logs.{searched_problem}
 use Rattle.answer_texts.specs.Replies.{IsFaultOn, IsLimitedOn, IsRefusedOn}
@@ -35,14 +35,11 @@ use Rattle.answer_texts.specs.declared.reply.Reply.{Reply}
 use Rattle.answer_texts.specs.declared.status.Status.{Status}
 use Rattle.answer_texts.specs.declared.status.Status.TheVariants.{Done, Failing, Refused, Limit, Unreadable}
 use Rattle.answer_texts.proofs.Answered.{unsolved_so}
+use Rattle.answer_texts.proofs.Printing.{same_denominator}
 use Rattle.answer_check.specs.CheckData.{unreadable_data}
-use Rattle.answer_check.specs.CheckReplies.{IsLogReply, accepted, rejected, unreadable, IsCheckReply, checked, refused_text, limited_text, IsProgramFor, IsTurnedAway}
+use Rattle.answer_check.specs.CheckReplies.{IsLogReply, accepted, rejected, unreadable, IsCheckReply, checked, refused_text, limited_text, IsProgramFor}
 use Rattle.answer_check.specs.Verdicts.{status_of, verdict_data}
 use Rattle.answer_check.proofs.Claiming.{claims_are_true, searched_is}
-
--- the denominator of a program is that of its problem
-same_denominator : (problem : Problem) (program : Program) → IsProgramOf problem program → denominator_in (terms_in program) ≡ denominator problem
-same_denominator problem program is = ap (λ (t : ProblemTerms). denominator_in t) is.terms ∙ (values_are_same problem).denominator
 
 module _ (model : ModelTree) (program : Program) (unfolded : IsUnfolded model) (is : IsProgramOf (problem_of model) program) (bytes : List ℕ) (rows : List Row) (claim : Footer)
     (reads : IsReading bytes (read rows claim)) where

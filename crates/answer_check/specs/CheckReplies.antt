@@ -1,5 +1,5 @@
 -- The replies of `check` to a text and the bytes of a log, each with its cause.
-use Rattle.std.specs.Prelude.{◌≡◌, ◌⊎◌, ℕ, List, pos}
+use Rattle.std.specs.Prelude.{ℕ, List, pos}
 use Rattle.sopl_base.specs.declared.fault.Excess.{Excess}
 use Rattle.sopl_base.specs.declared.fault.Refusal.{Refusal}
 use Rattle.sopl_ast.specs.Instances.{Problem}
@@ -46,7 +46,3 @@ pub record IsProgramFor (text : List ℕ) (program : Program) : Type 0 where
   pub problem : Problem
   pub is_solved : SolvedText text problem
   pub is_program : IsProgramOf problem program
-
--- so ends what is told of a text, whatever the log: it is refused, or it passes a limit
-abbrev pub IsTurnedAway : Status → Type 0
-IsTurnedAway status = (status ≡ Refused) ⊎ (status ≡ Limit)

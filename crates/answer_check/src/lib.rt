@@ -6,7 +6,6 @@ mod answer;
 mod laws;
 mod lines;
 mod logs;
-mod program;
 
 pub use answer::{fault_reply, program_reply, program_to_check};
 pub use laws::{accepted_logs_are_answered, checks_end_once, written_logs_are_accepted};

@@ -1,6 +1,6 @@
 //! From the bytes of a log to the reply.
 
-ghost use Rattle.std.specs.Prelude.{◌≡◌, ℕ, List, IfOk, string_bytes};
+ghost use Rattle.std.specs.Prelude.{◌≡◌, ℕ, List, IfOk, IfErr, string_bytes};
 ghost use Rattle.sopl_ast.specs.Instances.{Problem};
 ghost use Rattle.sopl_ast.specs.Unfolding.{problem_of};
 ghost use Rattle.sopl_ast.specs.Whole.{ModelTree};
@@ -102,13 +102,25 @@ fn unread_reply(alloc: Global, fault: Fault) -> Result<Reply, AllocError>
     }
 }
 
+/// The log of these bytes, which are given up.
+fn log_in(alloc: Global, bytes: Vec<u8>) -> Result<Log, Fault>
+    ensures ok { IfOk result (λ log. IsReading bytes.items (read log.rows.items log.footer)) }
+    ensures err { IfErr result (RefusedAs (IsReading bytes.items)) }
+{
+    read_log(alloc, bytes.as_slice())
+}
+
 /// The reply to the bytes of a log of the text that has this program.
-pub(crate) fn log_reply(alloc: Global, program: &Program, bytes: &[u8]) -> Result<Reply, AllocError>
+pub(crate) fn log_reply(
+    alloc: Global,
+    program: &Program,
+    bytes: Vec<u8>,
+) -> Result<Reply, AllocError>
     requires made { IsMade program.now }
     ensures reply { (model : ModelTree) → IsUnfolded model → IsProgramOf (problem_of model) program.now
-        → IfOk result (λ reply. IsLogReply (problem_of model) bytes.now reply.status (string_bytes reply.line)) }
+        → IfOk result (λ reply. IsLogReply (problem_of model) bytes.items reply.status (string_bytes reply.line)) }
 {
-    match read_log(alloc, bytes) {
+    match log_in(alloc, bytes) {
         Ok(log) => read_reply(alloc, program, &log),
         Err(fault) => unread_reply(alloc, fault),
     }

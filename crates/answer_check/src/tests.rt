@@ -173,7 +173,7 @@ fn bytes_of(alloc: Global, log: &str) -> Result<String, AllocError> {
 // The reply of a check: the log is looked at where the text is solved.
 fn reply_of(alloc: Global, text: &str, log: &[u8]) -> Result<Reply, AllocError> {
     match program_to_check(alloc, text.as_bytes()) {
-        Ok(program) => program_reply(alloc, &program, log),
+        Ok(program) => program_reply(alloc, &program, log.to_vec(alloc)?),
         Err(fault) => fault_reply(alloc, fault),
     }
 }

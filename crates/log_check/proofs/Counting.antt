@@ -4,13 +4,11 @@ use Rattle.std.specs.Bool.{Decides}
 use Rattle.std.proofs.lemmas.Bool.Decides.{Decides-int_eq}
 use Rattle.sopl_base.specs.declared.direction.Direction.{Direction}
 use Rattle.sopl_base.specs.Better.{IsBetter}
+use Rattle.sopl_base.proofs.Options.{some_equal}
 use Rattle.log_check.specs.Judged.{Passes}
 
-is_some_same : {a b : ℤ} → Some a ≡ Some b → a ≡ b
-is_some_same e = cc
-
 pub same_is : (number : Option ℤ) (value end : ℤ) (result : Bool) → number ≡ Some value → result ≡ int_eq value end → Decides result (number ≡ Some end)
-same_is number value end result at is = (λ holds. at ∙ ap (λ (x : ℤ). Some x) ((Decides-int_eq value end).0 (sym is ∙ holds)), λ same. is ∙ (Decides-int_eq value end).1 (is_some_same (sym at ∙ same)))
+same_is number value end result at is = (λ holds. at ∙ ap (λ (x : ℤ). Some x) ((Decides-int_eq value end).0 (sym is ∙ holds)), λ same. is ∙ (Decides-int_eq value end).1 (some_equal (sym at ∙ same)))
 
 pub none_is : (number : Option ℤ) (end : ℤ) → number ≡ None → Decides false (number ≡ Some end)
 none_is number end at = (λ holds. absurd (cc), λ same. let clash : None ≡ Some end = sym at ∙ same in absurd (cc))

@@ -20,6 +20,7 @@ use Rattle.log_check.specs.Walks.{IsCounted, IsSettledRow, IsWitnessed, IsWrongR
 use Rattle.log_check.proofs.Covering.{all_last}
 use Rattle.log_check.proofs.Lines.{first_grows, first_next}
 use Rattle.std.proofs.lemmas.Option.{slice_get_within}
+use Rattle.sopl_base.proofs.Options.{some_equal}
 
 -- the tests
 pub none_holds : (tally : Tally) (result : Bool) → result ≡ (tally.touched && not tally.passed) → Decides result (HoldsNone tally)
@@ -61,10 +62,6 @@ flag_holds flag = (λ holds. holds, λ holds. holds)
 pub nothing_holds : Decides true (Unit {0})
 nothing_holds = (λ holds. tt, λ any. refl)
 
--- what the tests tell
-is_some_same : {a b : ℤ} → Some a ≡ Some b → a ≡ b
-is_some_same e = cc
-
 some_passes : (direction : Direction) (end bound : ℤ) (o : Option ℤ) → o ≡ Some bound → Passes direction end o → IsBetter direction end bound
 some_passes direction end bound o is passes = subst (Passes direction end) is passes
 
@@ -79,7 +76,7 @@ module _ (problem : BoxProblem) (rows : List Row) (footer : Footer) (tally : Tal
   found_is : (v : ℤ) → log.claimed footer ≡ Some v → tally.reached ≡ true → log.IsFound problem rows v
   found_is v claim holds =
       let there = seen.reached holds in
-      record { row = there.0; exists = there.1; is_point = there.2.0; value = is_some_same (sym there.2.1 ∙ claim) }
+      record { row = there.0; exists = there.1; is_point = there.2.0; value = some_equal (sym there.2.1 ∙ claim) }
 
   is_found : (v : ℤ) → log.claimed footer ≡ Some v → log.IsFound problem rows v → tally.reached ≡ true
   is_found v claim found = (counted found.row found.exists).reached (found.is_point, claim ∙ ap (λ (x : ℤ). Some x) (sym found.value))
@@ -87,7 +84,7 @@ module _ (problem : BoxProblem) (rows : List Row) (footer : Footer) (tally : Tal
   open_is : (bound : ℤ) → bound_in footer ≡ Some bound → tally.touched ≡ true → log.IsOpenEnd problem rows bound
   open_is bound is holds =
       let there = seen.touched holds in
-      record { row = there.0; exists = there.1; is_open = there.2.0; end = is_some_same (sym there.2.1 ∙ is) }
+      record { row = there.0; exists = there.1; is_open = there.2.0; end = some_equal (sym there.2.1 ∙ is) }
 
   is_open : (bound : ℤ) → bound_in footer ≡ Some bound → log.IsOpenEnd problem rows bound → tally.touched ≡ true
   is_open bound is one = (counted one.row one.exists).touched (one.is_open, is ∙ ap (λ (x : ℤ). Some x) (sym one.end))

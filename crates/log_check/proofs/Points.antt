@@ -2,12 +2,12 @@
 use Rattle.std.proofs.Common.{◌≡◌, ◌∙◌, ◌↔◌, inl, inr, ◌<◌, ◌≤◌, ◌+◌, ℕ, zero, suc, ℤ, Bool, true, false, List, [], ◌∷◌, ◌++◌, length, map, Option, None, Some, IsTrue, Contains, not, refl, sym, subst, arith}
 use Rattle.std.specs.Bool.{Decides}
 use Rattle.std.specs.List.{flat_map, range_with_len}
-use Rattle.std.proofs.lemmas.Bool.{cases_eq}
 use Rattle.std.proofs.lemmas.List.Elements.{Contains-append_cases}
 use Rattle.sopl_base.specs.declared.direction.Direction.{Direction}
 use Rattle.sopl_base.specs.declared.reason.Reason.{Reason}
 use Rattle.sopl_base.specs.declared.reason.Reason.TheVariants.{Hard, Chance, Undefined, Bound}
 use Rattle.sopl_base.specs.Better.{IsBetter}
+use Rattle.sopl_base.proofs.Naturals.{one_more as more}
 use Rattle.box_problem.specs.Box.{Box, Inside, IsPoint, low, high}
 use Rattle.box_problem.specs.BoxProblem.{BoxProblem}
 use Rattle.box_problem.proofs.Boxes.{point_in_box}
@@ -24,14 +24,6 @@ use Rattle.log_rows.specs.Accepted.{IsClaimed, claimed}
 use Rattle.log_rows.proofs.Lists.{first_or_later, none_has}
 use Rattle.log_check.specs.Judged.{IsWithinClaim}
 use Rattle.log_check.specs.Closing.{ChancesOpen, DefinedOpen, HardOpen, HardsOpen, IsClosing, IsPointOf, IsWrongPoint, NoneCloses}
-
--- what holds of the first i and of i holds of the first i + 1
-more : (P : ℕ → Type 0) (i : ℕ) → ((k : ℕ) → k < i → P k) → P i → (k : ℕ) → k < i + 1 → P k
-more P i before here k below =
-    elim (cases_eq k i) [
-      | inl same ↦ subst P (sym same) here
-      | inr other ↦ before k (omega (arith, below, other))
-    ]
 
 -- cells
 pub record AreOne (b : Box) (n : ℕ) : Type 0 where

@@ -1,8 +1,9 @@
 -- The intervals of the cells of a box, cell after cell.
-use Rattle.std.proofs.Common.{◌≡◌, ◌∙◌, refl, sym, ap, arith, ℕ, ◌+◌, ◌<◌, ◌≤◌, ◌^◌, ℤ, List, [], ◌∷◌, ◌++◌, length, map, take, pos, slice_index_or}
-use Rattle.std.proofs.lemmas.List.{length-map, map-append, take_all, take_more}
+use Rattle.std.proofs.Common.{◌≡◌, ◌∙◌, refl, ap, arith, ℕ, ◌+◌, ◌<◌, ◌≤◌, ◌^◌, ℤ, List, [], ◌∷◌, ◌++◌, length, map, take}
+use Rattle.std.proofs.lemmas.List.{length-map, take_all}
 use Rattle.sopl_base.specs.declared.interval.Interval.{Interval}
 use Rattle.box_problem.specs.Box.{Box, box_of, low, high, IsBox}
+use Rattle.box_problem.proofs.Shared.{one_more}
 
 abbrev lo_of : Interval → ℤ
 lo_of i = i.lo
@@ -14,11 +15,6 @@ hi_of i = i.hi
 pub record AreFirst (b : Box) (count : ℕ) (roots : List Interval) : Type 0 where
   pub lows : map lo_of roots ≡ take count b.lows
   pub highs : map hi_of roots ≡ take count b.highs
-
-one_more : (f : Interval → ℤ) (ends : List ℤ) (i : ℕ) (roots : List Interval) (root : Interval) → i < length ends → map f roots ≡ take i ends → f root ≡ slice_index_or ends i (pos 0)
-    → map f (roots ++ root ∷ []) ≡ take (i + 1) ends
-one_more f ends i roots root below so_far at =
-    map-append f roots (root ∷ []) ∙ (λ j. so_far j ++ at j ∷ []) ∙ sym (take_more ends i (pos 0) below)
 
 pub first_none : (b : Box) → AreFirst b 0 []
 first_none b = record { lows = refl; highs = refl }

@@ -9,6 +9,7 @@ use Rattle.log_rows.specs.declared.rows.Parent.{Parent}
 use Rattle.log_rows.specs.declared.rows.Row.{Row}
 use Rattle.log_rows.specs.Rows.{no_row, row_at, AreOrdered, Hangs}
 use Rattle.sopl_base.specs.declared.reason.Step.{Step}
+use Rattle.log_rows.proofs.Growing.{same_side}
 use Rattle.log_check.proofs.Lines.{first_grows, first_next}
 use Rattle.log_check.specs.declared.sides.Sides.{Sides}
 use Rattle.log_check.specs.Sides.{AreSidesTo, IsParentWithin, no_sides, row_begins, side_of, side_row, sides_at, with_row, with_side}
@@ -28,12 +29,6 @@ with_other s Ge Ge j differ = absurd (differ refl)
 with_line : (s : Sides) (side : Side) (j : ℕ) → (with_row s side j).line ≡ s.line
 with_line s Le j = refl
 with_line s Ge j = refl
-
-same_side : (a b : Side) → (a ≡ b) ⊎ (¬ a ≡ b)
-same_side Le Le = inl refl
-same_side Le Ge = inr (λ same. absurd (cc))
-same_side Ge Le = inr (λ same. absurd (cc))
-same_side Ge Ge = inl refl
 
 set_length : (sides : List Sides) (p : Option Parent) (j : ℕ) → length (with_side sides p j) ≡ length sides
 set_length sides None j = refl

@@ -1,14 +1,14 @@
 -- The steps of a row.
-use Rattle.std.proofs.Common.{◌≡◌, ◌∙◌, ◌<◌, ◌≤◌, ◌+◌, ℕ, ℤ, ◌≤ℤ◌, ◌<ℤ◌, Bool, true, false, ◌&&◌, nat_lt, List, [], ◌∷◌, ◌++◌, length, take, get_or, Option, Some, refl, sym, ap, subst, arith, lt-ltb}
-use Rattle.std.specs.Prelude.{int_le, int_lt, slice_get}
+use Rattle.std.proofs.Common.{◌≡◌, ◌∙◌, ◌<◌, ◌≤◌, ◌+◌, ℕ, ℤ, Bool, true, false, List, [], ◌∷◌, ◌++◌, length, take, get_or, Option, Some, sym, ap, subst, lt-ltb}
+use Rattle.std.specs.Prelude.{slice_get}
 use Rattle.std.specs.Bool.{Decides}
-use Rattle.std.proofs.lemmas.Bool.{and_parts}
-use Rattle.std.proofs.lemmas.Int.{ints}
+use Rattle.std.proofs.lemmas.Bool.{and_parts, and_from}
 use Rattle.std.proofs.lemmas.List.{take_all, take_more}
 use Rattle.std.proofs.lemmas.Option.{slice_get-get_or}
 use Rattle.sopl_base.specs.declared.reason.Side.{Side}
 use Rattle.sopl_base.specs.declared.reason.Side.TheVariants.{Le, Ge}
 use Rattle.sopl_base.specs.declared.reason.Step.{Step}
+use Rattle.sopl_base.proofs.Tests.{le_test, le_tested, lt_test, lt_tested, nat_tested}
 use Rattle.box_problem.specs.Box.{Box, Inside, low, high}
 use Rattle.box_problem.specs.Steps.{IsCut, CutsBetween, after_step, after_steps, removed}
 use Rattle.box_problem.specs.BoxProblem.{BoxProblem}
@@ -17,40 +17,19 @@ use Rattle.box_problem.proofs.Boxes.{parts_of_parts}
 use Rattle.box_problem.proofs.Steps.{after_append, right_append, steps_narrow}
 use Rattle.log_check.specs.Judged.{cuts_between, cuts_at, IsFirstBad}
 
--- whether a number cuts
-below_is : (m n : ℕ) → nat_lt m n ≡ true → m < n
-below_is m n is = grind (arith, is)
-
-both : (a b : Bool) → a ≡ true → b ≡ true → (a && b) ≡ true
-both true true is same = refl
-both true false is same = same
-both false b is same = is
-
-le_is : (a b : ℤ) → int_le a b ≡ true → a ≤ℤ b
-le_is a b is = omega (arith, ints, is)
-
-lt_is : (a b : ℤ) → int_lt a b ≡ true → a <ℤ b
-lt_is a b is = omega (arith, ints, is)
-
-is_le : (a b : ℤ) → a ≤ℤ b → int_le a b ≡ true
-is_le a b is = grind (arith, ints, is)
-
-is_lt : (a b : ℤ) → a <ℤ b → int_lt a b ≡ true
-is_lt a b is = grind (arith, ints, is)
-
 between_tells : (side : Side) (lo k hi : ℤ) → cuts_between side lo k hi ≡ true → CutsBetween side lo k hi
-between_tells Le lo k hi is = let parts = and_parts _ _ is in (le_is lo k parts.0, lt_is k hi parts.1)
-between_tells Ge lo k hi is = let parts = and_parts _ _ is in (lt_is lo k parts.0, le_is k hi parts.1)
+between_tells Le lo k hi is = let parts = and_parts _ _ is in (le_tested lo k parts.0, lt_tested k hi parts.1)
+between_tells Ge lo k hi is = let parts = and_parts _ _ is in (lt_tested lo k parts.0, le_tested k hi parts.1)
 
 between_told : (side : Side) (lo k hi : ℤ) → CutsBetween side lo k hi → cuts_between side lo k hi ≡ true
-between_told Le lo k hi is = both _ _ (is_le lo k is.0) (is_lt k hi is.1)
-between_told Ge lo k hi is = both _ _ (is_lt lo k is.0) (is_le k hi is.1)
+between_told Le lo k hi is = and_from _ _ (le_test lo k is.0) (lt_test k hi is.1)
+between_told Ge lo k hi is = and_from _ _ (lt_test lo k is.0) (le_test k hi is.1)
 
 pub cut_tells : (b : Box) (cell : ℕ) (side : Side) (k : ℤ) → cuts_at b cell side k ≡ true → IsCut b cell side k
-cut_tells b cell side k is = let parts = and_parts _ _ is in record { exists = below_is cell (length b.lows) parts.0; between = between_tells side (low b cell) k (high b cell) parts.1 }
+cut_tells b cell side k is = let parts = and_parts _ _ is in record { exists = nat_tested cell (length b.lows) parts.0; between = between_tells side (low b cell) k (high b cell) parts.1 }
 
 pub cut_told : (b : Box) (cell : ℕ) (side : Side) (k : ℤ) → IsCut b cell side k → cuts_at b cell side k ≡ true
-cut_told b cell side k is = both _ _ (lt-ltb cell (length b.lows) is.exists) (between_told side (low b cell) k (high b cell) is.between)
+cut_told b cell side k is = and_from _ _ (lt-ltb cell (length b.lows) is.exists) (between_told side (low b cell) k (high b cell) is.between)
 
 pub cut_where : (b : Box) (cell : ℕ) (side : Side) (k : ℤ) (result : Bool) → result ≡ cuts_at b cell side k → result ≡ true → IsCut b cell side k
 cut_where b cell side k result is holds = cut_tells b cell side k (sym is ∙ holds)

@@ -1,6 +1,5 @@
 -- The sides that wait.
-use Rattle.std.proofs.Common.{◌≡◌, ◌∙◌, ◌<◌, ◌≤◌, ◌+◌, ℕ, ℤ, pos, ◌+ℤ◌, Bool, true, false, List, [], ◌∷◌, length, drop, get_or, reverse, vec_capacity, Option, None, Some, refl, sym, ap, subst, arith}
-use Rattle.std.proofs.lemmas.Int.{ints}
+use Rattle.std.proofs.Common.{◌≡◌, ◌∙◌, ◌<◌, ◌≤◌, ◌+◌, ℕ, Bool, true, false, List, [], ◌∷◌, length, drop, get_or, reverse, vec_capacity, Option, None, Some, refl, sym, ap, subst, arith}
 use Rattle.sopl_base.specs.declared.reason.Side.TheVariants.{Le, Ge}
 use Rattle.box_problem.specs.Box.{Box}
 use Rattle.box_problem.specs.Steps.{IsCut, cut_away}
@@ -24,12 +23,6 @@ use Rattle.log_check.specs.Walks.{GoesOn, RowStart, leaf, lines_of, parts, start
 use Rattle.log_check.specs.Waiting.{AllCut, AllHaveRoom, Fits, HasGone, HasRoomHere, TakesNext, WaitsWell, before_it, cut_in, oldest, waiting, waiting_at}
 use Rattle.log_check.proofs.Lines.{left_falls}
 use Rattle.log_check.proofs.Standing.{side_later}
-
-pub high_cut : (b : Box) (cell : ℕ) (k next : ℤ) → next ≡ k +ℤ pos 1 → IsCut b cell Le k → IsCut b cell Ge next
-high_cut b cell k next is there = record {
-  exists = there.exists;
-  between = (omega (arith, ints, is, there.between.0), omega (arith, ints, is, there.between.1));
-}
 
 pub next_none : (sides : List WaitingSide) (marks : List Mark) (new : Walk) → sides ≡ [] → new.later.items ≡ [] → new.store.marks ≡ marks → TakesNext sides marks false new
 next_none sides marks new none later are = subst (λ (list : List WaitingSide). TakesNext list marks false new) (sym none) (record { more_is = refl; later = later; marks_are = are })

@@ -10,12 +10,12 @@ ghost use Rattle.term_program.specs.Stated.{box_problem_of};
 ghost use Rattle.log_check.specs.Judged.{IsWithinClaim, cuts_at};
 ghost use Rattle.log_check.specs.Closing.{ChancesOpen, DefinedOpen, HardOpen, HardsOpen, IsClosing, IsPointOf, IsWrongPoint, NoneCloses};
 
-use crate::judge::{BetterEnd, closes, end_over};
+use crate::judge::{closes, end_over};
 use crate::sides::Sides;
 use crate::tally::claimed;
 use box_store::BoxStore;
 use log_rows::{Cut, Footer};
-use sopl_base::{Direction, Reason, better};
+use sopl_base::{Direction, Reason, Wide, better};
 use term_program::Program;
 
 /// Whether a cut's number cuts the interval of its cell.
@@ -137,7 +137,7 @@ fn any_closing(program: &Program, store: &BoxStore) -> Option<Reason>
 
 /// Whether a value is not better than the one that is claimed to be reached.
 #[tactic(auto, using(crate::proofs::Points::claim_none, crate::proofs::Points::claim_some))]
-fn is_claimed(direction: Direction, claim: Option<i128>, end: &BetterEnd) -> bool
+fn is_claimed(direction: Direction, claim: Option<i128>, end: &Wide) -> bool
     ensures claimed { Decides result (IsWithinClaim direction end.now.value claim) }
 {
     match claim {
@@ -148,7 +148,7 @@ fn is_claimed(direction: Direction, claim: Option<i128>, end: &BetterEnd) -> boo
 
 /// The value of a point that is rightly told.
 #[tactic(auto, using(crate::proofs::Points::no_point, crate::proofs::Points::not_satisfying, crate::proofs::Points::not_claimed, crate::proofs::Points::right_point))]
-pub(crate) fn point_value(program: &Program, footer: &Footer, store: &BoxStore) -> Option<BetterEnd>
+pub(crate) fn point_value(program: &Program, footer: &Footer, store: &BoxStore) -> Option<Wide>
     requires made { IsMade program.now }
     requires inside { Inside store.now.box (box_problem_of program.now).root }
     ensures wrong { IfNone result (IsWrongPoint (box_problem_of program.now) footer.now store.now.box) }

@@ -8,13 +8,13 @@ ghost use Rattle.log_check.specs.Verdicts.{IsVerdict, first_line};
 ghost use Rattle.log_check.specs.Views.{IsReady, problem_in};
 ghost use Rattle.log_check.specs.Walks.{WalkStands};
 
-use crate::judge::{BetterEnd, direction_of};
+use crate::judge::direction_of;
 use crate::tally::Tally;
 use crate::verdict::Verdict;
 use crate::view::LogView;
 use crate::walk::WrongLine;
 use log_rows::Footer;
-use sopl_base::{Direction, better};
+use sopl_base::{Direction, Wide, better};
 
 /// Whether a bound is right where no value is claimed.
 #[tactic(auto, using(crate::proofs::Footers::none_holds))]
@@ -26,7 +26,7 @@ fn bounds_none(tally: &Tally) -> bool
 
 /// Whether a value is not better than a bound, and whether it is the bound.
 #[tactic(auto, using(crate::proofs::Footers::found_passed, crate::proofs::Footers::found_better, crate::proofs::Footers::found_unreached, crate::proofs::Footers::found_touched, crate::proofs::Footers::found_same))]
-fn bounds_found(direction: Direction, found: &BetterEnd, bound: &BetterEnd, tally: &Tally) -> bool
+fn bounds_found(direction: Direction, found: &Wide, bound: &Wide, tally: &Tally) -> bool
     ensures holds { Decides result (HoldsFound direction found.now.value bound.now.value tally.now) }
 {
     if tally.passed {
@@ -45,16 +45,11 @@ fn bounds_found(direction: Direction, found: &BetterEnd, bound: &BetterEnd, tall
 }
 
 /// Whether a bound is right.
-fn is_right_bound(
-    direction: Direction,
-    found: &Option<i128>,
-    bound: &BetterEnd,
-    tally: &Tally,
-) -> bool
+fn is_right_bound(direction: Direction, found: &Option<i128>, bound: &Wide, tally: &Tally) -> bool
     ensures holds { Decides result (HoldsBound direction found.now bound.now.value tally.now) }
 {
     match found {
-        Some(value) => bounds_found(direction, &BetterEnd { value: *value }, bound, tally),
+        Some(value) => bounds_found(direction, &Wide { value: *value }, bound, tally),
         None => bounds_none(tally),
     }
 }
@@ -68,7 +63,7 @@ fn is_right_footer(direction: Direction, footer: &Footer, tally: &Tally) -> bool
         Footer::Optimal(_) => tally.reached,
         Footer::Infeasible => true,
         Footer::Bounded(found, bound) => {
-            is_right_bound(direction, found, &BetterEnd { value: *bound }, tally)
+            is_right_bound(direction, found, &Wide { value: *bound }, tally)
         }
     }
 }

@@ -11,7 +11,7 @@ ghost use Rattle.term_program.specs.Stated.{box_problem_of};
 ghost use Rattle.log_check.specs.Judged.{IsRemovedPart};
 
 use box_store::BoxStore;
-use sopl_base::{Direction, Interval, Reason, Side, Step};
+use sopl_base::{Direction, Interval, Reason, Side, Step, Wide};
 use term_program::{Program, goal_ends, refuted, refuted_in};
 
 /// Whether a reason closes the box of a store.
@@ -75,26 +75,20 @@ pub(crate) fn removes(program: &Program, step: &Step, store: &BoxStore, best: Op
     refuted_in(program, step.reason, store, best, step.cell, part)
 }
 
-/// The better end of the objective over a box.
-#[derive(Clone, Copy)]
-pub(crate) struct BetterEnd {
-    pub(crate) value: i128,
-}
-
 /// The better one of two ends.
-fn better_end(direction: Direction, low: i128, high: i128) -> BetterEnd
+fn better_end(direction: Direction, low: i128, high: i128) -> Wide
     ensures end { result.value ≡ objective.better_end direction (ends low high) }
 {
     match direction {
-        Direction::Minimize => BetterEnd { value: low },
-        Direction::Maximize => BetterEnd { value: high },
-        Direction::Nothing => BetterEnd { value: 0 },
+        Direction::Minimize => Wide { value: low },
+        Direction::Maximize => Wide { value: high },
+        Direction::Nothing => Wide { value: 0 },
     }
 }
 
 /// The better end of the objective over the box of a store.
 #[tactic(auto, using(crate::proofs::Judging::inside_root, crate::proofs::Judging::end_is))]
-pub(crate) fn end_over(program: &Program, store: &BoxStore) -> BetterEnd
+pub(crate) fn end_over(program: &Program, store: &BoxStore) -> Wide
     requires made { IsMade program.now }
     requires inside { Inside store.now.box (box_problem_of program.now).root }
     ensures end { result.value ≡ (box_problem_of program.now).end store.now.box }

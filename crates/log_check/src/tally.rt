@@ -5,9 +5,8 @@ ghost use Rattle.std.specs.Bool.{Decides};
 ghost use Rattle.log_rows.specs.Accepted as log;
 ghost use Rattle.log_check.specs.Judged.{Passes, bound_in, no_tally};
 
-use crate::judge::BetterEnd;
 use log_rows::Footer;
-use sopl_base::{Direction, better};
+use sopl_base::{Direction, Wide, better};
 
 /// Whether some row reached the value that is claimed, and whether the better end over some row that is not finished is the bound that is
 /// claimed, or is better.
@@ -42,7 +41,7 @@ fn bound_of(footer: &Footer) -> Option<i128>
 
 /// Whether a number is this value.
 #[tactic(auto, using(crate::proofs::Counting::same_is, crate::proofs::Counting::none_is))]
-fn is_value(number: Option<i128>, end: &BetterEnd) -> bool
+fn is_value(number: Option<i128>, end: &Wide) -> bool
     ensures same { Decides result (number ≡ Some end.now.value) }
 {
     match number {
@@ -53,7 +52,7 @@ fn is_value(number: Option<i128>, end: &BetterEnd) -> bool
 
 /// Whether a value is better than a bound.
 #[tactic(auto, using(crate::proofs::Counting::passes_is, crate::proofs::Counting::passes_none))]
-fn passes(direction: Direction, bound: Option<i128>, end: &BetterEnd) -> bool
+fn passes(direction: Direction, bound: Option<i128>, end: &Wide) -> bool
     ensures passes { Decides result (Passes direction end.now.value bound) }
 {
     match bound {
@@ -76,7 +75,7 @@ impl Tally {
 
     /// With a point of this value.
     #[tactic(auto, using(crate::proofs::Counting::either))]
-    pub(crate) fn with_point(&self, footer: &Footer, end: &BetterEnd) -> Tally
+    pub(crate) fn with_point(&self, footer: &Footer, end: &Wide) -> Tally
         ensures reached { Decides result.reached ((self.now.reached ≡ true) ⊎ (log.claimed footer.now ≡ Some end.now.value)) }
         ensures touched { result.touched ≡ self.now.touched }
         ensures passed { result.passed ≡ self.now.passed }
@@ -91,7 +90,7 @@ impl Tally {
 
     /// With a row that is not finished, over which this is the better end.
     #[tactic(auto, using(crate::proofs::Counting::either))]
-    pub(crate) fn with_open(&self, footer: &Footer, direction: Direction, end: &BetterEnd) -> Tally
+    pub(crate) fn with_open(&self, footer: &Footer, direction: Direction, end: &Wide) -> Tally
         ensures reached { result.reached ≡ self.now.reached }
         ensures touched { Decides result.touched ((self.now.touched ≡ true) ⊎ (bound_in footer.now ≡ Some end.now.value)) }
         ensures passed { Decides result.passed ((self.now.passed ≡ true) ⊎ Passes direction end.now.value (bound_in footer.now)) }

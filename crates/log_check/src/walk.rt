@@ -77,7 +77,7 @@ fn take_low(store: &mut BoxStore, cut: &Cut)
 }
 
 /// Narrows the box of a store to the high side of a cut.
-#[tactic(auto, using(crate::proofs::Waiting::high_cut))]
+#[tactic(auto, using(box_problem::proofs::Shared::high_cut))]
 fn take_high(store: &mut BoxStore, cut: &Cut)
     requires room { 1 ≤ store.old.spare }
     requires cut { IsCut store.old.box cut.now.cell Le cut.now.k }

@@ -1,11 +1,12 @@
 -- The rows of a search, with those of its open nodes, are an accepted log.
-use Rattle.std.proofs.Common.{◌≡◌, inl, inr, ℕ, zero, suc, ◌+◌, ◌-◌, ◌<◌, ◌≤◌, ℤ, pos, List, [], ◌∷◌, length, get_or, map, Option, Some, None, Contains, arith, refl, sym, ap, subst, ◌∙◌}
-use Rattle.std.proofs.lemmas.List.{length-append, length-map, get_or-append-add, get_or-map}
+use Rattle.std.proofs.Common.{◌≡◌, inl, inr, ℕ, zero, suc, ◌+◌, ◌-◌, ◌<◌, ◌≤◌, ℤ, pos, List, [], length, get_or, map, Option, Some, None, Contains, arith, refl, sym, ap, subst, ◌∙◌}
+use Rattle.std.proofs.lemmas.List.{length-append, length-map, get_or-append-add, get_or-map, get_or_default}
 use Rattle.std.proofs.lemmas.List.Elements.{Contains-get_or}
 use Rattle.std.proofs.lemmas.Bool.{cases_eq}
 use Rattle.sopl_base.specs.declared.reason.Side.{Side}
 use Rattle.sopl_base.specs.declared.reason.Side.TheVariants.{Le, Ge}
 use Rattle.sopl_base.specs.Better.{IsBetter}
+use Rattle.sopl_base.proofs.Naturals.{by_place}
 use Rattle.log_rows.specs.declared.rows.Row.{Row}
 use Rattle.log_rows.specs.declared.rows.EndLine.{EndLine}
 use Rattle.log_rows.specs.declared.rows.EndLine.TheVariants.{Refuted, Split, Point, Unfinished}
@@ -14,10 +15,11 @@ use Rattle.log_rows.specs.declared.rows.Footer.TheVariants.{Optimal, Infeasible,
 use Rattle.box_problem.specs.Box.{Box, Inside}
 use Rattle.box_problem.specs.Steps.{after_steps}
 use Rattle.box_problem.specs.BoxProblem.{BoxProblem, Follows, Lawful}
+use Rattle.box_problem.proofs.Opens.{beats_follows}
 use Rattle.log_rows.specs.Rows.{no_row, row_at, final_of, start_of, box_at, IsSplit}
 use Rattle.log_rows.specs.Made.{MadeEnd, best_after, best_at, Pending, pending_at, Logs, IsFinished, AreFinished, AreShallow, open_row, with_open}
 use Rattle.log_rows.specs.Accepted.{claimed, HasSide, RightEnd, RightRow, RightFooter, RightOpen, IsFound, IsOpenEnd, BoundsOpen, IsPendingEnd, BoundsPending, Closes, Accepted, greatest_depth}
-use Rattle.log_rows.proofs.Values.{follows_itself, follows_more, beats_follows, right_later, claims}
+use Rattle.log_rows.proofs.Values.{follows_itself, follows_more, right_later, claims}
 use Rattle.log_rows.proofs.Places.{final_is, box_stays, hangs_within, row_stays}
 use Rattle.log_rows.proofs.Lists.{none_has}
 use Rattle.log_rows.proofs.Insides.{Cuts, AreSound, begins_inside}
@@ -131,18 +133,6 @@ open_final problem rows opens best k logs exists =
     ∙ (box_stays problem.root rows (map open_row opens) x.parent (hangs_within rows (length rows) x.parent placed.0)
     ∙ sym (ap (λ (y : Pending). y.at) placed.1)))
 
--- before a place, or from it on
-by_place : {P : Type 0} (n i : ℕ) → (i < n → P) → (n ≤ i → P) → P
-by_place zero i before behind = behind (omega arith)
-by_place (suc n) zero before behind = before (omega arith)
-by_place (suc n) (suc i) before behind = by_place n i (λ less. before (omega arith)) (λ more. behind (omega arith))
-
--- an element by any default
-other_default : {X : Type 0} (xs : List X) (k : ℕ) (d e : X) → k < length xs → get_or xs k d ≡ get_or xs k e
-other_default [] k d e exists = absurd (omega arith)
-other_default (x ∷ xs) zero d e exists = refl
-other_default (x ∷ xs) (suc k) d e exists = other_default xs k d e (omega arith)
-
 -- a row that is not finished is that of an open node
 record IsOpenRow (problem : BoxProblem) (rows : List Row) (opens : List Pending) (i : ℕ) : Type 0 where
   node : Pending
@@ -177,7 +167,7 @@ end_of_row problem rows opens best bound logs pending =
     let k = pending.is_open.0 in
     let there = pending.is_open.1 in
     let x = get_or opens k (no_pending problem.root) in
-    let node : x ≡ pending.node = other_default opens k (no_pending problem.root) pending.node there ∙ pending.is_open.2 in
+    let node : x ≡ pending.node = get_or_default opens k (no_pending problem.root) pending.node there ∙ pending.is_open.2 in
     record {
       row = length rows + k;
       exists = omega (arith, all_length rows opens, there);

@@ -79,7 +79,7 @@ side_hangs rows n side ordered split = record {
 }
 
 -- whether a parent is taken can be told
-same_side : (a b : Side) → (a ≡ b) ⊎ (¬ a ≡ b)
+pub same_side : (a b : Side) → (a ≡ b) ⊎ (¬ a ≡ b)
 same_side Le Le = inl refl
 same_side Le Ge = inr (λ same. absurd (cc))
 same_side Ge Le = inr (λ same. absurd (cc))

@@ -2,13 +2,11 @@
 use Rattle.std.proofs.Common.{◌≡◌, ◌⊎◌, inl, inr, ℕ, zero, suc, ◌<◌, List, [], ◌∷◌, ◌++◌, length, get_or, AllPairs, Contains, arith, refl, sym, ap, ◌∙◌}
 use Rattle.std.proofs.lemmas.List.Elements.{Contains-append_left, Contains-append_right, Contains-append_cases, Contains-get_or}
 use Rattle.std.proofs.lemmas.List.Kept.{AllPairs-cons}
+use Rattle.sopl_base.proofs.Lists.{contains_later}
 
 -- the first element, or a later one
 first_is : {X : Type 0} (x : X) (xs : List X) → Contains (x ∷ xs) x
 first_is x xs = (zero, omega arith, refl)
-
-later_has : {X : Type 0} (x : X) (xs : List X) (y : X) → Contains xs y → Contains (x ∷ xs) y
-later_has x xs y has = (suc has.0, omega (arith, has.1), has.2)
 
 first_or_later_at : {X : Type 0} (x : X) (xs : List X) (y : X) (k : ℕ) → k < length (x ∷ xs) → get_or (x ∷ xs) k y ≡ y → (x ≡ y) ⊎ Contains xs y
 first_or_later_at x xs y zero exists is = inl is
@@ -28,7 +26,7 @@ pub others_have : {X : Type 0} (prefix back : List X) (x y : X) → Contains (pr
 others_have prefix back x y has =
     elim (Contains-append_cases prefix back y has) [
       | inl before ↦ Contains-append_left prefix (x ∷ back) y before
-      | inr behind ↦ Contains-append_right prefix (x ∷ back) y (later_has x back y behind)
+      | inr behind ↦ Contains-append_right prefix (x ∷ back) y (contains_later x back y behind)
     ]
 
 pub middle_or_others : {X : Type 0} (prefix back : List X) (x y : X) → Contains (prefix ++ x ∷ back) y → (x ≡ y) ⊎ Contains (prefix ++ back) y
@@ -95,4 +93,4 @@ put_apart (y ∷ left) right x apart differs =
       | inl here ↦ differs y (first_is y (left ++ right)) (here ∙ sym same)
       | inr other ↦ first_apart y (left ++ right) z apart other same
     ])
-    (put_apart left right x (later_apart y (left ++ right) apart) (λ z has. differs z (later_has y (left ++ right) z has)))
+    (put_apart left right x (later_apart y (left ++ right) apart) (λ z has. differs z (contains_later y (left ++ right) z has)))

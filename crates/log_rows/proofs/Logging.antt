@@ -52,7 +52,7 @@ logs_at_first problem = record {
 longer : (rows : List Row) (row : Row) → length (rows ++ row ∷ []) ≡ suc (length rows)
 longer rows row = omega (arith, length-append rows (row ∷ []))
 
-each_row : (P : ℕ → Row → Type 0) (rows : List Row) (row : Row) → ((i : ℕ) → i < length rows → P i (row_at rows i)) → P (length rows) row
+pub each_row : (P : ℕ → Row → Type 0) (rows : List Row) (row : Row) → ((i : ℕ) → i < length rows → P i (row_at rows i)) → P (length rows) row
     → (i : ℕ) → i < length (rows ++ row ∷ []) → P i (row_at (rows ++ row ∷ []) i)
 each_row P rows row old new i exists =
     elim (cases_eq i (length rows)) [
@@ -349,14 +349,14 @@ depths_after_end problem measure most rows x prefix back best steps end logs sha
 
 side_depth : (measure : Box → ℕ) (most : ℕ) (rows : List Row) (x : Pending) (opens : List Pending) (row : Row) (b : Box) (cut : Cut) (side : Side) → row.parent ≡ x.parent → Contains opens x
     → AreShallow measure most rows opens
-    → measure (handed b (Split cut) side) < measure x.at → depth_at (rows ++ row ∷ []) (some_side (length rows) side) + measure (handed b (Split cut) side) ≤ most
+    → depth_at rows x.parent + 1 + measure (handed b (Split cut) side) ≤ most → depth_at (rows ++ row ∷ []) (some_side (length rows) side) + measure (handed b (Split cut) side) ≤ most
 side_depth measure most rows x opens row b cut side same has shallow less =
     omega (arith, depth_last rows row, ap (depth_at rows) same, shallow.opens_are x has, less)
 
 pub depths_after_split : (problem : BoxProblem) (measure : Box → ℕ) (most : ℕ) (rows : List Row) (x : Pending) (prefix back left right : List Pending) (best : Option ℤ) (steps : List Step) (cut : Cut)
     → Logs problem rows (prefix ++ x ∷ back) best → AreShallow measure most rows (prefix ++ x ∷ back)
-    → measure (handed (after_steps x.at steps) (Split cut) Le) < measure x.at
-    → measure (handed (after_steps x.at steps) (Split cut) Ge) < measure x.at
+    → depth_at rows x.parent + 1 + measure (handed (after_steps x.at steps) (Split cut) Le) ≤ most
+    → depth_at rows x.parent + 1 + measure (handed (after_steps x.at steps) (Split cut) Ge) ≤ most
     → left ++ right ≡ prefix ++ back
     → AreShallow measure most (rows ++ row_of x steps (Split cut) ∷ [])
     (left ++ half (length rows) (after_steps x.at steps) cut Ge ∷ half (length rows) (after_steps x.at steps) cut Le ∷ right)

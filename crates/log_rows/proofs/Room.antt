@@ -4,13 +4,12 @@ use Rattle.std.proofs.lemmas.List.Sums.{sum_by-append, sum_by-cons}
 use Rattle.sopl_base.specs.declared.reason.Side.{Side}
 use Rattle.sopl_base.specs.declared.reason.Step.{Step}
 use Rattle.box_problem.specs.Box.{Box, IsBox, points}
-use Rattle.box_problem.specs.Steps.{IsCut, after_step, after_steps, cut_away, narrowed}
+use Rattle.box_problem.specs.Steps.{IsCut, after_steps, cut_away, narrowed}
 use Rattle.box_problem.specs.BoxProblem.{BoxProblem}
 use Rattle.box_problem.specs.Covers.{Counts}
 use Rattle.box_problem.specs.Rightness.{AllRight}
 use Rattle.box_problem.proofs.Counts.{cuts_count, points_alive}
-use Rattle.box_problem.proofs.Opens.{counts_at_first, counts_in_any_order, counts_after_steps, counts_after_end, counts_after_split}
-use Rattle.box_problem.proofs.Steps.{steps_narrow}
+use Rattle.box_problem.proofs.Opens.{counts_at_first, counts_in_any_order, counts_after_steps, counts_after_end, counts_after_split, points_after}
 
 -- so many nodes are finished, so many of them leaves, and what may still come of the open boxes is no more than the root's points allow
 pub record HasRoom (problem : BoxProblem) (finished leaves : ℕ) (opens : List Box) : Type 0 where
@@ -29,13 +28,6 @@ room_to_head problem finished leaves b prefix back room = record {
   for_nodes = (counts_in_any_order problem finished b prefix back).0 room.for_nodes;
   for_leaves = omega (arith, room.for_leaves, sum_by-append points prefix (b ∷ back), sum_by-cons points b back, sum_by-cons points b (prefix ++ back), sum_by-append points prefix back);
 }
-
--- steps leave no more points
-points_after : (problem : BoxProblem) (v : Option ℤ) (b : Box) (steps : List Step) → IsBox b → AllRight problem v b steps → points (after_steps b steps) ≤ points b
-points_after problem v b [] is_box right = omega arith
-points_after problem v b (s ∷ steps) is_box right =
-    let first = (steps_narrow problem v b s is_box right.0).0 in
-    omega (arith, points_after problem v (after_step b s) steps first.is_box right.1, cuts_count b s.cell s.side s.k is_box right.0.cut)
 
 pub room_after_steps : (problem : BoxProblem) (v : Option ℤ) (finished leaves : ℕ) (b : Box) (steps : List Step) (opens : List Box) → IsBox b → AllRight problem v b steps
     → HasRoom problem finished leaves (b ∷ opens) → HasRoom problem finished leaves (after_steps b steps ∷ opens)

@@ -1,7 +1,6 @@
 -- How many nodes and leaves a tree of right lines has.
 use Rattle.std.proofs.Common.{◌≡◌, inl, inr, ℕ, zero, suc, ◌+◌, ◌<◌, ◌≤◌, ℤ, Bool, true, false, cond, List, [], ◌∷◌, ◌++◌, length, map, take, Option, Some, None, Contains}
 use Rattle.std.proofs.Common.{arith, refl, sym, ap, subst, ◌∙◌}
-use Rattle.std.proofs.lemmas.Int.{ints}
 use Rattle.std.proofs.lemmas.List.{map-append, take_all}
 use Rattle.std.proofs.lemmas.List.Filters.{length-filter_more}
 use Rattle.sopl_base.specs.declared.reason.Side.{Side}
@@ -16,6 +15,7 @@ use Rattle.box_problem.specs.Box.{Box, IsBox, InBox, points}
 use Rattle.box_problem.specs.BoxProblem.{BoxProblem, Lawful}
 use Rattle.box_problem.specs.Covers.{nodes_for}
 use Rattle.box_problem.proofs.Counts.{points_alive}
+use Rattle.box_problem.proofs.Shared.{lows_inside}
 use Rattle.log_rows.specs.Rows.{no_row, row_at, handed, final_of, start_of, box_at, is_leaf_end, leaves, IsSplit, Hangs}
 use Rattle.log_rows.specs.Accepted.{claimed, AreRight}
 use Rattle.log_rows.proofs.Places.{final_is}
@@ -168,14 +168,6 @@ logs_are_small problem rows footer lawful right = omega (arith, (all_grown probl
 pub leaves_are_few : (problem : BoxProblem) (rows : List Row) (footer : Footer) → Lawful problem → AreRight problem rows footer → length (leaves rows) ≤ points problem.root
 leaves_are_few problem rows footer lawful right =
     omega (arith, (all_grown problem rows footer lawful right).room.for_leaves, ap (λ (xs : List Row). length (leaves xs)) (take_all (length rows) rows (omega arith)))
-
--- the lower ends of a box are a point of it
-lows_inside : (b : Box) → IsBox b → InBox b b.lows
-lows_inside b is_box = record {
-  same_cells = refl;
-  from_low = λ cell exists. omega (arith, ints);
-  to_high = λ cell exists. is_box.ordered cell exists;
-}
 
 -- no box is without points
 pub leaves_have_points : (problem : BoxProblem) (rows : List Row) (footer : Footer) (i : ℕ) → Lawful problem → AreRight problem rows footer → i < length rows

@@ -4,12 +4,13 @@ use Rattle.std.proofs.lemmas.List.{append-nil, take_all, take_more, take-append-
 use Rattle.std.proofs.lemmas.Grind.{flat_map-append}
 use Rattle.std.specs.Prelude.{Result, Ok, Err, OnOk, OnErr}
 use Rattle.std.specs.Io.KnownBytes.{Appends}
+use Rattle.std.proofs.KnownBytes.{Appends-trans}
 use Rattle.sopl_base.specs.declared.reason.Step.{Step}
 use Rattle.log_rows.specs.declared.rows.Row.{Row}
 use Rattle.log_rows.specs.declared.rows.Footer.{Footer}
 use Rattle.sopl_io.specs.Transfer.{AppendsPrefix}
 use Rattle.log_rows.specs.Lines.{head_line, node_line, step_line, end_line, footer_line, row_lines, rows_lines, log_lines, ended, text_of}
-use Rattle.log_rows.proofs.Written.{two_written, prefix_of_second, prefix_of_first}
+use Rattle.log_rows.proofs.Written.{prefix_of_second, prefix_of_first}
 
 -- lines behind lines
 pub text_append : (xs ys : List (List ℕ)) → text_of (xs ++ ys) ≡ text_of xs ++ text_of ys
@@ -49,7 +50,7 @@ steps_more first now next steps i d exists before more =
     let step = get_or steps i d in
     subst (λ (xs : List Step). Appends first next (steps_text xs)) (sym (take_more steps i d exists))
     (subst (Appends first next) (sym (steps_append (take i steps) (step ∷ []) ∙ ap (λ (l : List ℕ). steps_text (take i steps) ++ l) (text_one (step_line step))))
-    (two_written first now next (steps_text (take i steps)) (ended (step_line step)) before more))
+    (Appends-trans first now next (steps_text (take i steps)) (ended (step_line step)) before more))
 
 pub steps_prefix : (first now next : Option (List ℕ)) (steps : List Step) (i : ℕ) (d : Step) → i < length steps
     → Appends first now (text_of (map step_line (take i steps))) → AppendsPrefix now next (ended (step_line (get_or steps i d))) → AppendsPrefix first next (text_of (map step_line steps))
@@ -94,7 +95,7 @@ pub rows_more : (first now next : Option (List ℕ)) (rows : List Row) (i : ℕ)
 rows_more first now next rows i row exists is before more =
     subst (λ (xs : List Row). Appends first next (rows_text 0 xs)) (sym (take_more rows i row exists ∙ ap (λ (r : Row). take i rows ++ r ∷ []) (sym is)))
     (subst (Appends first next) (sym (rows_first rows i (row ∷ []) (omega arith) ∙ ap (λ (l : List ℕ). rows_text 0 (take i rows) ++ l) (one_row i row)))
-    (two_written first now next (rows_text 0 (take i rows)) (text_of (row_lines i row)) before more))
+    (Appends-trans first now next (rows_text 0 (take i rows)) (text_of (row_lines i row)) before more))
 
 pub rows_prefix : (first now next : Option (List ℕ)) (rows : List Row) (i : ℕ) (row : Row) → i < length rows → row ≡ get_or rows i row
     → Appends first now (text_of (rows_lines 0 (take i rows))) → AppendsPrefix now next (text_of (row_lines i row)) → AppendsPrefix first next (text_of (rows_lines 0 rows))
@@ -121,7 +122,7 @@ last_fails a b c d first second third whole is done more prefix =
 
 all_three : (a b c d : Option (List ℕ)) (first second third whole : List ℕ) → whole ≡ first ++ (second ++ third) → Appends a b first → Appends b c second → Appends c d third → Appends a d whole
 all_three a b c d first second third whole is done more last =
-    subst (Appends a d) (sym is) (two_written a b d first (second ++ third) done (two_written b c d second third more last))
+    subst (Appends a d) (sym is) (Appends-trans a b d first (second ++ third) done (Appends-trans b c d second third more last))
 
 pub row_fails_first : (a b : Option (List ℕ)) (number : ℕ) (row : Row) → AppendsPrefix a b (ended (node_line number row.parent)) → AppendsPrefix a b (text_of (row_lines number row))
 row_fails_first a b number row prefix =

@@ -16,9 +16,10 @@ use Rattle.box_problem.specs.Reached.{Reaches}
 use Rattle.box_problem.proofs.Boxes.{points_of_parts, point_in_box, only_point}
 use Rattle.box_problem.proofs.Cuts.{cuts_cover}
 use Rattle.box_problem.proofs.Steps.{steps_keep}
+use Rattle.box_problem.proofs.Opens.{still_not_better}
 use Rattle.log_rows.specs.Rows.{row_at, handed, final_of, start_of, box_at, Hangs, AreOrdered}
 use Rattle.log_rows.specs.Accepted.{claimed, HasSide, RightEnd, IsFound, BoundsOpen, Accepted, Holds}
-use Rattle.log_rows.proofs.Values.{still_not_better, not_beaten}
+use Rattle.log_rows.proofs.Values.{not_beaten}
 use Rattle.log_rows.proofs.Places.{final_is}
 use Rattle.log_rows.proofs.Insides.{is_inside, begins_inside, accepted_sound}
 

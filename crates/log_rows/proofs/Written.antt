@@ -1,9 +1,11 @@
 -- Texts that a sink takes one behind another.
-use Rattle.std.proofs.Common.{◌≡◌, ℕ, zero, suc, ◌+◌, ◌<◌, ◌≤◌, List, [], ◌++◌, length, take, Option, Some, None, OnOk, OnErr, codes, arith, sym, ap, subst, ◌∙◌, append_assoc}
+use Rattle.std.proofs.Common.{◌≡◌, ℕ, ◌+◌, ◌≤◌, List, [], ◌++◌, length, take, Option, Some, None, OnOk, OnErr, codes, arith, sym, subst}
 use Rattle.std.specs.Prelude.{Result, Ok, Err}
 use Rattle.std.proofs.lemmas.List.{append-nil, take_all, take-append-le}
 use Rattle.std.proofs.Math.Seq.{take-append-add, take-append_seam}
 use Rattle.std.specs.Io.KnownBytes.{Appends}
+use Rattle.std.proofs.KnownBytes.{Appends-trans}
+use Rattle.sopl_base.proofs.Naturals.{by_place}
 use Rattle.sopl_io.specs.Transfer.{AppendsPrefix}
 use Rattle.sopl_io.specs.Causes.{Rose, HasCause}
 use Rattle.log_rows.specs.Lines.{ended}
@@ -12,24 +14,10 @@ pub none_written : (t : Option (List ℕ)) → Appends t t []
 none_written None = tt
 none_written (Some xs) = sym (append-nil xs)
 
--- all of a text, and then all of another
-pub two_written : (a b c : Option (List ℕ)) (xs ys : List ℕ) → Appends a b xs → Appends b c ys → Appends a c (xs ++ ys)
-two_written None b c xs ys first second = tt
-two_written (Some os) None c xs ys first second = absurd first
-two_written (Some os) (Some bs) None xs ys first second = absurd second
-two_written (Some os) (Some bs) (Some cs) xs ys first second =
-    second ∙ ap (λ (l : List ℕ). l ++ ys) first ∙ append_assoc os xs ys
-
 -- all of a text, and then a prefix of another
 pub prefix_of_second : (a b c : Option (List ℕ)) (xs ys : List ℕ) → Appends a b xs → AppendsPrefix b c ys → AppendsPrefix a c (xs ++ ys)
 prefix_of_second a b c xs ys first second =
-    (length xs + second.0, subst (Appends a c) (sym (take-append-add xs ys second.0)) (two_written a b c xs (take second.0 ys) first second.1))
-
--- before a place, or from it on
-by_place : {P : Type 0} (n i : ℕ) → (i < n → P) → (n ≤ i → P) → P
-by_place zero i before behind = behind (omega arith)
-by_place (suc n) zero before behind = before (omega arith)
-by_place (suc n) (suc i) before behind = by_place n i (λ less. before (omega arith)) (λ more. behind (omega arith))
+    (length xs + second.0, subst (Appends a c) (sym (take-append-add xs ys second.0)) (Appends-trans a b c xs (take second.0 ys) first second.1))
 
 -- a prefix of the first of two texts
 pub prefix_of_first : (a b : Option (List ℕ)) (xs ys : List ℕ) → AppendsPrefix a b xs → AppendsPrefix a b (xs ++ ys)
@@ -39,7 +27,7 @@ prefix_of_first a b xs ys some =
     (λ more. (length xs, subst (Appends a b) (sym (take-append_seam xs ys)) (subst (Appends a b) (take_all some.0 xs more) some.1)))
 
 -- a call behind another: what failed, failed where the count rose
-rose_later : (before middle now : ℕ) → before ≤ middle → Rose middle now → Rose before now
+pub rose_later : (before middle now : ℕ) → before ≤ middle → Rose middle now → Rose before now
 rose_later before middle now later rose = omega (arith, rose)
 
 failed_later : {T E : Type 0} (before middle now : ℕ) (result : Result T E) → before ≤ middle → OnErr result (Rose middle now) → OnErr result (Rose before now)

@@ -1,5 +1,5 @@
 -- What holds of the rows of a search, and of logs that are accepted.
-use Rattle.std.specs.Prelude.{◌≡◌, ◌↔◌, ℕ, ◌<◌, ◌≤◌, ℤ, List, [], ◌∷◌, ◌++◌, length, Option, None, Some, AllPairs, Contains}
+use Rattle.std.specs.Prelude.{◌≡◌, ◌↔◌, ℕ, ◌+◌, ◌<◌, ◌≤◌, ℤ, List, [], ◌∷◌, ◌++◌, length, Option, None, Some, AllPairs, Contains}
 use Rattle.sopl_base.specs.declared.reason.Side.{Side}
 use Rattle.sopl_base.specs.declared.reason.Side.TheVariants.{Le, Ge}
 use Rattle.sopl_base.specs.declared.reason.Step.{Step}
@@ -13,7 +13,7 @@ use Rattle.box_problem.specs.Steps.{after_steps}
 use Rattle.box_problem.specs.BoxProblem.{BoxProblem, Lawful}
 use Rattle.box_problem.specs.Rightness.{AllRight}
 use Rattle.box_problem.specs.Covers.{nodes_for}
-use Rattle.log_rows.specs.Rows.{row_at, final_of, handed, leaves, IsSplit}
+use Rattle.log_rows.specs.Rows.{row_at, final_of, handed, leaves, depth_at, IsSplit}
 use Rattle.log_rows.specs.Made.{MadeEnd, MadeSplit, best_after, Pending, Logs, AreFinished, AreShallow, with_open}
 use Rattle.log_rows.specs.Accepted.{Accepted, AreRight, Holds, Closes, greatest_depth}
 
@@ -72,13 +72,13 @@ DepthsAfterEnd =
     → Logs problem rows (prefix ++ x ∷ back) best → AreShallow measure most rows (prefix ++ x ∷ back)
     → AreShallow measure most (rows ++ row_of x steps end ∷ []) (prefix ++ back)
 
--- where both sides of a split have less of the measure, their depth is made up for
+-- so it is behind a split whose sides are so deep and have so much of the measure as there is room for
 abbrev pub DepthsAfterSplit : Type 0
 DepthsAfterSplit =
     (problem : BoxProblem) (measure : Box → ℕ) (most : ℕ) (rows : List Row) (x : Pending) (prefix back left right : List Pending) (best : Option ℤ) (steps : List Step) (cut : Cut)
     → Logs problem rows (prefix ++ x ∷ back) best → AreShallow measure most rows (prefix ++ x ∷ back)
-    → measure (handed (after_steps x.at steps) (Split cut) Le) < measure x.at
-    → measure (handed (after_steps x.at steps) (Split cut) Ge) < measure x.at
+    → depth_at rows x.parent + 1 + measure (handed (after_steps x.at steps) (Split cut) Le) ≤ most
+    → depth_at rows x.parent + 1 + measure (handed (after_steps x.at steps) (Split cut) Ge) ≤ most
     → left ++ right ≡ prefix ++ back
     → AreShallow measure most (rows ++ row_of x steps (Split cut) ∷ [])
     (left ++ half (length rows) (after_steps x.at steps) cut Ge ∷ half (length rows) (after_steps x.at steps) cut Le ∷ right)

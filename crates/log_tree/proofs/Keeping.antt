@@ -1,11 +1,12 @@
 -- What is kept of the rows tells where the next node may hang.
-use Rattle.std.proofs.Common.{◌≡◌, ◌∙◌, ◌<◌, ◌≤◌, ◌+◌, ◌⊎◌, inl, inr, ◌==◌, nat_lt, ◌&&◌, ℕ, suc, List, [], ◌∷◌, ◌++◌, length, Option, Some, None, Bool, true, false, refl, sym, ap, subst, arith, lt-ltb}
+use Rattle.std.proofs.Common.{◌≡◌, ◌∙◌, ◌<◌, ◌≤◌, ◌+◌, ◌⊎◌, inl, inr, ◌==◌, ℕ, suc, List, [], ◌∷◌, ◌++◌, length, Option, Some, None, Bool, true, false, refl, sym, ap, subst, arith, lt-ltb}
 use Rattle.std.specs.Bool.{Decides}
-use Rattle.std.proofs.lemmas.Bool.{and_parts, cases_eq}
+use Rattle.std.proofs.lemmas.Bool.{and_parts, cases_eq, and_from}
 use Rattle.std.proofs.lemmas.List.{get_or_append_left, length-append, get_or-set_same, get_or-set_other, length-set}
 use Rattle.std.proofs.Math.Seq.{get_or-append_seam}
 use Rattle.sopl_base.specs.declared.reason.Side.{Side}
 use Rattle.sopl_base.specs.declared.reason.Side.TheVariants.{Le, Ge}
+use Rattle.sopl_base.proofs.Tests.{nat_tested}
 use Rattle.log_rows.specs.declared.rows.Parent.{Parent}
 use Rattle.log_rows.specs.declared.rows.Row.{Row}
 use Rattle.log_rows.specs.declared.rows.EndLine.{EndLine}
@@ -19,14 +20,6 @@ use Rattle.log_tree.specs.declared.reading.Heading.{Heading}
 use Rattle.log_tree.specs.Reads.{IsNextNode}
 use Rattle.log_tree.specs.Slots.{slots_at, no_slots, is_free, taken, is_split, may_hang, is_next, depth_in, with_taken, new_slots, some_parent, SlotsFit, AllShallow}
 
-both : (a b : Bool) → a ≡ true → b ≡ true → (a && b) ≡ true
-both true true is same = refl
-both true false is same = same
-both false b is same = is
-
-below_is : (m n : ℕ) → nat_lt m n ≡ true → m < n
-below_is m n is = grind (arith, is)
-
 equal_is : (m n : ℕ) → (m == n) ≡ true → m ≡ n
 equal_is m n is = grind (arith, is)
 
@@ -38,12 +31,12 @@ module _ (rows : List Row) (slots : List Slots) (keeps : SlotsFit rows slots) wh
   may_hang_tells None is = sym keeps.each ∙ equal_is (length slots) 0 is
   may_hang_tells (Some parent) is =
       let parts = and_parts _ _ is in
-      (keeps.free parent.node parent.side (subst (λ n. parent.node < n) keeps.each (below_is parent.node (length slots) parts.0))).0 parts.1
+      (keeps.free parent.node parent.side (subst (λ n. parent.node < n) keeps.each (nat_tested parent.node (length slots) parts.0))).0 parts.1
 
   pub may_hang_told : (parent : Option Parent) → Hangs rows (length rows) parent → may_hang slots parent ≡ true
   may_hang_told None hangs = is_equal (length slots) 0 (keeps.each ∙ hangs)
   may_hang_told (Some parent) hangs =
-      both _ _ (lt-ltb parent.node (length slots) (subst (λ n. parent.node < n) (sym keeps.each) hangs.earlier)) ((keeps.free parent.node parent.side hangs.earlier).1 hangs)
+      and_from _ _ (lt-ltb parent.node (length slots) (subst (λ n. parent.node < n) (sym keeps.each) hangs.earlier)) ((keeps.free parent.node parent.side hangs.earlier).1 hangs)
 
   pub next_tells : (heading : Heading) → is_next slots heading ≡ true → IsNextNode rows heading
   next_tells heading is =
@@ -51,7 +44,7 @@ module _ (rows : List Row) (slots : List Slots) (keeps : SlotsFit rows slots) wh
       record { number = equal_is heading.number (length slots) parts.0 ∙ keeps.each; hangs = may_hang_tells heading.parent parts.1 }
 
   pub next_told : (heading : Heading) → IsNextNode rows heading → is_next slots heading ≡ true
-  next_told heading next = both _ _ (is_equal heading.number (length slots) (next.number ∙ sym keeps.each)) (may_hang_told heading.parent next.hangs)
+  next_told heading next = and_from _ _ (is_equal heading.number (length slots) (next.number ∙ sym keeps.each)) (may_hang_told heading.parent next.hangs)
 
   pub depth_is : (parent : Option Parent) → Hangs rows (length rows) parent → depth_in slots parent ≡ depth_at rows parent
   depth_is None hangs = refl
@@ -61,13 +54,6 @@ module _ (rows : List Row) (slots : List Slots) (keeps : SlotsFit rows slots) wh
   all_shallow k exists =
       let there : k < length rows = subst (λ n. k < n) keeps.each exists in
       subst (λ n. n ≤ greatest_depth) (sym (keeps.depths k there)) (keeps.shallow k there)
-
--- a side that is taken
-same_side : (a b : Side) → (a ≡ b) ⊎ (¬ a ≡ b)
-same_side Le Le = inl refl
-same_side Le Ge = inr (λ same. absurd (cc))
-same_side Ge Le = inr (λ same. absurd (cc))
-same_side Ge Ge = inl refl
 
 free_taken : (h : Slots) (a b : Side) → ((a ≡ b) × (is_free (taken h a) b ≡ false)) ⊎ ((¬ a ≡ b) × (is_free (taken h a) b ≡ is_free h b))
 free_taken h Le Le = inl (refl, refl)

@@ -23,7 +23,7 @@ use Rattle.log_tree.proofs.Rereading.{step_is, end_is, heading_is, footer_is}
 once : {A : Type 0} (Fits : A → Type 0) (text : A → List ℕ) (back : List ℕ → Option A) → ((x : A) → Fits x → back (text x) ≡ Some x) → (line : List ℕ) (x y : A) → Fits x → Fits y → text x ≡ line → text y ≡ line → x ≡ y
 once Fits text back is line x y fits_x fits_y of_x of_y = let one = sym (is x fits_x) ∙ ap back (of_x ∙ sym of_y) ∙ is y fits_y in cc
 
-heading_back : (x : Heading) → HeadingFits x → heading_read (heading_line x) ≡ Some x
+pub heading_back : (x : Heading) → HeadingFits x → heading_read (heading_line x) ≡ Some x
 heading_back x fits = heading_is x.number x.parent fits.number_fits fits.parent_fits
 
 footer_letter : (f : Footer) → letter_of (footer_line f) ≡ 101

@@ -10,7 +10,8 @@ use Rattle.log_rows.specs.Ranges.{StepFits, EndFits, FooterFits}
 use Rattle.log_tree.specs.declared.reading.Heading.{Heading}
 use Rattle.log_tree.specs.Reading.{step_read, end_read, heading_read, footer_read}
 use Rattle.log_tree.specs.LineOf.{IsLineOf, HeadingFits, heading_line}
-use Rattle.log_tree.proofs.Rereading.{step_is, end_is, heading_is, footer_is}
+use Rattle.log_tree.proofs.Rereading.{step_is, end_is, footer_is}
+use Rattle.log_tree.proofs.OnlyReading.{heading_back}
 
 -- for any kind of line whose reader gives back what is written
 module _ {A : Type 0} (Fits : A → Type 0) (text : A → List ℕ) (read : List ℕ → Option A) (back : (x : A) → Fits x → read (text x) ≡ Some x) where
@@ -55,9 +56,6 @@ footer_told line x fits equal = same FooterFits footer_line footer_read footer_i
 
 pub footer_other : (line : List ℕ) (x : Footer) → Some x ≡ footer_read line → false ≡ bytes_eq (footer_line x) line → IsLineOf FooterFits footer_line line None
 footer_other line x found differ = other FooterFits footer_line footer_read footer_is line x (sym found) (sym differ)
-
-heading_back : (x : Heading) → HeadingFits x → heading_read (heading_line x) ≡ Some x
-heading_back x fits = heading_is x.number x.parent fits.number_fits fits.parent_fits
 
 pub heading_none : (line : List ℕ) → None ≡ heading_read line → IsLineOf HeadingFits heading_line line None
 heading_none line nothing = unread HeadingFits heading_line heading_read heading_back line (sym nothing)

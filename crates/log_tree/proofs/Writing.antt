@@ -6,7 +6,6 @@ use Rattle.log_rows.specs.declared.rows.Footer.{Footer}
 use Rattle.log_rows.specs.declared.rows.Row.{Row}
 use Rattle.log_rows.specs.Rows.{AreOrdered}
 use Rattle.log_rows.specs.Lines.{log_lines, text_of}
-use Rattle.log_rows.specs.LogText.{IsLogText}
 use Rattle.log_rows.specs.Ranges.{FooterFits, RowFits}
 use Rattle.log_rows.proofs.LogTexts.{texts_are_logs}
 use Rattle.log_tree.specs.ReadingLaws.{NoneTooDeep}
@@ -22,10 +21,6 @@ pub fit_all : {A : Type 0} → (P : A → Type 0) (xs : List A) (i : ℕ) → le
 fit_all P xs i all before = subst (All P) (take_all i xs all) before
 
 -- A whole log.
-
-pub written_text : (rows : List Row) (footer : Footer) → AreOrdered rows → 0 < length rows → All RowFits rows → FooterFits footer
-    → IsLogText rows footer (text_of (log_lines rows footer))
-written_text rows footer ordered some fit footer_fits = texts_are_logs rows footer ordered some fit footer_fits
 
 pub written_read : (rows : List Row) (footer : Footer) → AreOrdered rows → 0 < length rows → All RowFits rows → FooterFits footer → length rows < 2 ^ 64
     → NoneTooDeep rows → IsReading (text_of (log_lines rows footer)) (read rows footer)

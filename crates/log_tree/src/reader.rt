@@ -1,13 +1,15 @@
 //! A log, read from its text.
 
-ghost use Rattle.std.specs.Prelude.{◌≡◌, ◌+◌, ◌<◌, ◌≤◌, ◌^◌, ◌∷◌, ◌++◌, [], length, None, IfOk, IfErr};
+ghost use Rattle.std.specs.Prelude.{◌≡◌, ◌+◌, ◌<◌, ◌≤◌, ◌^◌, ◌∷◌, [], length, None, IfOk, IfErr};
 ghost use Rattle.log_tree.specs.Cutting.{lines_in};
+ghost use Rattle.log_tree.specs.Progress as spec;
 ghost use Rattle.log_tree.specs.Reads.{IsNoStep, IsNoNode, ReadsFrom, IsReading, RefusedAs, read};
 ghost use Rattle.log_tree.specs.Progress.{IsRowBody, RefusesBody, RefusesRows};
 
 use crate::cutting::first_line;
 use crate::growing::Growing;
 use crate::lines::{end_in, footer_in, heading_in, step_in};
+use crate::words::letter;
 use log_rows::{EndLine, Footer, Row};
 use sopl_base::{Fault, Steps, codes};
 use std::alloc::Global;
@@ -42,6 +44,23 @@ fn ended<'a>(line: &[u8], steps: Steps, left: &'a [u8], number: usize) -> Result
     })
 }
 
+/// How many lines at the front begin as a step's line does: a row has no more steps.
+fn steps_ahead(text: &[u8]) -> usize
+    ensures { result ≡ spec.steps_ahead (lines_in text.now) }
+{
+    let mut left = text;
+    let mut count = 0;
+    'lines: while !left.is_empty() {
+        let (line, behind) = first_line(left);
+        if letter(line) != b's' {
+            return count;
+        }
+        left = behind;
+        count += 1;
+    }
+    count
+}
+
 /// The steps and the end of a row.
 pub(crate) fn read_body<'a>(
     alloc: Global,
@@ -54,7 +73,7 @@ pub(crate) fn read_body<'a>(
     ensures room { IfOk result (λ body. body.number + length body.left.now ≤ first + length text.now) }
     ensures shorter { IfOk result (λ body. length body.left.now ≤ length text.now) }
 {
-    let mut steps = Steps::new(alloc);
+    let mut steps = Steps::with_capacity(alloc, steps_ahead(text))?;
     let mut left = text;
     let mut number = first;
     'lines: while !left.is_empty() {

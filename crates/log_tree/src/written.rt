@@ -34,7 +34,7 @@ pub fn write_log<K: Sink>(log: &Log, sink: &mut K) -> Result<(), Failed>
 
 /// What is written of a log is the text of a log, and is read as the same rows and the same claim where none of the rows lies too deep. The
 /// function does nothing: what it ensures is so of every log.
-#[tactic(auto, using(crate::proofs::Writing::written_text, crate::proofs::Writing::written_read))]
+#[tactic(auto, using(log_rows::proofs::LogTexts::texts_are_logs, crate::proofs::Writing::written_read))]
 pub fn written_is_read(log: &Log)
     requires ordered { AreOrdered log.now.rows.items }
     requires at_least_one { 0 < length log.now.rows.items }

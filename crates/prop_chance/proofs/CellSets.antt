@@ -8,8 +8,8 @@ use Rattle.std.specs.FinMap.{nat_cmp-IsAntisymmetric}
 use Rattle.std.specs.Ordering.{nat_cmp, match_ordering}
 use Rattle.std.specs.declared.cmp.Ordering.{Ordering}
 use Rattle.std.specs.declared.cmp.Ordering.TheVariants.{Less, Equal, Greater}
+use Rattle.sopl_base.proofs.Lists.{contains_one}
 use Rattle.prop_shave.specs.Probes.{HasAll}
-use Rattle.prop_shave.proofs.Elsewhere.{only_one}
 use Rattle.term_cells.specs.Cells.{with_cells}
 
 -- one of several more, and none left
@@ -52,7 +52,7 @@ has [] set = λ cell here. absurd (omega (arith, here.1))
 has (x ∷ cells) set = λ cell here.
     elim (Contains-append_cases (x ∷ []) cells cell here) [
       | inl first ↦
-          keeps cells (insert_key nat_cmp set x) cell (subst (Contains (insert_key nat_cmp set x)) (only_one x cell first) (put_itself set x))
+          keeps cells (insert_key nat_cmp set x) cell (subst (Contains (insert_key nat_cmp set x)) (contains_one x cell first) (put_itself set x))
       | inr later ↦ has cells (insert_key nat_cmp set x) cell later
     ]
 

@@ -4,10 +4,11 @@ use Rattle.std.specs.List.{AllByRecursion}
 use Rattle.std.specs.Option.{option_and_then, option_map_or}
 use Rattle.std.proofs.lemmas.Int.{ints}
 use Rattle.sopl_base.specs.declared.reason.Reason.TheVariants.{Undefined}
-use Rattle.box_problem.specs.Box.{Box, InBox, Inside, IsBox, high, low, with_high, with_low}
+use Rattle.box_problem.specs.Box.{Box, Inside, IsBox, high, low, with_high, with_low}
 use Rattle.box_problem.specs.Rightness.{Quiets}
 use Rattle.box_problem.proofs.Boxes.{part_of_itself, points_of_parts}
 use Rattle.box_problem.proofs.Cuts.{high_lowered, low_raised}
+use Rattle.box_problem.proofs.Shared.{lows_inside}
 use Rattle.term_language.specs.declared.answers.Defined.{Defined}
 use Rattle.term_language.specs.declared.answers.Defined.TheVariants.{Never, Maybe, Always}
 use Rattle.term_language.specs.Laws.{IsProper, Marks}
@@ -17,21 +18,13 @@ use Rattle.term_language.specs.Values.{value}
 use Rattle.term_language.proofs.Soundness.{marks_tell}
 use Rattle.prop_shave.specs.declared.probes.Probe.{Probe}
 use Rattle.prop_shave.specs.Probes.{IsAsked}
-use Rattle.prop_shave.proofs.Finding.{for_each}
 use Rattle.term_program.specs.Stated.{box_problem_of}
 use Rattle.term_problem.specs.Problems.{GoalTerms, ProblemTerms}
 use Rattle.term_problem.specs.Refuted.{is_never, refutes}
 use Rattle.term_program.specs.Programs.{problem_in, root_in}
+use Rattle.prop_core.proofs.Rising.{for_each}
 use Rattle.prop_chance.specs.Goals.{term_in}
 use Rattle.prop_chance.proofs.Reached.{at_place}
-
--- a box has its lower ends as a point
-lows_lie : (b : Box) → IsBox b → InBox b b.lows
-lows_lie b is_box = record {
-  same_cells = refl;
-  from_low = λ cell exists. omega (arith, ints);
-  to_high = λ cell exists. is_box.ordered cell exists;
-}
 
 by_marks : (m : Defined) (v : Option ℤ) → Marks m v → Marks Always v → is_never m ≡ false
 by_marks Never None here there = absurd there
@@ -41,7 +34,7 @@ by_marks Always v here there = refl
 
 never_there : (root b c : Box) (t : Term) → IsBox b → Inside c b → IsProper t → mark Near root b t ≡ Always → is_never (mark Near root c t) ≡ false
 never_there root b c t is_box inside proper always =
-    let within = lows_lie c inside.is_box in
+    let within = lows_inside c inside.is_box in
     by_marks (mark Near root c t) (value c.lows t) (marks_tell Near root c c.lows t inside.is_box within proper)
     (subst (λ (m : Defined). Marks m (value c.lows t)) always (marks_tell Near root b c.lows t is_box (points_of_parts c b c.lows inside within) proper))
 

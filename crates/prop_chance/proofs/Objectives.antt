@@ -16,7 +16,7 @@ use Rattle.term_language.specs.Mentions.{mentions}
 use Rattle.prop_shave.specs.declared.probes.Probe.{Probe}
 use Rattle.prop_shave.specs.Opened.{IsOpen, IsWhole}
 use Rattle.prop_shave.specs.Probes.{HasAll}
-use Rattle.prop_shave.proofs.Finding.{found_quiet, itself}
+use Rattle.prop_shave.proofs.Finding.{found_quiet}
 use Rattle.term_program.specs.Stated.{box_problem_of}
 use Rattle.term_problem.specs.Problems.{GoalTerms, IsProblem, ProblemTerms}
 use Rattle.term_problem.specs.Refuted.{refutes}
@@ -25,6 +25,7 @@ use Rattle.term_problem.specs.Reasons.{reason_mentions}
 use Rattle.term_program.specs.declared.program.Program.{Program}
 use Rattle.term_program.specs.Mentions.{IsListOf}
 use Rattle.term_program.specs.Programs.{problem_in, root_in}
+use Rattle.prop_core.proofs.Rising.{itself}
 use Rattle.prop_chance.specs.Goals.{IsOpenTo, term_in}
 use Rattle.prop_chance.proofs.Reached.{AreIn, flat_in, none_mentioned}
 

@@ -16,8 +16,8 @@ ghost use Rattle.prop_chance.specs.Chances.{Fits, numbers_in, reasons_of};
 use crate::cell_sets::{listed, put_all};
 use box_store::BoxStore;
 use prop_core::{Finding, Propagator};
-use prop_shave::{ChanceDelta, Probe, TouchedScenarios, Weight, scenarios_touching, weight_left};
-use sopl_base::{Reason, Step};
+use prop_shave::{ChanceDelta, Probe, TouchedScenarios, scenarios_touching, weight_left};
+use sopl_base::{Reason, Step, Wide};
 use std::alloc::{AllocError, Global};
 use std::collections::BTreeSet;
 use term_program::Program;
@@ -96,12 +96,12 @@ impl Chance {
     }
 
     /// A right step at one of the ends of a cell of the list, or none where the constraint does not close the box with the cell at either end.
-    fn step_for<'a>(&'a self, probe: &'a Probe<'a>, left: &Weight, at: usize) -> Option<Step>
+    fn step_for<'a>(&'a self, probe: &'a Probe<'a>, left: Wide, at: usize) -> Option<Step>
         requires fits { Fits self.now probe.now.program.now }
         requires asked { IsAsked probe.now }
         requires reason { probe.now.reason ≡ reason.Chance self.now.instance }
         requires whole { IsWhole probe.now }
-        requires left { left.now.sum ≡ left_over (root_in probe.now.program.now) (problem_in probe.now.program.now) self.now.instance probe.now.store.now.box }
+        requires left { left.value ≡ left_over (root_in probe.now.program.now) (problem_in probe.now.program.now) self.now.instance probe.now.store.now.box }
         requires exists { at < length self.now.cells.items }
         ensures right { IfSome result (IsRight (box_problem_of probe.now.program.now) probe.now.best probe.now.store.now.box) }
         ensures own_reason { IfSome result (λ step. step.reason ≡ probe.now.reason) }
@@ -111,7 +111,7 @@ impl Chance {
         let weighed = ChanceDelta {
             instance: self.instance,
             cell,
-            left: *left,
+            left,
             scenarios: self.touched[at].numbers.as_slice(),
         };
         let known = Probe {
@@ -127,12 +127,12 @@ impl Chance {
 
     /// A right step at one of the ends of the cells, by the weight that is left over the box; none where the constraint does not close the box with any
     /// cell at an end.
-    fn step_by<'a>(&'a self, probe: &'a Probe<'a>, left: &Weight) -> Option<Step>
+    fn step_by<'a>(&'a self, probe: &'a Probe<'a>, left: Wide) -> Option<Step>
         requires fits { Fits self.now probe.now.program.now }
         requires asked { IsAsked probe.now }
         requires reason { probe.now.reason ≡ reason.Chance self.now.instance }
         requires whole { IsWhole probe.now }
-        requires left { left.now.sum ≡ left_over (root_in probe.now.program.now) (problem_in probe.now.program.now) self.now.instance probe.now.store.now.box }
+        requires left { left.value ≡ left_over (root_in probe.now.program.now) (problem_in probe.now.program.now) self.now.instance probe.now.store.now.box }
         ensures right { IfSome result (IsRight (box_problem_of probe.now.program.now) probe.now.best probe.now.store.now.box) }
         ensures own_reason { IfSome result (λ step. step.reason ≡ probe.now.reason) }
         ensures none { IfNone result (Quiets (box_problem_of probe.now.program.now) (probe.now.reason ∷ []) probe.now.best probe.now.store.now.box) }
@@ -156,7 +156,7 @@ impl Chance {
         ensures none { IfNone result (Quiets (box_problem_of probe.now.program.now) (probe.now.reason ∷ []) probe.now.best probe.now.store.now.box) }
     {
         match weight_left(probe.program, self.instance, probe.store) {
-            Some(left) => self.step_by(probe, &left),
+            Some(left) => self.step_by(probe, left),
             None => probe.first_step(self.cells.as_slice()),
         }
     }

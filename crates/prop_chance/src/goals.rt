@@ -22,8 +22,8 @@ ghost use Rattle.prop_chance.specs.Goals.{Fits, IsIndexed, IsOpenTo, atoms_in, r
 use crate::cell_sets::{listed, put_all};
 use box_store::BoxStore;
 use prop_core::{Finding, Propagator};
-use prop_shave::{GoalBound, GoalDelta, Probe, TouchedParts, end_over, parts_touching};
-use sopl_base::{Reason, Step};
+use prop_shave::{GoalDelta, Probe, TouchedParts, end_over, parts_touching};
+use sopl_base::{Reason, Step, Wide};
 use std::alloc::{AllocError, Global};
 use std::collections::BTreeSet;
 use term_goals::Atom;
@@ -246,7 +246,7 @@ impl Goal {
     {
         let end = end_over(probe.program, probe.store);
         'cells: for at in 0..self.cells.len() {
-            if let Some(step) = self.step_for(probe, parts, &end, at) {
+            if let Some(step) = self.step_for(probe, parts, end, at) {
                 return Some(step);
             }
         }
@@ -259,7 +259,7 @@ impl Goal {
         &'a self,
         probe: &'a Probe<'a>,
         parts: &'a [TouchedParts],
-        end: &GoalBound,
+        end: Wide,
         at: usize,
     ) -> Option<Step>
         requires fits { Fits self.now probe.now.program.now }
@@ -267,7 +267,7 @@ impl Goal {
         requires asked { IsAsked probe.now }
         requires reason { probe.now.reason ≡ Bound }
         requires whole { IsWhole probe.now }
-        requires end { end.now.number ≡ better_end (direction_in (problem_in probe.now.program.now))
+        requires end { end.value ≡ better_end (direction_in (problem_in probe.now.program.now))
             (goal_ends (root_in probe.now.program.now) probe.now.store.now.box (problem_in probe.now.program.now)) }
         requires exists { at < length self.now.cells.items }
         ensures right { IfSome result (IsRight (box_problem_of probe.now.program.now) probe.now.best probe.now.store.now.box) }
@@ -277,7 +277,7 @@ impl Goal {
         let cell = self.cells[at];
         let counted = GoalDelta {
             cell,
-            end: *end,
+            end,
             parts: parts[at].atoms.as_slice(),
         };
         let known = Probe {

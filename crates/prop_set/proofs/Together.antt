@@ -3,11 +3,12 @@ use Rattle.std.proofs.Common.{◌≡◌, ℕ, ◌+◌, ◌≤◌, List, [], ◌�
 use Rattle.std.specs.List.{flat_map, range_with_len}
 use Rattle.std.specs.Option.{option_and_then}
 use Rattle.std.proofs.lemmas.Grind.{flat_map-append}
-use Rattle.std.proofs.lemmas.List.{append-nil, map-append, map-id}
+use Rattle.std.proofs.lemmas.List.{append-nil, map-append}
 use Rattle.std.proofs.lemmas.List.Elements.{All-append, All-cons, All-nil}
 use Rattle.std.proofs.lemmas.List.FromFn.{map-range_with_len_more}
 use Rattle.std.specs.List.{All}
 use Rattle.sopl_base.specs.declared.reason.Reason.{Reason}
+use Rattle.sopl_base.proofs.Lists.{range_more}
 use Rattle.term_language.specs.Terms.{Cond}
 use Rattle.prop_core.specs.Members.{together}
 use Rattle.term_program.specs.Stated.{box_problem_of}
@@ -34,12 +35,6 @@ one_more f xs new p reason is pushed =
     ∙ ap together (map-append f xs (p ∷ []))
     ∙ together_append (map f xs) (f p ∷ [])
     ∙ ap (λ (list : List Reason). together (map f xs) ++ (list ++ [])) is
-
--- the reasons of the first scenarios
-range_more : (n : ℕ) → range_with_len 0 (n + 1) ≡ range_with_len 0 n ++ n ∷ []
-range_more n =
-    sym (map-id (range_with_len 0 (n + 1)))
-    ∙ (map-range_with_len_more (λ k. k) 0 n n (omega arith) ∙ ap (λ list. list ++ n ∷ []) (map-id (range_with_len 0 n)))
 
 pub none_yet : (base : List Reason) (f : ℕ → Reason) → base ≡ base ++ map f (range_with_len 0 0)
 none_yet base f = sym (append-nil base)
@@ -99,9 +94,6 @@ all_reasons program hards chances all first second third =
 pub fit_more : {P : Type 0} (Fit : P → Type 0) (xs new : List P) (p : P) → All Fit xs → Fit p → new ≡ xs ++ p ∷ [] → All Fit new
 fit_more Fit xs new p before here pushed =
     subst (All Fit) (sym pushed) (All-append Fit xs (p ∷ []) before (All-cons Fit p [] here (All-nil Fit)))
-
-pub fit_none : {P : Type 0} (Fit : P → Type 0) → All Fit []
-fit_none Fit = All-nil Fit
 
 -- a condition of the form of linear comparisons
 pub linear_there : (program : Program) (instance scenario : ℕ) (cond : Cond) (form : Form)

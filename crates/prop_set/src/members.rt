@@ -43,7 +43,7 @@ fn add_instance(program: &Program, instance: u32, list: &mut Vec<AnyProp>) -> Re
 }
 
 /// A propagator for each hard constraint in each scenario.
-#[tactic(auto, using(crate::proofs::Together::instances_more, crate::proofs::Together::fit_none))]
+#[tactic(auto, using(crate::proofs::Together::instances_more, sopl_base::proofs::Lists::all_none))]
 pub fn hard_props(alloc: Global, program: &Program) -> Result<Vec<AnyProp>, AllocError>
     requires made { IsMade program.now }
     ensures fit { IfOk result (λ list. AllFit Fits program.now list.items) }

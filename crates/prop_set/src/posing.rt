@@ -41,6 +41,6 @@ impl SearchProblem for AnyProp {
 
     #[tactic(auto, using(crate::proofs::Problem::inside_root, crate::proofs::Problem::end_is))]
     fn end(program: &Program, store: &BoxStore) -> i128 {
-        end_over(program, store).number
+        end_over(program, store).value
     }
 }

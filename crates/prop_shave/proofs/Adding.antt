@@ -1,21 +1,15 @@
 -- Sums over several parts.
-use Rattle.std.proofs.Common.{◌≡◌, ◌∙◌, ℕ, ◌+◌, ◌<◌, ◌≤◌, ℤ, ◌+ℤ◌, ◌-ℤ◌, Bool, false, List, [], ◌∷◌, ◌++◌, length, get_or, drop, if◌then◌else◌, arith, refl, ap, sym}
+use Rattle.std.proofs.Common.{◌≡◌, ◌∙◌, ℕ, ◌+◌, ◌<◌, ◌≤◌, ℤ, ◌+ℤ◌, ◌-ℤ◌, Bool, false, List, [], ◌∷◌, ◌++◌, length, get_or, drop, if◌then◌else◌, arith, refl, ap}
 use Rattle.std.specs.List.{filter, range_with_len}
 use Rattle.std.proofs.lemmas.Int.{ints}
-use Rattle.std.proofs.lemmas.List.{at_drop_all, at_drop_more, map-id}
-use Rattle.std.proofs.lemmas.List.FromFn.{map-range_with_len_more}
+use Rattle.std.proofs.lemmas.List.{at_drop_all, at_drop_more}
+use Rattle.sopl_base.proofs.Lists.{range_more}
 use Rattle.term_language.proofs.FormValues.{by_bool}
 use Rattle.prop_shave.specs.Sums.{sum_over}
 
 sum_append : (f : ℕ → ℤ) (xs ys : List ℕ) → sum_over f (xs ++ ys) ≡ sum_over f xs +ℤ sum_over f ys
 sum_append f [] ys = omega (arith, ints)
 sum_append f (x ∷ xs) ys = let rest = sum_append f xs ys in omega (arith, ints, rest)
-
--- the first numbers, and one more
-pub range_more : (n : ℕ) → range_with_len 0 (n + 1) ≡ range_with_len 0 n ++ n ∷ []
-range_more n =
-    sym (map-id (range_with_len 0 (n + 1)))
-    ∙ (map-range_with_len_more (λ k. k) 0 n n (omega arith) ∙ ap (λ list. list ++ n ∷ []) (map-id (range_with_len 0 n)))
 
 pub sum_more : (f : ℕ → ℤ) (n : ℕ) (old new here : ℤ) → old ≡ sum_over f (range_with_len 0 n) → here ≡ f n → new ≡ old +ℤ here → new ≡ sum_over f (range_with_len 0 (n + 1))
 sum_more f n old new here so_far is put =

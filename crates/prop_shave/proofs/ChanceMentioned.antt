@@ -4,12 +4,12 @@ use Rattle.std.specs.List.{filter, range_with_len}
 use Rattle.std.specs.Option.{option_map_or}
 use Rattle.std.proofs.lemmas.List.Elements.{All-filter, filter-append}
 use Rattle.std.proofs.lemmas.List.FromFn.{get_or-range_with_len, length-range_with_len}
+use Rattle.sopl_base.proofs.Lists.{range_more}
 use Rattle.box_problem.specs.Box.{Box}
 use Rattle.term_language.specs.Terms.{Cond}
 use Rattle.term_language.specs.Mentions.{cond_mentions}
 use Rattle.term_problem.specs.Problems.{ProblemTerms}
 use Rattle.term_program.specs.Mentions.{IsListOf}
-use Rattle.prop_shave.proofs.Adding.{range_more}
 use Rattle.prop_shave.proofs.Mentioned.{listed_is}
 use Rattle.prop_shave.specs.Sums.{has_cell}
 use Rattle.prop_shave.specs.ChanceSums.{condition_in, is_touched}

@@ -1,19 +1,14 @@
 -- Cells that a list does not have.
-use Rattle.std.proofs.Common.{◌≡◌, ◌⊎◌, inl, inr, ℕ, ℤ, pos, List, [], ◌∷◌, get_or, arith, ap, sym, subst, ◌∙◌}
+use Rattle.std.proofs.Common.{◌≡◌, ◌⊎◌, inl, inr, ℕ, ℤ, pos, List, [], ◌∷◌, arith, ap, subst}
 use Rattle.std.specs.List.{Contains}
 use Rattle.std.proofs.lemmas.Bool.{cases_eq}
 use Rattle.std.proofs.lemmas.List.{get_or-set_other}
 use Rattle.std.proofs.lemmas.List.Elements.{Contains-append_cases, Contains-append_right}
+use Rattle.sopl_base.proofs.Lists.{contains_one}
 use Rattle.box_problem.specs.Box.{Box, high, low, with_high, with_low}
 use Rattle.term_language.specs.Ends.{cell_ends, ends}
 use Rattle.term_language.specs.MentionLaws.{BoxesAgree}
 use Rattle.term_problem.proofs.Reasons.{all_of}
-
--- what a list of one number has
-pub only_one : (x cell : ℕ) → Contains (x ∷ []) cell → x ≡ cell
-only_one x cell here =
-    let first : here.0 ≡ 0 = omega (arith, here.1) in
-    sym (ap (λ n. get_or (x ∷ []) n cell) first) ∙ here.2
 
 -- whether a list has a cell
 pub has_or_not : (cells : List ℕ) (cell : ℕ) → Contains cells cell ⊎ (¬ Contains cells cell)
@@ -26,7 +21,7 @@ has_or_not (x ∷ cells) cell =
             | inl there ↦ inl (Contains-append_right (x ∷ []) cells cell there)
             | inr nowhere ↦
                 inr
-                (λ own. elim (Contains-append_cases (x ∷ []) cells cell own) [ inl here ↦ other (only_one x cell here) | inr there ↦ nowhere there ])
+                (λ own. elim (Contains-append_cases (x ∷ []) cells cell own) [ inl here ↦ other (contains_one x cell here) | inr there ↦ nowhere there ])
           ]
     ]
 

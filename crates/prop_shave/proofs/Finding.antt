@@ -1,5 +1,5 @@
 -- What is found for one reason.
-use Rattle.std.proofs.Common.{◌≡◌, inl, inr, ℕ, ◌<◌, ℤ, List, [], ◌∷◌, length, Option, Some, None, IfSome, Bool, true, false, get_or, arith, ap, refl, sym, subst, ◌∙◌}
+use Rattle.std.proofs.Common.{◌≡◌, inl, inr, ℕ, ◌<◌, ℤ, List, [], ◌∷◌, length, Option, Some, None, IfSome, Bool, true, false, ap, sym, subst, ◌∙◌}
 use Rattle.std.specs.List.{Contains}
 use Rattle.std.proofs.lemmas.List.Elements.{All-contains}
 use Rattle.sopl_base.specs.declared.reason.Reason.{Reason}
@@ -16,19 +16,11 @@ use Rattle.term_problem.specs.Reasons.{reason_mentions}
 use Rattle.term_problem.proofs.Reasons.{reasons_agree}
 use Rattle.term_program.specs.declared.program.Program.{Program}
 use Rattle.term_program.specs.Programs.{problem_in, root_in, with_interval}
+use Rattle.prop_core.proofs.Rising.{for_each, itself}
 use Rattle.prop_shave.specs.declared.probes.Probe.{Probe}
 use Rattle.prop_shave.specs.Opened.{AreOpen, IsOpen, IsWhole}
 use Rattle.prop_shave.specs.Probes.{HasAll, closes}
 use Rattle.prop_shave.proofs.Elsewhere.{agree_high, agree_low, has_or_not}
-
--- a list of one reason
-pub itself : (own : Reason) → Contains (own ∷ []) own
-itself own = (0, omega arith, refl)
-
-pub for_each : (own : Reason) (P : Reason → Type 0) → P own → (reason : Reason) → Contains (own ∷ []) reason → P reason
-for_each own P holds reason here =
-    let first : here.0 ≡ 0 = omega (arith, here.1) in
-    subst P (sym (ap (λ n. get_or (own ∷ []) n reason) first) ∙ here.2) holds
 
 -- a part of the problem's root is one of the program's
 pub inside_root : (program : Program) (b : Box) → Inside b (box_problem_of program).root → Inside b (root_in program)

@@ -1,22 +1,22 @@
 -- The weight that is left over a box, and over a part in which one cell has another interval.
-use Rattle.std.proofs.Common.{◌≡◌, ◌∙◌, ℕ, zero, suc, ◌+◌, ◌<◌, ℤ, pos, ◌+ℤ◌, ◌*ℤ◌, ◌≤ℤ◌, int_lt, Bool, false, List, [], ◌∷◌, Option, Some, None, if◌then◌else◌}
+use Rattle.std.proofs.Common.{◌≡◌, ◌∙◌, ℕ, zero, suc, ◌+◌, ◌<◌, ℤ, pos, ◌+ℤ◌, ◌*ℤ◌, ◌≤ℤ◌, int_lt, Bool, false, List, [], ◌∷◌, Option, Some, None}
 use Rattle.std.proofs.Common.{slice_get, unwrap_or, length, arith, refl, ap, subst, sym}
-use Rattle.std.specs.List.{AllByRecursion, range_with_len}
+use Rattle.std.specs.List.{range_with_len}
 use Rattle.std.specs.Option.{option_and_then, option_map_or}
 use Rattle.std.proofs.lemmas.Int.{ints}
 use Rattle.sopl_base.specs.declared.reason.Reason.TheVariants.{Chance}
+use Rattle.sopl_base.proofs.Lists.{all_at}
 use Rattle.box_problem.specs.Box.{Box}
 use Rattle.term_language.specs.declared.answers.Truth.{Truth}
 use Rattle.term_language.specs.Rules.{Near, truth}
 use Rattle.term_language.specs.Terms.{Cond}
-use Rattle.term_language.proofs.FormValues.{by_bool}
 use Rattle.term_language.specs.Mentions.{cond_mentions}
 use Rattle.term_language.proofs.Agreement.{truths_agree}
 use Rattle.term_problem.specs.Problems.{ChanceTerms, IsChance, IsProblem, ProblemTerms}
 use Rattle.term_problem.specs.Refuted.{is_false, refutes, weight_left}
 use Rattle.term_problem.specs.Search.{numbers_to}
 use Rattle.term_program.specs.Programs.{kept, with_interval}
-use Rattle.term_program.proofs.Weighing.{left_up, left_whole}
+use Rattle.term_program.proofs.Weighing.{left_up, left_whole, left_step}
 use Rattle.prop_shave.proofs.Adding.{differs_there, turn_of}
 use Rattle.prop_shave.proofs.Mentioned.{untouched, with_agrees}
 use Rattle.prop_shave.specs.Sums.{has_cell, sum_over}
@@ -26,11 +26,6 @@ use Rattle.prop_shave.specs.ChanceSums.{condition_in, is_touched, left_over, tou
 abbrev item : Box → Box → List ℤ → List Cond → ℕ → ℤ
 item root b weights conditions i =
     option_map_or (λ cond. kept (is_false (truth Near root b cond)) (unwrap_or (slice_get weights i) (pos 0))) (slice_get conditions i) (pos 0)
-
-left_step : (root b : Box) (w : ℤ) (ws : List ℤ) (c : Cond) (cs : List Cond) → weight_left root b (w ∷ ws) (c ∷ cs) ≡ kept (is_false (truth Near root b c)) w +ℤ weight_left root b ws cs
-left_step root b w ws c cs =
-    by_bool (λ t. (if t then weight_left root b ws cs else w +ℤ weight_left root b ws cs) ≡ kept t w +ℤ weight_left root b ws cs) (is_false (truth Near root b c))
-    (λ met. omega (arith, ints)) (λ unmet. refl)
 
 by_items : (root b : Box) (weights : List ℤ) (conditions : List Cond) (f : ℕ → ℤ) (start : ℕ) → length conditions ≡ length weights → ((i : ℕ) → f (start + i) ≡ item root b weights conditions i)
     → weight_left root b weights conditions ≡ sum_over f (range_with_len start (length weights))
@@ -55,15 +50,6 @@ left_is root b terms instance chance at each =
     ∙ ap (λ (found : Option ChanceTerms). option_map_or (λ cond. kept (is_false (truth Near root b cond)) (weight_at terms i)) (option_and_then (λ (c : ChanceTerms). slice_get c.conditions i) found)
     (pos 0)) at))
 
--- what holds of all holds at a place
-at_place : {A : Type 0} (P : A → Type 0) (xs : List A) (i : ℕ) (x : A) → AllByRecursion P xs → slice_get xs i ≡ Some x → P x
-at_place P [] i x all at = absurd (cc)
-at_place P (y ∷ xs) zero x all at = subst P (same y x at) all.0
-  where
-    same : {A : Type 0} (y x : A) → Some y ≡ Some x → y ≡ x
-    same y x is = ap (λ (o : Option _). unwrap_or o y) is
-at_place P (y ∷ xs) (suc i) x all at = at_place P xs i x all.1 at
-
 some_there : {A : Type 0} (xs : List A) (i : ℕ) → i < length xs → (x : A) × (slice_get xs i ≡ Some x)
 some_there [] i below = absurd (omega (arith, below))
 some_there (x ∷ xs) zero below = (x, refl)
@@ -73,14 +59,14 @@ some_there (x ∷ xs) (suc i) below = some_there xs i (omega (arith, below))
 pub left_from_zero : (root b : Box) (terms : ProblemTerms) (instance : ℕ) (left : ℤ) → IsProblem terms → instance < length terms.chances → left ≡ left_over root terms instance b → pos 0 ≤ℤ left
 left_from_zero root b terms instance left problem exists is =
     let chance = some_there terms.chances instance exists in
-    let each = (at_place (IsChance terms) terms.chances instance chance.0 problem.chances chance.1).each in
+    let each = (all_at (IsChance terms) terms.chances instance chance.0 problem.chances chance.1).each in
     subst (λ (z : ℤ). pos 0 ≤ℤ z) (sym (is ∙ left_is root b terms instance chance.0 chance.1 each))
     (left_up root b terms.weights chance.0.conditions problem.weighs)
 
 pub left_to_whole : (root b : Box) (terms : ProblemTerms) (instance : ℕ) (left : ℤ) → IsProblem terms → instance < length terms.chances → left ≡ left_over root terms instance b → left ≤ℤ terms.whole
 left_to_whole root b terms instance left problem exists is =
     let chance = some_there terms.chances instance exists in
-    let each = (at_place (IsChance terms) terms.chances instance chance.0 problem.chances chance.1).each in
+    let each = (all_at (IsChance terms) terms.chances instance chance.0 problem.chances chance.1).each in
     subst (λ (z : ℤ). z ≤ℤ terms.whole) (sym (is ∙ left_is root b terms instance chance.0 chance.1 each))
     (left_whole root b terms.weights chance.0.conditions terms.whole problem.weighs problem.whole)
 
@@ -90,7 +76,7 @@ pub closes_by : (root b : Box) (terms : ProblemTerms) (instance : ℕ) (left : �
     ≡ refutes root terms (Chance instance) b None
 closes_by root b terms instance left closed problem exists is told =
     let chance = some_there terms.chances instance exists in
-    let each = (at_place (IsChance terms) terms.chances instance chance.0 problem.chances chance.1).each in
+    let each = (all_at (IsChance terms) terms.chances instance chance.0 problem.chances chance.1).each in
     let tests : (sum : ℤ) → Option ChanceTerms → Bool = λ sum found. option_map_or (λ (c : ChanceTerms). int_lt (c.q *ℤ sum) (c.p *ℤ terms.whole)) found false in
     told
     ∙ ap (tests left) chance.1

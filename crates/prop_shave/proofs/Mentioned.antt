@@ -1,10 +1,12 @@
 -- Lists that have a cell, and boxes that differ in it alone.
-use Rattle.std.proofs.Common.{◌≡◌, ◌∙◌, inl, inr, ℕ, ℤ, pos, nat_eq, Bool, true, false, ◌||◌, List, [], ◌∷◌, get_or, arith, refl, ap, ap₂, subst, sym}
+use Rattle.std.proofs.Common.{◌≡◌, inl, inr, ℕ, ℤ, pos, nat_eq, Bool, true, false, ◌||◌, List, [], ◌∷◌, get_or, arith, refl, ap, ap₂, subst}
 use Rattle.std.specs.List.{Contains}
-use Rattle.std.proofs.lemmas.Bool.{eq-eqb}
+use Rattle.std.proofs.lemmas.Bool.{eq-eqb, or_right}
 use Rattle.std.proofs.lemmas.List.{get_or_default, get_or-set_other}
 use Rattle.std.proofs.lemmas.List.Elements.{Contains-append_cases, Contains-append_right}
 use Rattle.std.proofs.lemmas.Map.Views.{exact_unsigned_eq}
+use Rattle.sopl_base.proofs.Booleans.{tests_agree}
+use Rattle.sopl_base.proofs.Lists.{contains_one}
 use Rattle.box_problem.specs.Box.{Box}
 use Rattle.term_language.specs.Ends.{cell_ends, ends}
 use Rattle.term_language.proofs.FormValues.{by_bool}
@@ -13,22 +15,12 @@ use Rattle.term_program.specs.Mentions.{IsListOf}
 use Rattle.term_program.specs.Programs.{with_interval}
 use Rattle.prop_shave.specs.Sums.{has_cell}
 
--- a test that finds a cell where it is
-only_one : (x cell : ℕ) → Contains (x ∷ []) cell → x ≡ cell
-only_one x cell here =
-    let first : here.0 ≡ 0 = omega (arith, here.1) in
-    sym (ap (λ n. get_or (x ∷ []) n cell) first) ∙ here.2
-
-any_or : (a b : Bool) → b ≡ true → (a || b) ≡ true
-any_or true b is = refl
-any_or false b is = is
-
 finds : (cell : ℕ) (cells : List ℕ) → Contains cells cell → has_cell cell cells ≡ true
 finds cell [] here = absurd (omega (arith, here.1))
 finds cell (x ∷ cells) here =
     elim (Contains-append_cases (x ∷ []) cells cell here) [
-      | inl first ↦ ap (λ (b : Bool). b || has_cell cell cells) (eq-eqb x cell (only_one x cell first))
-      | inr later ↦ any_or (nat_eq x cell) (has_cell cell cells) (finds cell cells later)
+      | inl first ↦ ap (λ (b : Bool). b || has_cell cell cells) (eq-eqb x cell (contains_one x cell first))
+      | inr later ↦ or_right (nat_eq x cell) (has_cell cell cells) (finds cell cells later)
     ]
 
 found : (cell : ℕ) (cells : List ℕ) → has_cell cell cells ≡ true → Contains cells cell
@@ -38,15 +30,10 @@ found cell (x ∷ cells) is =
     (λ met same there. (0, omega arith, exact_unsigned_eq x cell same))
     (λ unmet other there. Contains-append_right (x ∷ []) cells cell (found cell cells there)) refl is
 
-same_test : (a b : Bool) → (a ≡ true → b ≡ true) → (b ≡ true → a ≡ true) → a ≡ b
-same_test true b first second = sym (first refl)
-same_test false true first second = second refl
-same_test false false first second = refl
-
 -- a list of the cells that are mentioned has a cell where it is mentioned
 pub listed_is : (cell : ℕ) (mentioned cells : List ℕ) → IsListOf mentioned cells → has_cell cell cells ≡ has_cell cell mentioned
 listed_is cell mentioned cells listed =
-    same_test (has_cell cell cells) (has_cell cell mentioned)
+    tests_agree (has_cell cell cells) (has_cell cell mentioned)
     (λ there. finds cell mentioned ((listed.mentions cell).0 (found cell cells there)))
     (λ there. finds cell cells ((listed.mentions cell).1 (found cell mentioned there)))
 

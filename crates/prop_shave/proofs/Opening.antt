@@ -1,12 +1,10 @@
 -- What the tests of ends tell.
 use Rattle.std.proofs.Common.{◌≡◌, ℕ, ◌+◌, ◌<◌, ◌≤◌, ℤ, pos, ◌+ℤ◌, ◌-ℤ◌, ◌<ℤ◌, ◌≤ℤ◌, true, false, List, [], ◌∷◌, length, get_or, take, arith, ap, refl, sym, subst, ◌∙◌}
-use Rattle.std.specs.Int.{int_gap}
 use Rattle.std.specs.List.{All}
 use Rattle.std.proofs.lemmas.List.{take_all, take_more}
 use Rattle.std.proofs.lemmas.List.Elements.{All-append, All-cons, All-nil}
 use Rattle.std.proofs.lemmas.Int.{ints}
 use Rattle.sopl_base.specs.declared.reason.Step.{Step}
-use Rattle.box_problem.proofs.Counts.{gap_leads}
 use Rattle.sopl_base.specs.declared.reason.Side.{Side}
 use Rattle.sopl_base.specs.declared.reason.Side.TheVariants.{Le, Ge}
 use Rattle.box_problem.specs.Box.{high, low, with_high, with_low}
@@ -97,15 +95,6 @@ removal_with q end known next is count more = record {
   closed = ap (closes_part q end) count ∙ is.closed;
   more = more;
 }
-
--- what is left between two numbers gets less
-pub gap_above : (lo k hi : ℤ) → lo ≤ℤ k → k <ℤ hi → int_gap lo k < int_gap lo hi
-gap_above lo k hi above below =
-    omega (arith, ints, gap_leads lo k above, gap_leads lo hi (omega (arith, ints)))
-
-pub gap_below : (lo k hi : ℤ) → lo <ℤ k → k ≤ℤ hi → int_gap k hi < int_gap lo hi
-gap_below lo k hi above below =
-    omega (arith, ints, gap_leads k hi below, gap_leads lo hi (omega (arith, ints)))
 
 -- values that may be removed are removed by a right step
 right_at : (q : Probe) (cell : ℕ) (side : Side) (lo hi count : ℤ) → cell < length q.store.now.box.lows → lo ≡ low q.store.now.box cell → hi ≡ high q.store.now.box cell → pos 1 ≤ℤ count

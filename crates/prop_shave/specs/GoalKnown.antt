@@ -13,5 +13,5 @@ use Rattle.prop_shave.specs.GoalSums.{AreParts, touched_by}
 pub record IsCounted (program : Program) (b : Box) (c : GoalDelta) : Type 0 where
   pub atoms : List Atom
   pub are : AreParts program atoms
-  pub end : c.end.number ≡ better_end (direction_in (problem_in program)) (goal_ends (root_in program) b (problem_in program))
+  pub end : c.end.value ≡ better_end (direction_in (problem_in program)) (goal_ends (root_in program) b (problem_in program))
   pub parts : c.parts.now ≡ touched_by (root_in program) (things_in program) atoms c.cell

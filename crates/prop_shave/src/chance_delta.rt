@@ -8,19 +8,20 @@ ghost use Rattle.term_program.specs.Programs.{IsMade, problem_in, root_in, with_
 ghost use Rattle.prop_shave.specs.ChanceSums.{left_over, weight_over};
 ghost use Rattle.prop_shave.specs.ChanceKnown.{IsWeighed};
 
-use crate::weights::{Weight, is_too_little, weight_unless_false};
+use crate::turning::turned;
+use crate::weights::{is_too_little, weight_unless_false};
 use box_store::BoxStore;
-use sopl_base::Interval;
+use sopl_base::{Interval, Wide};
 use term_program::{Program, kleene, kleene_in};
 
 /// The weight of a scenario, unless a chance constraint's condition is False there over the box of a store.
 #[tactic(auto, using(crate::proofs::Fractions::over_is))]
-fn weight_in(program: &Program, instance: u32, scenario: u32, store: &BoxStore) -> Weight
+fn weight_in(program: &Program, instance: u32, scenario: u32, store: &BoxStore) -> Wide
     requires made { IsMade program.now }
     requires inside { Inside store.now.box (root_in program.now) }
     requires instance { instance < length (problem_in program.now).chances }
     requires scenario { scenario < length (problem_in program.now).weights }
-    ensures { result.sum ≡ weight_over (root_in program.now) (problem_in program.now) instance store.now.box scenario }
+    ensures { result.value ≡ weight_over (root_in program.now) (problem_in program.now) instance store.now.box scenario }
 {
     let cond = program.chance(instance, scenario);
     let truth = kleene(program, cond, store);
@@ -36,14 +37,14 @@ fn weight_with(
     store: &BoxStore,
     cell: u32,
     part: Interval,
-) -> Weight
+) -> Wide
     requires made { IsMade program.now }
     requires inside { Inside store.now.box (root_in program.now) }
     requires instance { instance < length (problem_in program.now).chances }
     requires scenario { scenario < length (problem_in program.now).weights }
     requires from_low { low (root_in program.now) cell ≤ℤ part.lo }
     requires to_high { part.hi ≤ℤ high (root_in program.now) cell }
-    ensures { result.sum ≡ weight_over (root_in program.now) (problem_in program.now) instance (with_interval store.now.box cell part.lo part.hi) scenario }
+    ensures { result.value ≡ weight_over (root_in program.now) (problem_in program.now) instance (with_interval store.now.box cell part.lo part.hi) scenario }
 {
     let cond = program.chance(instance, scenario);
     let truth = kleene_in(program, cond, store, cell, part);
@@ -52,16 +53,16 @@ fn weight_with(
 
 /// The weight of the scenarios in which a chance constraint's condition is not False over the box of a store; none where it has no room.
 #[tactic(auto, using(crate::proofs::Adding::sum_more))]
-pub fn weight_left(program: &Program, instance: u32, store: &BoxStore) -> Option<Weight>
+pub fn weight_left(program: &Program, instance: u32, store: &BoxStore) -> Option<Wide>
     requires made { IsMade program.now }
     requires inside { Inside store.now.box (root_in program.now) }
     requires instance { instance < length (problem_in program.now).chances }
-    ensures left { IfSome result (λ left. left.sum ≡ left_over (root_in program.now) (problem_in program.now) instance store.now.box) }
+    ensures left { IfSome result (λ left. left.value ≡ left_over (root_in program.now) (problem_in program.now) instance store.now.box) }
 {
-    let mut left = Weight { sum: 0 };
+    let mut left = Wide { value: 0 };
     'scenarios: for scenario in 0..program.scenarios() {
         let here = weight_in(program, instance, scenario, store);
-        left = left.plus(&here)?;
+        left = left.checked_plus(here)?;
     }
     Some(left)
 }
@@ -71,25 +72,25 @@ pub fn weight_left(program: &Program, instance: u32, store: &BoxStore) -> Option
 pub struct ChanceDelta<'a> {
     pub instance: u32,
     pub cell: u32,
-    pub left: Weight,
+    pub left: Wide,
     pub scenarios: &'a [u32],
 }
 
 impl ChanceDelta<'_> {
     /// The weight that is left with another interval for the cell, or none where it has no room.
-    fn left_with(&self, program: &Program, store: &BoxStore, part: Interval) -> Option<Weight>
+    fn left_with(&self, program: &Program, store: &BoxStore, part: Interval) -> Option<Wide>
         requires made { IsMade program.now }
         requires inside { Inside store.now.box (root_in program.now) }
         requires known { IsWeighed (root_in program.now) (problem_in program.now) store.now.box self.now }
         requires from_low { low (root_in program.now) self.now.cell ≤ℤ part.lo }
         requires to_high { part.hi ≤ℤ high (root_in program.now) self.now.cell }
-        ensures { IfSome result (λ left. left.sum ≡ left_over (root_in program.now) (problem_in program.now) self.now.instance (with_interval store.now.box self.now.cell part.lo part.hi)) }
+        ensures { IfSome result (λ left. left.value ≡ left_over (root_in program.now) (problem_in program.now) self.now.instance (with_interval store.now.box self.now.cell part.lo part.hi)) }
     {
         let mut left = self.left;
         'scenarios: for scenario in self.scenarios {
             let before = weight_in(program, self.instance, *scenario, store);
             let after = weight_with(program, self.instance, *scenario, store, self.cell, part);
-            left = left.turned(&before, &after)?;
+            left = turned(left, before, after)?;
         }
         Some(left)
     }
@@ -105,6 +106,6 @@ impl ChanceDelta<'_> {
             (with_interval store.now.box self.now.cell part.lo part.hi) None) }
     {
         let left = self.left_with(program, store, part)?;
-        Some(is_too_little(program, self.instance, &left))
+        Some(is_too_little(program, self.instance, left))
     }
 }

@@ -11,18 +11,19 @@ ghost use Rattle.term_program.specs.Programs.{IsMade, problem_in, root_in, thing
 ghost use Rattle.prop_shave.specs.GoalSums.{part_over};
 ghost use Rattle.prop_shave.specs.GoalKnown.{IsCounted};
 
-use crate::goal_bounds::{GoalBound, end_of_part, is_no_better};
+use crate::goal_bounds::{end_of_part, is_no_better};
+use crate::turning::turned;
 use box_store::BoxStore;
-use sopl_base::{Direction, Interval};
+use sopl_base::{Direction, Interval, Wide};
 use term_goals::Atom;
 use term_program::{Program, TermId, goal_ends, range_in, range_of};
 
 /// The better end of a part over the box of a store, or none where it has no room.
-fn part_in(program: &Program, atom: &Atom, store: &BoxStore) -> Option<GoalBound>
+fn part_in(program: &Program, atom: &Atom, store: &BoxStore) -> Option<Wide>
     requires made { IsMade program.now }
     requires inside { Inside store.now.box (root_in program.now) }
     requires exists { atom.now.term < length (things_in program.now) }
-    ensures { IfSome result (λ end. end.number ≡ part_over (direction_in (problem_in program.now)) (root_in program.now) (things_in program.now) store.now.box atom.now) }
+    ensures { IfSome result (λ end. end.value ≡ part_over (direction_in (problem_in program.now)) (root_in program.now) (things_in program.now) store.now.box atom.now) }
 {
     let range = range_of(program, TermId(atom.term), store);
     end_of_part(program.direction(), atom, &range.interval)
@@ -35,13 +36,13 @@ fn part_with(
     store: &BoxStore,
     cell: u32,
     part: Interval,
-) -> Option<GoalBound>
+) -> Option<Wide>
     requires made { IsMade program.now }
     requires inside { Inside store.now.box (root_in program.now) }
     requires exists { atom.now.term < length (things_in program.now) }
     requires from_low { low (root_in program.now) cell ≤ℤ part.lo }
     requires to_high { part.hi ≤ℤ high (root_in program.now) cell }
-    ensures { IfSome result (λ end. end.number ≡ part_over (direction_in (problem_in program.now)) (root_in program.now) (things_in program.now)
+    ensures { IfSome result (λ end. end.value ≡ part_over (direction_in (problem_in program.now)) (root_in program.now) (things_in program.now)
         (with_interval store.now.box cell part.lo part.hi) atom.now) }
 {
     let range = range_in(program, TermId(atom.term), store, cell, part);
@@ -49,21 +50,21 @@ fn part_with(
 }
 
 /// The better end of an interval.
-fn end_of(direction: Direction, interval: &(i128, i128)) -> GoalBound
-    ensures { result.number ≡ objective.better_end direction (ends interval.now.0 interval.now.1) }
+fn end_of(direction: Direction, interval: &(i128, i128)) -> Wide
+    ensures { result.value ≡ objective.better_end direction (ends interval.now.0 interval.now.1) }
 {
     match direction {
-        Direction::Minimize => GoalBound { number: interval.0 },
-        Direction::Maximize => GoalBound { number: interval.1 },
-        Direction::Nothing => GoalBound { number: 0 },
+        Direction::Minimize => Wide { value: interval.0 },
+        Direction::Maximize => Wide { value: interval.1 },
+        Direction::Nothing => Wide { value: 0 },
     }
 }
 
 /// The better end of the objective's interval over the box of a store.
-pub fn end_over(program: &Program, store: &BoxStore) -> GoalBound
+pub fn end_over(program: &Program, store: &BoxStore) -> Wide
     requires made { IsMade program.now }
     requires inside { Inside store.now.box (root_in program.now) }
-    ensures end { result.number ≡ objective.better_end (direction_in (problem_in program.now)) (objective.goal_ends (root_in program.now) store.now.box (problem_in program.now)) }
+    ensures end { result.value ≡ objective.better_end (direction_in (problem_in program.now)) (objective.goal_ends (root_in program.now) store.now.box (problem_in program.now)) }
 {
     let interval = goal_ends(program, store);
     end_of(program.direction(), &interval)
@@ -73,26 +74,26 @@ pub fn end_over(program: &Program, store: &BoxStore) -> GoalBound
 #[derive(Clone, Copy)]
 pub struct GoalDelta<'a> {
     pub cell: u32,
-    pub end: GoalBound,
+    pub end: Wide,
     pub parts: &'a [Atom],
 }
 
 impl GoalDelta<'_> {
     /// The better end with another interval for the cell, or none where it has no room.
-    fn end_with(&self, program: &Program, store: &BoxStore, part: Interval) -> Option<GoalBound>
+    fn end_with(&self, program: &Program, store: &BoxStore, part: Interval) -> Option<Wide>
         requires made { IsMade program.now }
         requires inside { Inside store.now.box (root_in program.now) }
         requires known { IsCounted program.now store.now.box self.now }
         requires from_low { low (root_in program.now) self.now.cell ≤ℤ part.lo }
         requires to_high { part.hi ≤ℤ high (root_in program.now) self.now.cell }
-        ensures { IfSome result (λ end. end.number ≡ objective.better_end (direction_in (problem_in program.now))
+        ensures { IfSome result (λ end. end.value ≡ objective.better_end (direction_in (problem_in program.now))
             (objective.goal_ends (root_in program.now) (with_interval store.now.box self.now.cell part.lo part.hi) (problem_in program.now))) }
     {
         let mut end = self.end;
         'parts: for atom in self.parts {
             let before = part_in(program, atom, store)?;
             let after = part_with(program, atom, store, self.cell, part)?;
-            end = end.turned(&before, &after)?;
+            end = turned(end, before, after)?;
         }
         Some(end)
     }
@@ -102,7 +103,7 @@ impl GoalDelta<'_> {
         &self,
         program: &Program,
         store: &BoxStore,
-        best: &GoalBound,
+        best: Wide,
         part: Interval,
     ) -> Option<bool>
         requires made { IsMade program.now }
@@ -111,9 +112,9 @@ impl GoalDelta<'_> {
         requires from_low { low (root_in program.now) self.now.cell ≤ℤ part.lo }
         requires to_high { part.hi ≤ℤ high (root_in program.now) self.now.cell }
         ensures closed { IfSome result (λ closed. closed ≡ refutes (root_in program.now) (problem_in program.now) Bound (with_interval store.now.box self.now.cell part.lo part.hi)
-            (Some best.now.number)) }
+            (Some best.value)) }
     {
         let end = self.end_with(program, store, part)?;
-        Some(is_no_better(program.direction(), &end, best))
+        Some(is_no_better(program.direction(), end, best))
     }
 }

@@ -13,14 +13,13 @@ mod removals;
 mod shave_steps;
 mod touched_parts;
 mod touched_scenarios;
+mod turning;
 mod weights;
 
 pub use chance_delta::{ChanceDelta, weight_left};
-pub use goal_bounds::GoalBound;
 pub use goal_delta::{GoalDelta, end_over};
 pub use lists::{has, put_if};
 pub use probes::Probe;
 pub use shave_steps::{CellEnd, Shave};
 pub use touched_parts::{TouchedParts, parts_touching};
 pub use touched_scenarios::{TouchedScenarios, scenarios_touching};
-pub use weights::Weight;

@@ -9,12 +9,11 @@ ghost use Rattle.term_problem.specs.Reasons.{reason_mentions};
 ghost use Rattle.term_program.specs.Programs.{problem_in, root_in, with_interval};
 
 use crate::chance_delta::ChanceDelta;
-use crate::goal_bounds::GoalBound;
 use crate::goal_delta::GoalDelta;
 use crate::shave_steps::{CellEnd, Shave};
 use box_store::BoxStore;
 use prop_core::Finding;
-use sopl_base::{Interval, Reason};
+use sopl_base::{Interval, Reason, Wide};
 use term_program::{Program, refuted, refuted_in};
 
 /// A reason of a program, the box of a store, and the best value where there is one; where they are at hand, for one cell, also the weight that is left to
@@ -109,11 +108,11 @@ impl Probe<'_> {
     }
 
     /// The best value, where there is one.
-    fn best_value(&self) -> Option<GoalBound>
-        ensures { IfSome result (λ value. self.now.best ≡ Some value.number) }
+    fn best_value(&self) -> Option<Wide>
+        ensures { IfSome result (λ value. self.now.best ≡ Some value.value) }
     {
         match &self.best {
-            Some(best) => Some(GoalBound { number: *best }),
+            Some(best) => Some(Wide { value: *best }),
             None => None,
         }
     }
@@ -135,7 +134,7 @@ impl Probe<'_> {
             return None;
         }
         let best = self.best_value()?;
-        counted.closes_with(self.program, self.store, &best, part)
+        counted.closes_with(self.program, self.store, best, part)
     }
 
     /// What is found of the box for this reason alone, where these cells are all that it mentions, and maybe others: that it closes the box, a

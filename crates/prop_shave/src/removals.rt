@@ -36,7 +36,7 @@ impl Probe<'_> {
     }
 
     /// Removals whose number of values grows by steps that double, as far as they go.
-    #[tactic(auto, using(crate::proofs::Opening::gap_below))]
+    #[tactic(auto, using(box_problem::proofs::Counts::gap_below))]
     fn doubled(&self, end: &CellEnd, first: &Shave) -> Shave
         requires asked { IsAsked self.now }
         requires end { IsEndOf self.now end.now }
@@ -68,7 +68,7 @@ impl Probe<'_> {
     }
 
     /// Removals whose number of values grows by steps that are halved.
-    #[tactic(auto, using(crate::proofs::Opening::gap_above))]
+    #[tactic(auto, using(box_problem::proofs::Counts::gap_above))]
     fn halved(&self, end: &CellEnd, first: &Shave) -> Shave
         requires asked { IsAsked self.now }
         requires end { IsEndOf self.now end.now }

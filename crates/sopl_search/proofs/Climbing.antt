@@ -1,5 +1,5 @@
 -- What holds of two cells of which the first one climbs.
-use Rattle.std.proofs.Common.{◌≡◌, ℕ, zero, suc, ◌^◌, ◌<◌, ◌≤◌, nat_le, ℤ, pos, ◌+ℤ◌, ◌-ℤ◌, ◌<ℤ◌, ◌≤ℤ◌, int_lt, int_le, Bool, true, false, List, [], ◌∷◌, ◌++◌, Option, Some, None}
+use Rattle.std.proofs.Common.{◌≡◌, ℕ, zero, suc, ◌^◌, ◌<◌, ◌≤◌, nat_le, ℤ, pos, ◌+ℤ◌, ◌-ℤ◌, ◌<ℤ◌, ◌≤ℤ◌, int_le, Bool, true, false, List, [], ◌∷◌, ◌++◌, Option, Some, None}
 use Rattle.std.proofs.Common.{length, get_or, arith, refl, sym, ap, subst, ◌∙◌}
 use Rattle.std.specs.Int.{int_gap}
 use Rattle.std.specs.List.{Contains, range_with_len}
@@ -13,6 +13,7 @@ use Rattle.sopl_base.specs.declared.interval.Interval.{Interval}
 use Rattle.sopl_base.specs.declared.reason.Reason.{Reason}
 use Rattle.sopl_base.specs.declared.reason.Reason.TheVariants.{Hard, Chance, Undefined, Bound}
 use Rattle.sopl_base.specs.declared.reason.Side.TheVariants.{Le, Ge}
+use Rattle.sopl_base.proofs.Tests.{le_test, le_tested, le_untest, lt_test, lt_tested, lt_untest, lt_untested}
 use Rattle.box_problem.specs.Box.{Box, Inside, InBox, IsPoint, low, high, with_low, with_high}
 use Rattle.box_problem.specs.BoxProblem.{Beats, Follows, Lawful}
 use Rattle.box_problem.specs.Rightness.{Quiets}
@@ -23,30 +24,8 @@ use Rattle.sopl_search.specs.Climbing.{both_reasons, climbing, is_closed, pair_o
 use Rattle.sopl_search.specs.Ends.{AreAll}
 use Rattle.box_problem.specs.Near.{IsNear, IsNearBox}
 
--- tests on whole numbers
-below : (x y : ℤ) → int_lt x y ≡ true → x <ℤ y
-below x y test = grind (arith, ints)
-
-not_below : (x y : ℤ) → int_lt x y ≡ false → y ≤ℤ x
-not_below x y test = grind (arith, ints)
-
-is_below : (x y : ℤ) → x <ℤ y → int_lt x y ≡ true
-is_below x y order = grind (arith, ints)
-
-is_not_below : (x y : ℤ) → y ≤ℤ x → int_lt x y ≡ false
-is_not_below x y order = grind (arith, ints)
-
-within : (x y : ℤ) → int_le x y ≡ true → x ≤ℤ y
-within x y test = omega (arith, ints, test)
-
-is_within : (x y : ℤ) → x ≤ℤ y → int_le x y ≡ true
-is_within x y order = grind (arith, ints)
-
 beyond : (x y : ℤ) → int_le x y ≡ false → y <ℤ x
 beyond x y test = grind (arith, ints)
-
-is_beyond : (x y : ℤ) → y <ℤ x → int_le x y ≡ false
-is_beyond x y order = grind (arith, ints)
 
 -- a box of two cells has both
 pub both_cells : (first second : Interval) (b : Box) → Inside b (pair_of first second) → length b.lows ≡ 2
@@ -62,11 +41,11 @@ bound_there = (1, omega arith, refl)
 -- what is no greater than a value that is reached, and what is
 not_reached_above : (x y : ℤ) (v : Option ℤ) → x ≤ℤ y → reached x v ≡ false → reached y v ≡ false
 not_reached_above x y None order test = refl
-not_reached_above x y (Some w) order test = is_beyond y w (omega (arith, ints, order, beyond x w test))
+not_reached_above x y (Some w) order test = le_untest y w (omega (arith, ints, order, beyond x w test))
 
 reached_below : (x y : ℤ) (v : Option ℤ) → reached x v ≡ true → reached y v ≡ false → x <ℤ y
 reached_below x y None test other = absurd (cc)
-reached_below x y (Some w) test other = omega (arith, ints, within x w test, beyond y w other)
+reached_below x y (Some w) test other = omega (arith, ints, le_tested x w test, beyond y w other)
 
 -- what is told of a value as it is kept
 pub reached_at : (value end : ℤ) (v : Option ℤ) (result answer : Bool) → value ≡ end → result ≡ reached value v → result ≡ answer → reached end v ≡ answer
@@ -77,8 +56,8 @@ sound_reason (Hard zero zero) b v point root two test q beats =
     absurd (omega (
       arith,
       ints,
-      below (high b 1) (low b 0) test,
-      within (get_or point 0 (pos 0)) (get_or point 1 (pos 0)) beats.satisfies,
+      lt_tested (high b 1) (low b 0) test,
+      le_tested (get_or point 0 (pos 0)) (get_or point 1 (pos 0)) beats.satisfies,
       q.from_low 0 (omega (arith, q.same_cells, two)),
       q.to_high 1 (omega (arith, q.same_cells, two)),
     ))
@@ -88,15 +67,15 @@ sound_reason (Chance instance) b v point root two test q beats = absurd (cc)
 sound_reason (Undefined scenario) b v point root two test q beats = absurd (cc)
 sound_reason Bound b None point root two test q beats = absurd (cc)
 sound_reason Bound b (Some w) point root two test q beats =
-    absurd (omega (arith, ints, within (high b 0) w test, beats.better, q.to_high 0 (omega (arith, q.same_cells, two))))
+    absurd (omega (arith, ints, le_tested (high b 0) w test, beats.better, q.to_high 0 (omega (arith, q.same_cells, two))))
 
 beats_point : (b root : Box) (v : Option ℤ) → length b.lows ≡ 2 → IsPoint b → is_closed (Hard 0 0) b v ≡ false → is_closed Bound b v ≡ false → Beats (climbing root) v b.lows
 beats_point b root None two one hard bound = record {
-  satisfies = is_within (low b 0) (low b 1) (omega (arith, ints, not_below (high b 1) (low b 0) hard, one 1 (omega (arith, two))));
+  satisfies = le_test (low b 0) (low b 1) (omega (arith, ints, lt_untested (high b 1) (low b 0) hard, one 1 (omega (arith, two))));
   better = tt;
 }
 beats_point b root (Some w) two one hard bound = record {
-  satisfies = is_within (low b 0) (low b 1) (omega (arith, ints, not_below (high b 1) (low b 0) hard, one 1 (omega (arith, two))));
+  satisfies = le_test (low b 0) (low b 1) (omega (arith, ints, lt_untested (high b 1) (low b 0) hard, one 1 (omega (arith, two))));
   better = omega (arith, ints, beyond (high b 0) w bound, one 0 (omega (arith, two)));
 }
 
@@ -111,7 +90,7 @@ closed_later Bound b None (Some w) follows test = absurd follows
 closed_later Bound b (Some x) (Some w) follows test =
     by_lt_z x w
     (λ up. absurd (follows up))
-    (λ down. is_within (high b 0) x (omega (arith, ints, within (high b 0) w test, down)))
+    (λ down. le_test (high b 0) x (omega (arith, ints, le_tested (high b 0) w test, down)))
 
 pub climbing_lawful : (first second : Interval) → Lawful (climbing (pair_of first second))
 climbing_lawful first second =
@@ -122,7 +101,7 @@ climbing_lawful first second =
       exact = λ b v inside one none. beats_point b root v (both_cells first second b inside) one (none (Hard 0 0) hard_there) (none Bound bound_there);
       end_bounds = λ b point inside q satisfies better. absurd (omega (arith, ints, better, q.to_high 0 (omega (arith, q.same_cells, both_cells first second b inside))));
       end_exact = λ b inside one satisfies. sym (one 0 (omega (arith, both_cells first second b inside)));
-      bound = λ b w inside worse. by_lt_z w (high b 0) (λ up. absurd (worse up)) (λ down. is_within (high b 0) w down);
+      bound = λ b w inside worse. by_lt_z w (high b 0) (λ up. absurd (worse up)) (λ down. le_test (high b 0) w down);
       later = λ reason b v w follows test. closed_later reason b v w follows test;
     }
 
@@ -137,7 +116,7 @@ for_both P hard bound reason here = at here.0 here.1 here.2 where
 -- no reason closes a box on which the first cell can still climb
 open_both : (b : Box) (v : Option ℤ) → low b 0 ≤ℤ high b 1 → reached (high b 0) v ≡ false → (reason : Reason) → Contains both_reasons reason → is_closed reason b v ≡ false
 open_both b v hard bound =
-    for_both (λ reason. is_closed reason b v ≡ false) (is_not_below (high b 1) (low b 0) hard) bound
+    for_both (λ reason. is_closed reason b v ≡ false) (lt_untest (high b 1) (low b 0) hard) bound
 
 -- ends that are moved to one another
 moved_low : (b : Box) (cell other : ℕ) (P : ℤ → Type 0) → cell < length b.lows → (other ≡ cell → P (high b cell)) → P (low b other) → P (low (with_low b cell (high b cell)) other)
@@ -172,7 +151,7 @@ climb_quiet first second b v inside lows highs above =
     }
 
 pub climb_crossed : (root b : Box) (v : Option ℤ) → high b 1 <ℤ low b 0 → Closes (climbing root) both_reasons v b (Hard 0 0)
-climb_crossed root b v crossed = record { own = hard_there; closed = is_below (high b 1) (low b 0) crossed }
+climb_crossed root b v crossed = record { own = hard_there; closed = lt_test (high b 1) (low b 0) crossed }
 
 pub climb_bounded : (root b : Box) (v : Option ℤ) → reached (high b 0) v ≡ true → Closes (climbing root) both_reasons v b Bound
 climb_bounded root b v worse = record { own = bound_there; closed = worse }
@@ -186,7 +165,7 @@ climb_first first second b v k inside hard above order is =
       own = hard_there;
       right = record {
         cut = record { exists = there; between = (omega (arith, ints, hard, is), omega (arith, ints, order, is)) };
-        refuted = is_below (high b 1) (low (with_low b 0 (k +ℤ pos 1)) 0) (omega (arith, ints, is, get_or-set_same b.lows 0 (k +ℤ pos 1) (pos 0) there));
+        refuted = lt_test (high b 1) (low (with_low b 0 (k +ℤ pos 1)) 0) (omega (arith, ints, is, get_or-set_same b.lows 0 (k +ℤ pos 1) (pos 0) there));
       };
       whole = open_both b v hard above;
     }
@@ -199,7 +178,7 @@ climb_second first second b v k inside hard above order is =
       own = hard_there;
       right = record {
         cut = record { exists = there; between = (omega (arith, ints, order, is), omega (arith, ints, hard, is)) };
-        refuted = is_below (high (with_high b 1 (k -ℤ pos 1)) 1) (low b 0) (omega (arith, ints, is, get_or-set_same b.highs 1 (k -ℤ pos 1) (pos 0) (omega (arith, there, inside.is_box.paired))));
+        refuted = lt_test (high (with_high b 1 (k -ℤ pos 1)) 1) (low b 0) (omega (arith, ints, is, get_or-set_same b.highs 1 (k -ℤ pos 1) (pos 0) (omega (arith, there, inside.is_box.paired))));
       };
       whole = open_both b v hard above;
     }

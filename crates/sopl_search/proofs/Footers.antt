@@ -1,16 +1,15 @@
 -- What a log claims of an outcome.
-use Rattle.std.proofs.Common.{◌≡◌, inl, inr, ℤ, List, [], ◌∷◌, Option, Some, None, Any, Contains, refl, arith, sym, ap, subst, ◌∙◌}
-use Rattle.std.proofs.lemmas.Int.{ints, by_lt_z}
+use Rattle.std.proofs.Common.{◌≡◌, inl, inr, ℤ, List, [], ◌∷◌, Option, Some, None, Any, Contains, refl, sym, ap, subst, ◌∙◌}
 use Rattle.std.proofs.lemmas.List.Elements.{All-contains}
-use Rattle.sopl_base.specs.declared.direction.Direction.{Direction}
-use Rattle.sopl_base.specs.declared.direction.Direction.TheVariants.{Minimize, Maximize, Nothing}
 use Rattle.sopl_base.specs.Better.{IsBetter}
+use Rattle.sopl_base.proofs.Options.{some_turned}
 use Rattle.box_problem.specs.Box.{Box}
 use Rattle.box_problem.specs.BoxProblem.{BoxProblem}
 use Rattle.log_rows.specs.Made.{Pending}
 use Rattle.log_rows.specs.Accepted.{BoundsPending, Closes, IsPendingEnd}
 use Rattle.log_rows.proofs.Lists.{first_or_later, middle_is, none_has, others_have}
 use Rattle.box_problem.specs.Opens.{IsBound}
+use Rattle.box_problem.proofs.Opens.{still_not_better}
 use Rattle.sopl_search.specs.declared.outcome.Found.{Found}
 use Rattle.sopl_search.specs.declared.outcome.Outcome.{Outcome}
 use Rattle.sopl_search.specs.declared.outcome.Outcome.TheVariants.{Optimal, Infeasible, Bounded}
@@ -23,12 +22,6 @@ pub closed_footer : (problem : BoxProblem) (best : Option Found) (outcome : Outc
 closed_footer problem best (Optimal value cells) is = record { best_is = ap value_of is; opens_are = λ x has. absurd (none_has x has) }
 closed_footer problem best Infeasible is = record { best_is = ap value_of is; none = refl }
 closed_footer problem best (Bounded found bound) is = absurd is
-
--- no better than what is no better
-no_better : (direction : Direction) (x y z : ℤ) → ¬ IsBetter direction x y → ¬ IsBetter direction y z → ¬ IsBetter direction x z
-no_better Minimize x y z first second better = by_lt_z x y (λ less. first less) (λ other. second (omega (arith, ints, better, other)))
-no_better Maximize x y z first second better = by_lt_z y x (λ less. first less) (λ other. second (omega (arith, ints, better, other)))
-no_better Nothing x y z first second better = absurd better
 
 -- open nodes by their boxes
 box_has : (nodes : List Pending) (x : Pending) → Contains nodes x → Contains (boxes nodes) x.at
@@ -66,9 +59,6 @@ bounds_all : (problem : BoxProblem) (v : Option ℤ) (nodes opens : List Pending
     → BoundsPending problem opens bound
 bounds_all problem v nodes opens bound same is x has = All-contains (λ (b : Box). ¬ IsBetter problem.direction (problem.end b) bound) (boxes nodes) x.at is.ends (box_has nodes x (same x has))
 
-the_bound : (v bound : ℤ) → Some v ≡ Some bound → bound ≡ v
-the_bound v bound same = cc
-
 bounded_footer : (problem : BoxProblem) (best : Option Found) (nodes opens : List Pending) (bound : ℤ) → ((x : Pending) → Contains nodes x → Contains opens x)
     → ((x : Pending) → Contains opens x → Contains nodes x)
     → IsBound problem (value_of best) (boxes nodes) bound → Closes problem opens (value_of best) (footer_of (Bounded best bound))
@@ -83,7 +73,7 @@ bounded_footer problem None nodes opens bound to from is = record {
 bounded_footer problem (Some found) nodes opens bound to from is = record {
   best_is = refl;
   one = elim is.one_of_them [
-    | inl value ↦ inl (the_bound found.value bound value)
+    | inl value ↦ inl (some_turned found.value bound value)
     | inr end ↦ inr (some_end problem nodes opens bound to end)
   ];
   value = is.reached;
@@ -96,7 +86,7 @@ pub settled_footer : (problem : BoxProblem) (best : Option Found) (nodes opens :
     → IsBound problem (value_of best) (boxes nodes) bound → Settles problem.direction best bound outcome → Closes problem opens (value_of best) (footer_of outcome)
 settled_footer problem best nodes opens bound (Optimal value cells) to from is settles = record {
   best_is = ap value_of settles.0;
-  opens_are = λ x has. no_better problem.direction (problem.end x.at) bound value (bounds_all problem (value_of best) nodes opens bound from is x has) settles.1;
+  opens_are = λ x has. still_not_better problem.direction (problem.end x.at) bound value (bounds_all problem (value_of best) nodes opens bound from is x has) settles.1;
 }
 settled_footer problem best nodes opens bound Infeasible to from is settles = absurd settles
 settled_footer problem best nodes opens bound (Bounded found x) to from is settles =

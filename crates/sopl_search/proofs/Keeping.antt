@@ -1,8 +1,7 @@
 -- The rows of a search from one node to the next.
-use Rattle.std.proofs.Common.{◌≡◌, inl, inr, ℕ, suc, ◌+◌, ◌^◌, ◌<◌, ℤ, Bool, List, [], ◌∷◌, ◌++◌, length, reverse, Option, Some, None, Result, Ok, Err, IfOk, IfSome, All, Contains, refl}
+use Rattle.std.proofs.Common.{◌≡◌, ℕ, ◌+◌, ◌^◌, ◌<◌, ℤ, Bool, List, [], ◌∷◌, ◌++◌, length, reverse, Option, Some, None, Result, Ok, Err, IfOk, IfSome, All, Contains, refl}
 use Rattle.std.proofs.Common.{arith, sym, ap, subst, ◌∙◌, append_assoc, true}
 use Rattle.std.specs.declared.alloc.AllocError.{AllocError}
-use Rattle.std.proofs.lemmas.Bool.{cases_eq}
 use Rattle.std.proofs.lemmas.List.{append-nil, length-append}
 use Rattle.std.proofs.lemmas.List.Elements.{All-nil, All-push}
 use Rattle.sopl_base.specs.declared.reason.Reason.{Reason}
@@ -25,10 +24,10 @@ use Rattle.log_rows.specs.declared.rows.Row.{Row}
 use Rattle.log_rows.specs.Made.{AreShallow, IsFinished, Logs, MadeEnd, Pending, best_after}
 use Rattle.log_rows.specs.Rows.{IsSplit, box_at, final_of, row_at}
 use Rattle.log_rows.specs.LogLaws.{half, row_of}
-use Rattle.log_rows.proofs.Logging.{depths_after_end, depths_after_split, depths_at_first, logs_after_end, logs_after_split, logs_at_first}
+use Rattle.log_rows.proofs.Logging.{depths_after_end, depths_after_split, depths_at_first, logs_after_end, logs_after_split, logs_at_first, each_row}
 use Rattle.log_rows.proofs.Closing.{opens_inside}
 use Rattle.log_rows.proofs.Lists.{middle_is, others_have}
-use Rattle.log_rows.proofs.Places.{IsWithin, final_last, final_stays, hangs_within, row_last, row_stays}
+use Rattle.log_rows.proofs.Places.{IsWithin, final_last, final_stays, hangs_within}
 use Rattle.log_rows.specs.Ranges.{EndFits, ParentFits, RowFits, StepFits}
 use Rattle.sopl_search.specs.declared.frontier.Frontier.{Frontier}
 use Rattle.sopl_search.specs.declared.cut.Cut.{Cut}
@@ -66,16 +65,6 @@ kept_at_first problem rows finished parent b best posed no_rows none root is not
       low_first = λ i n exists. absurd (omega arith);
       found = tt;
     })))))
-
--- what holds of each old row and of the new one holds of each row
-each_row : (P : ℕ → Row → Type 0) (rows : List Row) (row : Row) → ((i : ℕ) → i < length rows → P i (row_at rows i)) → P (length rows) row
-    → (i : ℕ) → i < length (rows ++ row ∷ []) → P i (row_at (rows ++ row ∷ []) i)
-each_row P rows row old new i exists =
-    let longer : length (rows ++ row ∷ []) ≡ suc (length rows) = omega (arith, length-append rows (row ∷ [])) in
-    elim (cases_eq i (length rows)) [
-      | inl last ↦ subst (λ (k : ℕ). P k (row_at (rows ++ row ∷ []) k)) (sym last) (subst (P (length rows)) (sym (row_last rows row [])) new)
-      | inr other ↦ subst (P i) (sym (row_stays rows (row ∷ []) i (omega (arith, longer, exists, other)))) (old i (omega (arith, longer, exists, other)))
-    ]
 
 more_counted : (rows : List Row) (row : Row) (finished : ℕ) → length rows ≡ finished → length (rows ++ row ∷ []) ≡ finished + 1
 more_counted rows row finished is = omega (arith, is, length-append rows (row ∷ []))
@@ -208,10 +197,11 @@ split_holds : (problem : BoxProblem) (rows : List Row) (x : Pending) (later : Li
     ++ half (length rows) (after_steps x.at steps) (cut_of cut) Ge ∷ half (length rows) (after_steps x.at steps) (cut_of cut) Le ∷ [])
 split_holds problem rows x later best steps cut posed before right split =
     let inside = opens_inside problem rows (reverse later ++ x ∷ []) best x posed.lawful before.0 (middle_is (reverse later) [] x) in
-    let fewer = halves_have_fewer_bits problem.root x.at (after_steps x.at steps) cut.cell cut.k posed.near inside (steps_lead_inside problem best x.at steps inside.is_box right) split.first in (
+    let fewer = halves_have_fewer_bits problem.root x.at (after_steps x.at steps) cut.cell cut.k posed.near inside (steps_lead_inside problem best x.at steps inside.is_box right) split.first in
+    let room = before.1.opens_are x (middle_is (reverse later) [] x) in (
       logs_after_split problem rows x (reverse later) [] (reverse later) [] best steps (cut_of cut) before.0 right
           (record { cut = first_cut (after_steps x.at steps) cut.cell cut.k split.first; consistent = split.consistent }) refl,
-      depths_after_split problem bits_in (bits_in problem.root) rows x (reverse later) [] (reverse later) [] best steps (cut_of cut) before.0 before.1 fewer.0 fewer.1 refl,
+      depths_after_split problem bits_in (bits_in problem.root) rows x (reverse later) [] (reverse later) [] best steps (cut_of cut) before.0 before.1 (omega (arith, room, fewer.0)) (omega (arith, room, fewer.1)) refl,
     )
 
 -- a node that is split is one row more, and its two sides are the newest nodes

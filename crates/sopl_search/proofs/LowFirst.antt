@@ -1,6 +1,6 @@
 -- Of two sides of a split the low one stands first.
 use Rattle.std.proofs.Common.{◌≡◌, ◌⊎◌, inl, inr, ℕ, suc, ◌+◌, ◌-◌, ◌<◌, ◌≤◌, ℤ, List, [], ◌∷◌, ◌++◌, length, get_or, map, reverse, Option, Some, None, Contains, arith, refl, sym, ap, subst, ◌∙◌}
-use Rattle.std.proofs.lemmas.Bool.{cases_eq, cases_order}
+use Rattle.std.proofs.lemmas.Bool.{cases_eq, cases_order, cases_lt}
 use Rattle.std.proofs.lemmas.List.{get_or-append-add, get_or-map, length-append, length-map}
 use Rattle.std.proofs.lemmas.List.Elements.{Contains-get_or}
 use Rattle.sopl_base.specs.declared.reason.Side.TheVariants.{Le, Ge}
@@ -83,17 +83,6 @@ still_low_first problem rows x later best row same logs stacked first i n exists
 open_parent : (rows : List Row) (opens : List Pending) (k : ℕ) (d : Pending) → k < length opens → (row_at (with_open rows opens) (length rows + k)).parent ≡ (get_or opens k d).parent
 open_parent rows opens k d exists = ap (λ (r : Row). r.parent) (get_or-append-add rows (map open_row opens) k no_row ∙ get_or-map open_row opens k d no_row exists)
 
--- before a place, or from it on
-by_place : (i n : ℕ) → (i < n) ⊎ (n ≤ i)
-by_place i n =
-    elim (cases_order i n) [
-      | inl equal ↦ inr (omega (arith, equal))
-      | inr differs ↦ elim differs [
-        | inl before ↦ inl before
-        | inr behind ↦ inr (omega (arith, behind))
-      ]
-    ]
-
 -- of two open sides of one split the low one stands before the high one
 low_before : (n : ℕ) → ¬ StandsBefore (some_side n Ge) (some_side n Le)
 low_before n before =
@@ -135,7 +124,7 @@ pub low_first_with_open : (problem : BoxProblem) (rows : List Row) (opens : List
 low_first_with_open problem rows opens best logs order first i n exists is =
     let all = with_open rows opens in
     let longer : length all ≡ length rows + length opens = omega (arith, length-append rows (map open_row opens), length-map opens open_row) in
-    elim (by_place i (length rows)) [
+    elim (cases_lt i (length rows)) [
       | inl old ↦ low_stays rows (map open_row opens) i i n (omega (arith, old)) (omega arith)
           (first i n old (sym (ap (λ (r : Row). r.parent) (row_stays rows (map open_row opens) i old)) ∙ is))
       | inr new ↦

@@ -28,7 +28,7 @@ rows_by_parents (x ∷ nodes) = ap (λ (rows : List Row). open_row x ∷ rows) (
 parents_append : (xs ys : List Pending) → parents (xs ++ ys) ≡ parents xs ++ parents ys
 parents_append xs ys = map-append (λ (x : Pending). x.parent) xs ys
 
-reverse_parents : (x : Option Parent) (xs : List (Option Parent)) → reverse (x ∷ xs) ≡ reverse xs ++ x ∷ []
+pub reverse_parents : (x : Option Parent) (xs : List (Option Parent)) → reverse (x ∷ xs) ≡ reverse xs ++ x ∷ []
 reverse_parents x xs = reverse-append (x ∷ []) xs
 
 parents_reversed : (nodes : List Pending) → parents (reverse nodes) ≡ reverse (parents nodes)

@@ -6,6 +6,7 @@ use Rattle.log_rows.specs.declared.rows.Parent.{Parent}
 use Rattle.log_rows.specs.declared.rows.Row.{Row}
 use Rattle.sopl_search.specs.declared.high.PendingHalf.{PendingHalf}
 use Rattle.sopl_search.specs.Lines.{high_parent, is_sibling, last_first, open_line, put_hand}
+use Rattle.sopl_search.proofs.OpenNodes.{reverse_parents}
 
 -- one row more, and another one
 pub two_added : {T E : Type 0} (old middle new : List Row) (a b : Row) (result : Result T E) → middle ≡ old ++ a ∷ [] → OnOk result (new ≡ middle ++ b ∷ []) → OnOk result (new ≡ old ++ a ∷ b ∷ [])
@@ -32,10 +33,6 @@ highs_more old now next highs i d exists before more =
 
 pub highs_none : (old now : List Row) (highs : List PendingHalf) (i : ℕ) → length highs ≤ i → now ≡ old ++ high_lines (take i highs) → now ≡ old ++ high_lines highs
 highs_none old now highs i all is = is ∙ ap (λ (hs : List PendingHalf). old ++ high_lines hs) (take_all i highs all)
-
--- all rows, where some halves wait
-reverse_parents : (x : Option Parent) (xs : List (Option Parent)) → reverse (x ∷ xs) ≡ reverse xs ++ x ∷ []
-reverse_parents x xs = reverse-append (x ∷ []) xs
 
 reverse_map : (xs : List PendingHalf) → reverse (map high_parent xs) ≡ map high_parent (reverse xs)
 reverse_map [] = refl

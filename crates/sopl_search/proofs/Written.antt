@@ -1,6 +1,6 @@
 -- What a sink took of the log of a search.
-use Rattle.std.proofs.Common.{◌≡◌, ℕ, List, Option, Some, None, Result, Ok, Err, IfOk, OnOk, OnErr, refl, sym, subst}
-use Rattle.std.specs.Io.KnownBytes.{Appends, Keeps}
+use Rattle.std.proofs.Common.{◌≡◌, ℕ, List, Option, Result, Ok, Err, IfOk, OnOk, OnErr, refl, sym, subst}
+use Rattle.std.specs.Io.KnownBytes.{Appends}
 use Rattle.sopl_io.specs.Causes.{Rose}
 use Rattle.sopl_io.specs.Transfer.{AppendsPrefix}
 use Rattle.box_problem.specs.BoxProblem.{BoxProblem}
@@ -61,7 +61,3 @@ rose_at_write before now (Err stop) rose is = rose
 -- where the search itself wants memory
 pub no_write : {P : Type 0} (stop : SearchStop) (result : Result Outcome SearchStop) → stop ≡ NoMemory → result ≡ Err stop → result ≡ Err Write → P
 no_write stop result none given is = absurd (cc)
-
-pub same_bytes : (taken : Option (List ℕ)) → Keeps taken taken
-same_bytes None = tt
-same_bytes (Some bytes) = refl

@@ -28,7 +28,7 @@ impl Cut {
     }
 
     /// Narrows the box of a store to its low half.
-    #[tactic(auto, using(crate::proofs::Numbers::same_small))]
+    #[tactic(auto, using(sopl_base::proofs::Sizes::same_small))]
     pub(crate) fn take_low(&self, store: &mut BoxStore)
         requires room { 1 ≤ store.old.spare }
         requires cut { IsCut store.old.box self.now.cell Le self.now.k }
@@ -39,7 +39,7 @@ impl Cut {
     }
 
     /// Narrows the box of a store to its high half.
-    #[tactic(auto, using(crate::proofs::Parts::high_cut, crate::proofs::Numbers::same_small))]
+    #[tactic(auto, using(box_problem::proofs::Shared::high_cut, sopl_base::proofs::Sizes::same_small))]
     pub(crate) fn take_high(&self, store: &mut BoxStore)
         requires room { 1 ≤ store.old.spare }
         requires cut { IsCut store.old.box self.now.cell Le self.now.k }

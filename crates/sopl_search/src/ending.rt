@@ -43,7 +43,7 @@ impl NodeEnd {
 }
 
 /// The cut of a cell's interval in its middle.
-#[tactic(auto, using(crate::proofs::Numbers::same_small))]
+#[tactic(auto, using(sopl_base::proofs::Sizes::same_small))]
 fn middle(cell: u32, lo: i64, hi: i64) -> Cut
     requires order { lo <ℤ hi }
     requires low { IsNear lo }
@@ -59,7 +59,7 @@ fn middle(cell: u32, lo: i64, hi: i64) -> Cut
 
 /// The end of a node at whose box propagators rest: the box is one point, or is cut in the middle of the first cell that has more
 /// than one value.
-#[tactic(auto, using(crate::proofs::Numbers::same_small))]
+#[tactic(auto, using(sopl_base::proofs::Sizes::same_small))]
 fn end_of(store: &BoxStore) -> NodeEnd
     requires near { IsNearBox store.now.box }
     ensures { EndsFirst store.now.box result }

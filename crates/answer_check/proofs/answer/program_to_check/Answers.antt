@@ -15,9 +15,9 @@ returns-in_err-stated-clause-refused c =
 
 pub returns-clause-refused : goal.returns-clause-refused
 returns-clause-refused c =
-    unsolved_told c.args.text.now c.in_ok-stated.stated c.checked_program.result c.in_ok-stated.ensures.stated c.checked_program.ensures.refused
+    unsolved_told c.args.text.now c.in_ok-stated.stated c.program_of.result c.in_ok-stated.ensures.stated c.program_of.ensures.refused
 
 pub returns-clause-program : goal.returns-clause-program
 returns-clause-program c =
-    program_made c.args.text.now c.in_ok-stated.stated c.checked_program.result c.in_ok-stated.ensures.stated c.checked_program.ensures.solvable
-    c.checked_program.ensures.program
+    program_made c.args.text.now c.in_ok-stated.stated c.program_of.result c.in_ok-stated.ensures.stated c.program_of.ensures.solvable
+    c.program_of.ensures.program

@@ -7,4 +7,4 @@ use Rattle.prop_shave.proofs.chance_delta.weight_left.Given as goal
 
 abbrev pub invariant-scenarios : goal.invariant-scenarios
 invariant-scenarios l =
-    l.left.sum ≡ sum_over (weight_over (root_in l.program) (problem_in l.program) l.instance l.store.box) (range_with_len 0 l.scenario)
+    l.left.value ≡ sum_over (weight_over (root_in l.program) (problem_in l.program) l.instance l.store.box) (range_with_len 0 l.scenario)

@@ -2,11 +2,11 @@ use Rattle.std.proofs.Common.{rules, ℤ, Bool, true, false, List, Some, SFits, 
 use Rattle.std.specs.Int.{w128}
 use Rattle.std.proofs.lemmas.List.Elements.{All-head, All-tail}
 use Rattle.std.specs.List.{All}
+use Rattle.sopl_base.proofs.Sizes.{same_large}
 use Rattle.box_problem.specs.Box.{Box, Inside}
 use Rattle.box_problem.specs.Opens.{IsBound}
 use Rattle.sopl_search.specs.Frontiers.{IsNext, boxes, waiting}
 use Rattle.sopl_search.specs.Outcomes.{value_of}
-use Rattle.sopl_search.proofs.Numbers.{same_large}
 use Rattle.sopl_search.proofs.Settling.{bound_ended, bound_kept, bound_more}
 use Rattle.sopl_search.proofs.Standing.{first_inside, waiting_inside}
 use Rattle.sopl_search.proofs.bounding.bound_over.Goals as goal

@@ -1,5 +1,5 @@
 use Rattle.std.proofs.Common.{rules, arith, w64, SFits, ◌∙◌}
-use Rattle.sopl_search.proofs.Numbers.{same_small}
+use Rattle.sopl_base.proofs.Sizes.{same_small}
 use Rattle.sopl_search.proofs.Resting.{first_cut_at}
 use Rattle.sopl_search.proofs.ending.end_of.Goals as goal
 

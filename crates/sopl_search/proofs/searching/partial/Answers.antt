@@ -1,9 +1,9 @@
 use Rattle.std.proofs.Common.{rules, ◌<◌, ◌^◌, true, reverse, SFits, arith, ap, ◌∙◌}
 use Rattle.std.specs.Int.{w128}
+use Rattle.sopl_base.proofs.Sizes.{same_large}
 use Rattle.sopl_search.specs.Frontiers.{begun_at, boxes, opens}
 use Rattle.sopl_search.specs.Outcomes.{value_of}
 use Rattle.sopl_search.proofs.Closing.{same_sound}
-use Rattle.sopl_search.proofs.Numbers.{same_large}
 use Rattle.sopl_search.proofs.Settling.{bound_moved, settles_cause, settles_true}
 use Rattle.sopl_search.proofs.Trees.{bound_before, partial_tree, settles_as}
 use Rattle.sopl_search.proofs.searching.partial.Goals as goal

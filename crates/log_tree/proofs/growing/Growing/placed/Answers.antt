@@ -7,7 +7,7 @@ returns-then-not-is_next-clause-err c =
     bad_place c.args.self.now.rows.items c.args.self.now.slots.items c.requires.keeps c.args.number c.args.heading.now c.refused.result c.is_next.result (search rules)
     c.if-not-is_next.true c.refused.ensures
 
-pub returns-then-depth-gt-GREATEST_DEPTH-clause-err : goal.returns-then-depth-gt-GREATEST_DEPTH-clause-err
-returns-then-depth-gt-GREATEST_DEPTH-clause-err c =
-    bad_depth c.args.self.now.rows.items c.args.self.now.slots.items c.requires.keeps c.args.number c.args.heading.now c.refused-then-depth-gt-GREATEST_DEPTH.result c.is_next.result
-    (search rules) c.depth_in-depth.result c.if-not-is_next.false (search rules) c.if-depth-gt-GREATEST_DEPTH.true c.refused-then-depth-gt-GREATEST_DEPTH.ensures
+pub returns-then-depth-gt-NODE_DEPTH-clause-err : goal.returns-then-depth-gt-NODE_DEPTH-clause-err
+returns-then-depth-gt-NODE_DEPTH-clause-err c =
+    bad_depth c.args.self.now.rows.items c.args.self.now.slots.items c.requires.keeps c.args.number c.args.heading.now c.refused-then-depth-gt-NODE_DEPTH.result c.is_next.result
+    (search rules) c.depth_in-depth.result c.if-not-is_next.false (search rules) c.if-depth-gt-NODE_DEPTH.true c.refused-then-depth-gt-NODE_DEPTH.ensures

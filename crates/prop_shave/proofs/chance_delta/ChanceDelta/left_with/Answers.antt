@@ -22,7 +22,7 @@ scenarios-preserved c =
     let terms = problem_in c.args.program.now in
     let b = c.args.store.now.box in
     turn_more (weight_over root terms c.args.self.now.instance b) (weight_over root terms c.args.self.now.instance (with_interval b c.args.self.now.cell c.args.part.lo c.args.part.hi))
-    c.args.self.now.scenarios.now c.scenarios.scenario-index 0 _ c.scenarios.left.sum c.in_ok-left.left.sum c.weight_in-before.result.sum c.weight_with-after.result.sum
+    c.args.self.now.scenarios.now c.scenarios.scenario-index 0 _ c.scenarios.left.value c.in_ok-left.left.value c.weight_in-before.result.value c.weight_with-after.result.value
     c.scenarios-test.true c.scenarios.invariant c.weight_in-before.ensures c.weight_with-after.ensures c.in_ok-left.ensures
 
 pub returns : goal.returns
@@ -30,8 +30,8 @@ returns c =
     let root = root_in c.args.program.now in
     let terms = problem_in c.args.program.now in
     let b = c.args.store.now.box in
-    left_with root b terms c.args.self.now.instance c.args.self.now.cell c.args.part.lo c.args.part.hi c.args.self.now.scenarios.now c.args.self.now.left.sum c.scenarios.left.sum
+    left_with root b terms c.args.self.now.instance c.args.self.now.cell c.args.part.lo c.args.part.hi c.args.self.now.scenarios.now c.args.self.now.left.value c.scenarios.left.value
     c.requires.known.left c.requires.known.scenarios
     (turn_all (weight_over root terms c.args.self.now.instance b) (weight_over root terms c.args.self.now.instance (with_interval b c.args.self.now.cell c.args.part.lo c.args.part.hi))
-    c.args.self.now.scenarios.now c.scenarios.scenario-index _ c.scenarios.left.sum
+    c.args.self.now.scenarios.now c.scenarios.scenario-index _ c.scenarios.left.value
     (omega (arith, c.scenarios-test.false)) c.scenarios.invariant)

@@ -7,9 +7,9 @@ use Rattle.prop_shave.proofs.chance_delta.ChanceDelta.left_with.Given as goal
 
 abbrev pub invariant-scenarios : goal.invariant-scenarios
 invariant-scenarios l =
-    (l.left.sum
+    (l.left.value
     +ℤ sum_over (turn_of (weight_over (root_in l.program) (problem_in l.program) l.self.instance l.store.box)
     (weight_over (root_in l.program) (problem_in l.program) l.self.instance (with_interval l.store.box l.self.cell l.part.lo l.part.hi))) (drop l.scenario-index l.self.scenarios.now))
-    ≡ (l.self.left.sum
+    ≡ (l.self.left.value
     +ℤ sum_over (turn_of (weight_over (root_in l.program) (problem_in l.program) l.self.instance l.store.box)
     (weight_over (root_in l.program) (problem_in l.program) l.self.instance (with_interval l.store.box l.self.cell l.part.lo l.part.hi))) l.self.scenarios.now)

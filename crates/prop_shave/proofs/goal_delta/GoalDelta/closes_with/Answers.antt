@@ -7,7 +7,7 @@ use Rattle.prop_shave.proofs.goal_delta.GoalDelta.closes_with.Goals as goal
 
 pub returns : goal.returns
 returns c = record {
-  closed = closes_by (root_in c.args.program.now) (with_interval c.args.store.now.box c.args.self.now.cell c.args.part.lo c.args.part.hi) (problem_in c.args.program.now) c.in_ok-end.end.number
-      c.args.best.now.number c.is_no_better.result c.in_ok-end.ensures
-      (c.is_no_better.ensures ∙ ap (λ (d : Direction). no_better d c.in_ok-end.end.number c.args.best.now.number) c.direction.ensures);
+  closed = closes_by (root_in c.args.program.now) (with_interval c.args.store.now.box c.args.self.now.cell c.args.part.lo c.args.part.hi) (problem_in c.args.program.now) c.in_ok-end.end.value
+      c.args.best.value c.is_no_better.result c.in_ok-end.ensures
+      (c.is_no_better.ensures ∙ ap (λ (d : Direction). no_better d c.in_ok-end.end.value c.args.best.value) c.direction.ensures);
 }

@@ -24,7 +24,7 @@ parts-preserved c =
     let all = things_in c.args.program.now in
     let b = c.args.store.now.box in
     turn_more (part_over direction root all b) (part_over direction root all (with_interval b c.args.self.now.cell c.args.part.lo c.args.part.hi)) c.args.self.now.parts.now c.parts.atom-index
-    _ _ c.parts.end.number c.in_ok-end.end.number c.in_ok-before.before.number c.in_ok-after.after.number
+    _ _ c.parts.end.value c.in_ok-end.end.value c.in_ok-before.before.value c.in_ok-after.after.value
     c.parts-test.true c.parts.invariant c.in_ok-before.ensures c.in_ok-after.ensures c.in_ok-end.ensures
 
 pub returns : goal.returns
@@ -33,7 +33,7 @@ returns c =
     let root = root_in c.args.program.now in
     let all = things_in c.args.program.now in
     let b = c.args.store.now.box in
-    end_with c.args.program.now b c.args.self.now.cell c.args.part.lo c.args.part.hi c.requires.known.atoms c.args.self.now.parts.now c.args.self.now.end.number c.parts.end.number
+    end_with c.args.program.now b c.args.self.now.cell c.args.part.lo c.args.part.hi c.requires.known.atoms c.args.self.now.parts.now c.args.self.now.end.value c.parts.end.value
     c.requires.known.are c.requires.inside c.requires.from_low c.args.part.ordered c.requires.to_high c.requires.known.end c.requires.known.parts
     (turn_all (part_over direction root all b) (part_over direction root all (with_interval b c.args.self.now.cell c.args.part.lo c.args.part.hi)) c.args.self.now.parts.now c.parts.atom-index
-    _ c.parts.end.number (omega (arith, c.parts-test.false)) c.parts.invariant)
+    _ c.parts.end.value (omega (arith, c.parts-test.false)) c.parts.invariant)

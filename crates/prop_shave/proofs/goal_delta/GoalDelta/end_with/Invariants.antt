@@ -8,9 +8,9 @@ use Rattle.prop_shave.proofs.goal_delta.GoalDelta.end_with.Given as goal
 
 abbrev pub invariant-parts : goal.invariant-parts
 invariant-parts l =
-    (l.end.number
+    (l.end.value
     +ℤ sum_over (turn_of (part_over (direction_in (problem_in l.program)) (root_in l.program) (things_in l.program) l.store.box)
     (part_over (direction_in (problem_in l.program)) (root_in l.program) (things_in l.program) (with_interval l.store.box l.self.cell l.part.lo l.part.hi))) (drop l.atom-index l.self.parts.now))
-    ≡ (l.self.end.number
+    ≡ (l.self.end.value
     +ℤ sum_over (turn_of (part_over (direction_in (problem_in l.program)) (root_in l.program) (things_in l.program) l.store.box)
     (part_over (direction_in (problem_in l.program)) (root_in l.program) (things_in l.program) (with_interval l.store.box l.self.cell l.part.lo l.part.hi))) l.self.parts.now)

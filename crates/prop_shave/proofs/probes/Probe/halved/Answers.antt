@@ -1,6 +1,6 @@
 use Rattle.std.proofs.Common.{arith, pos}
 use Rattle.std.proofs.lemmas.Int.{ints}
-use Rattle.prop_shave.proofs.Opening.{gap_above}
+use Rattle.box_problem.proofs.Counts.{gap_above}
 use Rattle.prop_shave.proofs.probes.Probe.halved.Goals as goal
 
 pub nearer-smaller : goal.nearer-smaller

@@ -1,8 +1,8 @@
 use Rattle.std.proofs.Common.{rules, ℤ, pos, ◌+ℤ◌, ◌≤ℤ◌, ◌<ℤ◌, true, false, w64, SFits, to_z, of_z, ap, ◌∙◌}
+use Rattle.sopl_base.proofs.Sizes.{same_small}
 use Rattle.box_problem.specs.Box.{Box, high, low}
 use Rattle.sopl_search.specs.Climbing.{pair_of}
 use Rattle.sopl_search.proofs.Climbing.{climb_bounded, climb_first, climb_quiet, climb_second, climb_up, reached_at}
-use Rattle.sopl_search.proofs.Numbers.{same_small}
 use Rattle.sopl_search.proofs.tests.ClimbPropagator.revise.Goals as goal
 
 pub returns-then-is_reached-clause-finds : goal.returns-then-is_reached-clause-finds
