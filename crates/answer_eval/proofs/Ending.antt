@@ -6,10 +6,9 @@ use Rattle.sopl_base.specs.declared.fault.Excess.{Excess}
 use Rattle.sopl_base.specs.declared.fault.Refusal.{Refusal}
 use Rattle.sopl_ast.specs.Cells.{IsPoint, cells, policy_at}
 use Rattle.sopl_ast.specs.Instances.{Problem}
-use Rattle.sopl_ast.specs.Optimal.{Satisfies, denominator, numerator, weight_of}
-use Rattle.sopl_ast.specs.Policies.{IsPolicy, Policy}
+use Rattle.sopl_ast.specs.Optimal.{denominator, weight_of}
+use Rattle.sopl_ast.specs.Policies.{Policy}
 use Rattle.sopl_ast.specs.Scenarios.{total_weight}
-use Rattle.sopl_ast.specs.Unfolding.{problem_of}
 use Rattle.policy_tree.proofs.Bijection.{policies_are_points}
 use Rattle.policy_json.specs.Nodes.{policy_data}
 use Rattle.scen_accept.proofs.NamesFormed.{model_from_tokens}
@@ -24,22 +23,13 @@ use Rattle.answer_texts.specs.Replies as ends
 use Rattle.answer_texts.specs.Solved.{SolvedText}
 use Rattle.answer_texts.specs.declared.command.Command.TheVariants.{Solve}
 use Rattle.answer_texts.specs.declared.status.Status.{Status}
-use Rattle.answer_texts.specs.declared.status.Status.TheVariants.{Done, Failing, Refused, Limit, Unreadable}
+use Rattle.answer_texts.specs.declared.status.Status.TheVariants.{Done, Refused, Limit, Unreadable}
 use Rattle.answer_texts.proofs.Ended.{accepted_end_once}
 use Rattle.answer_texts.proofs.Ends.{ends_alike, one_limit_on, one_refusal_on}
+use Rattle.answer_texts.proofs.Shared.{done_limit, done_refused, refused_limit}
 use Rattle.answer_eval.specs.EvalData.{judgement_data, judgement_status, satisfied_data}
-use Rattle.answer_eval.specs.EvalLaws.{EvalsEndOnce, HoldSatisfying, SatisfyingAreAnswered}
-use Rattle.answer_eval.specs.EvalReplies.{HoldsPolicy, IsPolicyReply, satisfied, hard_fails, chance_fails, objective_fails, unreadable, IsEvalReply, evaluated, text_refused, text_limited}
-
--- a text that `solve` refuses, or that passes a limit, is not solved, and not both
-done_refused : Done ≡ Refused → ⊥
-done_refused e = cc
-
-done_limit : Done ≡ Limit → ⊥
-done_limit e = cc
-
-refused_limit : Refused ≡ Limit → ⊥
-refused_limit e = cc
+use Rattle.answer_eval.specs.EvalLaws.{EvalsEndOnce, SatisfyingAreAnswered}
+use Rattle.answer_eval.specs.EvalReplies.{HoldsPolicy, IsPolicyReply, satisfied, hard_fails, chance_fails, objective_fails, unreadable, evaluated, text_refused, text_limited}
 
 not_refused : (text : List ℕ) (problem : Problem) (refusal : Refusal) → SolvedText text problem → IsRefusedOn text refusal Solve → ⊥
 not_refused text problem refusal solved broken =

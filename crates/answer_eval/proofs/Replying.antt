@@ -18,6 +18,7 @@ use Rattle.policy_eval.specs.Reports as report
 use Rattle.policy_eval.specs.Reports.{IsReport, Judgement}
 use Rattle.policy_read.specs.Policies.{Point, policy_in, policy_refusal}
 use Rattle.answer_lines.specs.AnswerData.{limit_data, line_of, refused_data, unreadable_data}
+use Rattle.answer_texts.specs.Away.{IsTurnedAway}
 use Rattle.answer_texts.specs.Models.{IsSolvable}
 use Rattle.answer_texts.specs.Replies.{IsFaultOn, IsLimitedOn, IsRefusedOn}
 use Rattle.answer_texts.specs.Solved.{SolvedText}
@@ -29,7 +30,7 @@ use Rattle.answer_texts.specs.declared.status.Status.TheVariants.{Done, Failing,
 use Rattle.answer_texts.proofs.Answered.{unsolved_so}
 use Rattle.answer_eval.specs.EvalData.{judgement_data, judgement_status}
 use Rattle.answer_eval.specs.EvalReplies.{HoldsPolicy, IsPolicyReply, satisfied, hard_fails, chance_fails, objective_fails, unreadable, IsEvalReply, evaluated}
-use Rattle.answer_eval.specs.EvalReplies.{text_refused, text_limited, IsStatedFor, TellsOfText}
+use Rattle.answer_eval.specs.EvalReplies.{text_refused, text_limited, IsStatedFor}
 
 module _ (problem : Problem) (bytes : List ℕ) (policy : Policy) (holds : HoldsPolicy problem bytes policy) where
   by_judgement : (judgement : Judgement) → IsReport problem policy judgement
@@ -99,19 +100,19 @@ policy_replies text bytes stated (Ok reply) for is =
 policy_replies text bytes stated (Err error) for is = tt
 
 -- no such reply tells of the text
-done_apart : TellsOfText Done → ⊥
+done_apart : IsTurnedAway Done → ⊥
 done_apart (inl is) = cc
 done_apart (inr is) = cc
 
-failing_apart : TellsOfText Failing → ⊥
+failing_apart : IsTurnedAway Failing → ⊥
 failing_apart (inl is) = cc
 failing_apart (inr is) = cc
 
-unreadable_apart : TellsOfText Unreadable → ⊥
+unreadable_apart : IsTurnedAway Unreadable → ⊥
 unreadable_apart (inl is) = cc
 unreadable_apart (inr is) = cc
 
-tells_of_policy : (problem : Problem) (bytes : List ℕ) (status : Status) (line : List ℕ) → IsPolicyReply problem bytes status line → ¬ TellsOfText status
+tells_of_policy : (problem : Problem) (bytes : List ℕ) (status : Status) (line : List ℕ) → IsPolicyReply problem bytes status line → ¬ IsTurnedAway status
 tells_of_policy problem bytes _ _ (satisfied policy value sums holds is) = done_apart
 tells_of_policy problem bytes _ _ (hard_fails policy instance scenario holds is) = failing_apart
 tells_of_policy problem bytes _ _ (chance_fails policy instance sum holds is) = failing_apart
@@ -119,6 +120,6 @@ tells_of_policy problem bytes _ _ (objective_fails policy scenario holds is) = f
 tells_of_policy problem bytes _ _ (unreadable refusal is) = unreadable_apart
 
 pub policy_told : (problem : Problem) (bytes : List ℕ) (result : Result Reply AllocError)
-    → IfOk result (λ reply. IsPolicyReply problem bytes reply.status (string_bytes reply.line)) → IfOk result (λ reply. ¬ TellsOfText reply.status)
+    → IfOk result (λ reply. IsPolicyReply problem bytes reply.status (string_bytes reply.line)) → IfOk result (λ reply. ¬ IsTurnedAway reply.status)
 policy_told problem bytes (Ok reply) is = tells_of_policy problem bytes reply.status (string_bytes reply.line) is
 policy_told problem bytes (Err error) is = tt

@@ -1,5 +1,5 @@
 -- The replies of `eval` to a text and the bytes of a policy, each with its cause.
-use Rattle.std.specs.Prelude.{◌≡◌, ◌⊎◌, ℕ, ℤ, pos, List, Some}
+use Rattle.std.specs.Prelude.{◌≡◌, ℕ, ℤ, pos, List, Some}
 use Rattle.sopl_base.specs.declared.fault.Excess.{Excess}
 use Rattle.sopl_base.specs.declared.fault.Refusal.{Refusal}
 use Rattle.sopl_ast.specs.Cells.{cells, policy_at}
@@ -58,7 +58,3 @@ pub record IsStatedFor (text : List ℕ) (stated : AcceptedProblem) : Type 0 whe
   pub states : States text stated
   pub laid_out : IsLaid stated
   pub solvable : IsSolvable (model_in stated)
-
--- so ends what is told of a text, whatever the policy: it is refused, or it passes a limit
-abbrev pub TellsOfText : Status → Type 0
-TellsOfText status = (status ≡ Refused) ⊎ (status ≡ Limit)

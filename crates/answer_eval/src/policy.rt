@@ -12,8 +12,9 @@ ghost use Rattle.policy_eval.specs.Reports.{IsReport};
 ghost use Rattle.policy_eval.specs.Shown.{report_shown};
 ghost use Rattle.policy_read.specs.Policies.{Point, PolicyReading, RefusesPolicy, policy_in, policy_refusal};
 ghost use Rattle.answer_lines.specs.AnswerData.{line_of};
+ghost use Rattle.answer_texts.specs.Away.{IsTurnedAway};
 ghost use Rattle.answer_eval.specs.EvalData.{judgement_data, judgement_status};
-ghost use Rattle.answer_eval.specs.EvalReplies.{IsEvalReply, IsPolicyReply, IsStatedFor, TellsOfText};
+ghost use Rattle.answer_eval.specs.EvalReplies.{IsEvalReply, IsPolicyReply, IsStatedFor};
 
 use crate::lines::{chance_line, hard_line, objective_line, satisfied_line};
 use answer_lines::unreadable_line;
@@ -108,7 +109,7 @@ fn report_of(alloc: Global, stated: &AcceptedProblem, policy: &Policy) -> Result
     requires policy { IsPolicyFor (problem_in stated.now) policy.now }
     ensures { IfOk result (λ report. IsReport (problem_in stated.now) (policy_map (problem_in stated.now) policy.now) (report_shown report)) }
 {
-    evaluate(alloc, policy.values(), &stated.ground, &stated.tree)
+    evaluate(alloc, policy, &stated.ground, &stated.tree)
 }
 
 /// The reply to a policy that was read.
@@ -169,7 +170,7 @@ pub fn policy_reply(
     requires stated { (text : List ℕ) × IsStatedFor text stated.now }
     ensures reply { (text : List ℕ) → IsStatedFor text stated.now
         → IfOk result (λ reply. IsEvalReply text policy.now reply.status (string_bytes reply.line)) }
-    ensures of_policy { IfOk result (λ reply. ¬ TellsOfText reply.status) }
+    ensures of_policy { IfOk result (λ reply. ¬ IsTurnedAway reply.status) }
 {
     bytes_reply(alloc, stated, policy)
 }

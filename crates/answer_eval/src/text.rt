@@ -2,11 +2,12 @@
 
 ghost use Rattle.std.specs.Prelude.{◌≡◌, ℕ, List, IfOk, IfErr, string_bytes};
 ghost use Rattle.scen_accept.specs.Stated.{IsLaid, States, model_in};
+ghost use Rattle.answer_texts.specs.Away.{IsTurnedAway};
 ghost use Rattle.answer_texts.specs.Models.{IsSolvable};
 ghost use Rattle.answer_texts.specs.Replies.{IsFaultOn};
 ghost use Rattle.answer_texts.specs.Solving.{IsSolveFault};
 ghost use Rattle.answer_texts.specs.declared.command.Command.TheVariants.{Solve};
-ghost use Rattle.answer_eval.specs.EvalReplies.{IsEvalReply, IsStatedFor, TellsOfText};
+ghost use Rattle.answer_eval.specs.EvalReplies.{IsEvalReply, IsStatedFor};
 
 use answer_texts::{Reply, limit_reply, refused_reply, terms_allowed};
 use scen_accept::{AcceptedProblem, stated_in};
@@ -39,7 +40,7 @@ pub fn text_to_eval(alloc: Global, text: &[u8]) -> Result<AcceptedProblem, Fault
 pub fn unsolved_reply(alloc: Global, fault: Fault) -> Result<Reply, AllocError>
     ensures reply { (text bytes : List ℕ) → IsFaultOn text Solve fault
         → IfOk result (λ reply. IsEvalReply text bytes reply.status (string_bytes reply.line)) }
-    ensures of_text { IfOk result (λ reply. TellsOfText reply.status) }
+    ensures of_text { IfOk result (λ reply. IsTurnedAway reply.status) }
 {
     match fault {
         Fault::Text(refusal) => refused_reply(alloc, refusal),

@@ -1,5 +1,6 @@
 -- What came of the calls of a run, by what came of those on the way to its reply and of those that write its line.
 use Rattle.std.proofs.Common.{◌≡◌, ℕ, List, Option, Result, Ok, Err, IfOk, IfErr, refl, sym, subst, string_bytes}
+use Rattle.std.proofs.KnownBytes.{Keeps-refl}
 use Rattle.sopl_io.specs.Calls.{Outcomes, AllSucceeded, no_call, LastFailed, StopsWhere}
 use Rattle.sopl_io.proofs.Calling.{calls_last, calls_more}
 use Rattle.sopl_base.specs.declared.stop.SearchStop.{SearchStop}
@@ -15,7 +16,6 @@ use Rattle.answer_texts.proofs.Ends.{end_status, reply_ends}
 use Rattle.answer_run.specs.Calls.{calls_of, TellsReadFault, told_so, not_told, no_memory, EndsAtFailure, none_failed, read_failed, log_failed, answer_failed}
 use Rattle.answer_run.specs.Calls.{ReplyCalls, calls_succeed, source_fails, log_fails, LineCalls, line_taken, line_cut}
 use Rattle.answer_run.specs.Runs.{stop_status}
-use Rattle.answer_run.proofs.Statuses.{keeps_same}
 
 module _ (source_before source_now log_before log_now : Outcomes) where
   -- a reply to words that are not of the form
@@ -74,7 +74,7 @@ module _ (source_before source_now log_before log_now : Outcomes) where
           → EndsAtFailure (calls_of source_before log_before answer) (calls_of source_now log_now answer) taken taken WriteFault
       by_calls (calls_succeed source log no_write no_read) = absurd (no_write refl)
       by_calls (source_fails source log no_write is) = absurd (no_write refl)
-      by_calls (log_fails source log is) = log_failed source log refl (keeps_same taken)
+      by_calls (log_fails source log is) = log_failed source log refl (Keeps-refl taken)
   stop_calls answer taken search.NoMemory status is calls =
       subst (EndsAtFailure (calls_of source_before log_before answer) (calls_of source_now log_now answer) taken taken) (sym is) (by_calls calls)
     where

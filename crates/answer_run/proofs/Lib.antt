@@ -6,4 +6,3 @@ pub mod Statuses
 pub mod Reading
 pub mod Calls
 mod Seconds
-mod Evaluated

@@ -6,11 +6,12 @@ use Rattle.sopl_io.specs.Stock.{Stock, begun_stock, text_of, with_name}
 use Rattle.sopl_io.specs.Transfer.{cut_at}
 use Rattle.sopl_base.specs.declared.stop.SearchStop.{SearchStop}
 use Rattle.sopl_base.specs.declared.stop.SearchStop.TheVariants as search
+use Rattle.log_rows.proofs.Written.{rose_later}
 use Rattle.answer_texts.specs.declared.command.Command.{Command}
 use Rattle.answer_texts.specs.declared.reply.Reply.{Reply}
 use Rattle.answer_texts.specs.declared.status.Status.{Status}
 use Rattle.answer_texts.specs.declared.status.Status.TheVariants.{ReadFault, WriteFault}
-use Rattle.answer_check.specs.CheckReplies.{IsTurnedAway}
+use Rattle.answer_texts.specs.Away.{IsTurnedAway}
 use Rattle.answer_run.specs.declared.commands.Job.TheVariants.{Text, Pair}
 use Rattle.answer_run.specs.declared.commands.PairCommand.{PairCommand}
 use Rattle.answer_run.specs.Words.{Request, request_of}
@@ -18,7 +19,7 @@ use Rattle.answer_run.specs.Replies.{asked_by, asked_in, IsAnswered, IsTaken, Be
 use Rattle.answer_run.specs.Runs.{IsWritten, all, part, LeavesSecond, BeginsSecond, second_not_begun, second_begun, meant_status, stop_status}
 use Rattle.answer_run.specs.Reads.{TakesAtMost}
 use Rattle.answer_run.proofs.Statuses.{early_no_answer}
-use Rattle.answer_run.proofs.WholeText.{rose_earlier, taken_whole}
+use Rattle.answer_run.proofs.WholeText.{taken_whole}
 
 module _ (words : List (List ℕ)) (stock : Option Stock) (most before now : ℕ) (left : Option (List ℕ)) where
   abbrev taken_by : Option Request → Type 0
@@ -41,7 +42,7 @@ module _ (words : List (List ℕ)) (stock : Option Stock) (most before now : ℕ
 rest_earlier : (most : Option ℕ) (text : List ℕ) (before later now : ℕ) (left : Option (List ℕ)) → before ≤ later → LeavesRest most text later now left
     → LeavesRest most text before now left
 rest_earlier most text before later now left up (behind count within is) = behind count within is
-rest_earlier most text before later now left up (closed rose end) = closed (rose_earlier before later now up rose) end
+rest_earlier most text before later now left up (closed rose end) = closed (rose_later before later now up rose) end
 
 -- where there is a second file
 pub second_taken : (words : List (List ℕ)) (stock mid : Option Stock) (most before later now : ℕ) (left_later left : Option (List ℕ)) (request : Request) (command : PairCommand)

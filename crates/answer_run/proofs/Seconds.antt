@@ -6,12 +6,18 @@ use Rattle.sopl_io.specs.Stock.{Stock, text_of}
 use Rattle.sopl_io.specs.Transfer.{cut_at}
 use Rattle.sopl_base.specs.declared.stop.SearchStop.{SearchStop}
 use Rattle.sopl_base.specs.declared.stop.SearchStop.TheVariants as search
+use Rattle.sopl_ast.specs.Instances.{Problem}
+use Rattle.scen_accept.specs.Stated.{model_in, problem_in}
 use Rattle.answer_lines.specs.AnswerData.{word_data, line_of}
+use Rattle.answer_texts.specs.Solved.{SolvedText}
 use Rattle.answer_texts.specs.declared.reply.Reply.{Reply}
 use Rattle.answer_texts.specs.declared.status.Status.{Status}
 use Rattle.answer_texts.specs.declared.status.Status.TheVariants.{ReadFault, NoMemory}
-use Rattle.answer_check.specs.CheckReplies.{IsTurnedAway}
+use Rattle.answer_texts.specs.Away.{IsTurnedAway}
 use Rattle.answer_run.specs.declared.commands.PairCommand.{PairCommand}
+use Rattle.answer_run.specs.declared.pair.Basis.{Basis}
+use Rattle.answer_run.specs.declared.pair.Basis.TheVariants.{Log, Policy}
+use Rattle.answer_run.specs.Bases.{IsBasisFor}
 use Rattle.answer_run.specs.Calls.{ReplyCalls, calls_succeed}
 use Rattle.answer_run.specs.Replies.{IsAnswered, IsPairReply}
 use Rattle.answer_run.specs.Runs.{AnswersBoth, second_read, second_unread, meant_status, stop_status}
@@ -20,12 +26,11 @@ use Rattle.answer_run.proofs.WholeText.{away_no_answer}
 
 module _ (command : PairCommand) (text name : List ℕ) (stock : Option Stock) (before now : ℕ) where
   -- the reply to the bytes of a file that was read whole
-  pub read_replied : (bytes slice : List ℕ) → slice ≡ bytes → IfSome stock (λ s. bytes ≡ cut_at None (text_of s name)) → (result : Result Reply SearchStop)
-      → IfOk result (λ reply. IsPairReply command text slice reply.status (string_bytes reply.line))
+  pub read_replied : (bytes : List ℕ) → IfSome stock (λ s. bytes ≡ cut_at None (text_of s name)) → (result : Result Reply SearchStop)
+      → IfOk result (λ reply. IsPairReply command text bytes reply.status (string_bytes reply.line))
       → IfOk result (λ reply. AnswersBoth command text name stock before now reply.status (string_bytes reply.line))
-  read_replied bytes slice same read (Err stop) replies = tt
-  read_replied bytes slice same read (Ok reply) replies =
-      second_read bytes reply.status (string_bytes reply.line) read (subst (λ b. IsPairReply command text b reply.status (string_bytes reply.line)) same replies)
+  read_replied bytes read (Err stop) replies = tt
+  read_replied bytes read (Ok reply) replies = second_read bytes reply.status (string_bytes reply.line) read replies
 
   -- where the source failed
   pub unread_replied : Rose before now → (result : Result Reply SearchStop) → IfOk result (λ reply. reply.status ≡ ReadFault)
@@ -75,19 +80,18 @@ pub away_silent : (result : Result Reply SearchStop) → IfErr result (λ stop. 
 away_silent (Ok reply) memory away = λ answered. away_no_answer reply.status away answered
 away_silent (Err stop) memory away = memory_no_answer stop memory
 
--- where it is read, the text is not turned away
-pub judged_not_away : (result : Result Reply SearchStop) → IfErr result (λ stop. stop ≡ search.NoMemory) → IfOk result (λ reply. ¬ IsTurnedAway reply.status)
-    → ¬ IsTurnedAway (meant_status result)
-judged_not_away (Ok reply) memory judged = judged
-judged_not_away (Err stop) memory judged = memory_not_away stop memory
+-- where memory runs out, nothing does either
+pub want_silent : (result : Result Reply SearchStop) → result ≡ Err search.NoMemory → ¬ IsAnswered (meant_status result)
+want_silent result is = λ answered. early_no_answer NoMemory (inr (inr refl)) (subst (λ (r : Result Reply SearchStop). IsAnswered (meant_status r)) is answered)
 
+-- where it is read, the text is not turned away
 pub unread_not_away : (result : Result Reply SearchStop) → IfErr result (λ stop. stop ≡ search.NoMemory) → IfOk result (λ reply. reply.status ≡ ReadFault)
     → ¬ IsTurnedAway (meant_status result)
 unread_not_away (Ok reply) memory is = λ away. read_not_away reply.status is away
 unread_not_away (Err stop) memory is = memory_not_away stop memory
 
-pub want_not_away : ¬ IsTurnedAway (stop_status search.NoMemory)
-want_not_away = memory_not_away search.NoMemory refl
+pub want_not_away : (result : Result Reply SearchStop) → result ≡ Err search.NoMemory → ¬ IsTurnedAway (meant_status result)
+want_not_away result is = λ away. memory_not_away search.NoMemory refl (subst (λ (r : Result Reply SearchStop). IsTurnedAway (meant_status r)) is away)
 
 -- What came of the calls.
 
@@ -112,3 +116,14 @@ module _ (before now : Outcomes) (all : AllSucceeded before now) (log : Outcomes
       → ReplyCalls before now log log result
   away_calls (Ok reply) memory away = quiet_calls (Ok reply) memory (away_no_read reply.status away)
   away_calls (Err stop) memory away = quiet_calls (Err stop) memory tt
+
+  pub want_calls : (result : Result Reply SearchStop) → result ≡ Err search.NoMemory → ReplyCalls before now log log result
+  want_calls result is = subst (λ (r : Result Reply SearchStop). ReplyCalls before now log log r) (sym is) (calls_succeed all no_call (λ e. cc) tt)
+
+-- What is judged by what.
+
+-- a text that has a basis is solved
+pub taken_so : (text : List ℕ) (basis : Basis) → IsBasisFor text basis → (problem : Problem) × SolvedText text problem
+taken_so text (Log program) is = (is.problem, is.is_solved)
+taken_so text (Policy stated) is =
+    (problem_in stated, record { model = model_in stated; spelled = is.states.spelled; accepted = is.states.accepted; solvable = is.solvable })

@@ -1,7 +1,8 @@
 -- What the outcome of a run says of the words and of the text, and what the sinks took.
 use Rattle.std.proofs.Common.{◌≡◌, ◌⊎◌, inl, inr, ℕ, ◌≤◌, List, [], Option, Some, None, Result, Err, IsSome, IfSome, option_map, string_bytes, refl, sym, subst, ap}
 use Rattle.std.specs.Option.{option_and_then}
-use Rattle.std.specs.Io.KnownBytes.{IsAtEnd, Keeps}
+use Rattle.std.specs.Io.KnownBytes.{IsAtEnd}
+use Rattle.std.proofs.KnownBytes.{Keeps-refl}
 use Rattle.sopl_io.specs.Causes.{Rose}
 use Rattle.sopl_io.specs.Stock.{Stock, begun_stock, text_of}
 use Rattle.sopl_ast.specs.Instances.{Problem}
@@ -72,10 +73,6 @@ some_request (Some r) some none = cc
 
 one_request : (r : Request) (request : Option Request) → request ≡ Some r → request ≡ None → ⊥
 one_request r request some none = cc
-
-pub keeps_same : (taken : Option (List ℕ)) → Keeps taken taken
-keeps_same None = tt
-keeps_same (Some bytes) = refl
 
 -- a search that was not cut short is done
 settled_done : (status : Status) → settled status ≡ Done → ¬ (status ≡ Bounded) → status ≡ Done
@@ -278,9 +275,9 @@ module _ (words : List (List ℕ)) (stock : Option Stock) (before now : ℕ) whe
       → status ≡ stop_status stop → (stop ≡ Write → Rose log_before log_now) → StopsWith words stock log_old log_new stop
       → Answers words stock before now taken taken faults faults log_old log_new log_before log_now status
   stop_answers taken faults log_old log_new log_before log_now Write status is rose cut =
-      subst (Answers words stock before now taken taken faults faults log_old log_new log_before log_now) (sym is) (log_prefix (rose refl) (keeps_same taken) cut)
+      subst (Answers words stock before now taken taken faults faults log_old log_new log_before log_now) (sym is) (log_prefix (rose refl) (Keeps-refl taken) cut)
   stop_answers taken faults log_old log_new log_before log_now search.NoMemory status is rose stops =
-      subst (Answers words stock before now taken taken faults faults log_old log_new log_before log_now) (sym is) (nothing (keeps_same taken) stops)
+      subst (Answers words stock before now taken taken faults faults log_old log_new log_before log_now) (sym is) (nothing (Keeps-refl taken) stops)
 
   pub stop_tells : (stop : SearchStop) (status : Status) → status ≡ stop_status stop → Tells words stock before now status
   stop_tells Write status is = subst (Tells words stock before now) (sym is) write_tells

@@ -14,6 +14,7 @@ use Rattle.sopl_ast.specs.Tokens.{too_long, no_piece, too_large}
 use Rattle.sopl_ast.specs.Limits.{usual_limits}
 use Rattle.sopl_base.specs.declared.stop.SearchStop.{SearchStop}
 use Rattle.sopl_base.specs.declared.stop.SearchStop.TheVariants.{Write, NoMemory}
+use Rattle.log_rows.proofs.Written.{rose_later}
 use Rattle.answer_lines.specs.AnswerData.{word_data, limit_data, line_of}
 use Rattle.answer_texts.specs.Logs.{IsUnused, SinkState}
 use Rattle.answer_texts.specs.Solved.{SolvedText}
@@ -24,7 +25,8 @@ use Rattle.answer_texts.specs.declared.command.Command.TheVariants.{Solve}
 use Rattle.answer_texts.specs.declared.reply.Reply.{Reply}
 use Rattle.answer_texts.specs.declared.status.Status.{Status}
 use Rattle.answer_texts.specs.declared.status.Status.TheVariants.{Usage, Refused, Limit, ReadFault}
-use Rattle.answer_check.specs.CheckReplies.{IsCheckReply, IsTurnedAway, checked as checks, refused_text, limited_text}
+use Rattle.answer_texts.specs.Away.{IsTurnedAway}
+use Rattle.answer_check.specs.CheckReplies.{IsCheckReply, checked as checks, refused_text, limited_text}
 use Rattle.answer_eval.specs.EvalReplies.{IsEvalReply, evaluated, text_refused, text_limited}
 use Rattle.answer_run.specs.declared.commands.Job.TheVariants.{Text, Pair}
 use Rattle.answer_run.specs.declared.commands.PairCommand.{PairCommand}
@@ -241,15 +243,12 @@ pair_whole : (command : PairCommand) (most : ℕ) → 1048576 < most → (text b
 pair_whole Check most more text bytes status line is = check_whole most more text bytes status line is
 pair_whole Eval most more text bytes status line is = eval_whole most more text bytes status line is
 
-pub rose_earlier : (before later now : ℕ) → before ≤ later → Rose later now → Rose before now
-rose_earlier before later now up rose = omega (arith, up, rose)
-
 module _ (words : List (List ℕ)) (before later now : ℕ) (up : before ≤ later) (at : SinkState) (bytes : List ℕ) (request : Request) (command : PairCommand)
     (job : request.job ≡ Pair command) (most : ℕ) (asked : request_of words ≡ Some request) (more : 1048576 < most) where
   -- what is answered of both files is a reply to the words
   both_reply : (o : Option Stock) → IfSome o (λ s. bytes ≡ cut_at (Some most) (text_of s request.model)) → (status : Status) (line : List ℕ)
       → AnswersBoth command bytes request.second (option_map begun_stock o) later now status line → IsReply words o before now None status line
-  both_reply o read status line (second_unread rose) = read_fault (is_asked request (request_of words) asked) (rose_earlier before later now up rose)
+  both_reply o read status line (second_unread rose) = read_fault (is_asked request (request_of words) asked) (rose_later before later now up rose)
   both_reply None read status line (second_read second s l given reply) =
       replied_on_both request command bytes second s l job (record { asked = asked; given = tt }) tt reply
   both_reply (Some t) read status line (second_read second s l given reply) =

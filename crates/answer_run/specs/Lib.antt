@@ -3,6 +3,7 @@ pub mod Shown
 pub mod Splits
 pub mod Replies
 pub mod Runs
+pub mod Bases
 pub mod Reads
 pub mod Calls
 pub mod WorkedWords

@@ -16,7 +16,8 @@ use Rattle.answer_texts.specs.declared.command.Command.{Command}
 use Rattle.answer_texts.specs.declared.command.Command.TheVariants.{Solve}
 use Rattle.answer_texts.specs.declared.status.Status.{Status}
 use Rattle.answer_texts.specs.declared.status.Status.TheVariants.{Done, Failing, Usage, Bounded, ReadFault, WriteFault, NoMemory, Unreadable}
-use Rattle.answer_check.specs.CheckReplies.{IsCheckReply, IsTurnedAway}
+use Rattle.answer_texts.specs.Away.{IsTurnedAway}
+use Rattle.answer_check.specs.CheckReplies.{IsCheckReply}
 use Rattle.answer_eval.specs.EvalReplies.{IsEvalReply}
 use Rattle.answer_run.specs.declared.commands.Job.{Job}
 use Rattle.answer_run.specs.declared.commands.Job.TheVariants.{Text, Pair}

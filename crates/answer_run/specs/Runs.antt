@@ -13,7 +13,7 @@ use Rattle.answer_texts.specs.Replies.{Logged}
 use Rattle.answer_texts.specs.declared.reply.Reply.{Reply}
 use Rattle.answer_texts.specs.declared.status.Status.{Status}
 use Rattle.answer_texts.specs.declared.status.Status.TheVariants as status
-use Rattle.answer_check.specs.CheckReplies.{IsTurnedAway}
+use Rattle.answer_texts.specs.Away.{IsTurnedAway}
 use Rattle.answer_run.specs.declared.commands.PairCommand.{PairCommand}
 use Rattle.answer_run.specs.Replies.{IsAnswered, IsCutOff, IsPairReply, IsReply, IsTaken, log_name}
 

@@ -5,9 +5,7 @@
 //! Its tests stand in `sopl`.
 #![tactic(auto)]
 
-mod check;
 mod commands;
-mod eval;
 mod options;
 mod pair;
 mod reply;

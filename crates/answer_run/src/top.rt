@@ -1,10 +1,10 @@
 //! The top call: words, a source and two sinks in, a status out.
 
-ghost use Rattle.std.specs.Prelude.{◌≡◌, ◌⊎◌, ◌≤◌, None, Err, IfOk, IfErr, string_bytes};
+ghost use Rattle.std.specs.Prelude.{◌≡◌, ◌⊎◌, ◌≤◌, None, Err, IfOk, IfErr};
 ghost use Rattle.std.specs.Io.KnownBytes.{IsAtEnd};
 ghost use Rattle.sopl_io.specs.Causes.{Rose};
 ghost use Rattle.sopl_base.specs.declared.stop.SearchStop.TheVariants as search;
-ghost use Rattle.answer_texts.specs.Logs.{told};
+ghost use Rattle.answer_texts.specs.Logs.{state_of};
 ghost use Rattle.answer_run.specs.Calls.{calls_of, EndsAtFailure, LineCalls, ReplyCalls};
 ghost use Rattle.answer_run.specs.Words.{request_of};
 ghost use Rattle.answer_run.specs.Replies.{asked_in, Answers, SettlesInBudget, EndsSoundly, EndsCompletely, IsAnswered, LimitedOnce, RefusedOnce, BeginsFiles, IsUntouched};
@@ -38,7 +38,7 @@ pub fn run<S: Source, K: Sink>(
 ) -> Status
     ensures answered { Answers words.now (S.stock source.old) (S.faults source.old) (S.faults source.new)
         (K.taken answer.old) (K.taken answer.new) (K.faults answer.old) (K.faults answer.new)
-        (told (K.taken log.old) (K.names log.old)) (told (K.taken log.new) (K.names log.new)) (K.faults log.old) (K.faults log.new) result }
+        (state_of K.taken K.names log.old) (state_of K.taken K.names log.new) (K.faults log.old) (K.faults log.new) result }
 
     // Words that are not of the form, and no others, are answered so.
     ensures usage { result ≡ Status.Usage → request_of words.now ≡ None }
@@ -122,9 +122,9 @@ fn reply_for<S: Source, K: Sink>(
     log: &mut K,
 ) -> Result<Reply, SearchStop>
     ensures reply { IfOk result (Replied words.now (S.stock source.old) (S.faults source.old) (S.faults source.new)
-        (told (K.taken log.old) (K.names log.old)) (told (K.taken log.new) (K.names log.new))) }
+        (state_of K.taken K.names log.old) (state_of K.taken K.names log.new)) }
     ensures stopped { IfErr result (StopsWith words.now (S.stock source.old)
-        (told (K.taken log.old) (K.names log.old)) (told (K.taken log.new) (K.names log.new))) }
+        (state_of K.taken K.names log.old) (state_of K.taken K.names log.new)) }
     ensures ended { IfOk result (λ reply. IsAnswered reply.status → IsAtEnd (S.left source.new)) }
     ensures taken_at_most { TakesAtMost 1048577 (asked_in (S.stock source.old) words.now) (S.faults source.old) (S.faults source.new) (S.left source.new) }
     ensures faults_grow { S.faults source.old ≤ S.faults source.new }

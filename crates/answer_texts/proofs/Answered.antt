@@ -1,6 +1,6 @@
 -- From what is found out of a text to the reply.
-use Rattle.std.proofs.Common.{◌≡◌, ◌⊎◌, inl, inr, ℕ, pos, List, Some, None, Result, Ok, Err, IfOk, IfErr, string_bytes, refl, sym, subst}
-use Rattle.sopl_io.specs.Causes.{Rose}
+use Rattle.std.proofs.Common.{◌≡◌, inl, inr, ℕ, pos, List, Some, None, Result, Ok, Err, IfOk, IfErr, string_bytes, refl, sym, subst}
+use Rattle.std.proofs.lemmas.Result.{IfOk-at_ok}
 use Rattle.std.specs.declared.alloc.AllocError.{AllocError}
 use Rattle.sopl_base.specs.declared.fault.Excess.{Excess}
 use Rattle.sopl_base.specs.declared.fault.Fault.{Fault}
@@ -13,18 +13,20 @@ use Rattle.scen_accept.specs.declared.accepted.AcceptedProblem.{AcceptedProblem}
 use Rattle.answer_lines.specs.AnswerData.{limit_data, line_of, refused_data}
 use Rattle.answer_texts.specs.Models.{IsSolvable}
 use Rattle.answer_texts.specs.Solved.{SolvedText}
-use Rattle.sopl_base.specs.declared.stop.SearchStop.TheVariants.{Write}
+use Rattle.sopl_base.specs.declared.stop.SearchStop.{SearchStop}
+use Rattle.sopl_base.specs.declared.stop.SearchStop.TheVariants as stop
 use Rattle.answer_texts.specs.Solving.{IsSolveFault}
 use Rattle.answer_texts.specs.Logs.{IsUnused, SinkState}
-use Rattle.answer_texts.specs.Answering.{Answers, IsBoundedBy, IsCutOff, IsSettledBy, LogStops, optimal as optimal_line, infeasible as infeasible_line, bounded as bounded_line}
+use Rattle.answer_texts.specs.Answering.{Answers, IsBoundedBy, IsCutOff, IsSettledBy, optimal as optimal_line, infeasible as infeasible_line, bounded as bounded_line}
 use Rattle.answer_texts.specs.declared.solve_answer.Answer.{Answer}
 use Rattle.answer_texts.specs.declared.solve_answer.Answer.TheVariants.{Settled, Cut}
 use Rattle.answer_texts.specs.Replies.{IsFaultOn, IsLimitedOn, IsRefusedOn, by_rule, by_size, by_terms, IsTextReply, optimal, infeasible, bounded, scenes, refused}
 use Rattle.answer_texts.specs.Replies.{limited, Replies, IsCut, StopsByCause}
-use Rattle.answer_texts.specs.Unlogged.{IsTold, reply_of, without_log}
+use Rattle.answer_texts.specs.AnswerReplies.{reply_of}
 use Rattle.answer_texts.specs.declared.command.Command.{Command}
 use Rattle.answer_texts.specs.declared.command.Command.TheVariants.{Solve, Tree}
 use Rattle.answer_texts.specs.declared.reply.Reply.{Reply}
+use Rattle.answer_texts.specs.declared.status.Status.{Status}
 use Rattle.answer_texts.specs.declared.status.Status.TheVariants.{Done, Refused, Limit, Bounded}
 
 -- a text that is refused
@@ -94,49 +96,31 @@ module _ (text : List ℕ) (budget : ℕ) (stated : AcceptedProblem) (states : S
   pub cut_so : IsCutOff stated budget name old new → IsCut text budget Solve name old new
   cut_so cut = record { commanded = refl; problem = problem_in stated; is_solved = solved_text text stated states cut.solvable; wrote = cut.wrote }
 
-  stops_so : (f : Fault) → LogStops stated budget name old new f → IsUnused old new ⊎ IsCut text budget Solve name old new
-  stops_so (fault.Text refusal) unused = inl unused
-  stops_so (fault.Limit excess) unused = inl unused
-  stops_so fault.NoMemory (inl unused) = inl unused
-  stops_so fault.NoMemory (inr cut) = inr (cut_so cut)
+  pub cut_stops : (result : Result Reply SearchStop) → IsCutOff stated budget name old new → IfErr result (StopsByCause text budget Solve name old new)
+  cut_stops (Ok reply) cut = tt
+  cut_stops (Err stop.Write) cut = cut_so cut
+  cut_stops (Err stop.NoMemory) cut = inr (cut_so cut)
 
-  unused_so : (f : Fault) → IsTold f → LogStops stated budget name old new f → IsUnused old new
-  unused_so (fault.Text refusal) is unused = unused
-  unused_so (fault.Limit excess) is unused = unused
-  unused_so fault.NoMemory is stops = absurd is
-
-  -- a text that is not solved
-  pub fault_replies : (f : Fault) (result : Result Reply AllocError) → LogStops stated budget name old new f
-      → IfOk result (λ reply. IsTextReply text budget Solve None reply.status (string_bytes reply.line)) → IfOk result (λ reply. IsTold f)
-      → IfOk (without_log result) (λ reply. Replies text budget Solve name old new reply.status (string_bytes reply.line))
-  fault_replies f (Ok reply) stops is known = record { log = None; reply = is; logged = unused_so f known stops }
-  fault_replies f (Err error) stops is known = tt
-
-  pub fault_stops : (f : Fault) (result : Result Reply AllocError) → LogStops stated budget name old new f
-      → IfErr (without_log result) (StopsByCause text budget Solve name old new)
-  fault_stops f (Ok reply) stops = tt
-  fault_stops f (Err error) stops = stops_so f stops
+  -- the answer that was found
+  pub solved_replies : (solved : Result Answer Fault) (answer : Answer) → solved ≡ Ok answer → IfOk solved (λ a. IsSolvable (model_in stated))
+      → IfOk solved (Answers (problem_in stated) budget name old new) → Replies text budget Solve name old new (reply_of answer).status (string_bytes (reply_of answer).line)
+  solved_replies solved answer is solvable answers =
+      answer_replies answer (IfOk-at_ok (λ a. IsSolvable (model_in stated)) is solvable) (IfOk-at_ok (Answers (problem_in stated) budget name old new) is answers)
 
 -- where the log's sink is not used
-module _ (text : List ℕ) (budget : ℕ) (command : Command) (name : List ℕ) (at : SinkState) where
-  unused : IsUnused at at
-  unused = record { taken = refl; names = refl }
+module _ (text : List ℕ) (budget : ℕ) (command : Command) (name : List ℕ) (old new : SinkState) (unused : IsUnused old new) where
+  pub unlogged_replies : (status : Status) (line : List ℕ) → IsTextReply text budget command None status line → Replies text budget command name old new status line
+  unlogged_replies status line is = record { log = None; reply = is; logged = unused }
 
-  pub plain_replies : (result : Result Reply AllocError) → IfOk result (λ reply. IsTextReply text budget command None reply.status (string_bytes reply.line))
-      → IfOk (without_log result) (λ reply. Replies text budget command name at at reply.status (string_bytes reply.line))
-  plain_replies (Ok reply) is = record { log = None; reply = is; logged = unused }
-  plain_replies (Err error) is = tt
+  pub unlogged_stops : (result : Result Reply SearchStop) → ¬ (result ≡ Err stop.Write) → IfErr result (StopsByCause text budget command name old new)
+  unlogged_stops (Ok reply) memory = tt
+  unlogged_stops (Err stop.Write) memory = absurd (memory refl)
+  unlogged_stops (Err stop.NoMemory) memory = inl unused
 
-  pub plain_stops : (result : Result Reply AllocError) → IfErr (without_log result) (StopsByCause text budget command name at at)
-  plain_stops (Ok reply) = tt
-  plain_stops (Err error) = inl unused
+pub not_used : (at : SinkState) → IsUnused at at
+not_used at = record { taken = refl; names = refl }
 
--- without a log no sink failed
-pub no_write : (result : Result Reply AllocError) (before now : ℕ) → without_log result ≡ Err Write → Rose before now
-no_write (Ok reply) before now failed = cc
-no_write (Err error) before now failed = cc
-
--- and one that is not
+-- a text that is not solved, for this fault
 pub unsolved_so : (command : Command) (text : List ℕ) (stated : AcceptedProblem) (f : Fault) → States text stated → IsSolveFault (model_in stated) f → IsFaultOn text command f
 unsolved_so command text stated (fault.Text refusal) states is = absurd is
 unsolved_so command text stated (fault.Limit excess) states is =

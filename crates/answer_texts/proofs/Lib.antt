@@ -9,3 +9,4 @@ pub mod Answered
 pub mod Grounds
 pub mod Ends
 pub mod Calls
+pub mod Shared

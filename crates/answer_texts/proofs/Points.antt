@@ -1,12 +1,11 @@
 -- What a text states, as its answer is printed from it.
 use mathlib.Core.Bool.{Bool-set}
-use Rattle.std.proofs.Common.{◌≡◌, ◌∙◌, ℕ, suc, ℤ, true, List, [], ◌∷◌, length, refl, sym, ap, subst}
+use Rattle.std.proofs.Common.{◌≡◌, ℕ, true, List, refl, sym, subst}
 use Rattle.std.proofs.Math.Logic.{∥∥₁_elim}
 use Rattle.std.specs.List.{list_all}
-use Rattle.sopl_ast.specs.Cells.{Cell, cells, IsPoint}
-use Rattle.sopl_ast.specs.Instances.{Decision, Problem, Stochastic, names_in}
+use Rattle.sopl_ast.specs.Instances.{Decision, Stochastic, names_in}
 use Rattle.sopl_ast.specs.Pieces.{is_word}
-use Rattle.sopl_scen.specs.Layout.{AreStated, IsTreeOf, Layout}
+use Rattle.sopl_scen.specs.Layout.{AreStated}
 use Rattle.sopl_scen.proofs.GroundStated.{ground_stated}
 use Rattle.sopl_scen.proofs.Stated.{constraints_in}
 use Rattle.unfold_laws.proofs.Names.{names_are_words}
@@ -35,14 +34,3 @@ names_spelled stated ds ss decided drawn =
     subst (λ d. list_all is_word (names_in d ss) ≡ true) (sym decided)
     (subst (λ s. list_all is_word (names_in (problem_in stated).decisions s) ≡ true) (sym drawn)
     (∥∥₁_elim stated.ground.typed.origin (Bool-set _ _) (names_are_words (model_in stated))))
-
--- a point of the cells has a value for each
-point_length : (all : List Cell) (values : List ℤ) → IsPoint all values → length values ≡ length all
-point_length [] [] is = refl
-point_length [] (v ∷ values) is = absurd is
-point_length (c ∷ all) [] is = absurd is
-point_length (c ∷ all) (v ∷ values) is = ap suc (point_length all values is.2)
-
-pub values_counted : (problem : Problem) (tree : Layout) (values : List ℤ) → IsTreeOf problem.decisions problem.stochastics tree → IsPoint (cells problem) values
-    → length values ≡ tree.cells
-values_counted problem tree values laid is = point_length (cells problem) values is ∙ sym laid.celled

@@ -28,7 +28,7 @@ printed_policy problem ds ss values point result decided drawn same printed =
     (λ i. outermost_node (decided i) (drawn i) (policy_at (cells_for (decided i) (drawn i)) (same i))) printed
 
 -- the denominator of a program is that of its problem
-same_denominator : (problem : Problem) (program : Program) → IsProgramOf problem program → denominator_in (terms_in program) ≡ denominator problem
+pub same_denominator : (problem : Problem) (program : Program) → IsProgramOf problem program → denominator_in (terms_in program) ≡ denominator problem
 same_denominator problem program is = ap (λ (t : ProblemTerms). denominator_in t) is.terms ∙ (values_are_same problem).denominator
 
 module _ (problem : Problem) (program : Program) (is : IsProgramOf problem program) (over : ℤ) (told : over ≡ denominator_in (terms_in program)) where

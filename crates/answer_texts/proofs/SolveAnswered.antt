@@ -1,11 +1,9 @@
 -- From an outcome that is true of a program, and its log, to the answer.
-use Rattle.std.proofs.Common.{◌≡◌, ◌∙◌, ◌⊎◌, inl, inr, ℕ, ◌≤◌, ◌<◌, ℤ, true, false, List, [], Result, Ok, Err, IfOk, IfErr, Option, Some, None, IfSome, option_map, string_bytes}
+use Rattle.std.proofs.Common.{◌≡◌, ◌∙◌, ℕ, ◌≤◌, ◌<◌, ℤ, true, false, List, [], Result, Err, Option, Some, None, IfSome, option_map, string_bytes}
 use Rattle.std.proofs.Common.{length, Any, refl, sym, ap, subst, arith}
 use Rattle.std.proofs.lemmas.Int.{ints, by_lt_z}
 use Rattle.std.proofs.lemmas.List.{take_all}
-use Rattle.std.specs.declared.alloc.AllocError.{AllocError}
 use Rattle.std.specs.Io.KnownBytes.{Keeps, Appends}
-use Rattle.sopl_io.specs.Causes.{Rose}
 use Rattle.sopl_base.specs.Better.{IsBetter}
 use Rattle.sopl_base.specs.declared.direction.Direction.{Direction}
 use Rattle.sopl_base.specs.declared.direction.Direction.TheVariants.{Minimize, Maximize, Nothing}
@@ -43,7 +41,6 @@ use Rattle.answer_texts.specs.Bounds.{IsBounded}
 use Rattle.answer_texts.specs.Solving.{IsProgramOf}
 use Rattle.answer_texts.specs.Logs.{IsLogOf, most_nodes, searched_problem, valued_at, TookPrefix, nothing, prefix}
 use Rattle.answer_texts.specs.Answering.{FindsPoint, IsAnswerOf, IsAnsweredBy, IsBoundedBy, IsSettledBy, Searched, bounded, found_value, infeasible, is_settled, optimal, outcome_data}
-use Rattle.answer_texts.specs.Stops.{made_of}
 use Rattle.answer_texts.specs.declared.solve_answer.Answer.{Answer}
 use Rattle.answer_texts.specs.declared.solve_answer.Answer.TheVariants.{Settled, Cut}
 use Rattle.answer_texts.proofs.Points.{text_unfolded}
@@ -173,10 +170,9 @@ module _ (text : List ℕ) (stated : AcceptedProblem) (states : States text stat
 
   module _ (program : Program) (is : IsProgramOf own program) (budget : ℕ) (old new : Option (List ℕ)) where
     -- the answer of an outcome that is true, and whose log was taken
-    pub answer_made : (o : Outcome) (result : Result Answer AllocError) → IsTrueOf (box_problem_of program) o → HasCause (box_problem_of program) budget o
-        → IsLogged (box_problem_of program) budget o old new → IfOk result (IsAnswerOf own o) → IfOk (made_of result) (Searched own budget old new)
-    answer_made o (Err e) true_of cause logged made = tt
-    answer_made o (Ok answer) true_of cause logged made =
+    pub answer_made : (o : Outcome) (answer : Answer) → IsTrueOf (box_problem_of program) o → HasCause (box_problem_of program) budget o
+        → IsLogged (box_problem_of program) budget o old new → IsAnswerOf own o answer → Searched own budget old new answer
+    answer_made o answer true_of cause logged made =
         let at = searched_is own program is in
         let log : IsLogged (searched_problem own) budget o old new = subst (λ (p : BoxProblem). IsLogged p budget o old new) at logged in
         record {
@@ -186,18 +182,12 @@ module _ (text : List ℕ) (stated : AcceptedProblem) (states : States text stat
           took = log.took;
         }
 
-    -- the whole log is a prefix of it
-    log_taken : (o : Outcome) → IsLogged (box_problem_of program) budget o old new → TookPrefix own budget old new
+    -- where memory runs out behind the search, the whole log was taken
+    pub log_taken : (o : Outcome) → IsLogged (box_problem_of program) budget o old new → TookPrefix own budget old new
     log_taken o logged =
         let log : IsLogged (searched_problem own) budget o old new = subst (λ (p : BoxProblem). IsLogged p budget o old new) (searched_is own program is) logged in
         prefix (footer_of o) (option_map (valued_at own) (told_point o)) log.bytes (record { outcome = o; claimed = refl; found_is = refl; is_log = log.is_log })
         (length log.bytes, subst (λ b. Appends old new b) (sym (take_all (length log.bytes) log.bytes (omega arith))) log.took)
-
-    -- so where memory runs out behind the search
-    pub made_stops : (o : Outcome) (result : Result Answer AllocError) → IsLogged (box_problem_of program) budget o old new
-        → IfErr (made_of result) (λ stop. TookPrefix own budget old new)
-    made_stops o (Ok answer) logged = tt
-    made_stops o (Err e) logged = log_taken o logged
 
     -- a search that stopped
     pub search_stopped : (r : Result Outcome SearchStop) (stop : SearchStop) → r ≡ Err stop
@@ -207,8 +197,3 @@ module _ (text : List ℕ) (stated : AcceptedProblem) (states : States text stat
         prefix (footer_of log.outcome) (option_map (valued_at own) (told_point log.outcome)) log.bytes
         (record { outcome = log.outcome; claimed = refl; found_is = refl; is_log = log.is_log }) log.took
     search_stopped r search.NoMemory stops wrote kept = nothing (kept stops)
-
--- out of memory behind a search is no fault of a sink
-pub made_no_write : (result : Result Answer AllocError) (before now : ℕ) → made_of result ≡ Err search.Write → Rose before now
-made_no_write (Ok answer) before now failed = cc
-made_no_write (Err e) before now failed = cc

@@ -1,9 +1,7 @@
 -- What is answered of a problem, and which log goes with it.
-use Rattle.std.specs.Prelude.{◌≡◌, ◌⊎◌, ℕ, ◌<◌, ℤ, Bool, true, false, codes, string_bytes, List, Option, Some, None, IfSome, option_map}
+use Rattle.std.specs.Prelude.{◌≡◌, ℕ, ◌<◌, ℤ, Bool, true, false, codes, string_bytes, List, Option, Some, None, IfSome, option_map}
 use Rattle.std.specs.Io.KnownBytes.{Appends}
 use Rattle.serde_json.specs.Data.{Data}
-use Rattle.sopl_base.specs.declared.fault.Fault.{Fault}
-use Rattle.sopl_base.specs.declared.fault.Fault.TheVariants as fault
 use Rattle.sopl_ast.specs.Cells.{cells, IsPoint, policy_at}
 use Rattle.sopl_ast.specs.Instances.{Problem}
 use Rattle.sopl_ast.specs.Optimal.{IsOptimal, IsInfeasible}
@@ -17,12 +15,9 @@ use Rattle.answer_lines.specs.AnswerData.{Valued, word_data, optimal_data, bound
 use Rattle.scen_accept.specs.Stated.{model_in, problem_in}
 use Rattle.scen_accept.specs.declared.accepted.AcceptedProblem.{AcceptedProblem}
 use Rattle.answer_texts.specs.Bounds.{IsBounded}
-use Rattle.answer_texts.specs.Logs.{IsLogOf, most_nodes, valued_at, with_value, IsUnused, SinkState, Wrote, WrotePrefix}
-use Rattle.answer_texts.specs.Solving.{IsSolveFault}
+use Rattle.answer_texts.specs.Logs.{IsLogOf, most_nodes, valued_at, with_value, SinkState, Wrote, WrotePrefix}
 use Rattle.answer_texts.specs.declared.solve_answer.Answer.{Answer}
 use Rattle.answer_texts.specs.declared.solve_answer.Answer.TheVariants.{Settled, Cut}
-use Rattle.answer_texts.specs.declared.solve_answer.SolveStop.{SolveStop}
-use Rattle.answer_texts.specs.declared.solve_answer.SolveStop.TheVariants.{Unsolved, Write}
 
 -- a line settles a problem, and this is the log of the search
 pub data IsSettledBy (problem : Problem) (budget : ℕ) (log : List ℕ) : List ℕ → Type 0 where
@@ -63,17 +58,6 @@ pub record Searched (problem : Problem) (budget : ℕ) (old new : Option (List �
 pub record IsCutOff (stated : AcceptedProblem) (budget : ℕ) (name : List ℕ) (old new : SinkState) : Type 0 where
   pub solvable : IsSolvable (model_in stated)
   pub wrote : WrotePrefix (problem_in stated) budget name old new
-
--- the sink was not used where the text is not solved; memory may run out before the search and behind its begin
-abbrev pub LogStops : AcceptedProblem → ℕ → List ℕ → SinkState → SinkState → Fault → Type 0
-LogStops stated budget name old new (fault.Text refusal) = IsUnused old new
-LogStops stated budget name old new (fault.Limit excess) = IsUnused old new
-LogStops stated budget name old new fault.NoMemory = IsUnused old new ⊎ IsCutOff stated budget name old new
-
--- why there is no answer: a fault, or the log's sink failed
-abbrev pub Stops : AcceptedProblem → ℕ → List ℕ → SinkState → SinkState → SolveStop → Type 0
-Stops stated budget name old new (Unsolved f) = IsSolveFault (model_in stated) f × LogStops stated budget name old new f
-Stops stated budget name old new Write = IsCutOff stated budget name old new
 
 -- The answer of an outcome.
 

@@ -5,7 +5,7 @@ pub mod Solving
 pub mod Bounds
 pub mod Logs
 pub mod Answering
-pub mod Stops
 pub mod Codes
 pub mod Replies
-pub mod Unlogged
+pub mod AnswerReplies
+pub mod Away

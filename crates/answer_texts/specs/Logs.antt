@@ -1,5 +1,5 @@
 -- The log of a search of a problem, and what a sink took of it.
-use Rattle.std.specs.Prelude.{◌≡◌, ◌⊎◌, ℕ, ℤ, List, [], Option, option_map}
+use Rattle.std.specs.Prelude.{◌≡◌, ℕ, ℤ, List, [], Option, option_map}
 use Rattle.std.specs.Io.KnownBytes.{Keeps, Appends}
 use Rattle.sopl_io.specs.Stock.{with_name}
 use Rattle.sopl_io.specs.Transfer.{AppendsPrefix}
@@ -48,6 +48,10 @@ pub record SinkState : Type 0 where
 
 abbrev pub told : Option (List ℕ) → Option (List (List ℕ)) → SinkState
 told taken names = record { taken = taken; names = names }
+
+-- of a sink that tells both
+abbrev pub state_of : {Sink : Type 0} → (Sink → Option (List ℕ)) → (Sink → Option (List (List ℕ))) → Sink → SinkState
+state_of taken names sink = told (taken sink) (names sink)
 
 -- a sink was not used
 pub record IsUnused (old new : SinkState) : Type 0 where

@@ -7,19 +7,16 @@ ghost use Rattle.scen_accept.specs.Stated.{IsLaid, States, model_in, problem_in}
 ghost use Rattle.answer_lines.specs.Answer.{tree_data};
 ghost use Rattle.answer_lines.specs.AnswerData.{limit_data, line_of, refused_data};
 ghost use Rattle.sopl_base.specs.declared.stop.SearchStop.TheVariants as search;
-ghost use Rattle.answer_texts.specs.Answering.{Stops};
-ghost use Rattle.answer_texts.specs.Logs.{SinkState, told};
+ghost use Rattle.answer_texts.specs.AnswerReplies.{reply_of as replied};
+ghost use Rattle.answer_texts.specs.Logs.{state_of};
 ghost use Rattle.answer_texts.specs.Models.{IsSolvable};
-ghost use Rattle.answer_texts.specs.declared.solve_answer.SolveStop.TheVariants.{Write};
-ghost use Rattle.scen_accept.specs.declared.accepted.AcceptedProblem.{AcceptedProblem};
 ghost use Rattle.answer_texts.specs.Replies.{IsFaultOn, IsTextReply, Replies, StopsByCause};
-ghost use Rattle.answer_texts.specs.Unlogged.{IsTold, reply_of as replied, without_log as unlogged};
 ghost use Rattle.answer_texts.specs.declared.command.Command.TheVariants.{Solve, Tree as ShowTree};
 
 use crate::command::Command;
 use crate::program::terms_allowed;
 use crate::reply::Reply;
-use crate::solve_answer::{Answer, SolveStop};
+use crate::solve_answer::Answer;
 use crate::solved::solved_answer;
 use crate::status::Status;
 use answer_lines::{limit_line, refused_line, tree_text};
@@ -57,22 +54,11 @@ pub fn limit_reply(alloc: Global, excess: &Excess) -> Result<Reply, AllocError>
 fn fault_reply(alloc: Global, fault: Fault) -> Result<Reply, AllocError>
     ensures reply { (command : Command) (text : List ℕ) (budget : ℕ) → IsFaultOn text command fault
         → IfOk result (λ reply. IsTextReply text budget command None reply.status (string_bytes reply.line)) }
-    ensures told { IfOk result (λ reply. IsTold fault) }
 {
     match fault {
         Fault::Text(refusal) => refused_reply(alloc, refusal),
         Fault::Limit(excess) => limit_reply(alloc, &excess),
         Fault::NoMemory => Err(AllocError),
-    }
-}
-
-/// A reply with no log, where there is memory for it.
-fn without_log(reply: Result<Reply, AllocError>) -> Result<Reply, SearchStop>
-    ensures reply { result ≡ unlogged reply }
-{
-    match reply {
-        Ok(reply) => Ok(reply),
-        Err(AllocError) => Err(SearchStop::NoMemory),
     }
 }
 
@@ -132,21 +118,6 @@ fn reply_of(answer: Answer) -> Reply
     }
 }
 
-/// The reply to `solve` on a text that has no answer, or that the sink of its log failed.
-fn stopped_reply(alloc: Global, stop: SolveStop) -> Result<Reply, SearchStop>
-    ensures reply { (text : List ℕ) (budget : ℕ) (stated : AcceptedProblem) (name : List ℕ) (old new : SinkState) → States text stated
-        → Stops stated budget name old new stop → IfOk result (λ reply. Replies text budget Solve name old new reply.status (string_bytes reply.line)) }
-    ensures stopped { (text : List ℕ) (budget : ℕ) (stated : AcceptedProblem) (name : List ℕ) (old new : SinkState) → States text stated
-        → Stops stated budget name old new stop → IfErr result (StopsByCause text budget Solve name old new) }
-    ensures write { result ≡ Err search.Write → stop ≡ Write }
-    ensures write_when { stop ≡ Write → result ≡ Err search.Write }
-{
-    match stop {
-        SolveStop::Unsolved(fault) => without_log(fault_reply(alloc, fault)),
-        SolveStop::Write => Err(SearchStop::Write),
-    }
-}
-
 /// The reply to `solve` on a text that states this, by a search within a budget; the sink takes its log under a name.
 fn solved_reply<K: Sink>(
     alloc: Global,
@@ -159,16 +130,19 @@ fn solved_reply<K: Sink>(
     requires laid_out { IsLaid stated.now }
     requires budget { 1 ≤ budget }
     ensures reply { (text : List ℕ) → States text stated.now → IfOk result (λ reply. Replies text budget Solve name.now
-        (told (K.taken sink.old) (K.names sink.old)) (told (K.taken sink.new) (K.names sink.new)) reply.status (string_bytes reply.line)) }
+        (state_of K.taken K.names sink.old) (state_of K.taken K.names sink.new) reply.status (string_bytes reply.line)) }
     ensures stopped { (text : List ℕ) → States text stated.now → IfErr result (StopsByCause text budget Solve name.now
-        (told (K.taken sink.old) (K.names sink.old)) (told (K.taken sink.new) (K.names sink.new))) }
+        (state_of K.taken K.names sink.old) (state_of K.taken K.names sink.new)) }
     ensures faults_grow { K.faults sink.old ≤ K.faults sink.new }
     ensures write { result ≡ Err search.Write → Rose (K.faults sink.old) (K.faults sink.new) }
     ensures outcomes { StopsWhere (result ≡ Err search.Write) (K.outcomes sink.old) (K.outcomes sink.new) }
 {
-    match solved_answer(alloc, stated, budget, name, sink) {
+    match solved_answer(alloc, stated, budget, name, sink)? {
         Ok(answer) => Ok(reply_of(answer)),
-        Err(stop) => stopped_reply(alloc, stop),
+        Err(fault) => {
+            let reply = fault_reply(alloc, fault)?;
+            Ok(reply)
+        }
     }
 }
 
@@ -185,16 +159,19 @@ fn stated_reply<K: Sink>(
     requires laid_out { IsLaid stated.now }
     requires budget { 1 ≤ budget }
     ensures reply { (text : List ℕ) → States text stated.now → IfOk result (λ reply. Replies text budget command name.now
-        (told (K.taken sink.old) (K.names sink.old)) (told (K.taken sink.new) (K.names sink.new)) reply.status (string_bytes reply.line)) }
+        (state_of K.taken K.names sink.old) (state_of K.taken K.names sink.new) reply.status (string_bytes reply.line)) }
     ensures stopped { (text : List ℕ) → States text stated.now → IfErr result (StopsByCause text budget command name.now
-        (told (K.taken sink.old) (K.names sink.old)) (told (K.taken sink.new) (K.names sink.new))) }
+        (state_of K.taken K.names sink.old) (state_of K.taken K.names sink.new)) }
     ensures faults_grow { K.faults sink.old ≤ K.faults sink.new }
     ensures write { result ≡ Err search.Write → Rose (K.faults sink.old) (K.faults sink.new) }
     ensures outcomes { StopsWhere (result ≡ Err search.Write) (K.outcomes sink.old) (K.outcomes sink.new) }
 {
     match command {
         Command::Solve => solved_reply(alloc, stated, budget, name, sink),
-        Command::Tree => without_log(tree_reply(alloc, stated)),
+        Command::Tree => {
+            let reply = tree_reply(alloc, stated)?;
+            Ok(reply)
+        }
     }
 }
 
@@ -212,15 +189,18 @@ pub fn reply_to<K: Sink>(
 ) -> Result<Reply, SearchStop>
     requires budget { 1 ≤ budget }
     ensures reply { IfOk result (λ reply. Replies text.now budget command name.now
-        (told (K.taken sink.old) (K.names sink.old)) (told (K.taken sink.new) (K.names sink.new)) reply.status (string_bytes reply.line)) }
+        (state_of K.taken K.names sink.old) (state_of K.taken K.names sink.new) reply.status (string_bytes reply.line)) }
     ensures stopped { IfErr result (StopsByCause text.now budget command name.now
-        (told (K.taken sink.old) (K.names sink.old)) (told (K.taken sink.new) (K.names sink.new))) }
+        (state_of K.taken K.names sink.old) (state_of K.taken K.names sink.new)) }
     ensures faults_grow { K.faults sink.old ≤ K.faults sink.new }
     ensures write { result ≡ Err search.Write → Rose (K.faults sink.old) (K.faults sink.new) }
     ensures outcomes { StopsWhere (result ≡ Err search.Write) (K.outcomes sink.old) (K.outcomes sink.new) }
 {
     match stated_in(alloc, text) {
         Ok(stated) => stated_reply(alloc, command, &stated, budget, name, sink),
-        Err(fault) => without_log(fault_reply(alloc, fault)),
+        Err(fault) => {
+            let reply = fault_reply(alloc, fault)?;
+            Ok(reply)
+        }
     }
 }

@@ -18,7 +18,7 @@ pub use answer::{limit_reply, refused_reply, reply_to};
 pub use command::Command;
 pub use program::{program_of, terms_allowed};
 pub use reply::Reply;
-pub use solve_answer::{Answer, SolveStop};
+pub use solve_answer::Answer;
 pub use solved::solved_answer;
 pub use solved_laws::accepted_end_once;
 pub use status::Status;

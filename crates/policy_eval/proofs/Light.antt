@@ -1,7 +1,8 @@
 -- What is worth something at a point is no larger than its size.
-use Rattle.std.proofs.Common.{arith, ℕ, ◌≤◌, ℤ, pos, negsuc, neg_ℤ, ◌≤ℤ◌, unsigned_abs, List, [], ◌∷◌, ◌++◌, Option, Some, None, IfSome}
+use Rattle.std.proofs.Common.{arith, ◌≤◌, ℤ, unsigned_abs, List, [], ◌∷◌, ◌++◌, Option, Some, None, IfSome}
 use Rattle.std.proofs.lemmas.Int.{ints}
 use Rattle.std.specs.List.{AllByRecursion}
+use Rattle.sopl_base.proofs.Sizes.{sized}
 use Rattle.sopl_ast.specs.declared.operators.MulOp.TheVariants.{Times, Div, Mod}
 use Rattle.sopl_ast.specs.Constants as constant
 use Rattle.sopl_ast.specs.Tree.{Factors, no_factor, factor}
@@ -49,17 +50,12 @@ itself root (c.Size a) light = (behind root (subterms a) (c.Size a ∷ []) light
 itself root (c.Element table indices) light = (behind root _ (c.Element table indices ∷ []) light).0
 itself root (c.Number cond) light = (behind root _ (c.Number cond ∷ []) light).0
 
--- a number between another and its opposite
-near : (z : ℤ) (n : ℕ) → neg_ℤ (pos n) ≤ℤ z → z ≤ℤ pos n → unsigned_abs z ≤ n
-near (pos k) n low high = omega (arith, ints, low, high)
-near (negsuc k) n low high = omega (arith, ints, low, high)
-
 pub no_larger : (root : Box) (point : List ℤ) (t : c.Term) → IsBox root → InBox root point → IsProper t → IfSome (value point t) (λ z. unsigned_abs z ≤ size root t)
 no_larger root point t is_box inside proper = by_value (value point t) (values_lie Near root root point t is_box inside proper) (sizes_bound Near root root t is_box (part_of_itself root is_box) proper)
   where
     by_value : (v : Option ℤ) → IfSome v (λ z. Lies z (interval Near root root t)) → IsAtMost (interval Near root root t) (size root t) → IfSome v (λ z. unsigned_abs z ≤ size root t)
     by_value None lies most = tt
-    by_value (Some z) lies most = near z (size root t) (omega (arith, ints, lies.from_low, most.above)) (omega (arith, ints, lies.to_high, most.below))
+    by_value (Some z) lies most = sized z (size root t) (omega (arith, ints, lies.from_low, most.above)) (omega (arith, ints, lies.to_high, most.below))
 
 pub is_small : (root : Box) (point : List ℤ) (t : c.Term) → IsBox root → InBox root point → IsProper t → size root t ≤ most_size → IfSome (value point t) IsConstant
 is_small root point t is_box inside proper light = by_value (value point t) (no_larger root point t is_box inside proper)

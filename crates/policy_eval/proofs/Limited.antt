@@ -1,5 +1,5 @@
 -- What limits that are not passed say.
-use Rattle.std.proofs.Common.{arith, ◌≡◌, ◌∙◌, refl, sym, ap, ℕ, ◌-◌, ◌^◌, ℤ, pos, ◌≤ℤ◌, int_le, Bool, true, false, List, [], ◌∷◌, map, Option, Some, None, option_map, if◌then◌else◌}
+use Rattle.std.proofs.Common.{arith, ◌≡◌, ◌∙◌, refl, sym, ap, ℕ, ◌-◌, ◌^◌, ℤ, pos, ◌≤ℤ◌, int_le, List, [], ◌∷◌, map, Option, Some, None, option_map}
 use Rattle.std.proofs.lemmas.Int.{ints}
 use Rattle.std.proofs.lemmas.Option.{none-some}
 use Rattle.std.proofs.lemmas.Simd.{map-map}
@@ -7,44 +7,26 @@ use Rattle.std.specs.Int.{int_min}
 use Rattle.sopl_ast.specs.Instances.{Problem, Stochastic}
 use Rattle.sopl_ast.specs.Limits.{first_above, prefixes, size_excess, usual_limits, node_excess, weight_excess}
 use Rattle.sopl_ast.specs.Cells.{cells}
-use Rattle.sopl_ast.specs.Numbers.{or_else}
 use Rattle.sopl_ast.specs.Scenarios.{total_weight}
 use Rattle.sopl_ast.specs.UnfoldEvents.{excess}
 use Rattle.sopl_base.specs.declared.fault.Excess.{Excess}
+use Rattle.sopl_base.proofs.Tests.{le_tested}
+use Rattle.lang_laws.proofs.Shared.{first_none, later_none, passed, then_none}
 use Rattle.box_problem.specs.Box.{Box}
 use Rattle.compile_laws.specs.Measured.{first_large, goal_excess, large_excess, measured_excess, measured_terms, term_excess}
 use Rattle.compile_laws.specs.Root.{root_box}
 use Rattle.compile_laws.specs.Texts.{program_excess}
 use Rattle.compile_laws.specs.Whole.{problem_terms}
 
-first_none : {A : Type 0} (a b : Option A) → or_else a b ≡ None → a ≡ None
-first_none None b none = refl
-first_none (Some x) b none = absurd (none-some x (sym none))
-
-then_none : {A : Type 0} (a b : Option A) → or_else a b ≡ None → b ≡ None
-then_none None b none = none
-then_none (Some x) b none = absurd (none-some x (sym none))
-
 map_none : {A B : Type 0} (f : A → B) (a : Option A) → option_map f a ≡ None → a ≡ None
 map_none f None none = refl
 map_none f (Some x) none = absurd (none-some (f x) (sym none))
-
-passed : (c : Bool) (e : Excess) (later : Option Excess) → (if c then later else Some e) ≡ None → c ≡ true
-passed true e later none = refl
-passed false e later none = absurd (none-some e (sym none))
-
-later_none : (c : Bool) (e : Excess) (later : Option Excess) → (if c then later else Some e) ≡ None → later ≡ None
-later_none true e later none = none
-later_none false e later none = absurd (none-some e (sym none))
-
-at_most : (n limit : ℤ) → int_le n limit ≡ true → n ≤ℤ limit
-at_most n limit test = omega (arith, ints, test)
 
 abbrev told : ℕ → ℕ → ℤ → Excess
 told code limit n = excess code (int_min n (pos (2 ^ 127 - 1))) (pos limit)
 
 whole_within : {A : Type 0} (code limit : ℕ) (f : List A → ℤ) (x : A) (xs : List A) → first_above code limit (map f (prefixes (x ∷ xs))) ≡ None → f (x ∷ xs) ≤ℤ pos limit
-whole_within code limit f x [] none = at_most (f (x ∷ [])) (pos limit) (passed (int_le (f (x ∷ [])) (pos limit)) (told code limit (f (x ∷ []))) None none)
+whole_within code limit f x [] none = le_tested (f (x ∷ [])) (pos limit) (passed (int_le (f (x ∷ [])) (pos limit)) (told code limit (f (x ∷ []))) None none)
 whole_within {A} code limit f x (y ∷ ys) none =
     let behind : List A → ℤ = λ (prefix : List A). f (x ∷ prefix) in
     let later : first_above code limit (map f (map (λ (prefix : List A). x ∷ prefix) (prefixes (y ∷ ys)))) ≡ None =

@@ -1,5 +1,5 @@
 -- A policy may be tried on a text that is accepted and passes no limit on its terms.
-use Rattle.std.proofs.Common.{arith, ◌≡◌, refl, sym, ap, subst, ◌∙◌, ℕ, zero, suc, ◌+◌, ◌*◌, ◌^◌, ◌≤◌, max, ℤ, pos, ◌+ℤ◌, ◌*ℤ◌, ◌≤ℤ◌, int_le, unsigned_abs, true, false, List, [], ◌∷◌, ◌++◌, length, map, slice_get, Option, Some, None, IfSome, option_map, Result, Ok, Err, IfOk}
+use Rattle.std.proofs.Common.{arith, ◌≡◌, refl, sym, ap, subst, ◌∙◌, ℕ, zero, suc, ◌+◌, ◌*◌, ◌^◌, ◌≤◌, max, ℤ, pos, ◌*ℤ◌, ◌≤ℤ◌, unsigned_abs, false, List, [], ◌∷◌, ◌++◌, length, map, slice_get, Option, Some, None, IfSome, option_map, Result, Ok, Err, IfOk}
 use Rattle.std.proofs.Math.IntN.{pos-*ℤ-pos}
 use Rattle.std.proofs.Math.Nat.{mul-add, mul_comm}
 use Rattle.std.proofs.lemmas.Int.{ints}
@@ -8,7 +8,6 @@ use Rattle.std.proofs.lemmas.Option.{none-some, same_Some, slice_get_within, get
 use Rattle.std.specs.List.{AllByRecursion, Contains, flat_map, range_with_len}
 use Rattle.std.specs.Option.{option_map_or}
 use denote.Struct.Props.{props}
-use Rattle.std.proofs.Math.Bool.{Bool-set}
 use Rattle.std.proofs.Math.Logic.{∥∥₁_elim, ∥∥₁_map}
 use Rattle.std.proofs.lemmas.Option.{slice_get-map}
 use Rattle.sopl_ast.specs.Cells.{Cell, cells, IsPoint, policy_at}
@@ -29,6 +28,7 @@ use Rattle.sopl_ast.specs.Whole.{GoalTree, ModelTree}
 use Rattle.sopl_ast.specs.WholeModel.{goal_tree, whole}
 use Rattle.sopl_ast.specs.declared.whole.Model.{Model}
 use Rattle.std.specs.declared.alloc.AllocError.{AllocError}
+use Rattle.sopl_base.proofs.Lists.{positive_there}
 use Rattle.policy_eval.specs.Reports.{IsReport}
 use Rattle.policy_eval.specs.Shown.{report_shown}
 use Rattle.policy_eval.specs.declared.report.Report.{Report}
@@ -62,6 +62,7 @@ use Rattle.compile_laws.proofs.Proper.{instances_are_proper}
 use Rattle.compile_laws.proofs.Root.{points_of_box, root_is_box}
 use Rattle.compile_laws.proofs.WellMade.{problems_are_well_made}
 use Rattle.compile_laws.proofs.Whole.{texts_are_arrays}
+use Rattle.compile_laws.proofs.Agreeing.{total_so}
 use Rattle.compile_counts.specs.Walked.{IsWalked}
 use Rattle.compile_counts.proofs.Walking.{expressions_are_walked}
 use Rattle.policy_values.specs.Safe.{IsSafe, IsTestable}
@@ -188,20 +189,6 @@ module _ (problem : Problem) (point : List ℤ) (is_point : IsPoint (cells probl
 
 -- Weights.
 
-total_same : (xs : List ℤ) → globals.total xs ≡ total xs
-total_same [] = refl
-total_same (x ∷ xs) = ap (λ z. x +ℤ z) (total_same xs)
-
-tested : (w : ℤ) → pos 1 ≤ℤ w → int_le (pos 1) w ≡ true
-tested w most = grind (arith, ints)
-
-passed : (w : ℤ) → int_le (pos 1) w ≡ true → pos 1 ≤ℤ w
-passed w test = omega (arith, ints, test)
-
-weights_there : (ws : List ℤ) → ∥ AllByRecursion (λ w. pos 1 ≤ℤ w) ws ∥₁ → AllByRecursion (λ w. pos 1 ≤ℤ w) ws
-weights_there [] held = tt
-weights_there (w ∷ ws) held = (passed w (∥∥₁_elim held (Bool-set _ _) (λ h. tested w h.0)), weights_there ws (∥∥₁_map held (λ h. h.1)))
-
 objective_is : (model : ModelTree) → (problem_of model).objective ≡ option_map objective_of model.goal
 unfolding problem_of
 objective_is model = refl
@@ -237,7 +224,7 @@ unfolds model from typed passes = record {
   chances = chances_are_met model passes;
   objective = objective_met model passes;
   some = ∥∥₁_elim from (search props) (λ f. (problems_are_well_made model f passes).first);
-  weighs = weights_there (problem_terms (problem_of model)).weights (∥∥₁_map from (λ f. (problems_are_well_made model f passes).weighs));
+  weighs = positive_there (problem_terms (problem_of model)).weights (∥∥₁_map from (λ f. (problems_are_well_made model f passes).weighs));
   sums_to = ∥∥₁_elim from (search props) (λ f. (problems_are_well_made model f passes).whole);
   few_hards = omega (arith, instances_are_counted model passes);
   few_chances = omega (arith, instances_are_counted model passes);
@@ -268,7 +255,7 @@ module _ (trial : Trial) (is : IsUnfolding (posed trial)) (laid : IsTreeOf trial
   sum_whole =
       sizes_sum trial.tree.now.weights (subst (AllByRecursion (λ w. pos 1 ≤ℤ w)) (sym (weights_are trial laid)) is.weighs)
       ∙ ap total (weights_are trial laid)
-      ∙ sym (total_same (problem_terms asked).weights)
+      ∙ sym (total_so (problem_terms asked).weights)
       ∙ sym is.sums_to
 
   room_is : (n : ℕ) (w : ℤ) → pos (sizes trial.tree.now.weights) ≡ w → (w *ℤ pos (n + 1)) ≤ℤ pos (2 ^ 126) → unsigned_abs (pos 0) + n * sizes trial.tree.now.weights ≤ 2 ^ 126
@@ -322,7 +309,7 @@ module _ (trial : Trial) (is : IsUnfolding (posed trial)) (laid : IsTreeOf trial
         (λ i d at met. (condition_tried d.text d.bound met.0 (λ j s there_at. chance_light asked trial.policy.now is_point is.arrays is.is_box allowed i d at j s there_at), met.1)) is.chances;
     goal = goals_tried trial.goal.now refl;
     weights = subst (AllByRecursion (λ w. pos 1 ≤ℤ w)) (sym (weights_are trial laid)) is.weighs;
-    whole = ap total (weights_are trial laid) ∙ sym (total_same (problem_terms asked).weights) ∙ sym is.sums_to ∙ sym laid.whole;
+    whole = ap total (weights_are trial laid) ∙ sym (total_so (problem_terms asked).weights) ∙ sym is.sums_to ∙ sym laid.whole;
     most = subst (λ z. z ≤ℤ pos (2 ^ 100)) (sym laid.whole) (light asked within);
     some = omega (arith, is.some, length-map found (λ (s : Scenario). s.weight), many trial laid);
     few_hards = is.few_hards;
@@ -372,7 +359,9 @@ few_drawn model passes xs is = omega (arith, ap (length {A = Stochastic}) is, in
 pub few_decided : (model : ModelTree) → NothingFails (text_events model) → (xs : List Decision) → xs ≡ (problem_of model).decisions → length xs ≤ 2 ^ 32
 few_decided model passes xs is = omega (arith, ap (length {A = Decision}) is, instances_are_counted model passes)
 
-pub report_either : (r : Result Report AllocError) (p q : Problem) (values : List ℤ) → p ≡ q → IfOk r (λ report. IsReport p (policy_at (cells p) values) (report_shown report))
-    → IfOk r (λ report. IsReport q (policy_at (cells q) values) (report_shown report))
-report_either (Ok report) p q values same told = subst (λ (z : Problem). IsReport z (policy_at (cells z) values) (report_shown report)) same told
-report_either (Err e) p q values same told = tt
+pub report_either : (r : Result Report AllocError) (p q : Problem) (values kept : List ℤ) → values ≡ kept → p ≡ q → IfOk r (λ report. IsReport p (policy_at (cells p) values) (report_shown report))
+    → IfOk r (λ report. IsReport q (policy_at (cells q) kept) (report_shown report))
+report_either (Ok report) p q values kept are same told =
+    subst (λ (vs : List ℤ). IsReport q (policy_at (cells q) vs) (report_shown report)) are
+    (subst (λ (z : Problem). IsReport z (policy_at (cells z) values) (report_shown report)) same told)
+report_either (Err e) p q values kept are same told = tt

@@ -1,10 +1,11 @@
 -- The loops of a trial.
-use Rattle.std.proofs.Common.{arith, ◌≡◌, refl, sym, ap, subst, ◌∙◌, ℕ, zero, suc, ◌+◌, ◌<◌, ◌≤◌, ◌^◌, ℤ, pos, ◌+ℤ◌, ◌*ℤ◌, unsigned_abs, Bool, true, false, List, [], ◌∷◌, ◌++◌, drop, get_or, length, map, Option, Some, None, IsSome}
+use Rattle.std.proofs.Common.{arith, ◌≡◌, refl, sym, ap, subst, ◌∙◌, ℕ, zero, suc, ◌+◌, ◌<◌, ◌≤◌, ℤ, pos, ◌+ℤ◌, ◌*ℤ◌, FitsSigned, Bool, true, false, List, [], ◌∷◌, ◌++◌, drop, get_or, length, map, Option, Some, None, IsSome}
 use Rattle.std.proofs.Math.IntN.{+ℤ_assoc, +ℤ_idl, +ℤ_comm}
 use Rattle.std.proofs.lemmas.Bool.{cases_order}
 use Rattle.std.proofs.Common.{inl, inr, ◌⊎◌}
 use Rattle.std.proofs.lemmas.List.{at_drop_more, at_drop_all}
 use Rattle.std.proofs.lemmas.List.FromFn.{get_or-map-range_with_len, map-range_with_len_more}
+use Rattle.std.specs.Int.{w128}
 use Rattle.std.specs.List.{range_with_len}
 use Rattle.std.specs.Option.{is_some}
 use Rattle.sopl_ast.specs.Numbers.{all_of, both_of}
@@ -93,10 +94,10 @@ module _ (ws xs : List ℤ) (sum : ℤ) (i : ℕ) (x : ℤ) (many : length xs �
   next_fits : IsWeighed ws xs sum i → FitOn sum (w ∷ drop (i + 1) ws) (x ∷ drop (i + 1) xs)
   next_fits l = subst (λ ys. FitOn sum (w ∷ drop (i + 1) ws) ys) numbers_left (subst (λ vs. FitOn sum vs (drop i xs)) weights_left l.fits)
 
-  pub product_fits : IsWeighed ws xs sum i → unsigned_abs (w *ℤ x) < 2 ^ 127
+  pub product_fits : IsWeighed ws xs sum i → FitsSigned w128 (w *ℤ x)
   product_fits l = (next_fits l).0
 
-  pub sum_fits : IsWeighed ws xs sum i → unsigned_abs (sum +ℤ (w *ℤ x)) < 2 ^ 127
+  pub sum_fits : IsWeighed ws xs sum i → FitsSigned w128 (sum +ℤ (w *ℤ x))
   sum_fits l = (next_fits l).1
 
   pub weighed_more : (new : ℤ) → new ≡ sum +ℤ (w *ℤ x) → IsWeighed ws xs sum i → IsWeighed ws xs new (i + 1)

@@ -1,9 +1,11 @@
 -- Weights times numbers.
-use Rattle.std.proofs.Common.{arith, ◌≡◌, refl, sym, ap, subst, ◌∙◌, ℕ, zero, suc, ◌+◌, ◌*◌, ◌^◌, ◌≤◌, ℤ, pos, negsuc, ◌+ℤ◌, ◌*ℤ◌, ◌≤ℤ◌, unsigned_abs, Bool, true, false, List, [], ◌∷◌, filter, map, if◌then◌else◌}
+use Rattle.std.proofs.Common.{arith, ◌≡◌, refl, sym, ap, subst, ◌∙◌, ℕ, zero, suc, ◌+◌, ◌*◌, ◌^◌, ◌<◌, ◌≤◌, ℤ, pos, negsuc, ◌+ℤ◌, ◌*ℤ◌, ◌≤ℤ◌, unsigned_abs, Bool, true, false, List, [], ◌∷◌, filter, map, if◌then◌else◌}
 use Rattle.std.proofs.Math.IntN.{one, +ℤ_idl, *ℤ-one, *ℤ-zero}
 use Rattle.std.proofs.Math.Nat.{mul-add, mul_comm}
-use Rattle.std.proofs.lemmas.Int.{ints, unsigned_abs-mul}
+use Rattle.std.proofs.lemmas.Int.{fits_signed_from_abs, ints, unsigned_abs-mul}
+use Rattle.std.specs.Int.{w128}
 use Rattle.std.specs.List.{AllByRecursion}
+use Rattle.sopl_base.proofs.Sizes.{plus_size}
 use Rattle.sopl_ast.specs.Numbers.{one_or_zero, total}
 use Rattle.policy_eval.specs.Tried.{FitOn, weighted}
 
@@ -57,9 +59,6 @@ sizes (w ∷ ws) = unsigned_abs w + sizes ws
 abbrev pub AreAtMost : ℕ → List ℤ → Type 0
 AreAtMost n xs = AllByRecursion (λ x. unsigned_abs x ≤ n) xs
 
-added_size : (a b : ℤ) → unsigned_abs (a +ℤ b) ≤ unsigned_abs a + unsigned_abs b
-added_size a b = omega (arith, ints)
-
 more_than : (a n m : ℕ) → m ≤ n → m * a ≤ n * a
 more_than zero n m le = omega arith
 more_than (suc a) n m le = omega (arith, more_than a n m le)
@@ -72,9 +71,11 @@ they_fit n sum (w ∷ ws) (x ∷ xs) small room =
     let parts : n * (unsigned_abs w + sizes ws) ≡ n * unsigned_abs w + n * sizes ws = mul-add n (unsigned_abs w) (sizes ws) in
     let product : unsigned_abs (w *ℤ x) ≡ unsigned_abs x * unsigned_abs w = unsigned_abs-mul w x ∙ mul_comm (unsigned_abs w) (unsigned_abs x) in
     let most : unsigned_abs x * unsigned_abs w ≤ n * unsigned_abs w = more_than (unsigned_abs w) n (unsigned_abs x) small.0 in
-    let next : unsigned_abs (sum +ℤ (w *ℤ x)) ≤ unsigned_abs sum + unsigned_abs (w *ℤ x) = added_size sum (w *ℤ x) in
+    let next : unsigned_abs (sum +ℤ (w *ℤ x)) ≤ unsigned_abs sum + unsigned_abs (w *ℤ x) = plus_size sum (w *ℤ x) in
     let enough : unsigned_abs (sum +ℤ (w *ℤ x)) + n * sizes ws ≤ 2 ^ 126 = omega (arith, parts, product, most, next, room) in
-    (omega (arith, parts, product, most, room), omega (arith, enough), they_fit n (sum +ℤ (w *ℤ x)) ws xs small.1 enough)
+    let of_product : unsigned_abs (w *ℤ x) < 2 ^ 127 = omega (arith, parts, product, most, room) in
+    let of_sum : unsigned_abs (sum +ℤ (w *ℤ x)) < 2 ^ 127 = omega (arith, enough) in
+    (fits_signed_from_abs w128 (w *ℤ x) of_product, fits_signed_from_abs w128 (sum +ℤ (w *ℤ x)) of_sum, they_fit n (sum +ℤ (w *ℤ x)) ws xs small.1 enough)
 
 -- weights of at least 1 are as large as their sum
 pub sizes_sum : (ws : List ℤ) → AllByRecursion (λ w. pos 1 ≤ℤ w) ws → pos (sizes ws) ≡ total ws

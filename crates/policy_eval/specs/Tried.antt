@@ -1,5 +1,6 @@
 -- A trial of a policy in the words of the definitions.
-use Rattle.std.specs.Prelude.{◌≡◌, ◌<◌, ◌≤◌, ◌^◌, ℕ, ℤ, pos, ◌+ℤ◌, ◌*ℤ◌, ◌≤ℤ◌, Bool, true, false, List, [], ◌∷◌, length, map, All, Option, Some, None, IfSome, IsSome, option_map, slice_get, unsigned_abs, Result, Ok, Err}
+use Rattle.std.specs.Prelude.{◌≡◌, ◌<◌, ◌≤◌, ◌^◌, ℕ, ℤ, pos, ◌+ℤ◌, ◌*ℤ◌, ◌≤ℤ◌, Bool, true, false, List, [], ◌∷◌, length, map, All, Option, Some, None, IfSome, IsSome, option_map, slice_get, FitsSigned, Result, Ok, Err}
+use Rattle.std.specs.Int.{w128}
 use Rattle.std.specs.List.{AllByRecursion, range_with_len}
 use Rattle.std.specs.Option.{option_map_or}
 use Rattle.std.specs.declared.alloc.Global.{Global}
@@ -88,7 +89,7 @@ weight_where trial test = weighted trial.tree.now.weights (map (λ i. one_or_zer
 abbrev pub FitOn : ℤ → List ℤ → List ℤ → Type 0
 FitOn sum [] xs = Unit {0}
 FitOn sum (w ∷ ws) [] = Unit {0}
-FitOn sum (w ∷ ws) (x ∷ xs) = (unsigned_abs (w *ℤ x) < 2 ^ 127) × (unsigned_abs (sum +ℤ (w *ℤ x)) < 2 ^ 127) × FitOn (sum +ℤ (w *ℤ x)) ws xs
+FitOn sum (w ∷ ws) (x ∷ xs) = FitsSigned w128 (w *ℤ x) × FitsSigned w128 (sum +ℤ (w *ℤ x)) × FitOn (sum +ℤ (w *ℤ x)) ws xs
 
 -- a condition that may be evaluated in each scenario
 pub record IsTried (trial : Trial) (text : ℕ) (bound : List Binding) : Type 0 where

@@ -2,10 +2,10 @@
 
 ghost use Rattle.std.specs.Prelude.{◌≡◌, All, None, IfOk};
 ghost use Rattle.compile_laws.specs.Texts.{program_excess};
-ghost use Rattle.sopl_ast.specs.Cells.{IsPoint, cells, policy_at};
 ghost use Rattle.sopl_ast.specs.Limits.{size_excess, usual_limits};
 ghost use Rattle.sopl_ast.specs.Unfolding.{problem_of};
 ghost use Rattle.sopl_ast.specs.WholeModel.{whole};
+ghost use Rattle.sopl_policy.specs.Kept.{IsPolicyFor, policy_map};
 ghost use Rattle.sopl_scen.specs.Layout.{IsTreeOf};
 ghost use Rattle.policy_eval.specs.Reports.{IsHeld, IsReport};
 ghost use Rattle.policy_eval.specs.Shown.{report_shown};
@@ -14,24 +14,24 @@ ghost use Rattle.policy_eval.specs.Tried.{IsTrial, policy_of, posed};
 use crate::report::Report;
 use crate::trial::Trial;
 use policy_values::Variables;
+use sopl_policy::Policy;
 use sopl_scen::Tree;
 use sopl_unfold::Ground;
 use std::alloc::{AllocError, Global};
 
-/// What is told of a policy, which is given by the values of the cells, in their order: that it satisfies, with its value and the sums of
-/// the chance constraints; or what fails first, hard constraints before chance constraints, and these before the objective. The text passes
+/// What is told of a policy: that it satisfies, with its value and the sums of the chance constraints; or what fails first, hard constraints before chance constraints, and these before the objective. The text passes
 /// no limit on its terms (206, 207), so no number in it passes the sizes that are reckoned with.
 pub fn evaluate(
     alloc: Global,
-    policy: &[i64],
+    policy: &Policy,
     ground: &Ground,
     tree: &Tree,
 ) -> Result<Report, AllocError>
     requires laid_out { IsTreeOf (problem_of (whole ground.now.typed.model)).decisions (problem_of (whole ground.now.typed.model)).stochastics tree.now }
     requires within { size_excess usual_limits (problem_of (whole ground.now.typed.model)) ≡ None }
     requires allowed { program_excess (problem_of (whole ground.now.typed.model)) ≡ None }
-    requires point { IsPoint (cells (problem_of (whole ground.now.typed.model))) policy.now }
-    ensures report { IfOk result (λ report. IsReport (problem_of (whole ground.now.typed.model)) (policy_at (cells (problem_of (whole ground.now.typed.model))) policy.now)
+    requires policy { IsPolicyFor (problem_of (whole ground.now.typed.model)) policy.now }
+    ensures report { IfOk result (λ report. IsReport (problem_of (whole ground.now.typed.model)) (policy_map (problem_of (whole ground.now.typed.model)) policy.now)
         (report_shown report)) }
 {
     let variables = Variables::of(alloc, ground.stochs(), ground.decisions())?;
@@ -45,7 +45,7 @@ pub fn evaluate(
         goal: &ground.typed().model().goal,
         variables: &variables,
         tree,
-        policy,
+        policy: policy.values(),
     };
     report_of(&trial)
 }

@@ -5,7 +5,6 @@
 mod evaluation;
 mod laws;
 mod report;
-mod sums;
 mod trial;
 
 pub use evaluation::evaluate;

@@ -16,11 +16,10 @@ ghost use Rattle.policy_eval.specs.Tried.{scenario_count, truth_at, value_at, we
 ghost use Rattle.policy_eval.specs.Valued.{is_worth, worst_in, worst_of};
 
 use crate::report::Report;
-use crate::sums::{Weighed, WeightSum};
 use compile_counts::{condition_at, known_at};
 use policy_values::{PlayedScenario, Variables};
 use sopl_ast::{Expr, Goal};
-use sopl_base::{Direction, reaches};
+use sopl_base::{Direction, Wide, reaches};
 use sopl_scen::Tree;
 use sopl_unfold::{ChanceItem, Env, HardItem};
 use std::alloc::{AllocError, Global};
@@ -134,36 +133,36 @@ impl<'a, 'b> Trial<'a, 'b> {
         'chances: for instance in 0..self.chances.len() {
             let chance = &self.chances[instance];
             let sum = self.chance_sum(chance)?;
-            if !self.is_reached(chance, &sum) {
-                return Ok(Err(unreached(instance as u32, &sum)));
+            if !self.is_reached(chance, sum) {
+                return Ok(Err(unreached(instance as u32, sum)));
             }
-            put(&mut sums, &sum)?;
+            put(&mut sums, sum)?;
         }
         Ok(Ok(sums))
     }
 
     /// Whether a sum reaches the threshold of a chance constraint.
-    fn is_reached(&self, chance: &ChanceItem, sum: &WeightSum) -> bool
+    fn is_reached(&self, chance: &ChanceItem, sum: Wide) -> bool
         requires tried { IsTrial self.now }
         requires threshold { IsThreshold chance.now.p chance.now.q }
-        requires low { pos 0 ≤ℤ sum.now.value }
-        requires high { sum.now.value ≤ℤ self.now.tree.now.total }
-        ensures reached { result ≡ int_le (chance.now.p *ℤ self.now.tree.now.total) (chance.now.q *ℤ sum.now.value) }
+        requires low { pos 0 ≤ℤ sum.value }
+        requires high { sum.value ≤ℤ self.now.tree.now.total }
+        ensures reached { result ≡ int_le (chance.now.p *ℤ self.now.tree.now.total) (chance.now.q *ℤ sum.value) }
     {
-        is_enough(sum, &self.whole(), &level_of(chance))
+        is_enough(sum, self.whole(), &level_of(chance))
     }
 
     /// The weight of all scenarios.
-    fn whole(&self) -> WeightSum
+    fn whole(&self) -> Wide
         ensures whole { result.value ≡ self.now.tree.now.total }
     {
-        WeightSum {
+        Wide {
             value: self.tree.total(),
         }
     }
 
     /// The weight of the scenarios in which the condition of a chance constraint is true.
-    fn chance_sum(&self, chance: &'a ChanceItem) -> Result<WeightSum, AllocError>
+    fn chance_sum(&self, chance: &'a ChanceItem) -> Result<Wide, AllocError>
         requires tried { IsTrial self.now }
         requires condition { IsTried self.now chance.now.text chance.now.bound }
         ensures sum { IfOk result (λ sum. sum.value ≡ weight_where self.now (holds_at self.now chance.now.text chance.now.bound)) }
@@ -172,7 +171,7 @@ impl<'a, 'b> Trial<'a, 'b> {
     }
 
     /// The weight of the scenarios in which the condition with a number is true, where binders give this.
-    fn weight_of(&self, text: u32, env: &'a Env) -> Result<WeightSum, AllocError>
+    fn weight_of(&self, text: u32, env: &'a Env) -> Result<Wide, AllocError>
         requires tried { IsTrial self.now }
         requires condition { IsTried self.now text env.now }
         ensures sum { IfOk result (λ sum. sum.value ≡ weight_where self.now (holds_at self.now text env.now)) }
@@ -221,7 +220,7 @@ impl<'a, 'b> Trial<'a, 'b> {
         ensures told { IfOk result (λ report. IsReport (posed self.now) (policy_of self.now) (report_shown report)) }
     {
         match self.values(&goal.expr)? {
-            Valuation::Valued(values) => Ok(satisfied(&self.worth(goal, values.as_slice()), sums)),
+            Valuation::Valued(values) => Ok(satisfied(self.worth(goal, values.as_slice()), sums)),
             Valuation::Undefined(scenario) => Ok(Report::Objective { scenario }),
         }
     }
@@ -244,7 +243,7 @@ impl<'a, 'b> Trial<'a, 'b> {
     }
 
     /// The value of an objective by its values in all scenarios.
-    fn worth(&self, goal: &Goal, values: &[i64]) -> WeightSum
+    fn worth(&self, goal: &Goal, values: &[i64]) -> Wide
         requires tried { IsTrial self.now }
         requires many { length values.now ≡ scenario_count self.now }
         requires fits { goal.now.worst ≡ false → FitOn (pos 0) self.now.tree.now.weights values.now }
@@ -258,25 +257,25 @@ impl<'a, 'b> Trial<'a, 'b> {
     }
 
     /// The sum of weights times numbers, one number for each scenario.
-    fn weighted(&self, numbers: &[i64]) -> WeightSum
+    fn weighted(&self, numbers: &[i64]) -> Wide
         requires many { length numbers.now ≡ scenario_count self.now }
         requires fits { FitOn (pos 0) self.now.tree.now.weights numbers.now }
         ensures sum { result.value ≡ weighted self.now.tree.now.weights numbers.now }
     {
-        let mut sum = WeightSum { value: 0 };
+        let mut sum = Wide { value: 0 };
         'scenarios: for scenario in 0..self.tree.count() {
-            let more = self.weight(scenario).times(&number_at(numbers, scenario));
-            sum = sum.with(&more);
+            let more = self.weight(scenario).times(number_at(numbers, scenario));
+            sum = sum.plus(more);
         }
         sum
     }
 
     /// The weight of a scenario.
-    fn weight(&self, scenario: u32) -> WeightSum
+    fn weight(&self, scenario: u32) -> Wide
         requires exists { scenario < scenario_count self.now }
         ensures weight { result.value ≡ weight_in self.now.tree.now scenario }
     {
-        WeightSum {
+        Wide {
             value: self.tree.weight(scenario),
         }
     }
@@ -295,37 +294,33 @@ fn level_of(chance: &ChanceItem) -> ChanceLevel
 
 /// Whether a weight is such a part of the whole at least.
 #[tactic(auto, using(crate::proofs::Compared::told_by))]
-fn is_enough(sum: &WeightSum, whole: &WeightSum, level: &ChanceLevel) -> bool
-    requires low { pos 0 ≤ℤ sum.now.value }
-    requires high { sum.now.value ≤ℤ whole.now.value }
-    requires light { whole.now.value ≤ℤ pos (2 ^ 100) }
+fn is_enough(sum: Wide, whole: Wide, level: &ChanceLevel) -> bool
+    requires low { pos 0 ≤ℤ sum.value }
+    requires high { sum.value ≤ℤ whole.value }
+    requires light { whole.value ≤ℤ pos (2 ^ 100) }
     requires from_zero { pos 0 ≤ℤ level.now.p }
     requires to_whole { level.now.p ≤ℤ level.now.q }
     requires positive { pos 1 ≤ℤ level.now.q }
     requires small { level.now.q ≤ℤ pos (2 ^ 20) }
-    ensures { result ≡ int_le (level.now.p *ℤ whole.now.value) (level.now.q *ℤ sum.now.value) }
+    ensures { result ≡ int_le (level.now.p *ℤ whole.value) (level.now.q *ℤ sum.value) }
 {
     reaches(sum.value, whole.value, level.p, level.q)
 }
 
 /// The number for a scenario.
-fn number_at(numbers: &[i64], scenario: u32) -> Weighed
+fn number_at(numbers: &[i64], scenario: u32) -> Wide
     requires exists { scenario < length numbers.now }
     ensures value { result.value ≡ get_or numbers.now scenario (pos 0) }
 {
-    Weighed {
-        value: numbers[scenario as usize],
-    }
+    Wide::of(numbers[scenario as usize])
 }
 
 /// The worst of values, of which there is one at least.
-fn worst(direction: Direction, values: &[i64]) -> WeightSum
+fn worst(direction: Direction, values: &[i64]) -> Wide
     requires some { 0 < length values.now }
     ensures worst { result.value ≡ worst_of direction values.now }
 {
-    WeightSum {
-        value: i128::from(worst_value(direction, values).unwrap_or(0)),
-    }
+    Wide::of(worst_value(direction, values).unwrap_or(0))
 }
 
 /// The same, if there is one.
@@ -340,8 +335,8 @@ fn worst_value(direction: Direction, values: &[i64]) -> Option<i64>
 }
 
 /// That a chance constraint is not reached.
-fn unreached(instance: u32, sum: &WeightSum) -> Report
-    ensures told { report_shown result ≡ chance instance sum.now.value }
+fn unreached(instance: u32, sum: Wide) -> Report
+    ensures told { report_shown result ≡ chance instance sum.value }
 {
     Report::Chance {
         instance,
@@ -350,8 +345,8 @@ fn unreached(instance: u32, sum: &WeightSum) -> Report
 }
 
 /// That a policy satisfies.
-fn satisfied(worth: &WeightSum, sums: Vec<i128>) -> Report
-    ensures told { report_shown result ≡ satisfied worth.now.value sums.items }
+fn satisfied(worth: Wide, sums: Vec<i128>) -> Report
+    ensures told { report_shown result ≡ satisfied worth.value sums.items }
 {
     Report::Satisfied {
         value: worth.value,
@@ -360,8 +355,8 @@ fn satisfied(worth: &WeightSum, sums: Vec<i128>) -> Report
 }
 
 /// Puts a sum behind others.
-fn put(sums: &mut Vec<i128>, sum: &WeightSum) -> Result<(), AllocError>
-    ensures more { OnOk result (sums.new.items ≡ sums.old.items ++ sum.now.value ∷ []) }
+fn put(sums: &mut Vec<i128>, sum: Wide) -> Result<(), AllocError>
+    ensures more { OnOk result (sums.new.items ≡ sums.old.items ++ sum.value ∷ []) }
 {
     sums.push(sum.value)?;
     Ok(())

@@ -1,6 +1,7 @@
 use Rattle.std.proofs.Common.{◌∙◌, ap, length}
 use Rattle.scen_accept.specs.Stated.{problem_in}
-use Rattle.answer_texts.proofs.Points.{names_spelled, values_counted, variables_stated}
+use Rattle.policy_json.proofs.Grounded.{values_long}
+use Rattle.answer_texts.proofs.Points.{names_spelled, variables_stated}
 use Rattle.answer_texts.proofs.Printing.{printed_policy}
 use Rattle.answer_texts.proofs.lines.printed_policy.Goals as goal
 
@@ -15,7 +16,7 @@ policy_value-requires-clause-names c =
 pub policy_value-requires-clause-values : goal.policy_value-requires-clause-values
 policy_value-requires-clause-values c =
     ap length c.as_slice.ensures.items
-    ∙ values_counted (problem_in c.args.stated.now) c.args.stated.now.tree c.args.point.now c.requires.laid_out c.requires.inside
+    ∙ values_long (problem_in c.args.stated.now) c.args.stated.now.tree c.args.point.now c.requires.laid_out c.requires.inside
 
 pub returns-clause-policy : goal.returns-clause-policy
 returns-clause-policy c =

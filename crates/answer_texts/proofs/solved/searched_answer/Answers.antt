@@ -1,12 +1,10 @@
-use Rattle.std.proofs.Common.{Result, IfOk, IfErr, sym, subst}
-use Rattle.sopl_base.specs.declared.stop.SearchStop.{SearchStop}
+use Rattle.std.proofs.Common.{rules}
 use Rattle.scen_accept.specs.Stated.{problem_in}
-use Rattle.answer_texts.specs.Answering.{Searched}
-use Rattle.answer_texts.specs.Logs.{TookPrefix}
-use Rattle.answer_texts.specs.declared.solve_answer.Answer.{Answer}
-use Rattle.answer_texts.proofs.SolveAnswered.{answer_made, made_stops, program_finds_point, search_stopped}
+use Rattle.sopl_io.proofs.Calling.{where_all}
+use Rattle.answer_texts.proofs.SolveAnswered.{answer_made, log_taken, program_finds_point, search_stopped}
 use Rattle.answer_texts.proofs.Root.{root_few_bits, root_near}
-use Rattle.answer_texts.proofs.Calls.{made_calls}
+use Rattle.answer_texts.proofs.Calls.{found_calls, handed_on}
+use Rattle.answer_texts.proofs.Stopped.{on_err}
 use Rattle.answer_texts.proofs.solved.searched_answer.Goals as goal
 
 pub search_program-requires-clause-near : goal.search_program-requires-clause-near
@@ -16,29 +14,30 @@ pub search_program-requires-clause-bits : goal.search_program-requires-clause-bi
 search_program-requires-clause-bits g c = root_few_bits c.requires.stated.0 c.args.stated.now c.args.program.now c.requires.stated.1 c.requires.program
 
 pub answer_of-requires-clause-inside : goal.answer_of-requires-clause-inside
-answer_of-requires-clause-inside g c = program_finds_point (problem_in c.args.stated.now) c.args.program.now c.in-Ok.outcome c.requires.program c.in-Ok.ensures.truth
+answer_of-requires-clause-inside g c = program_finds_point (problem_in c.args.stated.now) c.args.program.now c.in_ok-outcome.outcome c.requires.program c.in_ok-outcome.ensures.truth
 
-pub returns-in-Ok-clause-answer : goal.returns-in-Ok-clause-answer
-returns-in-Ok-clause-answer g c =
-    subst (λ (r : Result Answer SearchStop). IfOk r (Searched (problem_in c.args.stated.now) c.args.budget (g.K.Sink.taken c.args.sink.now) (g.K.Sink.taken c.search_program.new.sink)))
-    (sym c.made.ensures.answer)
-    (answer_made c.requires.stated.0 c.args.stated.now c.requires.stated.1 c.args.program.now c.requires.program c.args.budget
-    (g.K.Sink.taken c.args.sink.now) (g.K.Sink.taken c.search_program.new.sink) c.in-Ok.outcome c.answer_of.result
-    c.in-Ok.ensures.truth c.in-Ok.ensures.cause c.in-Ok.ensures.log c.answer_of.ensures.answer)
+pub returns-clause-answer : goal.returns-clause-answer
+returns-clause-answer g c =
+    answer_made c.requires.stated.0 c.args.stated.now c.requires.stated.1 c.args.program.now c.requires.program c.args.budget
+    (g.K.Sink.taken c.args.sink.now) (g.K.Sink.taken c.search_program.new.sink) c.in_ok-outcome.outcome c.in_ok-answer.answer
+    c.in_ok-outcome.ensures.truth c.in_ok-outcome.ensures.cause c.in_ok-outcome.ensures.log c.in_ok-answer.ensures.answer
 
-pub returns-in-Ok-clause-stopped : goal.returns-in-Ok-clause-stopped
-returns-in-Ok-clause-stopped g c =
-    subst (λ (r : Result Answer SearchStop). IfErr r (λ stop. TookPrefix (problem_in c.args.stated.now) c.args.budget (g.K.Sink.taken c.args.sink.now) (g.K.Sink.taken c.search_program.new.sink)))
-    (sym c.made.ensures.answer)
-    (made_stops c.requires.stated.0 c.args.stated.now c.requires.stated.1 c.args.program.now c.requires.program c.args.budget
-    (g.K.Sink.taken c.args.sink.now) (g.K.Sink.taken c.search_program.new.sink) c.in-Ok.outcome c.answer_of.result c.in-Ok.ensures.log)
+pub returns-in_err-answer-clause-stopped : goal.returns-in_err-answer-clause-stopped
+returns-in_err-answer-clause-stopped g c =
+    on_err _ (log_taken c.requires.stated.0 c.args.stated.now c.requires.stated.1 c.args.program.now c.requires.program c.args.budget
+    (g.K.Sink.taken c.args.sink.now) (g.K.Sink.taken c.search_program.new.sink) c.in_ok-outcome.outcome c.in_ok-outcome.ensures.log)
 
-pub returns-in-Err-clause-stopped : goal.returns-in-Err-clause-stopped
-returns-in-Err-clause-stopped g c =
-    search_stopped c.requires.stated.0 c.args.stated.now c.requires.stated.1 c.args.program.now c.requires.program c.args.budget
-    (g.K.Sink.taken c.args.sink.now) (g.K.Sink.taken c.search_program.new.sink) c.search_program.result c.in-Err.stop c.in-Err.is
-    c.search_program.ensures.prefix c.search_program.ensures.kept
+pub returns-in_err-outcome-clause-stopped : goal.returns-in_err-outcome-clause-stopped
+returns-in_err-outcome-clause-stopped g c =
+    on_err _ (search_stopped c.requires.stated.0 c.args.stated.now c.requires.stated.1 c.args.program.now c.requires.program c.args.budget
+    (g.K.Sink.taken c.args.sink.now) (g.K.Sink.taken c.search_program.new.sink) c.search_program.result c.in_err-outcome.field-0.0 (search rules)
+    c.search_program.ensures.prefix c.search_program.ensures.kept)
 
-pub returns-in-Ok-clause-outcomes : goal.returns-in-Ok-clause-outcomes
-returns-in-Ok-clause-outcomes g c =
-    made_calls (g.K.Sink.outcomes c.args.sink.now) (g.K.Sink.outcomes c.search_program.new.sink) c.answer_of.result c.made.result c.made.ensures.answer (c.in-Ok.ensures.outcomes.all (λ e. cc))
+pub returns-clause-outcomes : goal.returns-clause-outcomes
+returns-clause-outcomes g c = where_all _ _ (λ e. cc) (found_calls _ _ c.search_program.result c.in_ok-outcome.outcome (search rules) c.search_program.ensures.outcomes)
+
+pub returns-in_err-answer-clause-outcomes : goal.returns-in_err-answer-clause-outcomes
+returns-in_err-answer-clause-outcomes g c = where_all _ _ (search rules) (found_calls _ _ c.search_program.result c.in_ok-outcome.outcome (search rules) c.search_program.ensures.outcomes)
+
+pub returns-in_err-outcome-clause-outcomes : goal.returns-in_err-outcome-clause-outcomes
+returns-in_err-outcome-clause-outcomes g c = handed_on _ _ c.search_program.result c.from_residual.result c.in_err-outcome.field-0.0 (search rules) (search rules) c.search_program.ensures.outcomes

@@ -1,29 +1,27 @@
-use Rattle.std.proofs.Common.{Result, IfErr, sym, subst}
-use Rattle.answer_texts.specs.Answering.{Stops}
-use Rattle.answer_texts.specs.Logs.{told}
-use Rattle.answer_texts.specs.declared.solve_answer.Answer.{Answer}
-use Rattle.answer_texts.specs.declared.solve_answer.SolveStop.{SolveStop}
-use Rattle.answer_texts.proofs.Stopped.{solved_stops}
+use Rattle.std.proofs.Common.{rules}
 use Rattle.sopl_io.specs.Calls.{no_call}
 use Rattle.sopl_io.proofs.Calling.{where_all}
-use Rattle.answer_texts.proofs.Calls.{solved_calls}
+use Rattle.answer_texts.specs.Answering.{IsCutOff}
+use Rattle.answer_texts.specs.Logs.{state_of}
+use Rattle.answer_texts.proofs.Answered.{not_used}
+use Rattle.answer_texts.proofs.Calls.{found_calls, handed_on}
+use Rattle.answer_texts.proofs.Stopped.{on_err}
 use Rattle.answer_texts.proofs.solved.solved_answer.Goals as goal
 
-pub returns-in-Ok-clause-stopped : goal.returns-in-Ok-clause-stopped
-returns-in-Ok-clause-stopped g c =
-    subst
-    (λ (r : Result Answer SolveStop).
-    IfErr r
-    (Stops c.args.stated.now c.args.budget c.args.name.now (told (g.K.Sink.taken c.args.sink.now) (g.K.Sink.names c.args.sink.now))
-    (told (g.K.Sink.taken c.logged_answer.new.sink) (g.K.Sink.names c.logged_answer.new.sink))))
-    (sym c.solved.ensures.answer)
-    (solved_stops c.args.stated.now c.args.budget c.args.name.now (told (g.K.Sink.taken c.args.sink.now) (g.K.Sink.names c.args.sink.now))
-    (told (g.K.Sink.taken c.logged_answer.new.sink) (g.K.Sink.names c.logged_answer.new.sink)) c.logged_answer.result c.in-Ok.ensures.solvable
-    c.logged_answer.ensures.stopped)
+pub returns-in_err-answer-in-Ok-clause-stopped : goal.returns-in_err-answer-in-Ok-clause-stopped
+returns-in_err-answer-in-Ok-clause-stopped g c =
+    let cut : IsCutOff c.args.stated.now c.args.budget c.args.name.now (state_of g.K.Sink.taken g.K.Sink.names c.args.sink.now) (state_of g.K.Sink.taken g.K.Sink.names c.logged_answer.new.sink) =
+    record { solvable = c.in-Ok.ensures.solvable; wrote = c.in_err-answer-in-Ok.ensures.stopped } in
+    on_err _ cut
 
-pub returns-in-Ok-clause-outcomes : goal.returns-in-Ok-clause-outcomes
-returns-in-Ok-clause-outcomes g c =
-    solved_calls (g.K.Sink.outcomes c.args.sink.now) (g.K.Sink.outcomes c.logged_answer.new.sink) c.logged_answer.result c.solved.result c.solved.ensures.answer c.logged_answer.ensures.outcomes
+pub returns-in_err-answer-in-Ok-clause-outcomes : goal.returns-in_err-answer-in-Ok-clause-outcomes
+returns-in_err-answer-in-Ok-clause-outcomes g c = handed_on _ _ c.logged_answer.result c.from_residual.result c.in_err-answer-in-Ok.field-0.0 (search rules) (search rules) c.logged_answer.ensures.outcomes
+
+pub returns-in_ok-answer-in-Ok-clause-outcomes : goal.returns-in_ok-answer-in-Ok-clause-outcomes
+returns-in_ok-answer-in-Ok-clause-outcomes g c = where_all _ _ (λ e. cc) (found_calls _ _ c.logged_answer.result c.in_ok-answer-in-Ok.answer (search rules) c.logged_answer.ensures.outcomes)
+
+pub returns-in-Err-clause-unused : goal.returns-in-Err-clause-unused
+returns-in-Err-clause-unused g c = not_used (state_of g.K.Sink.taken g.K.Sink.names c.args.sink.now)
 
 pub returns-in-Err-clause-outcomes : goal.returns-in-Err-clause-outcomes
 returns-in-Err-clause-outcomes g c = where_all _ _ (λ e. cc) no_call
