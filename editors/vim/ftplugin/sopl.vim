@@ -1,0 +1,7 @@
+" What Vim does with a text of sopl beside its colours.
+if exists("b:did_ftplugin")
+  finish
+endif
+let b:did_ftplugin = 1
+setlocal commentstring=//\ %s
+let b:undo_ftplugin = "setlocal commentstring<"
