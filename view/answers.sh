@@ -1,0 +1,348 @@
+# What is told beside an answer of `sopl`, for the scripts that run it: `./sopl` of the repository and bin/sopl of an installed copy.
+#
+# Who reads this file sets `program` to the program, `views` to the folder of this file, and `formats` to the file FORMATS.md, whose
+# tables are told from; calls `read_options` with its words and drops as many as that has counted; then calls `run_and_tell` where
+# something `is_told` and else the program; and calls `drop_notes` when it ends.
+
+# The folder of an answer that is told in words, which does not outlive the script.
+notes=
+drop_notes() {
+    rm -rf ${notes:+"$notes"}
+}
+
+# Ends with a status that is none of the program's, or with 2 where the words are not of the form.
+fail() {
+    echo "sopl: $2" >&2
+    exit "$1"
+}
+
+# The options of the scripts, which stand before the command.
+
+table=
+page=
+why=
+
+# Sets `table`, `page` and `why` by the words, and `options` to how many words these options are.
+read_options() {
+    options=0
+    while :; do
+        case $1 in
+            --table) table=1 ;;
+            --why) why=1 ;;
+            --page=?*) page=${1#--page=} ;;
+            --page)
+                [ -n "$2" ] || fail 2 'behind --page stands the FILE that the page goes to'
+                page=$2
+                options=$((options + 1))
+                shift
+                ;;
+            *) break ;;
+        esac
+        options=$((options + 1))
+        shift
+    done
+    [ -z "$table$page$why" ] || fit_options "$@"
+}
+
+# Ends where the options do not go with the command, or cannot be done here.
+fit_options() {
+    case $1 in
+        solve) ;;
+        tree) [ -z "$page$why" ] ;;
+        check) [ -z "$table$page" ] ;;
+        *) false ;;
+    esac || fail 2 "--table stands before 'solve' or 'tree', --page FILE before 'solve', --why before 'solve' or 'check'"
+    [ -z "$why" ] || [ "$1" = check ] || no_log "$@" ||
+        fail 2 "--why has a log of its own: leave --log out, or run 'solve --log FILE MODEL', and then '--why check MODEL FILE'"
+    [ -z "$page" ] || can_write "$page" || fail 70 "the page $page cannot be written"
+    [ -z "$page" ] || command -v python3 >/dev/null || fail 127 '--page asks for python3, which is not on this machine'
+}
+no_log() {
+    for word do
+        case $word in
+            --log | --log=*) return 1 ;;
+        esac
+    done
+}
+can_write() {
+    case $1 in
+        -*) return 1 ;;
+    esac
+    if [ -e "$1" ]; then [ -w "$1" ] && [ ! -d "$1" ]; else [ -w "$(dirname "$1")" ]; fi
+}
+
+# Whether anything is told beside the answer.
+is_told() {
+    [ -n "$table$page$why" ] || explains
+}
+
+# Whether answers are told in words.
+explains() {
+    [ "$SOPL_EXPLAIN" = 1 ] || { [ -z "$SOPL_EXPLAIN" ] && { [ -n "$table$page$why" ] || [ -t 2 ]; }; }
+}
+
+# The member of an answer that is a number, or a text of digits.
+member() {
+    printf '%s\n' "$2" | sed -n "s/.*\"$1\":\"\{0,1\}\([0-9]*\).*/\1/p"
+}
+
+# What a code means: the first table of FORMATS.md that has a line for it.
+meaning() {
+    awk -F ' *[|] *' -v code="$1" '$2 == code { print $3; exit }' "$formats"
+}
+
+# The forms of the words that end with this one: the first table of FORMATS.md.
+forms() {
+    awk -F ' *[|] *' -v last="$1" '
+        /^## / { in_words = ($0 == "## Words") }
+        in_words && $2 ~ /^`[a-z]/ && $2 ~ " " last "`$" { gsub(/`/, "\047", $2); forms = forms (forms == "" ? "" : " or ") $2 }
+        END { print forms }' "$formats"
+}
+
+# The file that stands at this place, 1 or 2, behind the command: of the words that are neither an option nor its value.
+file_at() {
+    behind=$1
+    [ "$#" -le 1 ] || shift
+    shift
+    while [ "$#" -gt 0 ]; do
+        case $1 in
+            --*=*) ;;
+            --*) [ "$#" -eq 1 ] || shift ;;
+            *)
+                [ "$behind" -gt 1 ] || { printf '%s\n' "$1"; return; }
+                behind=1
+                ;;
+        esac
+        shift
+    done
+}
+
+# What is told of a line of the log, the line, of which 200 bytes are shown, and, where it is not right, when such a line is, by the table
+# of FORMATS.md; where the log has no such line it ends before it. What comes by a pipe cannot be read once more.
+show_line() {
+    log=$(file_at 2 "$@")
+    told="$log:$at: $said"
+    case $log in
+        /*) ;;
+        *) log=./$log ;;
+    esac
+    if [ ! -f "$log" ]; then
+        echo "$told${node:+, node $node}"
+        return
+    fi
+    told=$told LC_ALL=C awk -v number="$at" -v node="$node" '
+        is_log && FNR == number {
+            sub(/\r$/, "")
+            kind = $1 == "s" ? "s .. " $(NF - 1) : $1 != "end" ? $1 : $2 == "bounded" && $3 == "none" ? "end bounded none" : "end " $2
+            where = node == "" ? "" : $1 == "end" ? ", behind " node " nodes" : ", in node " node
+            text = substr($0, 1, 200)
+            gsub(/[^ -~\t]/, "?", text)
+        }
+        is_log { lines = FNR; next }
+        /^##/ { in_rules = ($0 == "### When a log is right") }
+        node != "" && in_rules && index($0, "| `" kind "` | ") == 1 {
+            rule = $0
+            sub(/^[^|]*[|][^|]*[|] /, "", rule)
+            sub(/ [|]$/, "", rule)
+        }
+        END {
+            print ENVIRON["told"] where
+            print lines < number ? "(the log ends behind line " lines + 0 ")" : text
+            if (rule != "") print "`" kind "` is right where " rule
+        }' is_log=1 "$log" is_log= "$formats"
+}
+
+# What fails under a policy that does not satisfy.
+show_failing() {
+    case $(printf '%s\n' "$1" | sed -n 's/.*"what":"\([a-z]*\)".*/\1/p') in
+        hard) echo "hard constraint $(member instance "$1") is false in scenario $(member scenario "$1")" ;;
+        chance)
+            sum=$(printf '%s\n' "$1" | sed -n 's/.*"sum":"\([0-9]*\)\/\([0-9]*\)".*/\1 of \2/p')
+            echo "the scenarios in which chance constraint $(member instance "$1") is true weigh $sum, which is too little"
+            ;;
+        objective) echo "the objective has no value in scenario $(member scenario "$1")" ;;
+    esac
+}
+
+# The line and column of a place in the text, what is wrong there, and the line with a caret below the place.
+show_place() {
+    LC_ALL=C awk -v at="$1" -v name="$model" -v what="$2" '
+        { last = $0; number = NR; from = begin; begin += length($0) + 1 }
+        begin > at { shown = 1; exit }
+        END {
+            if (NR == 0) number = 1
+            else if (!shown) from = begin - length(last) - 1
+            column = at - from
+            printf "%s:%d:%d: %s\n%s\n", name, number, column + 1, what, last
+            before = substr(last, 1, column)
+            gsub(/[^\t]/, " ", before)
+            print before "^"
+        }' "$file"
+}
+
+# Says what stands in the text where an answer points: its code and place, or what log and tree an infeasible text has. A text above
+# 64 KiB is no beginner's, and takes awk long.
+advise() {
+    [ "$(wc -c <"$file")" -le 65536 ] || return 0
+    LC_ALL=C awk -v code="$1" -v at="$2" -v name="$model" -f "$views/text.awk" -f "$views/explain.awk" \
+        role=rows "$formats" role=text "$file" ${3:+role=log "$3" role=tree "$4"}
+}
+
+# Says of an infeasible text what closed the first box of its search, which the log of a search of one node has.
+explain_infeasible() {
+    "$program" solve --budget 1 --log "$notes/root" "$file" >/dev/null 2>&1
+    keep_tree
+    echo "$model: under no policy all constraints hold and the objective has a value (infeasible)"
+    advise infeasible '' "$notes/root" "$notes/tree"
+}
+
+# Tells an answer in words: its status, its text, and the words of the command line.
+explain() {
+    status=$1
+    answer=$2
+    shift 2
+    code=$(member code "$answer")
+    at=$(member at "$answer")
+    case $status in
+        0) [ "$answer" != '{"answer":"infeasible"}' ] || [ -z "$is_file" ] || explain_infeasible ;;
+        1)
+            if [ "$1" = eval ]; then
+                echo "$(file_at 2 "$@"): $(show_failing "$answer") (each counted from 0: constraints in text order, scenarios as 'tree' lists them)"
+                return
+            fi
+            at=$(member line "$answer")
+            node=$(member node "$answer")
+            said='this line is not right'
+            show_line "$@"
+            ;;
+        2)
+            echo "sopl: the words are $(forms MODEL), where MODEL is the file of a model and N is 1 to 4294967295," \
+                "or $(forms LOG), where LOG is the file of a log of the model," \
+                "or $(forms POLICY), where POLICY is the file of a policy of it"
+            echo 'sopl: before them may stand --table, --page FILE or --why, which tell more of an answer (docs/FORMATS.md)'
+            ;;
+        3)
+            if [ -n "$is_file" ]; then
+                show_place "$at" "$(meaning "$code") ($code)"
+                advise "$code" "$at"
+            else
+                echo "$model: at byte $at: $(meaning "$code") ($code)"
+            fi
+            ;;
+        4)
+            echo "$model: $(member counted "$answer") where $(member limit "$answer") is the limit: $(meaning "$code") ($code)"
+            [ -z "$is_file" ] || advise "$code" ''
+            ;;
+        6 | 7 | 8) echo "sopl: $(meaning "$status")" ;;
+        9)
+            node=
+            said="$(meaning "$code") ($code)"
+            if [ "$1" = eval ]; then echo "$(file_at 2 "$@"): at $at: $said"; else show_line "$@"; fi
+            ;;
+    esac
+}
+
+# Sets `model` to the model's name, `file` to that which stands for it where a command reads it, and `is_file` where it can be read once
+# more: what comes by a pipe cannot. A name with `=` in it is no file to awk.
+take_model() {
+    model=$(file_at 1 "$@")
+    case $model in
+        /*) file=$model ;;
+        *) file=./$model ;;
+    esac
+    [ -f "$file" ] && is_file=1 || is_file=
+}
+
+# Keeps the scenarios of the model, as `tree` prints them, where they can be had.
+keep_tree() {
+    [ -e "$notes/tree" ] || { [ -n "$is_file" ] && "$program" tree "$file" >"$notes/tree" 2>/dev/null; } || : >"$notes/tree"
+}
+
+# The policy of an answer, or the scenarios, as an indented list.
+show_table() {
+    [ "$command" = solve ] || : >"$notes/tree"
+    keep_tree
+    LC_ALL=C awk -f "$views/table.awk" role=answer "$notes/answer" role=tree "$notes/tree" role=table "$notes/answer"
+}
+
+# The policy of an answer as a page for a browser.
+write_page() {
+    keep_tree
+    python3 "$views/page.py" "$page" "$model" "${is_file:+$file}" "$notes/answer" "$notes/tree" && echo "sopl: the page is $page"
+}
+
+# What the nodes of a log were closed by. Of a text above 64 KiB no lines are told.
+count_reasons() {
+    text=$file
+    [ -n "$is_file" ] && [ "$(wc -c <"$file")" -le 65536 ] || text=/dev/null
+    LC_ALL=C awk -v name="$model" -f "$views/text.awk" -f "$views/why.awk" role=text "$text" role=tree "$notes/tree" role=log "$1"
+}
+
+# Has the log counted while the program writes it, into a pipe of which both ends are open before either is used, so that nobody waits for
+# the other to open it; once the program has ended and this script's own end is closed, the log ends.
+begin_reading() {
+    keep_tree
+    mkfifo "$notes/log" || exit 70
+    exec 3<>"$notes/log" 4<"$notes/log"
+    exec 3>"$notes/log"
+    (
+        # A redirection of the call itself would leave a copy of the writing end open here.
+        exec <&4 3>&- 4<&-
+        count_reasons - >"$notes/why"
+    ) &
+    reader=$!
+    exec 4<&-
+}
+end_reading() {
+    exec 3>&-
+    wait "$reader"
+}
+
+# What closed the nodes of the search, or of the log that was checked.
+show_why() {
+    if [ "$command" = solve ]; then
+        cat "$notes/why"
+        return
+    fi
+    keep_tree
+    log=$(file_at 2 "$@")
+    case $log in
+        /*) ;;
+        *) log=./$log ;;
+    esac
+    [ ! -f "$log" ] || count_reasons "$log"
+}
+
+# Tells an answer in the ways that are asked for: its status, and the words of the program.
+tell() {
+    status=$1
+    shift
+    ! explains || explain "$status" "$(head -c 1000 "$notes/answer")" "$@"
+    case $status in
+        0 | 5) ;;
+        *) return ;;
+    esac
+    [ -z "$table" ] || show_table
+    [ -z "$page" ] || write_page
+    [ -z "$why" ] || show_why "$@"
+}
+
+# Runs the program and tells its answer.
+run_and_tell() {
+    notes=$(mktemp -d) || exit 70
+    command=$1
+    take_model "$@"
+    if [ "$why$command" = 1solve ]; then
+        begin_reading
+        "$program" "$@" --log "$notes/log" >"$notes/answer" 3>&-
+        status=$?
+        end_reading
+    else
+        "$program" "$@" >"$notes/answer"
+        status=$?
+    fi
+    # Where standard output fails here, that is the program's status for it.
+    cat "$notes/answer" || return 7
+    tell "$status" "$@" >&2
+    return "$status"
+}
