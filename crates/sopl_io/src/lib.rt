@@ -6,6 +6,7 @@ mod fault;
 mod fault_plan;
 mod files;
 mod gather;
+mod gather_laws;
 mod give;
 mod memory_sink;
 mod memory_source;
@@ -16,6 +17,7 @@ mod transfer;
 
 pub use files::{FileSink, FileSource};
 pub use gather::Gather;
+pub use gather_laws::{fails_behind, flushes_all, gathered_follow, gathers_both};
 pub use memory_sink::MemSink;
 pub use memory_source::MemSource;
 pub use plain_source::PlainSource;
