@@ -4,13 +4,13 @@ use Rattle.std.proofs.lemmas.List.{append-nil, take_all, take_more, take-append-
 use Rattle.std.proofs.lemmas.Grind.{flat_map-append}
 use Rattle.std.specs.Prelude.{Result, Ok, Err, OnOk, OnErr}
 use Rattle.std.specs.Io.KnownBytes.{Appends}
-use Rattle.std.proofs.KnownBytes.{Appends-trans}
 use Rattle.sopl_base.specs.declared.reason.Step.{Step}
 use Rattle.log_rows.specs.declared.rows.Row.{Row}
 use Rattle.log_rows.specs.declared.rows.Footer.{Footer}
 use Rattle.sopl_io.specs.Transfer.{AppendsPrefix}
+use Rattle.sopl_io.specs.Gathered.{GathersAll}
+use Rattle.sopl_io.proofs.Gathering.{flushed_all, flushed_prefix, gathered_before, gathered_behind, gathered_both}
 use Rattle.log_rows.specs.Lines.{head_line, node_line, step_line, end_line, footer_line, row_lines, rows_lines, log_lines, ended, text_of}
-use Rattle.log_rows.proofs.Written.{prefix_of_second, prefix_of_first}
 
 -- lines behind lines
 pub text_append : (xs ys : List (List ℕ)) → text_of (xs ++ ys) ≡ text_of xs ++ text_of ys
@@ -44,25 +44,27 @@ steps_cut steps i d exists =
     ∙ (steps_append (take i steps) (drop i steps)
     ∙ ap (λ (xs : List Step). steps_text (take i steps) ++ steps_text xs) (drop_more steps i d exists))
 
-pub steps_more : (first now next : Option (List ℕ)) (steps : List Step) (i : ℕ) (d : Step) → i < length steps
-    → Appends first now (text_of (map step_line (take i steps))) → Appends now next (ended (step_line (get_or steps i d))) → Appends first next (text_of (map step_line (take (i + 1) steps)))
-steps_more first now next steps i d exists before more =
+pub steps_more : (first now next : Option (List ℕ)) (k j l : List ℕ) (steps : List Step) (i : ℕ) (d : Step) → i < length steps
+    → GathersAll first k now j (text_of (map step_line (take i steps))) → GathersAll now j next l (ended (step_line (get_or steps i d)))
+    → GathersAll first k next l (text_of (map step_line (take (i + 1) steps)))
+steps_more first now next k j l steps i d exists before more =
     let step = get_or steps i d in
-    subst (λ (xs : List Step). Appends first next (steps_text xs)) (sym (take_more steps i d exists))
-    (subst (Appends first next) (sym (steps_append (take i steps) (step ∷ []) ∙ ap (λ (l : List ℕ). steps_text (take i steps) ++ l) (text_one (step_line step))))
-    (Appends-trans first now next (steps_text (take i steps)) (ended (step_line step)) before more))
+    subst (λ (xs : List Step). GathersAll first k next l (steps_text xs)) (sym (take_more steps i d exists))
+    (subst (GathersAll first k next l) (sym (steps_append (take i steps) (step ∷ []) ∙ ap (λ (bytes : List ℕ). steps_text (take i steps) ++ bytes) (text_one (step_line step))))
+    (gathered_both first now next k j l (steps_text (take i steps)) (ended (step_line step)) before more))
 
-pub steps_prefix : (first now next : Option (List ℕ)) (steps : List Step) (i : ℕ) (d : Step) → i < length steps
-    → Appends first now (text_of (map step_line (take i steps))) → AppendsPrefix now next (ended (step_line (get_or steps i d))) → AppendsPrefix first next (text_of (map step_line steps))
-steps_prefix first now next steps i d exists before more =
+pub steps_prefix : (first now next : Option (List ℕ)) (k j : List ℕ) (steps : List Step) (i : ℕ) (d : Step) → i < length steps
+    → GathersAll first k now j (text_of (map step_line (take i steps))) → AppendsPrefix now next (j ++ ended (step_line (get_or steps i d)))
+    → AppendsPrefix first next (k ++ text_of (map step_line steps))
+steps_prefix first now next k j steps i d exists before more =
     let step = get_or steps i d in
-    subst (AppendsPrefix first next) (sym (steps_cut steps i d exists))
-    (prefix_of_second first now next (steps_text (take i steps)) (ended (step_line step) ++ steps_text (drop (i + 1) steps)) before
-    (prefix_of_first now next (ended (step_line step)) (steps_text (drop (i + 1) steps)) more))
+    subst (λ (l : List ℕ). AppendsPrefix first next (k ++ l)) (sym (steps_cut steps i d exists))
+    (gathered_behind first now next k j (steps_text (take i steps)) (ended (step_line step) ++ steps_text (drop (i + 1) steps)) before
+    (gathered_before now next j (ended (step_line step)) (steps_text (drop (i + 1) steps)) more))
 
-pub steps_all : (first now : Option (List ℕ)) (steps : List Step) (i : ℕ) → length steps ≤ i → Appends first now (text_of (map step_line (take i steps)))
-    → Appends first now (text_of (map step_line steps))
-steps_all first now steps i all before = subst (λ (xs : List Step). Appends first now (steps_text xs)) (take_all i steps all) before
+pub steps_all : (first now : Option (List ℕ)) (k j : List ℕ) (steps : List Step) (i : ℕ) → length steps ≤ i → GathersAll first k now j (text_of (map step_line (take i steps)))
+    → GathersAll first k now j (text_of (map step_line steps))
+steps_all first now k j steps i all before = subst (λ (xs : List Step). GathersAll first k now j (steps_text xs)) (take_all i steps all) before
 
 -- rows, one by one
 abbrev rows_text : ℕ → List Row → List ℕ
@@ -90,94 +92,119 @@ rows_cut rows i row exists is =
     ∙ (ap (λ (xs : List Row). rows_text 0 (take i rows) ++ rows_text i xs) (drop_more rows i row exists ∙ ap (λ (r : Row). r ∷ drop (i + 1) rows) (sym is))
     ∙ ap (λ (l : List ℕ). rows_text 0 (take i rows) ++ l) (text_append (row_lines i row) (rows_lines (suc i) (drop (i + 1) rows)))))
 
-pub rows_more : (first now next : Option (List ℕ)) (rows : List Row) (i : ℕ) (row : Row) → i < length rows → row ≡ get_or rows i row
-    → Appends first now (text_of (rows_lines 0 (take i rows))) → Appends now next (text_of (row_lines i row)) → Appends first next (text_of (rows_lines 0 (take (i + 1) rows)))
-rows_more first now next rows i row exists is before more =
-    subst (λ (xs : List Row). Appends first next (rows_text 0 xs)) (sym (take_more rows i row exists ∙ ap (λ (r : Row). take i rows ++ r ∷ []) (sym is)))
-    (subst (Appends first next) (sym (rows_first rows i (row ∷ []) (omega arith) ∙ ap (λ (l : List ℕ). rows_text 0 (take i rows) ++ l) (one_row i row)))
-    (Appends-trans first now next (rows_text 0 (take i rows)) (text_of (row_lines i row)) before more))
+pub rows_more : (first now next : Option (List ℕ)) (k j l : List ℕ) (rows : List Row) (i : ℕ) (row : Row) → i < length rows → row ≡ get_or rows i row
+    → GathersAll first k now j (text_of (rows_lines 0 (take i rows))) → GathersAll now j next l (text_of (row_lines i row))
+    → GathersAll first k next l (text_of (rows_lines 0 (take (i + 1) rows)))
+rows_more first now next k j l rows i row exists is before more =
+    subst (λ (xs : List Row). GathersAll first k next l (rows_text 0 xs)) (sym (take_more rows i row exists ∙ ap (λ (r : Row). take i rows ++ r ∷ []) (sym is)))
+    (subst (GathersAll first k next l) (sym (rows_first rows i (row ∷ []) (omega arith) ∙ ap (λ (bytes : List ℕ). rows_text 0 (take i rows) ++ bytes) (one_row i row)))
+    (gathered_both first now next k j l (rows_text 0 (take i rows)) (text_of (row_lines i row)) before more))
 
-pub rows_prefix : (first now next : Option (List ℕ)) (rows : List Row) (i : ℕ) (row : Row) → i < length rows → row ≡ get_or rows i row
-    → Appends first now (text_of (rows_lines 0 (take i rows))) → AppendsPrefix now next (text_of (row_lines i row)) → AppendsPrefix first next (text_of (rows_lines 0 rows))
-rows_prefix first now next rows i row exists is before more =
-    subst (AppendsPrefix first next) (sym (rows_cut rows i row exists is))
-    (prefix_of_second first now next (rows_text 0 (take i rows)) (text_of (row_lines i row) ++ rows_text (suc i) (drop (i + 1) rows)) before
-    (prefix_of_first now next (text_of (row_lines i row)) (rows_text (suc i) (drop (i + 1) rows)) more))
+pub rows_prefix : (first now next : Option (List ℕ)) (k j : List ℕ) (rows : List Row) (i : ℕ) (row : Row) → i < length rows → row ≡ get_or rows i row
+    → GathersAll first k now j (text_of (rows_lines 0 (take i rows))) → AppendsPrefix now next (j ++ text_of (row_lines i row))
+    → AppendsPrefix first next (k ++ text_of (rows_lines 0 rows))
+rows_prefix first now next k j rows i row exists is before more =
+    subst (λ (l : List ℕ). AppendsPrefix first next (k ++ l)) (sym (rows_cut rows i row exists is))
+    (gathered_behind first now next k j (rows_text 0 (take i rows)) (text_of (row_lines i row) ++ rows_text (suc i) (drop (i + 1) rows)) before
+    (gathered_before now next j (text_of (row_lines i row)) (rows_text (suc i) (drop (i + 1) rows)) more))
 
-pub rows_all : (first now : Option (List ℕ)) (rows : List Row) (i : ℕ) → length rows ≤ i → Appends first now (text_of (rows_lines 0 (take i rows))) → Appends first now (text_of (rows_lines 0 rows))
-rows_all first now rows i all before = subst (λ (xs : List Row). Appends first now (rows_text 0 xs)) (take_all i rows all) before
+pub rows_all : (first now : Option (List ℕ)) (k j : List ℕ) (rows : List Row) (i : ℕ) → length rows ≤ i → GathersAll first k now j (text_of (rows_lines 0 (take i rows)))
+    → GathersAll first k now j (text_of (rows_lines 0 rows))
+rows_all first now k j rows i all before = subst (λ (xs : List Row). GathersAll first k now j (rows_text 0 xs)) (take_all i rows all) before
 
--- a row that is written piece by piece, or where a piece fails
-node_fails : (a b : Option (List ℕ)) (first rest whole : List ℕ) → whole ≡ first ++ rest → AppendsPrefix a b first → AppendsPrefix a b whole
-node_fails a b first rest whole is prefix = subst (AppendsPrefix a b) (sym is) (prefix_of_first a b first rest prefix)
+-- a text that is gathered in three pieces, or where a piece fails
+first_fails : (a b : Option (List ℕ)) (k first rest whole : List ℕ) → whole ≡ first ++ rest → AppendsPrefix a b (k ++ first) → AppendsPrefix a b (k ++ whole)
+first_fails a b k first rest whole is prefix = subst (λ (l : List ℕ). AppendsPrefix a b (k ++ l)) (sym is) (gathered_before a b k first rest prefix)
 
-middle_fails : (a b c : Option (List ℕ)) (first second rest whole : List ℕ) → whole ≡ first ++ (second ++ rest) → Appends a b first → AppendsPrefix b c second → AppendsPrefix a c whole
-middle_fails a b c first second rest whole is done prefix =
-    subst (AppendsPrefix a c) (sym is) (prefix_of_second a b c first (second ++ rest) done (prefix_of_first b c second rest prefix))
+middle_fails : (a b c : Option (List ℕ)) (k j first second rest whole : List ℕ) → whole ≡ first ++ (second ++ rest) → GathersAll a k b j first → AppendsPrefix b c (j ++ second)
+    → AppendsPrefix a c (k ++ whole)
+middle_fails a b c k j first second rest whole is done prefix =
+    subst (λ (l : List ℕ). AppendsPrefix a c (k ++ l)) (sym is) (gathered_behind a b c k j first (second ++ rest) done (gathered_before b c j second rest prefix))
 
-last_fails : (a b c d : Option (List ℕ)) (first second third whole : List ℕ) → whole ≡ first ++ (second ++ third) → Appends a b first → Appends b c second → AppendsPrefix c d third
-    → AppendsPrefix a d whole
-last_fails a b c d first second third whole is done more prefix =
-    subst (AppendsPrefix a d) (sym is) (prefix_of_second a b d first (second ++ third) done (prefix_of_second b c d second third more prefix))
+last_fails : (a b c d : Option (List ℕ)) (k j l first second third whole : List ℕ) → whole ≡ first ++ (second ++ third) → GathersAll a k b j first → GathersAll b j c l second
+    → AppendsPrefix c d (l ++ third) → AppendsPrefix a d (k ++ whole)
+last_fails a b c d k j l first second third whole is done more prefix =
+    subst (λ (bytes : List ℕ). AppendsPrefix a d (k ++ bytes)) (sym is)
+    (gathered_behind a b d k j first (second ++ third) done (gathered_behind b c d j l second third more prefix))
 
-all_three : (a b c d : Option (List ℕ)) (first second third whole : List ℕ) → whole ≡ first ++ (second ++ third) → Appends a b first → Appends b c second → Appends c d third → Appends a d whole
-all_three a b c d first second third whole is done more last =
-    subst (Appends a d) (sym is) (Appends-trans a b d first (second ++ third) done (Appends-trans b c d second third more last))
+all_three : (a b c d : Option (List ℕ)) (k j l m first second third whole : List ℕ) → whole ≡ first ++ (second ++ third) → GathersAll a k b j first → GathersAll b j c l second
+    → GathersAll c l d m third → GathersAll a k d m whole
+all_three a b c d k j l m first second third whole is done more last =
+    subst (GathersAll a k d m) (sym is) (gathered_both a b d k j m first (second ++ third) done (gathered_both b c d j l m second third more last))
 
-pub row_fails_first : (a b : Option (List ℕ)) (number : ℕ) (row : Row) → AppendsPrefix a b (ended (node_line number row.parent)) → AppendsPrefix a b (text_of (row_lines number row))
-row_fails_first a b number row prefix =
-    node_fails a b (ended (node_line number row.parent)) (text_of (map step_line row.steps) ++ ended (end_line row.end)) (text_of (row_lines number row)) (row_text number row) prefix
+-- a row
+pub row_fails_first : (a b : Option (List ℕ)) (k : List ℕ) (number : ℕ) (row : Row) → AppendsPrefix a b (k ++ ended (node_line number row.parent))
+    → AppendsPrefix a b (k ++ text_of (row_lines number row))
+row_fails_first a b k number row prefix =
+    first_fails a b k (ended (node_line number row.parent)) (text_of (map step_line row.steps) ++ ended (end_line row.end)) (text_of (row_lines number row)) (row_text number row) prefix
 
-pub row_fails_second : (a b c : Option (List ℕ)) (number : ℕ) (row : Row) (steps : List Step) → steps ≡ row.steps → Appends a b (ended (node_line number row.parent))
-    → AppendsPrefix b c (text_of (map step_line steps)) → AppendsPrefix a c (text_of (row_lines number row))
-row_fails_second a b c number row steps same done prefix =
-    middle_fails a b c (ended (node_line number row.parent)) (text_of (map step_line row.steps)) (ended (end_line row.end)) (text_of (row_lines number row)) (row_text number row) done
-    (subst (λ (xs : List Step). AppendsPrefix b c (text_of (map step_line xs))) same prefix)
+pub row_fails_second : (a b c : Option (List ℕ)) (k j : List ℕ) (number : ℕ) (row : Row) (steps : List Step) → steps ≡ row.steps
+    → GathersAll a k b j (ended (node_line number row.parent)) → AppendsPrefix b c (j ++ text_of (map step_line steps))
+    → AppendsPrefix a c (k ++ text_of (row_lines number row))
+row_fails_second a b c k j number row steps same done prefix =
+    middle_fails a b c k j (ended (node_line number row.parent)) (text_of (map step_line row.steps)) (ended (end_line row.end)) (text_of (row_lines number row)) (row_text number row) done
+    (subst (λ (xs : List Step). AppendsPrefix b c (j ++ text_of (map step_line xs))) same prefix)
 
-pub row_fails_third : (a b c d : Option (List ℕ)) (number : ℕ) (row : Row) (steps : List Step) → steps ≡ row.steps → Appends a b (ended (node_line number row.parent))
-    → Appends b c (text_of (map step_line steps)) → AppendsPrefix c d (ended (end_line row.end)) → AppendsPrefix a d (text_of (row_lines number row))
-row_fails_third a b c d number row steps same done more prefix =
-    last_fails a b c d (ended (node_line number row.parent)) (text_of (map step_line row.steps)) (ended (end_line row.end)) (text_of (row_lines number row)) (row_text number row) done
-    (subst (λ (xs : List Step). Appends b c (text_of (map step_line xs))) same more) prefix
+row_fails_third : (a b c d : Option (List ℕ)) (k j l : List ℕ) (number : ℕ) (row : Row) (steps : List Step) → steps ≡ row.steps
+    → GathersAll a k b j (ended (node_line number row.parent)) → GathersAll b j c l (text_of (map step_line steps))
+    → AppendsPrefix c d (l ++ ended (end_line row.end)) → AppendsPrefix a d (k ++ text_of (row_lines number row))
+row_fails_third a b c d k j l number row steps same done more prefix =
+    last_fails a b c d k j l (ended (node_line number row.parent)) (text_of (map step_line row.steps)) (ended (end_line row.end)) (text_of (row_lines number row)) (row_text number row) done
+    (subst (λ (xs : List Step). GathersAll b j c l (text_of (map step_line xs))) same more) prefix
 
-pub row_written : (a b c d : Option (List ℕ)) (number : ℕ) (row : Row) (steps : List Step) → steps ≡ row.steps → Appends a b (ended (node_line number row.parent))
-    → Appends b c (text_of (map step_line steps)) → Appends c d (ended (end_line row.end)) → Appends a d (text_of (row_lines number row))
-row_written a b c d number row steps same done more last =
-    all_three a b c d (ended (node_line number row.parent)) (text_of (map step_line row.steps)) (ended (end_line row.end)) (text_of (row_lines number row)) (row_text number row) done
-    (subst (λ (xs : List Step). Appends b c (text_of (map step_line xs))) same more) last
-
-pub log_fails_first : (a b : Option (List ℕ)) (rows : List Row) (footer : Footer) → AppendsPrefix a b (ended head_line) → AppendsPrefix a b (text_of (log_lines rows footer))
-log_fails_first a b rows footer prefix =
-    node_fails a b (ended head_line) (text_of (rows_lines 0 rows) ++ ended (footer_line footer)) (text_of (log_lines rows footer)) (log_text rows footer) prefix
-
-pub log_fails_second : (a b c : Option (List ℕ)) (rows : List Row) (footer : Footer) → Appends a b (ended head_line) → AppendsPrefix b c (text_of (rows_lines 0 rows))
-    → AppendsPrefix a c (text_of (log_lines rows footer))
-log_fails_second a b c rows footer done prefix =
-    middle_fails a b c (ended head_line) (text_of (rows_lines 0 rows)) (ended (footer_line footer)) (text_of (log_lines rows footer)) (log_text rows footer) done prefix
-
-pub log_fails_third : (a b c d : Option (List ℕ)) (rows : List Row) (footer : Footer) → Appends a b (ended head_line) → Appends b c (text_of (rows_lines 0 rows))
-    → AppendsPrefix c d (ended (footer_line footer)) → AppendsPrefix a d (text_of (log_lines rows footer))
-log_fails_third a b c d rows footer done more prefix =
-    last_fails a b c d (ended head_line) (text_of (rows_lines 0 rows)) (ended (footer_line footer)) (text_of (log_lines rows footer)) (log_text rows footer) done more prefix
-
-pub log_written : (a b c d : Option (List ℕ)) (rows : List Row) (footer : Footer) → Appends a b (ended head_line) → Appends b c (text_of (rows_lines 0 rows)) → Appends c d (ended (footer_line footer))
-    → Appends a d (text_of (log_lines rows footer))
-log_written a b c d rows footer done more last =
-    all_three a b c d (ended head_line) (text_of (rows_lines 0 rows)) (ended (footer_line footer)) (text_of (log_lines rows footer)) (log_text rows footer) done more last
+row_gathered : (a b c d : Option (List ℕ)) (k j l m : List ℕ) (number : ℕ) (row : Row) (steps : List Step) → steps ≡ row.steps
+    → GathersAll a k b j (ended (node_line number row.parent)) → GathersAll b j c l (text_of (map step_line steps)) → GathersAll c l d m (ended (end_line row.end))
+    → GathersAll a k d m (text_of (row_lines number row))
+row_gathered a b c d k j l m number row steps same done more last =
+    all_three a b c d k j l m (ended (node_line number row.parent)) (text_of (map step_line row.steps)) (ended (end_line row.end)) (text_of (row_lines number row)) (row_text number row) done
+    (subst (λ (xs : List Step). GathersAll b j c l (text_of (map step_line xs))) same more) last
 
 -- the last piece is a call whose outcome is handed on
-pub row_ends : {T E : Type 0} (a b c d : Option (List ℕ)) (number : ℕ) (row : Row) (steps : List Step) (result : Result T E) → steps ≡ row.steps → Appends a b (ended (node_line number row.parent))
-    → Appends b c (text_of (map step_line steps))
-    → OnErr result (AppendsPrefix c d (ended (end_line row.end))) → OnErr result (AppendsPrefix a d (text_of (row_lines number row)))
-row_ends a b c d number row steps (Ok value) same done more last = tt
-row_ends a b c d number row steps (Err error) same done more last = row_fails_third a b c d number row steps same done more last
+pub row_ends_whole : {T E : Type 0} (a b c d : Option (List ℕ)) (k j l m : List ℕ) (number : ℕ) (row : Row) (steps : List Step) (result : Result T E) → steps ≡ row.steps
+    → GathersAll a k b j (ended (node_line number row.parent)) → GathersAll b j c l (text_of (map step_line steps)) → OnOk result (GathersAll c l d m (ended (end_line row.end)))
+    → OnOk result (GathersAll a k d m (text_of (row_lines number row)))
+row_ends_whole a b c d k j l m number row steps (Ok value) same done more last = row_gathered a b c d k j l m number row steps same done more last
+row_ends_whole a b c d k j l m number row steps (Err error) same done more last = tt
 
-pub log_ends_whole : {T E : Type 0} (a b c d : Option (List ℕ)) (rows : List Row) (footer : Footer) (result : Result T E) → Appends a b (ended head_line) → Appends b c (text_of (rows_lines 0 rows))
-    → OnOk result (Appends c d (ended (footer_line footer))) → OnOk result (Appends a d (text_of (log_lines rows footer)))
-log_ends_whole a b c d rows footer (Ok value) done more last = log_written a b c d rows footer done more last
-log_ends_whole a b c d rows footer (Err error) done more last = tt
+pub row_ends : {T E : Type 0} (a b c d : Option (List ℕ)) (k j l : List ℕ) (number : ℕ) (row : Row) (steps : List Step) (result : Result T E) → steps ≡ row.steps
+    → GathersAll a k b j (ended (node_line number row.parent)) → GathersAll b j c l (text_of (map step_line steps)) → OnErr result (AppendsPrefix c d (l ++ ended (end_line row.end)))
+    → OnErr result (AppendsPrefix a d (k ++ text_of (row_lines number row)))
+row_ends a b c d k j l number row steps (Ok value) same done more last = tt
+row_ends a b c d k j l number row steps (Err error) same done more last = row_fails_third a b c d k j l number row steps same done more last
 
-pub log_ends : {T E : Type 0} (a b c d : Option (List ℕ)) (rows : List Row) (footer : Footer) (result : Result T E) → Appends a b (ended head_line) → Appends b c (text_of (rows_lines 0 rows))
-    → OnErr result (AppendsPrefix c d (ended (footer_line footer))) → OnErr result (AppendsPrefix a d (text_of (log_lines rows footer)))
-log_ends a b c d rows footer (Ok value) done more last = tt
-log_ends a b c d rows footer (Err error) done more last = log_fails_third a b c d rows footer done more last
+-- a log
+pub log_fails_first : (a b : Option (List ℕ)) (k : List ℕ) (rows : List Row) (footer : Footer) → AppendsPrefix a b (k ++ ended head_line)
+    → AppendsPrefix a b (k ++ text_of (log_lines rows footer))
+log_fails_first a b k rows footer prefix =
+    first_fails a b k (ended head_line) (text_of (rows_lines 0 rows) ++ ended (footer_line footer)) (text_of (log_lines rows footer)) (log_text rows footer) prefix
+
+pub log_fails_second : (a b c : Option (List ℕ)) (k j : List ℕ) (rows : List Row) (footer : Footer) → GathersAll a k b j (ended head_line)
+    → AppendsPrefix b c (j ++ text_of (rows_lines 0 rows)) → AppendsPrefix a c (k ++ text_of (log_lines rows footer))
+log_fails_second a b c k j rows footer done prefix =
+    middle_fails a b c k j (ended head_line) (text_of (rows_lines 0 rows)) (ended (footer_line footer)) (text_of (log_lines rows footer)) (log_text rows footer) done prefix
+
+pub log_ends_whole : {T E : Type 0} (a b c d : Option (List ℕ)) (k j l m : List ℕ) (rows : List Row) (footer : Footer) (result : Result T E) → GathersAll a k b j (ended head_line)
+    → GathersAll b j c l (text_of (rows_lines 0 rows)) → OnOk result (GathersAll c l d m (ended (footer_line footer))) → OnOk result (GathersAll a k d m (text_of (log_lines rows footer)))
+log_ends_whole a b c d k j l m rows footer (Ok value) done more last =
+    all_three a b c d k j l m (ended head_line) (text_of (rows_lines 0 rows)) (ended (footer_line footer)) (text_of (log_lines rows footer)) (log_text rows footer) done more last
+log_ends_whole a b c d k j l m rows footer (Err error) done more last = tt
+
+pub log_ends : {T E : Type 0} (a b c d : Option (List ℕ)) (k j l : List ℕ) (rows : List Row) (footer : Footer) (result : Result T E) → GathersAll a k b j (ended head_line)
+    → GathersAll b j c l (text_of (rows_lines 0 rows)) → OnErr result (AppendsPrefix c d (l ++ ended (footer_line footer))) → OnErr result (AppendsPrefix a d (k ++ text_of (log_lines rows footer)))
+log_ends a b c d k j l rows footer (Ok value) done more last = tt
+log_ends a b c d k j l rows footer (Err error) done more last =
+    last_fails a b c d k j l (ended head_line) (text_of (rows_lines 0 rows)) (ended (footer_line footer)) (text_of (log_lines rows footer)) (log_text rows footer) done more last
+
+-- a text that is gathered where nothing was kept, and then written
+pub text_fails : (a b : Option (List ℕ)) (k text : List ℕ) → k ≡ [] → AppendsPrefix a b (k ++ text) → AppendsPrefix a b text
+text_fails a b k text none prefix = subst (λ (l : List ℕ). AppendsPrefix a b (l ++ text)) none prefix
+
+pub text_flushed : {T E : Type 0} (a b c : Option (List ℕ)) (k j text : List ℕ) (result : Result T E) → k ≡ [] → GathersAll a k b j text → OnOk result (Appends b c j)
+    → OnOk result (Appends a c text)
+text_flushed a b c k j text (Ok value) none gathered rest = subst (λ (l : List ℕ). Appends a c (l ++ text)) none (flushed_all a b c k j text gathered rest)
+text_flushed a b c k j text (Err error) none gathered rest = tt
+
+pub text_flush_fails : {T E : Type 0} (a b c : Option (List ℕ)) (k j text : List ℕ) (result : Result T E) → k ≡ [] → GathersAll a k b j text → OnErr result (AppendsPrefix b c j)
+    → OnErr result (AppendsPrefix a c text)
+text_flush_fails a b c k j text (Ok value) none gathered some = tt
+text_flush_fails a b c k j text (Err error) none gathered some = text_fails a c k text none (flushed_prefix a b c k j text gathered some)

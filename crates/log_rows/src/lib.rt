@@ -1,5 +1,5 @@
 //! The rows of a log: the tree of a search as a table, a row for each node, what they claim, and the lines in which they are written. Lines
-//! go to a sink one by one, and take no memory.
+//! are gathered before a sink takes them, and want no memory of their own.
 #![tactic(auto)]
 
 mod line;

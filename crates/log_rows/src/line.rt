@@ -1,7 +1,7 @@
 //! A line of a log while it is made.
 
 ghost use Rattle.std.specs.Prelude.{◌≡◌, ◌+◌, ◌≤◌, ◌<◌, ◌++◌, length, [], OnOk, OnErr};
-ghost use Rattle.std.specs.Io.KnownBytes.{Appends};
+ghost use Rattle.sopl_io.specs.Gathered.{GathersAll};
 ghost use Rattle.sopl_io.specs.Calls.{StopsAtFailure};
 ghost use Rattle.sopl_io.specs.Causes.{HasCause};
 ghost use Rattle.sopl_io.specs.Transfer.{AppendsPrefix};
@@ -9,7 +9,7 @@ ghost use Rattle.log_rows.specs.Lines.{ended};
 
 use arrayvec::ArrayString;
 use itoa::{Buffer, Integer};
-use sopl_io::{Failed, Sink, write_all};
+use sopl_io::{Failed, Gather, Sink};
 use std::marker::Model;
 
 /// The bytes of a line, in the value itself: no line of a log has more than 192.
@@ -63,15 +63,16 @@ impl Line {
 
     /// Writes the line and its end.
     #[tactic(auto, using(crate::proofs::Written::ended_all, crate::proofs::Written::ended_prefix))]
-    pub fn put<K: Sink>(mut self, sink: &mut K) -> Result<(), Failed>
+    pub fn put<K: Sink>(mut self, gather: &mut Gather, sink: &mut K) -> Result<(), Failed>
         requires room { length self < 192 }
-        ensures all { OnOk result (Appends (K.taken sink.old) (K.taken sink.new) (ended self)) }
-        ensures prefix { OnErr result (AppendsPrefix (K.taken sink.old) (K.taken sink.new) (ended self)) }
+        ensures all { OnOk result (GathersAll (K.taken sink.old) gather.old.kept (K.taken sink.new) gather.new.kept (ended self)) }
+        ensures prefix { OnErr result (AppendsPrefix (K.taken sink.old) (K.taken sink.new) (gather.old.kept ++ ended self)) }
+        ensures size { gather.new.size ≡ gather.old.size }
         ensures names { K.names sink.new ≡ K.names sink.old }
         ensures outcomes { StopsAtFailure (K.outcomes sink.old) (K.outcomes sink.new) result }
         ensures cause { HasCause (K.faults sink.old) (K.faults sink.new) result }
     {
         self.text("\n");
-        write_all(sink, self.text.as_str().as_bytes())
+        gather.put(sink, self.text.as_str().as_bytes())
     }
 }

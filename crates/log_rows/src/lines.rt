@@ -1,7 +1,7 @@
 //! The lines of a log, one by one.
 
 ghost use Rattle.std.specs.Prelude.{◌≡◌, ◌+◌, ◌≤◌, ◌++◌, length, codes, decimal, OnOk, OnErr};
-ghost use Rattle.std.specs.Io.KnownBytes.{Appends};
+ghost use Rattle.sopl_io.specs.Gathered.{GathersAll};
 ghost use Rattle.std.specs.Fmt.{signed_decimal};
 ghost use Rattle.sopl_io.specs.Calls.{StopsAtFailure};
 ghost use Rattle.sopl_io.specs.Causes.{HasCause};
@@ -11,27 +11,36 @@ ghost use Rattle.log_rows.specs.Lines.{head_line, side_letter, parent_text, node
 use crate::line::Line;
 use crate::rows::{Cut, EndLine, Footer, Parent};
 use sopl_base::{Reason, Side, Step};
-use sopl_io::{Failed, Sink};
+use sopl_io::{Failed, Gather, Sink};
 
 /// Writes the first line.
 #[tactic(auto, using(crate::proofs::Written::same_all, crate::proofs::Written::same_prefix))]
-pub fn put_head<K: Sink>(sink: &mut K) -> Result<(), Failed>
-    ensures all { OnOk result (Appends (K.taken sink.old) (K.taken sink.new) (ended head_line)) }
-    ensures prefix { OnErr result (AppendsPrefix (K.taken sink.old) (K.taken sink.new) (ended head_line)) }
+pub fn put_head<K: Sink>(gather: &mut Gather, sink: &mut K) -> Result<(), Failed>
+    ensures all { OnOk result (GathersAll (K.taken sink.old) gather.old.kept (K.taken sink.new) gather.new.kept (ended head_line)) }
+    ensures prefix { OnErr result (AppendsPrefix (K.taken sink.old) (K.taken sink.new) (gather.old.kept ++ ended head_line)) }
+    ensures size { gather.new.size ≡ gather.old.size }
     ensures names { K.names sink.new ≡ K.names sink.old }
     ensures outcomes { StopsAtFailure (K.outcomes sink.old) (K.outcomes sink.new) result }
     ensures cause { HasCause (K.faults sink.old) (K.faults sink.new) result }
 {
     let mut line = Line::new();
     line.text("sopl-log 1");
-    line.put(sink)
+    line.put(gather, sink)
 }
 
 /// Writes a node's number, and what it is.
 #[tactic(auto, using(crate::proofs::Written::same_all, crate::proofs::Written::same_prefix))]
-pub fn put_node<K: Sink>(sink: &mut K, number: u64, parent: Option<Parent>) -> Result<(), Failed>
-    ensures all { OnOk result (Appends (K.taken sink.old) (K.taken sink.new) (ended (node_line number parent))) }
-    ensures prefix { OnErr result (AppendsPrefix (K.taken sink.old) (K.taken sink.new) (ended (node_line number parent))) }
+pub fn put_node<K: Sink>(
+    gather: &mut Gather,
+    sink: &mut K,
+    number: u64,
+    parent: Option<Parent>,
+) -> Result<(), Failed>
+    ensures all { OnOk result
+        (GathersAll (K.taken sink.old) gather.old.kept (K.taken sink.new) gather.new.kept (ended (node_line number parent))) }
+    ensures prefix { OnErr result
+        (AppendsPrefix (K.taken sink.old) (K.taken sink.new) (gather.old.kept ++ ended (node_line number parent))) }
+    ensures size { gather.new.size ≡ gather.old.size }
     ensures names { K.names sink.new ≡ K.names sink.old }
     ensures outcomes { StopsAtFailure (K.outcomes sink.old) (K.outcomes sink.new) result }
     ensures cause { HasCause (K.faults sink.old) (K.faults sink.new) result }
@@ -40,49 +49,56 @@ pub fn put_node<K: Sink>(sink: &mut K, number: u64, parent: Option<Parent>) -> R
     line.text("n ");
     line.number(number);
     add_parent(&mut line, parent);
-    line.put(sink)
+    line.put(gather, sink)
 }
 
 /// Writes a step.
 #[tactic(auto, using(crate::proofs::Written::same_all, crate::proofs::Written::same_prefix))]
-pub fn put_step<K: Sink>(sink: &mut K, step: &Step) -> Result<(), Failed>
-    ensures all { OnOk result (Appends (K.taken sink.old) (K.taken sink.new) (ended (step_line step.now))) }
-    ensures prefix { OnErr result (AppendsPrefix (K.taken sink.old) (K.taken sink.new) (ended (step_line step.now))) }
+pub fn put_step<K: Sink>(gather: &mut Gather, sink: &mut K, step: &Step) -> Result<(), Failed>
+    ensures all { OnOk result
+        (GathersAll (K.taken sink.old) gather.old.kept (K.taken sink.new) gather.new.kept (ended (step_line step.now))) }
+    ensures prefix { OnErr result (AppendsPrefix (K.taken sink.old) (K.taken sink.new) (gather.old.kept ++ ended (step_line step.now))) }
+    ensures size { gather.new.size ≡ gather.old.size }
     ensures names { K.names sink.new ≡ K.names sink.old }
     ensures outcomes { StopsAtFailure (K.outcomes sink.old) (K.outcomes sink.new) result }
     ensures cause { HasCause (K.faults sink.old) (K.faults sink.new) result }
 {
     let mut line = Line::new();
     add_step(&mut line, step);
-    line.put(sink)
+    line.put(gather, sink)
 }
 
 /// Writes a node's end.
 #[tactic(auto, using(crate::proofs::Written::same_all, crate::proofs::Written::same_prefix))]
-pub fn put_end<K: Sink>(sink: &mut K, end: &EndLine) -> Result<(), Failed>
-    ensures all { OnOk result (Appends (K.taken sink.old) (K.taken sink.new) (ended (end_line end.now))) }
-    ensures prefix { OnErr result (AppendsPrefix (K.taken sink.old) (K.taken sink.new) (ended (end_line end.now))) }
+pub fn put_end<K: Sink>(gather: &mut Gather, sink: &mut K, end: &EndLine) -> Result<(), Failed>
+    ensures all { OnOk result
+        (GathersAll (K.taken sink.old) gather.old.kept (K.taken sink.new) gather.new.kept (ended (end_line end.now))) }
+    ensures prefix { OnErr result (AppendsPrefix (K.taken sink.old) (K.taken sink.new) (gather.old.kept ++ ended (end_line end.now))) }
+    ensures size { gather.new.size ≡ gather.old.size }
     ensures names { K.names sink.new ≡ K.names sink.old }
     ensures outcomes { StopsAtFailure (K.outcomes sink.old) (K.outcomes sink.new) result }
     ensures cause { HasCause (K.faults sink.old) (K.faults sink.new) result }
 {
     let mut line = Line::new();
     add_end(&mut line, end);
-    line.put(sink)
+    line.put(gather, sink)
 }
 
 /// Writes what the log claims.
 #[tactic(auto, using(crate::proofs::Written::same_all, crate::proofs::Written::same_prefix))]
-pub fn put_footer<K: Sink>(sink: &mut K, footer: &Footer) -> Result<(), Failed>
-    ensures all { OnOk result (Appends (K.taken sink.old) (K.taken sink.new) (ended (footer_line footer.now))) }
-    ensures prefix { OnErr result (AppendsPrefix (K.taken sink.old) (K.taken sink.new) (ended (footer_line footer.now))) }
+pub fn put_footer<K: Sink>(gather: &mut Gather, sink: &mut K, footer: &Footer) -> Result<(), Failed>
+    ensures all { OnOk result
+        (GathersAll (K.taken sink.old) gather.old.kept (K.taken sink.new) gather.new.kept (ended (footer_line footer.now))) }
+    ensures prefix { OnErr result
+        (AppendsPrefix (K.taken sink.old) (K.taken sink.new) (gather.old.kept ++ ended (footer_line footer.now))) }
+    ensures size { gather.new.size ≡ gather.old.size }
     ensures names { K.names sink.new ≡ K.names sink.old }
     ensures outcomes { StopsAtFailure (K.outcomes sink.old) (K.outcomes sink.new) result }
     ensures cause { HasCause (K.faults sink.old) (K.faults sink.new) result }
 {
     let mut line = Line::new();
     add_footer(&mut line, footer);
-    line.put(sink)
+    line.put(gather, sink)
 }
 
 /// Adds what a node is: the root, or a side of a node.

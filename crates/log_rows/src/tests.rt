@@ -1,6 +1,6 @@
 use super::*;
 use sopl_base::{Reason, Side, Step, Steps};
-use sopl_io::MemSink;
+use sopl_io::{Gather, MemSink};
 use std::alloc::{AllocError, Global};
 use std::test::Fail;
 
@@ -110,8 +110,9 @@ fn logs_are_written(rt: HostRuntime) -> Result<(), Fail> {
     let alloc = rt.alloc();
     let rows = sample(alloc)?;
     for (footer, last) in CLAIMS {
+        let mut gather = Gather::new(alloc, 64)?;
         let mut sink = MemSink::new(alloc, 512, Vec::new(alloc))?;
-        put_log(&mut sink, &rows, &footer)?;
+        put_log(&mut gather, &mut sink, &rows, &footer)?;
         let expected = format!(in alloc; "{LINES}{last}")?;
         assert_eq!(rt; sink.bytes(), expected.as_bytes());
     }
@@ -123,11 +124,28 @@ fn a_full_sink_has_a_prefix(rt: HostRuntime) -> Result<(), Fail> {
     let alloc = rt.alloc();
     let rows = sample(alloc)?;
     for room in [0, 5, 40] {
+        let mut gather = Gather::new(alloc, 64)?;
         let mut sink = MemSink::new(alloc, room, Vec::new(alloc))?;
-        let outcome = put_log(&mut sink, &rows, &Footer::Infeasible);
+        let outcome = put_log(&mut gather, &mut sink, &rows, &Footer::Infeasible);
         assert!(rt; outcome.is_err());
         assert_eq!(rt; sink.bytes().len(), room);
         assert!(rt; LINES.as_bytes().starts_with(sink.bytes()));
+    }
+    Ok(())
+}
+
+// The lines of the first row stay with the gathered bytes where these are many, and go to the sink where they are few.
+#[test]
+fn lines_are_kept_until_there_is_no_room(rt: HostRuntime) -> Result<(), Fail> {
+    let alloc = rt.alloc();
+    for (size, before) in [(16, "sopl-log 1\nn 0 r"), (4096, "")] {
+        let mut gather = Gather::new(alloc, size)?;
+        let mut sink = MemSink::new(alloc, 512, Vec::new(alloc))?;
+        put_head(&mut gather, &mut sink)?;
+        put_node(&mut gather, &mut sink, 0, None)?;
+        assert_eq!(rt; sink.bytes(), before.as_bytes(), "{size}");
+        gather.flush(&mut sink)?;
+        assert_eq!(rt; sink.bytes(), b"sopl-log 1\nn 0 r\n".as_slice(), "{size}");
     }
     Ok(())
 }

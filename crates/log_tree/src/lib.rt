@@ -15,7 +15,9 @@ mod words;
 mod written;
 
 pub use laws::{readings_are_texts, readings_are_unique, texts_are_read};
-pub use log_rows::{Cut, EndLine, Footer, Parent, Row};
+pub use log_rows::{
+    Cut, EndLine, Footer, Parent, Row, put_end, put_footer, put_head, put_node, put_step,
+};
 pub use reader::{Log, read_log};
 pub use written::{write_log, written_is_read};
 

@@ -1,6 +1,6 @@
 use super::*;
 use sopl_base::Fault;
-use sopl_io::MemSink;
+use sopl_io::{Gather, MemSink};
 use std::alloc::{AllocError, Global};
 use std::test::Fail;
 
@@ -128,9 +128,12 @@ fn what_is_read_is_written_again(rt: HostRuntime) -> Result<(), Fail> {
     let Ok(log) = read_log(alloc, EACH_KIND.as_bytes()) else {
         panic!(rt; "not read")
     };
-    let mut sink = MemSink::new(alloc, 512, Vec::new(alloc))?;
     readings_are_texts();
-    write_log(&log, &mut sink)?;
-    assert_eq!(rt; sink.bytes(), EACH_KIND.as_bytes());
+    for size in [1, 7, 65536] {
+        let mut gather = Gather::new(alloc, size)?;
+        let mut sink = MemSink::new(alloc, 512, Vec::new(alloc))?;
+        write_log(&log, &mut gather, &mut sink)?;
+        assert_eq!(rt; sink.bytes(), EACH_KIND.as_bytes(), "{size}");
+    }
     Ok(())
 }

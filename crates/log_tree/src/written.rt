@@ -1,6 +1,6 @@
 //! A log, written as its text; and that this text is read as the log.
 
-ghost use Rattle.std.specs.Prelude.{◌≡◌, ◌<◌, ◌^◌, All, OnOk, OnErr, length};
+ghost use Rattle.std.specs.Prelude.{◌≡◌, ◌<◌, ◌^◌, [], All, OnOk, OnErr, length};
 ghost use Rattle.std.specs.Io.KnownBytes.{Appends};
 ghost use Rattle.sopl_io.specs.Calls.{StopsAtFailure};
 ghost use Rattle.sopl_io.specs.Causes.{HasCause};
@@ -16,20 +16,23 @@ use crate::fitting::{end_fits, footer_fits, parent_fits, step_fits};
 use crate::reader::Log;
 use log_rows::{Row, put_log};
 use sopl_base::Step;
-use sopl_io::{Failed, Sink};
+use sopl_io::{Failed, Gather, Sink};
 
-/// Writes a log: its first line, the lines of its rows in their order and that of its claim, each with a line feed. It asks for rows in order:
-/// each but the first names an earlier row that is split, and each side of a row stands once at most.
-pub fn write_log<K: Sink>(log: &Log, sink: &mut K) -> Result<(), Failed>
+/// Writes a log through gathered bytes: its first line, the lines of its rows in their order and that of its claim, each with a line feed. It
+/// asks for rows in order: each but the first names an earlier row that is split, and each side of a row stands once at most.
+pub fn write_log<K: Sink>(log: &Log, gather: &mut Gather, sink: &mut K) -> Result<(), Failed>
+    requires none_kept { gather.old.kept ≡ [] }
     requires ordered { AreOrdered log.now.rows.items }
     requires at_least_one { 0 < length log.now.rows.items }
     ensures all { OnOk result (Appends (K.taken sink.old) (K.taken sink.new) (text_of (log_lines log.now.rows.items log.now.footer))) }
+    ensures kept { OnOk result (gather.new.kept ≡ []) }
     ensures prefix { OnErr result (AppendsPrefix (K.taken sink.old) (K.taken sink.new) (text_of (log_lines log.now.rows.items log.now.footer))) }
+    ensures size { gather.new.size ≡ gather.old.size }
     ensures names { K.names sink.new ≡ K.names sink.old }
     ensures outcomes { StopsAtFailure (K.outcomes sink.old) (K.outcomes sink.new) result }
     ensures cause { HasCause (K.faults sink.old) (K.faults sink.new) result }
 {
-    put_log(sink, log.rows.as_slice(), &log.footer)
+    put_log(gather, sink, log.rows.as_slice(), &log.footer)
 }
 
 /// What is written of a log is the text of a log, and is read as the same rows and the same claim where none of the rows lies too deep. The

@@ -22,7 +22,7 @@ use crate::outcome::Outcome;
 use crate::posed::SearchProblem;
 use crate::tree::Tree;
 use sopl_base::SearchStop;
-use sopl_io::Sink;
+use sopl_io::{Gather, Sink};
 use std::alloc::{AllocError, Global};
 
 /// A search with one open node, whose box is that of all points.
@@ -123,10 +123,13 @@ fn searched<P: SearchProblem>(
     grown::<P>(alloc, program, frontier, more)
 }
 
+/// How many bytes of a log are kept before they are written.
+const GATHERED: usize = 65_536;
+
 /// Searches the box of all points for the best point that satisfies, over the nodes of a tree of boxes; no more than `budget` of them are
 /// finished. Propagators narrow the box of a node until they rest; then it is cut in the middle of the first cell that has more than one
 /// value, and the low half is searched first. Without an objective any point that satisfies is the best one. The sink takes the log of the search
-/// when it has ended.
+/// when it has ended, in pieces of 65,536 bytes.
 pub fn search<P: SearchProblem + Drop, K: Sink>(
     alloc: Global,
     program: &P::Program,
@@ -152,7 +155,8 @@ pub fn search<P: SearchProblem + Drop, K: Sink>(
     ensures write { result ≡ Err Write → Rose (K.faults sink.old) (K.faults sink.new) }
     ensures outcomes { StopsWhere (result ≡ Err Write) (K.outcomes sink.old) (K.outcomes sink.new) }
 {
+    let mut gather = Gather::new(alloc, GATHERED)?;
     let mut props = props;
     let tree = searched(alloc, program, props.as_mut_slice(), budget)?;
-    tree.written(sink)
+    tree.written(&mut gather, sink)
 }

@@ -131,9 +131,9 @@ fn is_found(found: &Option<Found>, want: Option<(i128, [i64; 2])>) -> bool {
     }
 }
 
-/// A sink without bytes; the calls with these numbers fail.
+/// A sink without bytes, which takes nine at once; the calls with these numbers fail.
 fn empty_sink(alloc: Global, failing: &[u64]) -> Result<MemSink, AllocError> {
-    MemSink::new(alloc, 1000, Vec::from_slice(alloc, failing)?)
+    MemSink::dribbling(alloc, 1000, Vec::from_slice(alloc, failing)?, 9)
 }
 
 #[test]
@@ -198,7 +198,7 @@ fn logs(rt: HostRuntime) {
 
 #[test]
 fn faults(rt: HostRuntime) {
-    for (failing, log) in [(0, ""), (2, "sopl-log 1\nn 0 r\n")] {
+    for (failing, log) in [(0, ""), (2, "sopl-log 1\nn 0 r\nv")] {
         if let Some(pair) = near_pair((3, 3), (4, 4)) {
             let mut sink = empty_sink(rt.alloc(), &[failing]).expect(&rt, "memory");
             let stopped = outcome_of(rt.alloc(), &pair, 1, &mut sink);

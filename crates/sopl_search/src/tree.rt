@@ -1,6 +1,6 @@
 //! The tree of a search.
 
-ghost use Rattle.std.specs.Prelude.{◌≡◌, IfOk, OnOk, OnErr, Err};
+ghost use Rattle.std.specs.Prelude.{◌≡◌, [], IfOk, OnOk, OnErr, Err};
 ghost use Rattle.std.specs.Io.KnownBytes.{Appends};
 ghost use Rattle.sopl_io.specs.Calls.{StopsAtFailure};
 ghost use Rattle.sopl_io.specs.Causes.{HasCause};
@@ -13,7 +13,7 @@ ghost use Rattle.sopl_search.specs.Logged.{footer_of};
 use crate::outcome::Outcome;
 use log_rows::{Row, put_log};
 use sopl_base::SearchStop;
-use sopl_io::Sink;
+use sopl_io::{Gather, Sink};
 
 /// What a search answers, and the rows of its nodes.
 #[derive(Drop)]
@@ -23,8 +23,13 @@ pub(crate) struct Tree {
 }
 
 impl Tree {
-    /// Writes the tree as a log, and gives the outcome.
-    pub(crate) fn written<K: Sink>(self, sink: &mut K) -> Result<Outcome, SearchStop>
+    /// Writes the tree as a log, through bytes of which none is kept yet, and gives the outcome.
+    pub(crate) fn written<K: Sink>(
+        self,
+        gather: &mut Gather,
+        sink: &mut K,
+    ) -> Result<Outcome, SearchStop>
+        requires none_kept { gather.old.kept ≡ [] }
         ensures outcome { IfOk result (λ outcome. outcome ≡ self.outcome) }
         ensures fits { FooterFits (footer_of self.outcome) }
         ensures all { OnOk result (Appends (K.taken sink.old) (K.taken sink.new) (text_of (log_lines self.rows.items (footer_of self.outcome)))) }
@@ -35,7 +40,7 @@ impl Tree {
         ensures cause { HasCause (K.faults sink.old) (K.faults sink.new) result }
     {
         let footer = self.outcome.footer();
-        match put_log(sink, self.rows.as_slice(), &footer) {
+        match put_log(gather, sink, self.rows.as_slice(), &footer) {
             Ok(()) => Ok(self.outcome),
             Err(_) => Err(SearchStop::Write),
         }

@@ -1,33 +1,21 @@
-use Rattle.log_rows.proofs.Written.{on_err}
-use Rattle.log_rows.proofs.Texts.{log_fails_first, log_fails_second, log_ends, log_ends_whole}
-use Rattle.std.proofs.Common.{rules}
-use Rattle.sopl_io.proofs.Calling.{calls_more, stops_later}
+use Rattle.sopl_io.proofs.Gathering.{on_err}
+use Rattle.log_rows.proofs.Texts.{text_fails, text_flushed, text_flush_fails}
+use Rattle.sopl_io.proofs.Calling.{stops_later}
 use Rattle.log_rows.proofs.row_lines.put_log.Goals as goal
 
-pub returns-in_err-put_head-clause-prefix : goal.returns-in_err-put_head-clause-prefix
-returns-in_err-put_head-clause-prefix g c = on_err _ (log_fails_first _ _ c.args.rows.now c.args.footer.now c.in_err-put_head.ensures.prefix)
-
-pub returns-in_err-put_rows-clause-prefix : goal.returns-in_err-put_rows-clause-prefix
-returns-in_err-put_rows-clause-prefix g c =
-    on_err _ (log_fails_second _ _ _ c.args.rows.now c.args.footer.now c.in_ok-put_head.ensures.all c.in_err-put_rows.ensures.prefix)
+pub returns-in_err-put_log_lines-clause-prefix : goal.returns-in_err-put_log_lines-clause-prefix
+returns-in_err-put_log_lines-clause-prefix g c = on_err _ (text_fails _ _ _ _ c.requires.none_kept c.in_err-put_log_lines.ensures.prefix)
 
 pub returns-clause-all : goal.returns-clause-all
 returns-clause-all g c =
-    log_ends_whole (g.K.Sink.taken c.args.sink.now) (g.K.Sink.taken c.put_head.new.sink) (g.K.Sink.taken c.put_rows.new.sink) (g.K.Sink.taken c.put_footer.new.sink) c.args.rows.now
-    c.args.footer.now c.put_footer.result
-    c.in_ok-put_head.ensures.all c.in_ok-put_rows.ensures.all c.put_footer.ensures.all
+    text_flushed (g.K.Sink.taken c.args.sink.now) (g.K.Sink.taken c.put_log_lines.new.sink) (g.K.Sink.taken c.flush.new.sink) c.args.gather.now.kept c.put_log_lines.new.gather.kept _
+    c.flush.result c.requires.none_kept c.in_ok-put_log_lines.ensures.all c.flush.ensures.all
 
 pub returns-clause-prefix : goal.returns-clause-prefix
 returns-clause-prefix g c =
-    log_ends (g.K.Sink.taken c.args.sink.now) (g.K.Sink.taken c.put_head.new.sink) (g.K.Sink.taken c.put_rows.new.sink) (g.K.Sink.taken c.put_footer.new.sink) c.args.rows.now c.args.footer.now
-    c.put_footer.result
-    c.in_ok-put_head.ensures.all c.in_ok-put_rows.ensures.all c.put_footer.ensures.prefix
-
-pub returns-in_err-put_rows-clause-outcomes : goal.returns-in_err-put_rows-clause-outcomes
-returns-in_err-put_rows-clause-outcomes g c =
-    stops_later (g.K.Sink.outcomes c.args.sink.now) (g.K.Sink.outcomes c.put_head.new.sink) _ c.from_residual-in_err-put_rows.result c.in_ok-put_head.ensures.outcomes.all (search rules)
+    text_flush_fails (g.K.Sink.taken c.args.sink.now) (g.K.Sink.taken c.put_log_lines.new.sink) (g.K.Sink.taken c.flush.new.sink) c.args.gather.now.kept c.put_log_lines.new.gather.kept _
+    c.flush.result c.requires.none_kept c.in_ok-put_log_lines.ensures.all c.flush.ensures.prefix
 
 pub returns-clause-outcomes : goal.returns-clause-outcomes
 returns-clause-outcomes g c =
-    stops_later (g.K.Sink.outcomes c.args.sink.now) (g.K.Sink.outcomes c.put_rows.new.sink) _ c.put_footer.result
-    (calls_more _ _ _ c.in_ok-put_head.ensures.outcomes.all c.in_ok-put_rows.ensures.outcomes.all) c.put_footer.ensures.outcomes
+    stops_later (g.K.Sink.outcomes c.args.sink.now) (g.K.Sink.outcomes c.put_log_lines.new.sink) _ c.flush.result c.in_ok-put_log_lines.ensures.outcomes.all c.flush.ensures.outcomes

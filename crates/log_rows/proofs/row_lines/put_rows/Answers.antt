@@ -1,18 +1,19 @@
 use Rattle.std.proofs.Common.{rules, ◌<◌, length, arith, refl, ◌∙◌}
-use Rattle.log_rows.proofs.Written.{none_written, on_err}
+use Rattle.sopl_io.proofs.Calling.{calls_more, stops_later}
+use Rattle.sopl_io.proofs.Gathering.{none_gathered, on_err}
 use Rattle.log_rows.proofs.Texts.{rows_more, rows_prefix}
 use Rattle.sopl_io.specs.Calls.{no_call}
-use Rattle.sopl_io.proofs.Calling.{calls_more, stops_later}
 use Rattle.log_rows.proofs.row_lines.put_rows.Goals as goal
 
 pub returns-in_err-put_row-clause-prefix : goal.returns-in_err-put_row-clause-prefix
 returns-in_err-put_row-clause-prefix g c =
     let exists : c.rows.number < length c.args.rows.now = search rules in
-    on_err _ (rows_prefix _ _ _ c.args.rows.now c.rows.number c.index-rows-number.result exists c.index-rows-number.is c.rows.invariant.written c.in_err-put_row.ensures.prefix)
+    on_err _ (rows_prefix _ _ _ _ _ c.args.rows.now c.rows.number c.index-rows-number.result exists c.index-rows-number.is c.rows.invariant.gathered c.in_err-put_row.ensures.prefix)
 
 pub rows-init : goal.rows-init
 rows-init g c = record {
-  written = none_written (g.K.Sink.taken c.args.sink.now);
+  gathered = none_gathered (g.K.Sink.taken c.args.sink.now) c.args.gather.now.kept;
+  size = refl;
   calls = no_call;
   names = refl;
   later = omega arith;
@@ -26,7 +27,8 @@ pub rows-preserved : goal.rows-preserved
 rows-preserved g c =
     let exists : c.rows.number < length c.args.rows.now = search rules in
     record {
-      written = rows_more _ _ _ c.args.rows.now c.rows.number c.index-rows-number.result exists c.index-rows-number.is c.rows.invariant.written c.in_ok-put_row.ensures.all;
+      gathered = rows_more _ _ _ _ _ _ c.args.rows.now c.rows.number c.index-rows-number.result exists c.index-rows-number.is c.rows.invariant.gathered c.in_ok-put_row.ensures.all;
+      size = c.put_row.ensures.size ∙ c.rows.invariant.size;
       calls = calls_more _ _ _ c.rows.invariant.calls c.in_ok-put_row.ensures.outcomes.all;
       names = c.put_row.ensures.names ∙ c.rows.invariant.names;
       later = omega (arith, c.rows.invariant.later, c.put_row.ensures.cause.later);

@@ -1,6 +1,6 @@
 use Rattle.std.proofs.Common.{rules, ◌<◌, length, arith, refl, ◌∙◌}
 use Rattle.sopl_io.proofs.Calling.{calls_more, stops_later}
-use Rattle.log_rows.proofs.Written.{none_written, on_err}
+use Rattle.sopl_io.proofs.Gathering.{none_gathered, on_err}
 use Rattle.log_rows.proofs.Texts.{steps_prefix, steps_more}
 use Rattle.sopl_io.specs.Calls.{no_call}
 use Rattle.log_rows.proofs.row_lines.put_steps.Goals as goal
@@ -8,13 +8,14 @@ use Rattle.log_rows.proofs.row_lines.put_steps.Goals as goal
 pub returns-in_err-put_step-clause-prefix : goal.returns-in_err-put_step-clause-prefix
 returns-in_err-put_step-clause-prefix g c =
     let exists : c.steps.step-index < length c.args.steps.now = search rules in
-    on_err _ (steps_prefix _ _ _ c.args.steps.now c.steps.step-index _ exists c.steps.invariant.written c.in_err-put_step.ensures.prefix)
+    on_err _ (steps_prefix _ _ _ _ _ c.args.steps.now c.steps.step-index _ exists c.steps.invariant.gathered c.in_err-put_step.ensures.prefix)
 
 pub steps-preserved : goal.steps-preserved
 steps-preserved g c =
     let exists : c.steps.step-index < length c.args.steps.now = search rules in
     record {
-      written = steps_more _ _ _ c.args.steps.now c.steps.step-index _ exists c.steps.invariant.written c.in_ok-put_step.ensures.all;
+      gathered = steps_more _ _ _ _ _ _ c.args.steps.now c.steps.step-index _ exists c.steps.invariant.gathered c.in_ok-put_step.ensures.all;
+      size = c.put_step.ensures.size ∙ c.steps.invariant.size;
       calls = calls_more _ _ _ c.steps.invariant.calls c.in_ok-put_step.ensures.outcomes.all;
       names = c.put_step.ensures.names ∙ c.steps.invariant.names;
       later = omega (arith, c.steps.invariant.later, c.put_step.ensures.cause.later);
@@ -22,7 +23,8 @@ steps-preserved g c =
 
 pub steps-init : goal.steps-init
 steps-init g c = record {
-  written = none_written (g.K.Sink.taken c.args.sink.now);
+  gathered = none_gathered (g.K.Sink.taken c.args.sink.now) c.args.gather.now.kept;
+  size = refl;
   calls = no_call;
   names = refl;
   later = omega arith;

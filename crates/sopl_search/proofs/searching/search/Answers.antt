@@ -39,3 +39,6 @@ returns-clause-outcomes g c = stops_at_write _ _ c.written.result c.written.ensu
 
 pub returns-in_err-tree-clause-outcomes : goal.returns-in_err-tree-clause-outcomes
 returns-in_err-tree-clause-outcomes g c = where_all _ _ (search rules) no_call
+
+pub returns-in_err-gather-clause-outcomes : goal.returns-in_err-gather-clause-outcomes
+returns-in_err-gather-clause-outcomes g c = where_all _ _ (search rules) no_call
