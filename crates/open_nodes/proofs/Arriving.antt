@@ -1,5 +1,5 @@
 -- The way down to a node.
-use Rattle.std.proofs.Common.{◌≡◌, ℕ, ◌+◌, List, [], ◌∷◌, ◌++◌, length, map, reverse, refl, sym, ap, subst, ◌∙◌, append_assoc, arith, Bor, Result, Ok, Err, OnOk}
+use Rattle.std.proofs.Common.{◌≡◌, ℕ, ◌+◌, List, [], ◌∷◌, ◌++◌, length, map, reverse, sym, ap, subst, ◌∙◌, append_assoc, arith, Bor, Result, Ok, Err, OnOk}
 use Rattle.std.proofs.lemmas.List.{length-append, length-map, length-reverse, map-append}
 use Rattle.sopl_base.specs.declared.reason.Side.{Side}
 use Rattle.sopl_base.specs.declared.reason.Side.TheVariants.{Le}
@@ -8,7 +8,7 @@ use Rattle.box_problem.specs.Steps.{IsCut}
 use Rattle.box_store.specs.Store.{Mark}
 use Rattle.log_rows.specs.declared.rows.EndLine.TheVariants as lines
 use Rattle.log_rows.specs.Rows.{handed}
-use Rattle.open_nodes.specs.declared.split.SplitNode.{SplitNode, SplitNode', Held-SplitNode-above, None', Some', out-SplitNode}
+use Rattle.open_nodes.specs.declared.split.SplitNode.{SplitNode, SplitNode', None', Some', out-SplitNode}
 use Rattle.open_nodes.specs.declared.walk.BoxWalk.{BoxWalk}
 use Rattle.open_nodes.specs.Ways.{CutsWell, IsAbove, final_box, node_number, row_cut, side_box, top_box, ups}
 use Rattle.open_nodes.specs.Walks.{AreNamed, HasDescended, StandsAt, IsEntered, IsGoing, IsKnownWay, IsTop, Meets, Tops, marked}
@@ -111,7 +111,7 @@ there root f walk split going = going.box ∙ sym (ap (top_box root) going.chain
 abbrev pub pointed : List (Bor SplitNode) → List SplitNode
 pointed refs = map (λ (r : Bor SplitNode). r.now) refs
 
-pointed_last : (refs rest : List (Bor SplitNode)) (next : Bor SplitNode) → refs ≡ rest ++ next ∷ [] → pointed refs ≡ pointed rest ++ next.now ∷ []
+pub pointed_last : (refs rest : List (Bor SplitNode)) (next : Bor SplitNode) → refs ≡ rest ++ next ∷ [] → pointed refs ≡ pointed rest ++ next.now ∷ []
 pointed_last refs rest next is = ap pointed is ∙ map-append (λ (r : Bor SplitNode). r.now) rest (next ∷ [])
 
 pub some_above : (walk : BoxWalk) (refs rest : List (Bor SplitNode)) (next : Bor SplitNode) (split : SplitNode) → refs ≡ rest ++ next ∷ []

@@ -1,5 +1,5 @@
 -- The open nodes of all seats as one list.
-use Rattle.std.proofs.Common.{◌≡◌, ◌⊎◌, inl, inr, ℕ, zero, suc, ◌+◌, ◌<◌, ◌≤◌, map, List, [], ◌∷◌, ◌++◌, length, get_or, set, refl, sym, ap, subst, ◌∙◌, append_assoc, arith, Option, None, Some, IfSome, IfNone}
+use Rattle.std.proofs.Common.{◌≡◌, inl, inr, ℕ, zero, suc, ◌+◌, ◌<◌, ◌≤◌, map, List, [], ◌∷◌, ◌++◌, length, get_or, set, refl, sym, ap, subst, ◌∙◌, append_assoc, arith, Option, None, Some, IfSome, IfNone}
 use Rattle.std.proofs.lemmas.List.{get_or-map, get_or-set_same, length-map, length-set}
 use Rattle.std.proofs.lemmas.Bool.{cases_eq}
 use Rattle.open_nodes.specs.declared.seats.OpenNode.{OpenNode}

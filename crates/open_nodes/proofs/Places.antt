@@ -1,5 +1,5 @@
 -- The boxes along a way are those of the rows.
-use Rattle.std.proofs.Common.{◌≡◌, ℕ, ◌<◌, ℤ, List, [], ◌∷◌, length, Option, None, Some, refl, sym, ap, subst, ◌∙◌}
+use Rattle.std.proofs.Common.{◌≡◌, ℕ, ◌<◌, ℤ, List, [], ◌∷◌, length, Option, Some, refl, sym, ap, subst, ◌∙◌}
 use Rattle.sopl_base.specs.declared.reason.Side.{Side}
 use Rattle.box_problem.specs.Box.{Box}
 use Rattle.sopl_base.specs.declared.reason.Side.TheVariants.{Le}
@@ -11,7 +11,7 @@ use Rattle.log_rows.specs.Made.{Logs, Made, Pending, best_at}
 use Rattle.log_rows.specs.declared.rows.Row.{Row}
 use Rattle.log_rows.specs.declared.rows.EndLine.{EndLine}
 use Rattle.log_rows.specs.declared.rows.EndLine.TheVariants as lines
-use Rattle.log_rows.specs.Rows.{box_at, final_of, handed, row_at, start_of, Hangs}
+use Rattle.log_rows.specs.Rows.{box_at, final_of, handed, row_at, Hangs}
 use Rattle.log_rows.proofs.Places.{final_is}
 use Rattle.open_nodes.specs.declared.split.SplitNode.{SplitNode, SplitNode', Held-SplitNode-above, None', Some'}
 use Rattle.open_nodes.specs.Ways.{AllCutWell, StepsCut, AreRows, CutsWell, IsRow, held_ups, ups, above_box, split_cut, final_box, node_number, parent_of, row_cut, side_box, split_row}

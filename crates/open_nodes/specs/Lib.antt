@@ -1,5 +1,7 @@
 pub mod Ways
 pub mod WayLaws
+pub mod WorkedWays
 pub mod Walks
+pub mod Remade
 pub mod Takes
 pub mod SeatLaws

@@ -1,5 +1,5 @@
 -- What taking and giving does to all open nodes.
-use Rattle.std.specs.Prelude.{◌≡◌, ℕ, List, [], ◌∷◌, ◌++◌}
+use Rattle.std.specs.Prelude.{◌≡◌, ℕ, List, ◌∷◌, ◌++◌}
 use Rattle.open_nodes.specs.declared.seats.OpenNode.{OpenNode}
 use Rattle.open_nodes.specs.Takes.{Gives, Takes, all_nodes}
 

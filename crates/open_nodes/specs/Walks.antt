@@ -2,7 +2,7 @@
 use Rattle.std.specs.Prelude.{◌≡◌, ℕ, List, [], ◌∷◌, ◌++◌, map, reverse, Option, None, Some}
 use Rattle.sopl_base.specs.declared.reason.Side.{Side}
 use Rattle.box_problem.specs.Box.{Box}
-use Rattle.box_store.specs.Store.{Mark, Store}
+use Rattle.box_store.specs.Store.{Mark}
 use Rattle.open_nodes.specs.declared.split.SplitNode.{SplitNode}
 use Rattle.open_nodes.specs.declared.walk.BoxWalk.{BoxWalk}
 use Rattle.open_nodes.specs.Ways.{CutsWell, final_box, node_number, side_box, top_box, ups}

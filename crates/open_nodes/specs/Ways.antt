@@ -9,7 +9,7 @@ use Rattle.log_rows.specs.declared.rows.Cut as rows
 use Rattle.log_rows.specs.declared.rows.Parent.{Parent}
 use Rattle.log_rows.specs.declared.rows.Row.{Row}
 use Rattle.log_rows.specs.declared.rows.EndLine.TheVariants as lines
-use Rattle.log_rows.specs.Rows.{handed, row_at, Hangs}
+use Rattle.log_rows.specs.Rows.{handed, row_at}
 use Rattle.open_nodes.specs.declared.halving.Halving.{Halving}
 use Rattle.open_nodes.specs.declared.split.SplitNode.{SplitNode, SplitNode', Held-SplitNode-above, None', Some'}
 
@@ -40,9 +40,22 @@ abbrev pub parent_of : Side → Held-SplitNode-above → Option Parent
 parent_of side None' = None
 parent_of side (Some' p n) = Some (record { node = node_number n; side = side })
 
+-- the same, of the split above as it was given
+abbrev pub given_parent : Side → Option SplitNode → Option Parent
+given_parent side None = None
+given_parent side (Some split) = Some (record { node = node_number split; side = side })
+
+-- and the box with which a node begins below that one
+abbrev pub given_box : Box → Side → Option SplitNode → Box
+given_box root side None = root
+given_box root side (Some split) = side_box root split side
+
 -- the row that tells of a split
 abbrev pub split_row : Side → Held-SplitNode-above → List Step → Halving → Row
 split_row side above steps cut = record { parent = parent_of side above; steps = steps; end = lines.Split (row_cut cut) }
+
+abbrev pub given_row : Side → Option SplitNode → List Step → Halving → Row
+given_row side above steps cut = record { parent = given_parent side above; steps = steps; end = lines.Split (row_cut cut) }
 
 -- a split and those above it are rows
 abbrev mutual

@@ -12,7 +12,9 @@ mod split;
 mod walk;
 
 pub use halving::Halving;
-pub use laws::{gives_are_even, takes_are_even, ways_are_known, ways_are_rows};
+pub use laws::{
+    gives_are_even, takes_are_even, ways_are_known, ways_are_rows, ways_descend, ways_go_on,
+};
 pub use seats::{OpenNode, Seat, Seats};
 pub use split::{SplitNode, made, release};
 pub use walk::BoxWalk;

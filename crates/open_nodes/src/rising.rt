@@ -1,7 +1,8 @@
 //! The way from a node up to where a box stands.
 
-ghost use Rattle.std.specs.Prelude.{◌≡◌, ◌+◌, ◌++◌, ◌∷◌, ℕ, [], true, length, map, option_map, reverse, OnOk};
+ghost use Rattle.std.specs.Prelude.{◌≡◌, ◌+◌, ◌++◌, ◌∷◌, ℕ, [], true, false, length, map, option_map, reverse, OnOk};
 ghost use Rattle.box_problem.specs.Box.{Box};
+ghost use Rattle.open_nodes.specs.Remade.{Descends, HasLeft, StandApart, split_numbers};
 ghost use Rattle.open_nodes.specs.Walks.{StandsAt, BeginsWith, Meets, with_ups};
 ghost use Rattle.open_nodes.specs.Ways.{ups};
 
@@ -24,7 +25,8 @@ impl SplitNode {
 impl BoxWalk {
     /// Whether the last split on the way is the one of this number.
     fn stands_at(&self, node: u64) -> bool
-        ensures { result ≡ true → BeginsWith (reverse self.now.here.items) node }
+        ensures stands { result ≡ true → BeginsWith (reverse self.now.here.items) node }
+        ensures elsewhere { result ≡ false → ¬ BeginsWith (reverse self.now.here.items) node }
     {
         match self.here.last() {
             Some(last) => *last == node,
@@ -43,6 +45,9 @@ impl BoxWalk {
         ensures at { (root : Box) (f : ℕ → Box) → StandsAt root f self.old → StandsAt root f self.new }
         ensures marks { length self.new.store.marks ≡ length self.new.here.items + 1 }
         ensures met { OnOk result (Meets self.new.here.items (map (λ r. r.now) down.new.items) split.now) }
+        ensures left { HasLeft (reverse self.old.here.items) (reverse self.new.here.items) }
+        ensures apart { Descends (reverse self.old.here.items) → Descends (split_numbers (split.now ∷ ups split.now))
+            → OnOk result (StandApart (reverse self.old.here.items) (map (λ r. r.now) down.new.items)) }
     {
         let mut at = Some(split);
         'up: while let Some(next) = at {

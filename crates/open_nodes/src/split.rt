@@ -1,9 +1,12 @@
 //! A node that was split.
 
-ghost use Rattle.std.specs.Prelude.{◌≡◌, Some, IfOk};
+ghost use Rattle.std.specs.Prelude.{◌≡◌, ◌++◌, ◌∷◌, [], List, length, option_map, Some, IfOk, IfSome};
 ghost use Rattle.sopl_base.specs.declared.reason.Side.TheVariants.{Le};
 ghost use Rattle.box_problem.specs.Box.{Box};
-ghost use Rattle.open_nodes.specs.Ways.{side_box, above_box, node_number};
+ghost use Rattle.box_problem.specs.Steps.{IsCut, after_steps};
+ghost use Rattle.log_rows.specs.declared.rows.Row.{Row};
+ghost use Rattle.open_nodes.specs.Ways.{CutsWell, IsRow, StepsCut, final_box, given_box, given_row, node_number, split_cut, ups};
+ghost use Rattle.open_nodes.specs.Walks.{with_ups};
 
 use crate::halving::Halving;
 use sopl_base::{Side, Steps};
@@ -33,6 +36,16 @@ pub fn made(
     cut: Halving,
 ) -> Result<Rc<SplitNode>, AllocError>
     ensures node { IfOk result (λ made. node_number made.value ≡ node) }
+    ensures way { IfOk result (λ made. ups made.value ≡ with_ups (option_map (λ split. split.value) above)) }
+    ensures cut { IfOk result (λ made. split_cut made.value ≡ cut) }
+    ensures box_is { IfOk result (λ made. (root : Box)
+        → final_box root made.value ≡ after_steps (given_box root side (option_map (λ split. split.value) above)) steps) }
+    ensures cuts { IfOk result (λ made. (root : Box) → IfSome above (λ split. CutsWell root split.value)
+        → StepsCut (given_box root side (option_map (λ split. split.value) above)) steps
+        → IsCut (after_steps (given_box root side (option_map (λ split. split.value) above)) steps) cut.cell Le cut.k
+        → CutsWell root made.value) }
+    ensures row { IfOk result (λ made. (rows : List Row) → node ≡ length rows → IfSome above (λ split. IsRow rows split.value)
+        → IsRow (rows ++ given_row side (option_map (λ split. split.value) above) steps cut ∷ []) made.value) }
 {
     let split = SplitNode {
         above,

@@ -5,6 +5,8 @@ use sopl_base::{Side, Steps};
 use std::alloc::{AllocError, Global};
 use std::test::Fail;
 
+mod counts;
+
 // A side of the split with this number.
 fn side_of(alloc: Global, node: u64, side: Side) -> Result<OpenNode, AllocError> {
     let cut = Halving { cell: 0, k: 0 };

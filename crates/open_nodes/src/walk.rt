@@ -1,7 +1,8 @@
 //! A box that goes from one open node to another.
 
-ghost use Rattle.std.specs.Prelude.{◌≡◌, ◌+◌, ℕ, [], length, OnOk};
+ghost use Rattle.std.specs.Prelude.{◌≡◌, ◌+◌, ℕ, [], length, reverse, OnOk};
 ghost use Rattle.box_problem.specs.Box.{Box};
+ghost use Rattle.open_nodes.specs.Remade.{BeginsAtMost, GoesBack};
 ghost use Rattle.open_nodes.specs.Walks.{StandsAt, IsTop, marked};
 
 use box_store::BoxStore;
@@ -17,11 +18,13 @@ pub struct BoxWalk {
 
 impl BoxWalk {
     /// Goes back to the newest split that has at most this number, or to the root.
-    #[tactic(auto, using(crate::proofs::Walking::popped, crate::proofs::Walking::fewer))]
+    #[tactic(auto, using(crate::proofs::Walking::popped, crate::proofs::Walking::fewer, crate::proofs::Remaking::back_empty))]
     pub(crate) fn back_to(&mut self, node: u64)
         requires marks { length self.old.store.marks ≡ length self.old.here.items + 1 }
         ensures at { (root : Box) (f : ℕ → Box) → StandsAt root f self.old → StandsAt root f self.new }
         ensures marks { length self.new.store.marks ≡ length self.new.here.items + 1 }
+        ensures back { GoesBack node (reverse self.old.here.items) (reverse self.new.here.items) }
+        ensures most { BeginsAtMost (reverse self.new.here.items) node }
     {
         'splits: while let Some(last) = self.here.pop() {
             if last <= node {

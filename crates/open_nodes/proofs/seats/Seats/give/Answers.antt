@@ -1,4 +1,4 @@
-use Rattle.std.proofs.Common.{sym, ap, ◌∙◌, ◌++◌, ◌∷◌, [], rules}
+use Rattle.std.proofs.Common.{ap, ◌∙◌, ◌++◌, ◌∷◌, []}
 use Rattle.open_nodes.specs.declared.seats.Seat.{Seat}
 use Rattle.open_nodes.proofs.Joining.{given}
 use Rattle.open_nodes.proofs.seats.Seats.give.Goals as goal

@@ -1,6 +1,6 @@
-use Rattle.std.proofs.Common.{◌≡◌, ◌<◌, ◌∷◌, [], ℕ, map, refl, sym, ap, subst, ◌∙◌, arith, rules}
+use Rattle.std.proofs.Common.{sym, ap, ◌∙◌, rules}
 use Rattle.open_nodes.specs.declared.seats.Seat.{Seat}
-use Rattle.open_nodes.proofs.Joining.{first_more, list_of, none_left, same_lists, stolen}
+use Rattle.open_nodes.proofs.Joining.{first_more, none_left, same_lists, stolen}
 use Rattle.open_nodes.proofs.seats.Seats.steal.Goals as goal
 
 pub returns-in-Some-clause-steals : goal.returns-in-Some-clause-steals

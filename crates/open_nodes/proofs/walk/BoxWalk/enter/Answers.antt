@@ -1,5 +1,6 @@
-use Rattle.std.proofs.Common.{refl}
+use Rattle.std.proofs.Common.{refl, ap}
 use Rattle.open_nodes.proofs.Arriving.{arrived, begun, cut_there, pointed}
+use Rattle.open_nodes.proofs.Remaking.{all_descend, all_made_again}
 use Rattle.open_nodes.proofs.walk.BoxWalk.enter.Goals as goal
 
 pub take_side-requires : goal.take_side-requires
@@ -15,4 +16,8 @@ returns c = record {
       let going = begun root f c.args.self.now c.meet.new.self c.settle.new.self (pointed c.meet.new.down.items) c.args.split.now known (c.meet.ensures.at root f)
       (c.in_ok-settle.ensures.at root f) c.settle.ensures.here c.in_ok-settle.ensures.top c.in_ok-meet.ensures.met in
       arrived root f c.go_down.new.self _ c.args.split.now c.args.side c.take_side.result (c.in_ok-go_down.ensures.gone root f going) refl c.take_side.ensures.marks c.take_side.ensures.box_is;
+  remade = all_made_again _ c.meet.new.self.here.items (pointed c.meet.new.down.items) c.args.split.now c.args.remade.now.items c.go_down.new.remade.items c.push.new.self.items
+      c.take_side.result c.meet.ensures.left c.in_ok-meet.ensures.met c.in_ok-meet.ensures.apart c.in_ok-go_down.ensures.listed c.in_ok-push.ensures.items;
+  descends = λ falls way_falls. all_descend _ c.meet.new.self.here.items c.settle.new.self.here.items c.go_down.new.self.here.items (pointed c.meet.new.down.items) c.args.split.now
+      c.take_side.result c.meet.ensures.left c.in_ok-meet.ensures.met (ap (λ here. here.items) c.settle.ensures.here) c.in_ok-go_down.ensures.here falls way_falls;
 }
