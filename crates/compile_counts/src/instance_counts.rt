@@ -8,6 +8,7 @@ ghost use Rattle.sopl_ast.specs.References.{now_of};
 ghost use Rattle.sopl_ast.specs.TermNodes.{objective_nodes, scenario_nodes};
 ghost use Rattle.sopl_ast.specs.Unfolding.{problem_of, text_events};
 ghost use Rattle.sopl_ast.specs.WholeModel.{whole};
+ghost use Rattle.sopl_unfold.specs.GroundProblem.{ground_problem};
 ghost use Rattle.unfold_laws.specs.Conditions.{IsMet};
 ghost use Rattle.unfold_laws.specs.Passing.{NothingFails};
 ghost use Rattle.unfold_tables.specs.Tables.{table_known};
@@ -90,14 +91,18 @@ fn nodes_of_objective<'a>(
 }
 
 /// The nodes of all instances of constraints and of the objective.
-pub(crate) fn nodes_of_instances(alloc: Global, ground: &Ground) -> Result<Nodes, AllocError>
-    ensures nodes { IfOk result (λ n. n.count ≡ capped (scenario_nodes (problem_of (whole ground.now.typed.model)))) }
+pub(crate) fn nodes_of_instances(
+    alloc: Global,
+    ground: &Ground,
+    conditions: &[&Expr],
+) -> Result<Nodes, AllocError>
+    requires conditions { map now_of conditions.now ≡ (ground_problem ground.now).conditions }
+    ensures nodes { IfOk result (λ n. n.count ≡ capped (scenario_nodes (ground_problem ground.now))) }
 {
     let model = ground.typed().model();
     let table = ground.table();
-    let conditions = ground.conditions(alloc)?;
-    let hards = nodes_of_hards(alloc, table, conditions.as_slice(), ground.hards())?;
-    let chances = nodes_of_chances(alloc, table, conditions.as_slice(), ground.chances())?;
+    let hards = nodes_of_hards(alloc, table, conditions, ground.hards())?;
+    let chances = nodes_of_chances(alloc, table, conditions, ground.chances())?;
     let objective = nodes_of_objective(alloc, table, model)?;
     Ok(hards.plus(chances.plus(objective)))
 }

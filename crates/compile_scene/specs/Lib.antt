@@ -1,4 +1,3 @@
-pub mod Domains
 pub mod Fixed
 pub mod Scenes
 pub mod Works

@@ -13,7 +13,8 @@ use std::test::Fail;
 /// How many term nodes a text has, where these are too many.
 fn counted_in(alloc: Global, text: &str) -> Result<Option<i128>, Fault> {
     let stated = stated_in(alloc, text.as_bytes())?;
-    match node_excess(alloc, &stated.ground, &stated.tree)? {
+    let conditions = stated.ground.conditions(alloc)?;
+    match node_excess(alloc, &stated.ground, conditions.as_slice(), &stated.tree)? {
         None => Ok(None),
         Some(excess) => Ok(Some(excess.counted)),
     }

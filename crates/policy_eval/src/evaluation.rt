@@ -3,13 +3,12 @@
 ghost use Rattle.std.specs.Prelude.{◌≡◌, All, None, IfOk};
 ghost use Rattle.compile_laws.specs.Texts.{program_excess};
 ghost use Rattle.sopl_ast.specs.Limits.{size_excess, usual_limits};
-ghost use Rattle.sopl_ast.specs.Unfolding.{problem_of};
-ghost use Rattle.sopl_ast.specs.WholeModel.{whole};
 ghost use Rattle.sopl_policy.specs.Kept.{IsPolicyFor, policy_map};
 ghost use Rattle.sopl_scen.specs.Layout.{IsTreeOf};
 ghost use Rattle.policy_eval.specs.Reports.{IsHeld, IsReport};
 ghost use Rattle.policy_eval.specs.Shown.{report_shown};
 ghost use Rattle.policy_eval.specs.Tried.{IsTrial, policy_of, posed};
+ghost use Rattle.sopl_unfold.specs.GroundProblem.{ground_problem};
 
 use crate::report::Report;
 use crate::trial::Trial;
@@ -27,11 +26,11 @@ pub fn evaluate(
     ground: &Ground,
     tree: &Tree,
 ) -> Result<Report, AllocError>
-    requires laid_out { IsTreeOf (problem_of (whole ground.now.typed.model)).decisions (problem_of (whole ground.now.typed.model)).stochastics tree.now }
-    requires within { size_excess usual_limits (problem_of (whole ground.now.typed.model)) ≡ None }
-    requires allowed { program_excess (problem_of (whole ground.now.typed.model)) ≡ None }
-    requires policy { IsPolicyFor (problem_of (whole ground.now.typed.model)) policy.now }
-    ensures report { IfOk result (λ report. IsReport (problem_of (whole ground.now.typed.model)) (policy_map (problem_of (whole ground.now.typed.model)) policy.now)
+    requires laid_out { IsTreeOf (ground_problem ground.now).decisions (ground_problem ground.now).stochastics tree.now }
+    requires within { size_excess usual_limits (ground_problem ground.now) ≡ None }
+    requires allowed { program_excess (ground_problem ground.now) ≡ None }
+    requires policy { IsPolicyFor (ground_problem ground.now) policy.now }
+    ensures report { IfOk result (λ report. IsReport (ground_problem ground.now) (policy_map (ground_problem ground.now) policy.now)
         (report_shown report)) }
 {
     let variables = Variables::of(alloc, ground.stochs(), ground.decisions())?;

@@ -2,11 +2,10 @@
 
 ghost use Rattle.std.specs.Prelude.{◌≡◌, IfOk};
 ghost use Rattle.serde_json.specs.Written.{compact_text};
-ghost use Rattle.sopl_ast.specs.Unfolding.{problem_of};
-ghost use Rattle.sopl_ast.specs.WholeModel.{whole};
 ghost use Rattle.sopl_scen.specs.Layout.{IsTreeOf};
 ghost use Rattle.sopl_policy.specs.Kept.{IsPolicyFor, policy_map};
 ghost use Rattle.policy_json.specs.Nodes.{policy_data};
+ghost use Rattle.sopl_unfold.specs.GroundProblem.{ground_problem};
 
 use crate::policy::policy_value;
 use sopl_policy::Policy;
@@ -21,10 +20,10 @@ pub fn print(
     ground: &Ground,
     tree: &Tree,
 ) -> Result<Vec<u8>, AllocError>
-    requires tree { IsTreeOf (problem_of (whole ground.now.typed.model)).decisions (problem_of (whole ground.now.typed.model)).stochastics tree.now }
-    requires policy { IsPolicyFor (problem_of (whole ground.now.typed.model)) policy.now }
+    requires tree { IsTreeOf (ground_problem ground.now).decisions (ground_problem ground.now).stochastics tree.now }
+    requires policy { IsPolicyFor (ground_problem ground.now) policy.now }
     ensures bytes { IfOk result (λ bytes. bytes.items
-        ≡ compact_text (policy_data (problem_of (whole ground.now.typed.model)) (policy_map (problem_of (whole ground.now.typed.model)) policy.now))) }
+        ≡ compact_text (policy_data (ground_problem ground.now) (policy_map (ground_problem ground.now) policy.now))) }
 {
     let values = policy.values();
     let node = policy_value(alloc, ground.decisions(), ground.stochs(), tree, values)?;

@@ -12,11 +12,11 @@ use Rattle.sopl_ast.specs.Cells.{Cell, IsPoint, cells_of}
 use Rattle.sopl_ast.specs.Histories.{histories}
 use Rattle.sopl_ast.specs.Instances.{Decision, Stochastic}
 use Rattle.unfold_laws.specs.Bounds.{IsBoundedDecision}
+use Rattle.sopl_scen.specs.Domains.{cell_ends}
 use Rattle.sopl_scen.specs.Layout.{cells_for}
 use Rattle.policy_json.specs.LastStage.{last_stage}
-use Rattle.policy_read.specs.declared.domains.Domain.{Domain}
 use Rattle.policy_read.specs.declared.entry.Told.{Told}
-use Rattle.policy_read.specs.Domains.{cell_domain, first_outside, is_outside, low_in}
+use Rattle.policy_read.specs.Domains.{first_outside, is_outside, low_in}
 use Rattle.policy_read.specs.Forms.{Facing, all_told, facing, first_difference, nodes_of}
 use Rattle.policy_read.specs.Listed.{data_in}
 use Rattle.policy_read.specs.Policies.{Differs, HoldsPoint, NoJson, data_read, form_for, node_read, nodes_policy, policy_in, policy_unless, put_all_at}
@@ -27,7 +27,7 @@ between : (lo hi v : ℤ) → (int_lt v lo || int_lt hi v) ≡ false → (lo ≤
 between lo hi v is = search (arith, ints)
 
 put_lies : (cs : List Cell) (xs : List ℤ) (c : ℕ) (v : ℤ) → IsPoint cs xs
-    → option_map_or (λ (d : Domain). int_lt v d.lo || int_lt d.hi v) (slice_get (map cell_domain cs) c) false ≡ false → IsPoint cs (set xs c v)
+    → option_map_or (λ (d : ℤ × ℤ). int_lt v d.0 || int_lt d.1 v) (slice_get (map cell_ends cs) c) false ≡ false → IsPoint cs (set xs c v)
 put_lies [] [] c v point inside = tt
 put_lies [] (x ∷ xs) c v point inside = absurd point
 put_lies (d ∷ cs) [] c v point inside = absurd point
@@ -35,24 +35,24 @@ put_lies (d ∷ cs) (x ∷ xs) zero v point inside = let ends = between d.lo d.h
 put_lies (d ∷ cs) (x ∷ xs) (suc c) v point inside = (point.0, point.1, put_lies cs xs c v point.2 inside)
 
 -- none of several is outside
-none_of : (domains : List Domain) (t : Told) (ts : List Told) → first_outside domains (t ∷ ts) ≡ None → (is_outside domains t ≡ false) × (first_outside domains ts ≡ None)
+none_of : (domains : List (ℤ × ℤ)) (t : Told) (ts : List Told) → first_outside domains (t ∷ ts) ≡ None → (is_outside domains t ≡ false) × (first_outside domains ts ≡ None)
 none_of domains t ts none = by (is_outside domains t) none
   where
     by : (b : Bool) → (if b then Some t.cell else first_outside domains ts) ≡ None → (b ≡ false) × (first_outside domains ts ≡ None)
     by true is = cc
     by false is = (refl, is)
 
-all_lie : (cs : List Cell) (ts : List Told) (xs : List ℤ) → IsPoint cs xs → first_outside (map cell_domain cs) ts ≡ None → IsPoint cs (put_all_at ts xs)
+all_lie : (cs : List Cell) (ts : List Told) (xs : List ℤ) → IsPoint cs xs → first_outside (map cell_ends cs) ts ≡ None → IsPoint cs (put_all_at ts xs)
 all_lie cs [] xs point none = point
 all_lie cs (t ∷ ts) xs point none =
-    let both = none_of (map cell_domain cs) t ts none in
+    let both = none_of (map cell_ends cs) t ts none in
     all_lie cs ts (put_at t xs) (put_lies cs xs t.cell t.value point both.0) both.1
 
 -- the least value of each domain lies in it, where no domain is empty
 abbrev pub IsOrdered : Cell → Type 0
 IsOrdered c = c.lo ≤ℤ c.hi
 
-least_lie : (cs : List Cell) → AllByRecursion IsOrdered cs → IsPoint cs (map low_in (map cell_domain cs))
+least_lie : (cs : List Cell) → AllByRecursion IsOrdered cs → IsPoint cs (map low_in (map cell_ends cs))
 least_lie [] all = tt
 least_lie (c ∷ cs) all = (omega (arith, ints), all.0, least_lie cs all.1)
 
@@ -66,8 +66,8 @@ cells_ordered ss n (d ∷ ds) all =
     each_cell (h ∷ hs) = (all.0.ordered, each_cell hs)
 
 module _ (cs : List Cell) (ordered : AllByRecursion IsOrdered cs) where
-  abbrev pub domains : List Domain
-  domains = map cell_domain cs
+  abbrev pub domains : List (ℤ × ℤ)
+  domains = map cell_ends cs
 
   told_lies : (ts : List Told) → HoldsPoint cs (told_policy ts domains)
   told_lies ts = by (first_outside domains ts) refl

@@ -1,18 +1,14 @@
 -- The nodes of a form, one after the other.
 use native.Mathlib.Omega.{arith}
-use Rattle.std.proofs.Common.{◌≡◌, ◌∙◌, Result, Ok, Err, OnOk, ◌<◌, ◌-◌, ℕ, zero, suc, List, [], ◌∷◌, ◌++◌, map, refl, ap, ap₂}
+use Rattle.std.proofs.Common.{◌≡◌, ◌∙◌, Result, Ok, Err, OnOk, ◌<◌, ◌-◌, ℕ, zero, suc, List, [], ◌∷◌, ◌++◌, ℤ, map, refl, ap, ap₂}
 use Rattle.std.proofs.lemmas.List.{append_assoc}
 use Rattle.serde_json.specs.Data.{Data}
-use Rattle.std.specs.List.{AllByRecursion}
 use Rattle.sopl_ast.specs.Instances.{Decision, Stochastic}
-use Rattle.sopl_scen.specs.Layout.{IsTreeOf, Layout, cells_for}
-use Rattle.unfold_laws.specs.Bounds.{IsBoundedDecision}
+use Rattle.sopl_scen.specs.Domains.{cell_ends}
+use Rattle.sopl_scen.specs.Layout.{cells_for}
 use Rattle.policy_json.specs.LastStage.{last_stage}
-use Rattle.policy_read.specs.declared.domains.Domain.{Domain}
-use Rattle.policy_read.specs.Domains.{cell_domain, laid_domains}
 use Rattle.policy_read.specs.Listed.{pairwise}
 use Rattle.policy_read.specs.Policies.{form_for, node_read, policy_from}
-use Rattle.policy_read.proofs.Domained.{domains_are}
 use Rattle.policy_read.specs.Forms.{Facing, facing, next_branches, nodes_behind, nodes_of}
 
 pub nodes_last : (later : ℕ) (old : List Facing) (h : Facing) → later ≡ 0 → old ++ h ∷ [] ≡ old ++ nodes_of later h
@@ -34,8 +30,6 @@ nodes_added (Ok x) later old pushed new form given fs ds above is is_f is_d so =
     so ∙ ap₂ (λ xs ys. xs ++ ys) is (ap₂ (pairwise (nodes_behind (nodes_of (later - 1)))) is_f is_d) ∙ nodes_more later old (facing form given) above
 
 -- the outermost node, held against the form for these decisions and stochastic variables
-pub node_so : (ds : List Decision) (ss : List Stochastic) (tree : Layout) (stage : ℕ) (form given : Data) (domains : List Domain) → stage ≡ last_stage ds → form ≡ form_for ds ss
-    → domains ≡ laid_domains tree ds → IsTreeOf ds ss tree → AllByRecursion IsBoundedDecision ds → policy_from (stage - 1) form given domains ≡ node_read ds ss given
-node_so ds ss tree stage form given domains last is are laid bounded =
-    let each : domains ≡ map cell_domain (cells_for ds ss) = are ∙ domains_are ds ss tree laid bounded in
-    λ k. policy_from (last k - 1) (is k) given (each k)
+pub node_so : (ds : List Decision) (ss : List Stochastic) (stage : ℕ) (form given : Data) (domains : List (ℤ × ℤ)) → stage ≡ last_stage ds → form ≡ form_for ds ss
+    → domains ≡ map cell_ends (cells_for ds ss) → policy_from (stage - 1) form given domains ≡ node_read ds ss given
+node_so ds ss stage form given domains last is each = λ k. policy_from (last k - 1) (is k) given (each k)

@@ -2,7 +2,8 @@
 use Rattle.std.proofs.Common.{◌≡◌, ◌∙◌, ◌<◌, ◌≤◌, ◌+◌, ℕ, ℤ, pos, List, [], ◌∷◌, ◌++◌, length, map, drop, get_or, zero-add, refl, sym, ap}
 use Rattle.std.proofs.lemmas.List.{append-nil, append_assoc, drop_more, drop_all}
 use Rattle.std.proofs.lemmas.List.FromFn.{length-map-range_with_len, map-range_with_len_more}
-use Rattle.policy_read.specs.declared.domains.Domain.{Domain}
+use Rattle.sopl_base.specs.declared.interval.Interval.{Interval}
+use Rattle.sopl_scen.specs.Domains.{ends_of}
 use Rattle.policy_read.specs.declared.entry.Told.{Told}
 use Rattle.policy_read.specs.Domains.{low_in}
 use Rattle.policy_read.specs.Policies.{numbers_below, put_all_at, put_at}
@@ -28,12 +29,13 @@ module _ (told : List Told) (i : ℕ) (start old : List ℤ) where
   pub placed_all : length told ≤ i → put_all_at (drop i told) old ≡ put_all_at told start → old ≡ put_all_at told start
   placed_all all so = sym (ap (λ ts. put_all_at ts old) (drop_all i told all)) ∙ so
 
-module _ (domains : List Domain) (i : ℕ) (old : List ℤ) where
-  pub lows_more : (d : Domain) (new : List ℤ) → i < length domains → new ≡ old ++ (get_or domains i d).lo ∷ [] → old ++ map low_in (drop i domains) ≡ map low_in domains
-      → new ++ map low_in (drop (i + 1) domains) ≡ map low_in domains
-  lows_more d new below pushed so =
-      ap (λ xs. xs ++ map low_in (drop (i + 1) domains)) pushed ∙ append_assoc old ((get_or domains i d).lo ∷ []) (map low_in (drop (i + 1) domains))
-      ∙ ap (λ ds. old ++ map low_in ds) (sym (drop_more domains i d below)) ∙ so
+module _ (domains : List Interval) (i : ℕ) (old : List ℤ) where
+  pub lows_more : (d : Interval) (new : List ℤ) → i < length domains → d ≡ get_or domains i d → new ≡ old ++ d.lo ∷ [] → old ++ map low_in (map ends_of (drop i domains)) ≡ map low_in (map ends_of domains)
+      → new ++ map low_in (map ends_of (drop (i + 1) domains)) ≡ map low_in (map ends_of domains)
+  lows_more d new below at pushed so =
+      ap (λ xs. xs ++ map low_in (map ends_of (drop (i + 1) domains))) pushed ∙ append_assoc old (d.lo ∷ []) (map low_in (map ends_of (drop (i + 1) domains)))
+      ∙ ap (λ (e : Interval). old ++ e.lo ∷ map low_in (map ends_of (drop (i + 1) domains))) at
+      ∙ ap (λ ds. old ++ map low_in (map ends_of ds)) (sym (drop_more domains i d below)) ∙ so
 
-  pub lows_all : length domains ≤ i → old ++ map low_in (drop i domains) ≡ map low_in domains → old ≡ map low_in domains
-  lows_all all so = sym (append-nil old) ∙ sym (ap (λ ds. old ++ map low_in ds) (drop_all i domains all)) ∙ so
+  pub lows_all : length domains ≤ i → old ++ map low_in (map ends_of (drop i domains)) ≡ map low_in (map ends_of domains) → old ≡ map low_in (map ends_of domains)
+  lows_all all so = sym (append-nil old) ∙ sym (ap (λ ds. old ++ map low_in (map ends_of ds)) (drop_all i domains all)) ∙ so

@@ -5,9 +5,9 @@ use Rattle.std.proofs.lemmas.Int.{ints}
 use Rattle.std.specs.List.{AllByRecursion}
 use Rattle.std.specs.Option.{option_map_or}
 use Rattle.sopl_ast.specs.Cells.{Cell, IsPoint}
-use Rattle.policy_read.specs.declared.domains.Domain.{Domain}
 use Rattle.policy_read.specs.declared.entry.Told.{Told}
-use Rattle.policy_read.specs.Domains.{cell_domain, first_outside, low_in}
+use Rattle.sopl_scen.specs.Domains.{cell_ends}
+use Rattle.policy_read.specs.Domains.{first_outside, low_in}
 use Rattle.policy_read.specs.Policies.{put_all_at, put_at}
 
 -- a value is put where another list has it: what was the same stays so, and it is the same there
@@ -45,7 +45,7 @@ within : (lo hi v : ℤ) → lo ≤ℤ v → v ≤ℤ hi → (int_lt v lo || int
 within lo hi v low high = search (arith, ints)
 
 inside : (cs : List Cell) (vs : List ℤ) (c : ℕ) → IsPoint cs vs
-    → option_map_or (λ (d : Domain). int_lt (get_or vs c (pos 0)) d.lo || int_lt d.hi (get_or vs c (pos 0))) (slice_get (map cell_domain cs) c) false ≡ false
+    → option_map_or (λ (d : ℤ × ℤ). int_lt (get_or vs c (pos 0)) d.0 || int_lt d.1 (get_or vs c (pos 0))) (slice_get (map cell_ends cs) c) false ≡ false
 inside [] vs c point = refl
 inside (d ∷ cs) [] c point = absurd point
 inside (d ∷ cs) (v ∷ vs) zero point = within d.lo d.hi v point.0 point.1
@@ -79,14 +79,14 @@ module _ (vs : List ℤ) where
         let Lies : ℤ → Type 0 = λ v. IsPoint cs (set xs t.cell v) in
         all_point ts (put_at t xs) all.1 (subst Lies (sym all.0.1) (put_point cs xs vs t.cell is point))
 
-    pub none_outside : (ts : List Told) → AllByRecursion IsOf ts → first_outside (map cell_domain cs) ts ≡ None
+    pub none_outside : (ts : List Told) → AllByRecursion IsOf ts → first_outside (map cell_ends cs) ts ≡ None
     none_outside [] all = refl
     none_outside (t ∷ ts) all =
-        let Inside : ℤ → Type 0 = λ v. option_map_or (λ (d : Domain). int_lt v d.lo || int_lt d.hi v) (slice_get (map cell_domain cs) t.cell) false ≡ false in
-        ap (λ b. if b then Some t.cell else first_outside (map cell_domain cs) ts) (subst Inside (sym all.0.1) (inside cs vs t.cell point)) ∙ none_outside ts all.1
+        let Inside : ℤ → Type 0 = λ v. option_map_or (λ (d : ℤ × ℤ). int_lt v d.0 || int_lt d.1 v) (slice_get (map cell_ends cs) t.cell) false ≡ false in
+        ap (λ b. if b then Some t.cell else first_outside (map cell_ends cs) ts) (subst Inside (sym all.0.1) (inside cs vs t.cell point)) ∙ none_outside ts all.1
 
 -- the least values make a point
-pub lows_lie : (cs : List Cell) (vs : List ℤ) → IsPoint cs vs → IsPoint cs (map low_in (map cell_domain cs))
+pub lows_lie : (cs : List Cell) (vs : List ℤ) → IsPoint cs vs → IsPoint cs (map low_in (map cell_ends cs))
 lows_lie [] vs point = tt
 lows_lie (c ∷ cs) [] point = absurd point
 lows_lie (c ∷ cs) (v ∷ vs) point = (omega (arith, ints), omega (arith, ints, point.0, point.1), lows_lie cs vs point.2)

@@ -21,12 +21,12 @@ use Rattle.policy_json.proofs.Branches.{branch_after}
 use Rattle.policy_json.proofs.Chosen.{AreChosen, any_chosen, none_seen}
 use Rattle.policy_json.proofs.Printed.{data_alike}
 use Rattle.policy_json.proofs.Staged.{texts_are_staged}
-use Rattle.policy_read.specs.declared.domains.Domain.{Domain}
 use Rattle.policy_read.specs.declared.entry.Told.{Told}
 use Rattle.policy_read.specs.Listed.{pairwise}
 use Rattle.policy_read.specs.Entries.{told_at}
 use Rattle.policy_read.specs.Forms.{Facing, all_told, facing, nodes_behind, nodes_of, told_by, told_list}
-use Rattle.policy_read.specs.Domains.{cell_domain, low_in}
+use Rattle.sopl_scen.specs.Domains.{cell_ends}
+use Rattle.policy_read.specs.Domains.{low_in}
 use Rattle.policy_read.specs.Policies.{Differs, NoJson, Point, data_read, node_read, policy_unless, put_all_at, values_unless}
 use Rattle.policy_read.specs.Printed.{AcceptedAreRead, AreReadable, PrintedIsRead, TextsAreRead}
 use Rattle.policy_read.proofs.Indices.{accepted_are_readable}
@@ -124,7 +124,7 @@ printed_is_read problem values staged bounded point small =
     let begun : IsSeen problem 1 [] = (some.0, some.1, none_seen 1 1 problem.stochastics some.0 staged.ascending (omega arith)) in
     let nodes : List Facing = nodes_of later (both_at problem values point staged small later 1 []) in
     let told : List Told = all_told nodes in
-    let domains : List Domain = map cell_domain (cells problem) in
+    let domains : List (ℤ × ℤ) = map cell_ends (cells problem) in
     let ws : List ℤ = put_all_at told (map low_in domains) in
     let are_told : AllByRecursion (IsTold problem values point staged small) told =
     all_joined (IsTold problem values point staged small) told_by nodes (nodes_told problem values point staged small later 1 [] begun) in

@@ -9,14 +9,14 @@ use Rattle.sopl_base.specs.declared.fault.Fault.TheVariants as fault
 use Rattle.sopl_base.specs.declared.fault.Refusal.{Refusal}
 use Rattle.sopl_ast.specs.Cells.{Cell, IsPoint, policy_at}
 use Rattle.sopl_ast.specs.Instances.{Decision, Stochastic}
+use Rattle.sopl_scen.specs.Domains.{cell_ends}
 use Rattle.sopl_scen.specs.Layout.{cells_for}
 use Rattle.policy_json.specs.LastStage.{last_stage}
 use Rattle.policy_json.specs.Nodes.{outermost_node}
-use Rattle.policy_read.specs.declared.domains.Domain.{Domain}
 use Rattle.policy_read.specs.declared.entry.Told.{Told}
 use Rattle.policy_read.specs.declared.policy.PolicyReading as kept
 use Rattle.policy_read.specs.declared.policy.PolicyReading.TheVariants as declared
-use Rattle.policy_read.specs.Domains.{cell_domain, first_outside, low_in}
+use Rattle.policy_read.specs.Domains.{first_outside, low_in}
 use Rattle.policy_read.specs.Forms.{Facing, all_told, first_difference, facing, nodes_of}
 use Rattle.policy_read.specs.Listed.{data_in}
 
@@ -74,29 +74,29 @@ put_all_at (t ∷ ts) values = put_all_at ts (put_at t values)
 
 -- the policy with these values, where none lies outside its domain. It begins with the least value of each domain; in what is printed of a policy, none of these
 -- is left standing: this is the law `printed_is_read`
-abbrev pub policy_unless : Option ℕ → List Told → List Domain → PolicyReading
+abbrev pub policy_unless : Option ℕ → List Told → List (ℤ × ℤ) → PolicyReading
 policy_unless (Some cell) told domains = Outside cell
 policy_unless None told domains = Point (put_all_at told (map low_in domains))
 
-abbrev pub told_policy : List Told → List Domain → PolicyReading
+abbrev pub told_policy : List Told → List (ℤ × ℤ) → PolicyReading
 told_policy told domains = policy_unless (first_outside domains told) told domains
 
 -- the policy of the values that nodes tell, where none differs from the form's
-abbrev pub values_unless : Option ℕ → List Facing → List Domain → PolicyReading
+abbrev pub values_unless : Option ℕ → List Facing → List (ℤ × ℤ) → PolicyReading
 values_unless (Some node) nodes domains = Differs node
 values_unless None nodes domains = told_policy (all_told nodes) domains
 
-abbrev pub nodes_policy : List Facing → List Domain → PolicyReading
+abbrev pub nodes_policy : List Facing → List (ℤ × ℤ) → PolicyReading
 nodes_policy nodes domains = values_unless (first_difference nodes) nodes domains
 
 -- the policy of a node, held against that of a form, where so many stages come after the first one
-abbrev pub policy_from : ℕ → Data → Data → List Domain → PolicyReading
+abbrev pub policy_from : ℕ → Data → Data → List (ℤ × ℤ) → PolicyReading
 policy_from later form given domains = nodes_policy (nodes_of later (facing form given)) domains
 
 -- the policy that an outermost node holds
 abbrev pub node_read : List Decision → List Stochastic → Data → PolicyReading
 node_read decisions stochastics given =
-    policy_from (last_stage decisions - 1) (form_for decisions stochastics) given (map cell_domain (cells_for decisions stochastics))
+    policy_from (last_stage decisions - 1) (form_for decisions stochastics) given (map cell_ends (cells_for decisions stochastics))
 
 -- the policy of data, by its member `policy`, and that of a text
 abbrev pub data_read : List Decision → List Stochastic → Data → PolicyReading

@@ -6,17 +6,19 @@ ghost use Rattle.serde_json.specs.View.{view};
 ghost use Rattle.sopl_ast.specs.Instances.{names_in};
 ghost use Rattle.sopl_ast.specs.Pieces.{is_word};
 ghost use Rattle.sopl_scen.specs.Layout.{AreStated, IsTreeOf};
+ghost use Rattle.sopl_scen.specs.Domains.{ends_of};
 ghost use Rattle.policy_read.specs.Domains.{low_in};
 ghost use Rattle.policy_read.specs.Forms.{first_difference, all_told};
 ghost use Rattle.policy_read.specs.Policies as spec;
 
-use crate::domains::{Domain, domains, first_outside};
+use crate::domains::first_outside;
 use crate::entry::Told;
 use crate::form::{Facing, add_nodes, all_told, first_difference};
 use crate::lists::data_in;
 use policy_json::{greatest_stage, policy_value};
 use serde_json::Value;
-use sopl_scen::Tree;
+use sopl_base::Interval;
+use sopl_scen::{Tree, domains};
 use std::alloc::{AllocError, Global};
 use unfold_variables::{DecisionItem, StochItem};
 
@@ -107,9 +109,9 @@ fn policy_from(
     later: u32,
     form: &Value,
     given: &Value,
-    domains: &[Domain],
+    domains: &[Interval],
 ) -> Result<PolicyReading, AllocError>
-    ensures { IfOk result (λ reading. spec.policy_reading reading ≡ spec.policy_from later (view form.now) (view given.now) domains.now) }
+    ensures { IfOk result (λ reading. spec.policy_reading reading ≡ spec.policy_from later (view form.now) (view given.now) (map ends_of domains.now)) }
 {
     let mut nodes = Vec::new(alloc);
     add_nodes(&mut nodes, later, form, given)?;
@@ -124,9 +126,9 @@ fn policy_from(
 fn told_policy(
     alloc: Global,
     told: &[Told],
-    domains: &[Domain],
+    domains: &[Interval],
 ) -> Result<PolicyReading, AllocError>
-    ensures { IfOk result (λ reading. spec.policy_reading reading ≡ spec.told_policy told.now domains.now) }
+    ensures { IfOk result (λ reading. spec.policy_reading reading ≡ spec.told_policy told.now (map ends_of domains.now)) }
 {
     if let Some(cell) = first_outside(domains, told) {
         return Ok(PolicyReading::Outside(cell));
@@ -137,8 +139,8 @@ fn told_policy(
 }
 
 /// The least value of each domain.
-fn lows(alloc: Global, domains: &[Domain]) -> Result<Vec<i64>, AllocError>
-    ensures { IfOk result (λ found. found.items ≡ map low_in domains.now) }
+fn lows(alloc: Global, domains: &[Interval]) -> Result<Vec<i64>, AllocError>
+    ensures { IfOk result (λ found. found.items ≡ map low_in (map ends_of domains.now)) }
 {
     let mut found = Vec::new(alloc);
     'domains: for i in 0..domains.len() {
@@ -148,8 +150,8 @@ fn lows(alloc: Global, domains: &[Domain]) -> Result<Vec<i64>, AllocError>
 }
 
 /// Adds the least value of a domain.
-fn add_low(found: &mut Vec<i64>, domain: &Domain) -> Result<(), AllocError>
-    ensures { OnOk result (found.new.items ≡ found.old.items ++ low_in domain.now ∷ []) }
+fn add_low(found: &mut Vec<i64>, domain: &Interval) -> Result<(), AllocError>
+    ensures { OnOk result (found.new.items ≡ found.old.items ++ low_in (ends_of domain.now) ∷ []) }
 {
     found.push(domain.lo)?;
     Ok(())

@@ -2,11 +2,10 @@
 
 ghost use Rattle.std.specs.Prelude.{◌≡◌, IfOk, IfErr};
 ghost use Rattle.sopl_ast.specs.Cells.{cells};
-ghost use Rattle.sopl_ast.specs.Unfolding.{problem_of};
-ghost use Rattle.sopl_ast.specs.WholeModel.{whole};
 ghost use Rattle.sopl_scen.specs.Layout.{IsTreeOf};
 ghost use Rattle.sopl_policy.specs.Kept.{IsPolicyFor};
 ghost use Rattle.policy_read.specs.Policies.{HoldsPoint, Point, RefusesPolicy, policy_in, policy_reading};
+ghost use Rattle.sopl_unfold.specs.GroundProblem.{ground_problem};
 
 use crate::policy::{PolicyReading, policy_in};
 use sopl_base::{Fault, codes};
@@ -22,10 +21,10 @@ fn reading_of(
     ground: &Ground,
     tree: &Tree,
 ) -> Result<PolicyReading, AllocError>
-    requires tree { IsTreeOf (problem_of (whole ground.now.typed.model)).decisions (problem_of (whole ground.now.typed.model)).stochastics tree.now }
+    requires tree { IsTreeOf (ground_problem ground.now).decisions (ground_problem ground.now).stochastics tree.now }
     ensures reading { IfOk result (λ reading. policy_reading reading
-        ≡ policy_in (problem_of (whole ground.now.typed.model)).decisions (problem_of (whole ground.now.typed.model)).stochastics bytes.now) }
-    ensures inside { IfOk result (λ reading. HoldsPoint (cells (problem_of (whole ground.now.typed.model))) (policy_reading reading)) }
+        ≡ policy_in (ground_problem ground.now).decisions (ground_problem ground.now).stochastics bytes.now) }
+    ensures inside { IfOk result (λ reading. HoldsPoint (cells (ground_problem ground.now)) (policy_reading reading)) }
 {
     policy_in(alloc, bytes, ground.decisions(), ground.stochs(), tree)
 }
@@ -37,9 +36,9 @@ fn policy_held(
     ground: &Ground,
     tree: &Tree,
 ) -> Result<Policy, Fault>
-    requires tree { IsTreeOf (problem_of (whole ground.now.typed.model)).decisions (problem_of (whole ground.now.typed.model)).stochastics tree.now }
-    requires inside { HoldsPoint (cells (problem_of (whole ground.now.typed.model))) (policy_reading reading) }
-    ensures policy { IfOk result (IsPolicyFor (problem_of (whole ground.now.typed.model))) }
+    requires tree { IsTreeOf (ground_problem ground.now).decisions (ground_problem ground.now).stochastics tree.now }
+    requires inside { HoldsPoint (cells (ground_problem ground.now)) (policy_reading reading) }
+    ensures policy { IfOk result (IsPolicyFor (ground_problem ground.now)) }
     ensures values { IfOk result (λ policy. policy_reading reading ≡ Point policy.values) }
     ensures refused { IfErr result (RefusesPolicy (policy_reading reading)) }
 {
@@ -58,12 +57,12 @@ fn policy_held(
 /// passed over. Else 401 at 0 where the text is no JSON; 402 at the number, as printed, of the first node that has another form; and where all have the form, 403 at
 /// the number of the cell of the first value, as printed, that lies outside its domain. Whole numbers are those within 64 signed bits.
 pub fn read(alloc: Global, bytes: &[u8], ground: &Ground, tree: &Tree) -> Result<Policy, Fault>
-    requires tree { IsTreeOf (problem_of (whole ground.now.typed.model)).decisions (problem_of (whole ground.now.typed.model)).stochastics tree.now }
-    ensures policy { IfOk result (IsPolicyFor (problem_of (whole ground.now.typed.model))) }
-    ensures values { IfOk result (λ policy. policy_in (problem_of (whole ground.now.typed.model)).decisions (problem_of (whole ground.now.typed.model)).stochastics bytes.now
+    requires tree { IsTreeOf (ground_problem ground.now).decisions (ground_problem ground.now).stochastics tree.now }
+    ensures policy { IfOk result (IsPolicyFor (ground_problem ground.now)) }
+    ensures values { IfOk result (λ policy. policy_in (ground_problem ground.now).decisions (ground_problem ground.now).stochastics bytes.now
         ≡ Point policy.values) }
     ensures refused { IfErr result (RefusesPolicy
-        (policy_in (problem_of (whole ground.now.typed.model)).decisions (problem_of (whole ground.now.typed.model)).stochastics bytes.now)) }
+        (policy_in (ground_problem ground.now).decisions (ground_problem ground.now).stochastics bytes.now)) }
 {
     let reading = reading_of(alloc, bytes, ground, tree)?;
     policy_held(alloc, reading, ground, tree)

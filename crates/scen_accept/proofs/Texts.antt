@@ -25,6 +25,7 @@ use Rattle.scen_accept.specs.Faults.{IsTextFault}
 use Rattle.scen_accept.specs.Shown.{tokens_shown}
 use Rattle.scen_accept.specs.Stated.{IsLaid, States}
 use Rattle.scen_accept.specs.declared.accepted.AcceptedProblem.{AcceptedProblem}
+use Rattle.sopl_unfold.specs.GroundProblem.{ground_problem}
 
 -- the lexer answers the tokens of the text
 pub tokens_found : (text : List ℕ) (result : Result (Vec Token Global) Fault) → Answers tokens_shown result (Lexes text)
@@ -93,7 +94,7 @@ ground_refused text typed (Err f) has stops = stop_refused text (whole typed.mod
 
 -- a text whose model has no mistake, is unfolded, and passes no limit, is accepted
 pub text_stated : (text : List ℕ) (ground : Ground) (made : Result Tree Fault) (result : Result AcceptedProblem Fault) → IsTextOf text (whole ground.typed.model)
-    → IfOk made (λ tree. size_excess usual_limits (problem_of (whole ground.typed.model)) ≡ None)
+    → IfOk made (λ tree. size_excess usual_limits (ground_problem ground) ≡ None)
     → IfOk result (λ stated. (stated.ground ≡ ground) × (Ok stated.tree ≡ made)) → IfOk result (States text)
 text_stated text ground (Err f) (Ok stated) has within both = absurd (no_tree stated.tree f both.1)
   where
@@ -114,7 +115,7 @@ text_stated text ground made (Err f) has within both = tt
 
 -- its scenarios are those of its problem
 pub text_laid : (ground : Ground) (made : Result Tree Fault) (result : Result AcceptedProblem Fault)
-    → IfOk made (λ tree. IsTreeOf (problem_of (whole ground.typed.model)).decisions (problem_of (whole ground.typed.model)).stochastics tree)
+    → IfOk made (λ tree. IsTreeOf (ground_problem ground).decisions (ground_problem ground).stochastics tree)
     → IfOk result (λ stated. (stated.ground ≡ ground) × (Ok stated.tree ≡ made)) → IfOk result IsLaid
 text_laid ground (Err f) (Ok stated) laid both = absurd (no_tree stated.tree f both.1)
   where
@@ -124,18 +125,18 @@ text_laid ground (Ok tree) (Ok stated) laid both =
     let same = ap (λ (g : Ground). whole g.typed.model) both.0 in
     let one : stated.tree ≡ tree = cc in
     subst (λ m. IsTreeOf (problem_of m).decisions (problem_of m).stochastics stated.tree) (sym same)
-    (subst (λ t. IsTreeOf (problem_of (whole ground.typed.model)).decisions (problem_of (whole ground.typed.model)).stochastics t) (sym one) laid)
+    (subst (λ t. IsTreeOf (ground_problem ground).decisions (ground_problem ground).stochastics t) (sym one) laid)
 text_laid ground made (Err f) laid both = tt
 
 size_fault : (text : List ℕ) (ground : Ground) (f : Fault) → IsTextOf text (whole ground.typed.model)
-    → (f ≡ fault.NoMemory) ⊎ ((e : Excess) × (f ≡ fault.Limit e) × (size_excess usual_limits (problem_of (whole ground.typed.model)) ≡ Some e)) → IsTextFault text f
+    → (f ≡ fault.NoMemory) ⊎ ((e : Excess) × (f ≡ fault.Limit e) × (size_excess usual_limits (ground_problem ground) ≡ Some e)) → IsTextFault text f
 size_fault text ground f has (inl memory) = subst (IsTextFault text) (sym memory) tt
 size_fault text ground f has (inr over) =
     subst (IsTextFault text) (sym over.1) (sizes_pass (whole ground.typed.model) has ground.typed.typed ground.unfolded.passes over.2)
 
 -- a size that passes a limit is why the text is not taken
 pub size_refused : (text : List ℕ) (ground : Ground) (made : Result Tree Fault) (result : Result AcceptedProblem Fault) → IsTextOf text (whole ground.typed.model)
-    → IfErr made (λ f. (f ≡ fault.NoMemory) ⊎ ((e : Excess) × (f ≡ fault.Limit e) × (size_excess usual_limits (problem_of (whole ground.typed.model)) ≡ Some e)))
+    → IfErr made (λ f. (f ≡ fault.NoMemory) ⊎ ((e : Excess) × (f ≡ fault.Limit e) × (size_excess usual_limits (ground_problem ground) ≡ Some e)))
     → IfErr result (λ f. made ≡ Err f) → IfErr result (IsTextFault text)
 size_refused text ground made (Ok stated) has over same = tt
 size_refused text ground (Ok tree) (Err f) has over same = absurd (no_fault tree f same)

@@ -3,10 +3,10 @@ use Rattle.std.specs.Prelude.{ℕ, List}
 use Rattle.sopl_ast.specs.Accepted.{AcceptedModel, IsTextOf}
 use Rattle.sopl_ast.specs.Instances.{Problem}
 use Rattle.sopl_ast.specs.Limits.{usual_limits}
-use Rattle.sopl_ast.specs.Unfolding.{problem_of}
 use Rattle.sopl_ast.specs.Whole.{ModelTree}
 use Rattle.sopl_ast.specs.WholeModel.{whole}
 use Rattle.sopl_scen.specs.Layout.{IsTreeOf}
+use Rattle.sopl_unfold.specs.GroundProblem.{ground_problem}
 use Rattle.scen_accept.specs.declared.accepted.AcceptedProblem.{AcceptedProblem}
 
 -- the model, and the problem that it states
@@ -14,7 +14,7 @@ abbrev pub model_in : AcceptedProblem → ModelTree
 model_in stated = whole stated.ground.typed.model
 
 abbrev pub problem_in : AcceptedProblem → Problem
-problem_in stated = problem_of (model_in stated)
+problem_in stated = ground_problem stated.ground
 
 -- the scenarios are those of the problem
 abbrev pub IsLaid : AcceptedProblem → Type 0

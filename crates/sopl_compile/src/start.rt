@@ -8,6 +8,7 @@ ghost use Rattle.sopl_ast.specs.Unfolding.{problem_of};
 ghost use Rattle.sopl_ast.specs.WholeModel.{whole};
 ghost use Rattle.sopl_compile.specs.Begun.{bare_terms, direction_of, worst_of};
 ghost use Rattle.sopl_compile.specs.Posed.{IsSettingOf};
+ghost use Rattle.sopl_unfold.specs.GroundProblem.{ground_problem};
 ghost use Rattle.sopl_term.specs.Built.{asked_direction, asked_worst, problem_built};
 
 use compile_names::Scenarios;
@@ -57,12 +58,12 @@ pub(crate) fn begun(
     setting: &Scenarios<'_>,
 ) -> Result<Lowering, AllocError>
     requires laid_out { IsLaid setting.now }
-    requires setting { IsSettingOf (problem_of (whole ground.now.typed.model)) setting.now }
-    requires within { size_excess usual_limits (problem_of (whole ground.now.typed.model)) ≡ None }
+    requires setting { IsSettingOf (ground_problem ground.now) setting.now }
+    requires within { size_excess usual_limits (ground_problem ground.now) ≡ None }
     ensures ready { IfOk result (IsReady setting.now) }
-    ensures problem { IfOk result (λ work. problem_built work.builder ≡ bare_terms (problem_of (whole ground.now.typed.model))) }
-    ensures direction { IfOk result (λ work. asked_direction work.builder ≡ direction_of (problem_of (whole ground.now.typed.model))) }
-    ensures worst { IfOk result (λ work. asked_worst work.builder ≡ worst_of (problem_of (whole ground.now.typed.model))) }
+    ensures problem { IfOk result (λ work. problem_built work.builder ≡ bare_terms (ground_problem ground.now)) }
+    ensures direction { IfOk result (λ work. asked_direction work.builder ≡ direction_of (ground_problem ground.now)) }
+    ensures worst { IfOk result (λ work. asked_worst work.builder ≡ worst_of (ground_problem ground.now)) }
 {
     let model = ground.typed().model();
     let domains = cell_domains(alloc, setting)?;

@@ -5,10 +5,9 @@ ghost use Rattle.std.specs.FinMap.{get};
 ghost use Rattle.sopl_ast.specs.Cells.{IsPoint, cells as cells_in};
 ghost use Rattle.sopl_ast.specs.Histories.{histories};
 ghost use Rattle.sopl_ast.specs.Instances.{Decision, Problem};
-ghost use Rattle.sopl_ast.specs.Unfolding.{problem_of};
-ghost use Rattle.sopl_ast.specs.WholeModel.{whole};
 ghost use Rattle.sopl_scen.specs.Layout.{IsTreeOf};
 ghost use Rattle.sopl_policy.specs.Kept.{HasHistory, IsPolicyFor, policy_map, value_kept};
+ghost use Rattle.sopl_unfold.specs.GroundProblem.{ground_problem};
 
 use crate::first_cells::first_cells;
 use sopl_scen::Tree;
@@ -61,9 +60,9 @@ pub fn policy_of(
     ground: &Ground,
     tree: &Tree,
 ) -> Result<Policy, AllocError>
-    requires tree { IsTreeOf (problem_of (whole ground.now.typed.model)).decisions (problem_of (whole ground.now.typed.model)).stochastics tree.now }
-    requires point { IsPoint (cells_in (problem_of (whole ground.now.typed.model))) cells.now }
-    ensures policy { IfOk result (IsPolicyFor (problem_of (whole ground.now.typed.model))) }
+    requires tree { IsTreeOf (ground_problem ground.now).decisions (ground_problem ground.now).stochastics tree.now }
+    requires point { IsPoint (cells_in (ground_problem ground.now)) cells.now }
+    ensures policy { IfOk result (IsPolicyFor (ground_problem ground.now)) }
     ensures values { IfOk result (λ policy. policy.values ≡ cells.now) }
 {
     let firsts = first_cells(alloc, ground.decisions(), tree)?;

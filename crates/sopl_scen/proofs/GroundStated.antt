@@ -38,11 +38,6 @@ ground_stated model from passes ds ss constraints decided drawn beside =
       few = omega (arith, instances_are_counted model passes);
     })))
 
-pub ground_problem : (model : ModelTree) (ds : List Decision) (ss : List Stochastic) (constraints : ℕ)
-    → ds ≡ (problem_of model).decisions → ss ≡ (problem_of model).stochastics → constraints ≡ constraints_in (problem_of model)
-    → IsProblemOf ds ss constraints (problem_of model)
-ground_problem model ds ss constraints decided drawn beside = record { decided = sym decided; drawn = sym drawn; beside = sym beside }
-
 -- the constraints of a text that passes are few
 pub few_constraints : (model : ModelTree) → NothingFails (text_events model) → constraints_in (problem_of model) ≤ 262144
 few_constraints model passes = omega (arith, instances_are_counted model passes)

@@ -15,3 +15,4 @@ pub mod Whole
 pub mod Samples
 pub mod Stated
 pub mod GroundStated
+mod DomainSteps

@@ -5,3 +5,4 @@ pub mod Sizes
 pub mod Layout
 pub mod Tree
 pub mod Samples
+pub mod Domains

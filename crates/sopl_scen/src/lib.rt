@@ -1,6 +1,7 @@
 //! The scenarios of a ground problem, with their histories and the cells of its decisions.
 #![tactic(auto)]
 
+mod cell_domains;
 mod cells;
 mod grounded;
 mod levels;
@@ -14,6 +15,7 @@ mod table;
 mod tests;
 mod tree;
 
+pub use cell_domains::domains;
 pub use grounded::scenarios;
 pub use stages::seen_before;
 pub use tree::Tree;

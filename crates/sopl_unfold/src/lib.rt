@@ -5,6 +5,7 @@
 
 mod declared;
 mod ground;
+mod parts;
 mod stages;
 mod unfolding;
 

@@ -1,5 +1,4 @@
-use Rattle.std.proofs.Common.{ap, subst, ◌∙◌, map}
-use Rattle.sopl_ast.specs.References.{now_of}
+use Rattle.std.proofs.Common.{subst}
 use Rattle.sopl_ast.specs.Unfolding.{text_events}
 use Rattle.sopl_ast.specs.WholeModel.{whole}
 use Rattle.sopl_types.specs.declared.check.Typed.{Typed}
@@ -12,7 +11,7 @@ nodes_of_hards-requires c =
     record {
       met = hards_ready (whole c.args.ground.now.typed.model) _ _ _
           (subst (λ (t : Typed). NothingFails (text_events (whole t.model))) c.typed.ensures.same c.typed.ensures.passes)
-          c.table-table.ensures.known (ap (map now_of) c.as_slice.ensures.value ∙ c.in_ok-conditions.ensures.conditions) c.hards.ensures.hards;
+          c.table-table.ensures.known c.requires.conditions c.hards.ensures.hards;
     }
 
 pub nodes_of_chances-requires : goal.nodes_of_chances-requires
@@ -20,5 +19,5 @@ nodes_of_chances-requires c =
     record {
       met = chances_ready (whole c.args.ground.now.typed.model) _ _ _
           (subst (λ (t : Typed). NothingFails (text_events (whole t.model))) c.typed.ensures.same c.typed.ensures.passes)
-          c.table-table.ensures.known (ap (map now_of) c.as_slice-2.ensures.value ∙ c.in_ok-conditions.ensures.conditions) c.chances.ensures.chances;
+          c.table-table.ensures.known c.requires.conditions c.chances.ensures.chances;
     }

@@ -1,8 +1,8 @@
 use Rattle.std.proofs.Common.{◌∙◌, ap, length}
-use Rattle.sopl_ast.specs.Unfolding.{problem_of}
 use Rattle.sopl_ast.specs.WholeModel.{whole}
 use Rattle.policy_json.proofs.Grounded.{ground_laid, ground_spells, ground_states, values_long}
 use Rattle.policy_json.proofs.bytes.print.Goals as goal
+use Rattle.sopl_unfold.specs.GroundProblem.{ground_problem}
 
 pub policy_value-requires-clause-stated : goal.policy_value-requires-clause-stated
 policy_value-requires-clause-stated c =
@@ -21,4 +21,4 @@ policy_value-requires-clause-names c =
 
 pub policy_value-requires-clause-values : goal.policy_value-requires-clause-values
 policy_value-requires-clause-values c =
-    ap length c.values-values.ensures.values ∙ values_long (problem_of (whole c.args.ground.now.typed.model)) c.args.tree.now c.args.policy.now.values c.requires.tree c.requires.policy.point
+    ap length c.values-values.ensures.values ∙ values_long (ground_problem c.args.ground.now) c.args.tree.now c.args.policy.now.values c.requires.tree c.requires.policy.point

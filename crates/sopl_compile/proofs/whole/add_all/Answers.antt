@@ -22,6 +22,7 @@ use Rattle.sopl_compile.proofs.Objectives.{goal_measured}
 use Rattle.sopl_compile.proofs.Passed.{chances_met, hards_met}
 use Rattle.sopl_compile.proofs.Places.{chances_are, hards_are}
 use Rattle.sopl_compile.proofs.whole.add_all.Goals as goal
+use Rattle.sopl_unfold.specs.GroundProblem.{ground_problem}
 
 pub add_hards-requires-clause-met : goal.add_hards-requires-clause-met
 add_hards-requires-clause-met c =
@@ -32,9 +33,9 @@ pub returns-in_err-add_hards-clause-measured : goal.returns-in_err-add_hards-cla
 returns-in_err-add_hards-clause-measured c =
     let p = err_from_is_err_and c.from_residual.result c.from_residual.ensures.1 in
     rw (p.1, p.2)
-    (hards_fault (root_in c.args.setting.now) (problem_terms (problem_of (whole c.args.ground.now.typed.model))) c.in_err-add_hards.field-0.0
+    (hards_fault (root_in c.args.setting.now) (problem_terms (ground_problem c.args.ground.now)) c.in_err-add_hards.field-0.0
     (subst (λ (list : List (List Cond)). IsSizeFault (root_in c.args.setting.now) (flat_map constraint_subterms list) c.in_err-add_hards.field-0.0)
-    (hards_are (problem_of (whole c.args.ground.now.typed.model)) c.args.setting.now c.requires.setting (map now_of c.args.conditions.now) c.hards.result.now c.requires.conditions
+    (hards_are (ground_problem c.args.ground.now) c.args.setting.now c.requires.setting (map now_of c.args.conditions.now) c.hards.result.now c.requires.conditions
     c.hards.ensures.hards)
     c.in_err-add_hards.ensures.measured))
 
@@ -45,48 +46,48 @@ add_chances-requires-clause-met c =
 
 pub returns-in_err-add_chances-clause-measured : goal.returns-in_err-add_chances-clause-measured
 returns-in_err-add_chances-clause-measured c =
-    let small : first_large (root_in c.args.setting.now) (flat_map constraint_subterms (problem_terms (problem_of (whole c.args.ground.now.typed.model))).hards) ≡ None =
+    let small : first_large (root_in c.args.setting.now) (flat_map constraint_subterms (problem_terms (ground_problem c.args.ground.now)).hards) ≡ None =
     subst (λ (list : List (List Cond)). first_large (root_in c.args.setting.now) (flat_map constraint_subterms list) ≡ None)
-    (hards_are (problem_of (whole c.args.ground.now.typed.model)) c.args.setting.now c.requires.setting (map now_of c.args.conditions.now) c.hards.result.now c.requires.conditions
+    (hards_are (ground_problem c.args.ground.now) c.args.setting.now c.requires.setting (map now_of c.args.conditions.now) c.hards.result.now c.requires.conditions
     c.hards.ensures.hards)
     c.in_ok-add_hards.ensures.measured in
     let p = err_from_is_err_and c.from_residual-in_err-add_chances.result c.from_residual-in_err-add_chances.ensures.1 in
     rw (p.1, p.2)
-    (chances_fault (root_in c.args.setting.now) (problem_terms (problem_of (whole c.args.ground.now.typed.model))) c.in_err-add_chances.field-0.0 small
+    (chances_fault (root_in c.args.setting.now) (problem_terms (ground_problem c.args.ground.now)) c.in_err-add_chances.field-0.0 small
     (subst (λ (list : List ChanceTerms). IsSizeFault (root_in c.args.setting.now) (flat_map (λ (chance : ChanceTerms). constraint_subterms chance.conditions) list) c.in_err-add_chances.field-0.0)
-    (chances_are (problem_of (whole c.args.ground.now.typed.model)) c.args.setting.now c.requires.setting (map now_of c.args.conditions.now) c.chances.result.now c.requires.conditions
+    (chances_are (ground_problem c.args.ground.now) c.args.setting.now c.requires.setting (map now_of c.args.conditions.now) c.chances.result.now c.requires.conditions
     c.chances.ensures.chances) c.in_err-add_chances.ensures.measured))
 
 pub returns-clause-adds : goal.returns-clause-adds
 returns-clause-adds c =
     let before : ProblemTerms = problem_built c.args.work.now.builder in
-    let hards : List (List Cond) = (problem_terms (problem_of (whole c.args.ground.now.typed.model))).hards in
-    let chances : List ChanceTerms = (problem_terms (problem_of (whole c.args.ground.now.typed.model))).chances in
+    let hards : List (List Cond) = (problem_terms (ground_problem c.args.ground.now)).hards in
+    let chances : List ChanceTerms = (problem_terms (ground_problem c.args.ground.now)).chances in
     let first : Adds c.args.setting.now c.args.work.now c.add_hards.new.work (with_hards before hards) =
     subst (λ (list : List (List Cond)). Adds c.args.setting.now c.args.work.now c.add_hards.new.work (with_hards before list))
-    (hards_are (problem_of (whole c.args.ground.now.typed.model)) c.args.setting.now c.requires.setting (map now_of c.args.conditions.now) c.hards.result.now c.requires.conditions
+    (hards_are (ground_problem c.args.ground.now) c.args.setting.now c.requires.setting (map now_of c.args.conditions.now) c.hards.result.now c.requires.conditions
     c.hards.ensures.hards)
     c.in_ok-add_hards.ensures.adds in
     let second : Adds c.args.setting.now c.add_hards.new.work c.add_chances.new.work (with_chances (problem_built c.add_hards.new.work.builder) chances) =
     subst (λ (list : List ChanceTerms). Adds c.args.setting.now c.add_hards.new.work c.add_chances.new.work (with_chances (problem_built c.add_hards.new.work.builder) list))
-    (chances_are (problem_of (whole c.args.ground.now.typed.model)) c.args.setting.now c.requires.setting (map now_of c.args.conditions.now) c.chances.result.now c.requires.conditions
+    (chances_are (ground_problem c.args.ground.now) c.args.setting.now c.requires.setting (map now_of c.args.conditions.now) c.chances.result.now c.requires.conditions
     c.chances.ensures.chances) c.in_ok-add_chances.ensures.adds in
     adds_either c.terms_of_model.result c.args.setting.now c.args.work.now c.add_chances.new.work c.terms_of_model.new.work (with_chances (with_hards before hards) chances)
     (adds_twice with_chances c.args.setting.now c.args.work.now c.add_hards.new.work c.add_chances.new.work (with_hards before hards) chances first second) c.terms_of_model.ensures.extends
 
 pub returns-clause-measured : goal.returns-clause-measured
 returns-clause-measured c =
-    let hards : first_large (root_in c.args.setting.now) (flat_map constraint_subterms (problem_terms (problem_of (whole c.args.ground.now.typed.model))).hards) ≡ None =
+    let hards : first_large (root_in c.args.setting.now) (flat_map constraint_subterms (problem_terms (ground_problem c.args.ground.now)).hards) ≡ None =
     subst (λ (list : List (List Cond)). first_large (root_in c.args.setting.now) (flat_map constraint_subterms list) ≡ None)
-    (hards_are (problem_of (whole c.args.ground.now.typed.model)) c.args.setting.now c.requires.setting (map now_of c.args.conditions.now) c.hards.result.now c.requires.conditions
+    (hards_are (ground_problem c.args.ground.now) c.args.setting.now c.requires.setting (map now_of c.args.conditions.now) c.hards.result.now c.requires.conditions
     c.hards.ensures.hards)
     c.in_ok-add_hards.ensures.measured in
     let chances : first_large (root_in c.args.setting.now)
-    (flat_map (λ (chance : ChanceTerms). constraint_subterms chance.conditions) (problem_terms (problem_of (whole c.args.ground.now.typed.model))).chances) ≡ None =
+    (flat_map (λ (chance : ChanceTerms). constraint_subterms chance.conditions) (problem_terms (ground_problem c.args.ground.now)).chances) ≡ None =
     subst (λ (list : List ChanceTerms). first_large (root_in c.args.setting.now) (flat_map (λ (chance : ChanceTerms). constraint_subterms chance.conditions) list) ≡ None)
-    (chances_are (problem_of (whole c.args.ground.now.typed.model)) c.args.setting.now c.requires.setting (map now_of c.args.conditions.now) c.chances.result.now c.requires.conditions
+    (chances_are (ground_problem c.args.ground.now) c.args.setting.now c.requires.setting (map now_of c.args.conditions.now) c.chances.result.now c.requires.conditions
     c.chances.ensures.chances) c.in_ok-add_chances.ensures.measured in
-    goal_measures (root_in c.args.setting.now) (problem_terms (problem_of (whole c.args.ground.now.typed.model))) c.terms_of_model.result hards chances
+    goal_measures (root_in c.args.setting.now) (problem_terms (ground_problem c.args.ground.now)) c.terms_of_model.result hards chances
     (subst (λ (terms : List Term). Measures (root_in c.args.setting.now) terms c.terms_of_model.result)
     (ap (λ (m : Model). flat_map subterms (terms_asked (problem_of (whole m)))) (c.model.ensures.same ∙ ap (λ (t : Typed). t.model) c.typed.ensures.same)
-    ∙ goal_measured (problem_of (whole c.args.ground.now.typed.model))) c.terms_of_model.ensures.measured)
+    ∙ goal_measured (ground_problem c.args.ground.now)) c.terms_of_model.ensures.measured)

@@ -1,9 +1,9 @@
 use Rattle.std.proofs.Common.{◌∙◌, ap, map, arith}
 use Rattle.sopl_ast.specs.Instances.{Decision}
 use Rattle.sopl_scen.specs.Layout.{histories_in}
-use Rattle.compile_scene.specs.Domains.{ends_of}
-use Rattle.compile_scene.proofs.CellDomains.{next_domains, all_domains}
-use Rattle.compile_scene.proofs.roots.domains_of.Goals as goal
+use Rattle.sopl_scen.specs.Domains.{ends_of}
+use Rattle.sopl_scen.proofs.DomainSteps.{next_domains, all_domains}
+use Rattle.sopl_scen.proofs.cell_domains.laid_domains.Goals as goal
 
 pub decisions-preserved : goal.decisions-preserved
 decisions-preserved c =
