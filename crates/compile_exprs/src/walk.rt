@@ -30,15 +30,7 @@ use sopl_ast::{Binders, Expr, Factors, Kind, MulOp, Name};
 use sopl_base::{CmpOp, Fault};
 use sopl_term::{CondId, TermId};
 use term_math::Extreme;
-use unfold_constants::ConstantScope;
-
-/// The start, the length and the demand of tasks, as expressions.
-#[derive(Clone, Copy)]
-struct TaskExprs<'a> {
-    start: &'a Expr,
-    duration: &'a Expr,
-    demand: &'a Expr,
-}
+use unfold_constants::{ConstantScope, TaskText};
 
 /// Adds the term of an expression; a condition is a number.
 #[cycle(walk)]
@@ -125,7 +117,7 @@ pub(crate) fn condition<'a>(
             differing(work, ids)
         }
         Kind::Cumulative(over, start, duration, demand, most) => {
-            let task = TaskExprs {
+            let task = TaskText {
                 start,
                 duration,
                 demand,
@@ -406,7 +398,7 @@ fn scheduled<'a>(
     known: &ConstantScope<'a>,
     work: &mut Lowering,
     over: &'a Binders,
-    task: &TaskExprs<'a>,
+    task: &TaskText<'a>,
     most: &'a Expr,
 ) -> Result<CondId, Fault>
     requires ready { IsReady scene.now.setting.now work.old }
@@ -435,7 +427,7 @@ fn tasks_behind<'a>(
     known: &ConstantScope<'a>,
     work: &mut Lowering,
     over: &'a Binders,
-    task: &TaskExprs<'a>,
+    task: &TaskText<'a>,
 ) -> Result<Vec<(TermId, TermId, TermId)>, Fault>
     requires ready { IsReady scene.now.setting.now work.old }
     requires placed { IsPlaced scene.now known.now }
@@ -458,7 +450,7 @@ fn each_task<'a>(
     scene: &NumberedScenario<'_, '_>,
     work: &mut Lowering,
     here: &[ConstantScope<'a>],
-    task: &TaskExprs<'a>,
+    task: &TaskText<'a>,
 ) -> Result<Vec<(TermId, TermId, TermId)>, Fault>
     requires ready { IsReady scene.now.setting.now work.old }
     requires exists { scene.now.scenario < count_in scene.now.setting.now.tree.now }
@@ -484,7 +476,7 @@ fn one_task<'a>(
     scene: &NumberedScenario<'_, '_>,
     known: &ConstantScope<'a>,
     work: &mut Lowering,
-    task: &TaskExprs<'a>,
+    task: &TaskText<'a>,
 ) -> Result<(TermId, TermId, TermId), Fault>
     requires ready { IsReady scene.now.setting.now work.old }
     requires placed { IsPlaced scene.now known.now }

@@ -8,14 +8,15 @@ use Rattle.std.specs.Ordering.{int_cmp}
 use Rattle.std.specs.declared.alloc.Global.{Global}
 use Rattle.std.specs.declared.vec.Vec.{Vec}
 use Rattle.sopl_ast.specs.References.{now_of}
-use Rattle.compile_names.specs.Kept.{column, sets_in}
+use Rattle.term_math.specs.Kept as kept
+use Rattle.compile_names.specs.Kept.{column}
 
 -- one set more
 pub column_more : (given : List (List ℤ)) (place : ℕ) (sets new : List (Vec ℤ Global)) (set : Vec ℤ Global)
-    → sets_in sets ≡ map (column given) (range_with_len 0 place) → set.items ≡ column given place → new ≡ sets ++ set ∷ []
-    → sets_in new ≡ map (column given) (range_with_len 0 (place + 1))
+    → kept.sets_of sets ≡ map (column given) (range_with_len 0 place) → set.items ≡ column given place → new ≡ sets ++ set ∷ []
+    → kept.sets_of new ≡ map (column given) (range_with_len 0 (place + 1))
 column_more given place sets new set before here is =
-    ap sets_in is
+    ap kept.sets_of is
     ∙ map-append (λ (s : Vec ℤ Global). s.items) sets (set ∷ [])
     ∙ (λ i. before i ++ here i ∷ [])
     ∙ sym (map-range_with_len_more (column given) 0 place place (omega arith))
@@ -38,6 +39,6 @@ module _ (xs : List (Bor (List ℤ))) (i place : ℕ) where
   numbers_end keys past = at_drop_all (λ left. rest place keys left) xs i past
 
 -- all places are passed
-pub columns_end : (given : List (List ℤ)) (place count : ℕ) (sets : List (Vec ℤ Global)) → place ≡ count → sets_in sets ≡ map (column given) (range_with_len 0 place)
-    → sets_in sets ≡ map (column given) (range_with_len 0 count)
+pub columns_end : (given : List (List ℤ)) (place count : ℕ) (sets : List (Vec ℤ Global)) → place ≡ count → kept.sets_of sets ≡ map (column given) (range_with_len 0 place)
+    → kept.sets_of sets ≡ map (column given) (range_with_len 0 count)
 columns_end given place count sets all are = are ∙ ap (λ n. map (column given) (range_with_len 0 n)) all

@@ -8,7 +8,8 @@ use Rattle.std.specs.declared.vec.Vec.{Vec}
 use Rattle.sopl_base.proofs.Lists.{map_same}
 use Rattle.term_language.specs.Arrays.{indices}
 use Rattle.compile_names.specs.declared.first_places.Places.{Places}
-use Rattle.compile_names.specs.Kept.{place_in, places_behind, sets_in}
+use Rattle.term_math.specs.Kept as kept
+use Rattle.compile_names.specs.Kept.{place_in, places_behind}
 use Rattle.compile_names.specs.Plans.{place_among}
 
 module _ (places : Places) (numbers : List ℤ) where
@@ -36,7 +37,7 @@ module _ (places : Places) (numbers : List ℤ) where
           (λ more. ap (place_in places) (sym (append_assoc numbers (n ∷ []) more))) rest
 
   pub sets_behind : (set : Vec ℤ Global) (later : List (Vec ℤ Global)) → places_behind places numbers (set ∷ later) ≡ each_behind later set.items
-  sets_behind set later = set_behind (indices (sets_in later)) set.items
+  sets_behind set later = set_behind (indices (kept.sets_of later)) set.items
 
   module _ (later : List (Vec ℤ Global)) (set : List ℤ) (i : ℕ) where
     -- one number more
@@ -56,6 +57,6 @@ pub ruleset ordering = (last_place, sets_behind, number_listed, numbers_listed)
 -- from no number on
 pub order_is : (places : Places) (given : List (List ℤ)) (sets : List (Vec ℤ Global)) (order new : List (Option ℕ)) (index : List ℤ)
     → ((x : List ℤ) → place_in places x ≡ place_among 0 given x) → order ≡ [] → index ≡ [] → new ≡ order ++ places_behind places index sets
-    → new ≡ map (place_among 0 given) (indices (sets_in sets))
+    → new ≡ map (place_among 0 given) (indices (kept.sets_of sets))
 order_is places given sets order new index same empty none is =
-    is ∙ (λ i. empty i ++ places_behind places (none i) sets) ∙ map_same (λ x. place_in places x) (place_among 0 given) same (indices (sets_in sets))
+    is ∙ (λ i. empty i ++ places_behind places (none i) sets) ∙ map_same (λ x. place_in places x) (place_among 0 given) same (indices (kept.sets_of sets))

@@ -8,11 +8,8 @@ use Rattle.std.specs.Ordering.{int_cmp, int_eq}
 use Rattle.std.specs.declared.alloc.Global.{Global}
 use Rattle.std.specs.declared.vec.Vec.{Vec}
 use Rattle.term_language.specs.Arrays.{indices}
+use Rattle.term_math.specs.Kept.{sets_of}
 use Rattle.compile_names.specs.declared.first_places.Places.{Places}
-
--- the numbers of sets
-abbrev pub sets_in : List (Vec ℤ Global) → List (List ℤ)
-sets_in sets = map (λ (set : Vec ℤ Global). set.items) sets
 
 -- the numbers that stand at a place of indices, in ascending order and each once
 abbrev pub column : List (List ℤ) → ℕ → List ℤ
@@ -24,4 +21,4 @@ place_in places index = lookup (λ key. pointwise int_eq index key.items) places
 
 -- the places that are noted for the indices that begin with these numbers and go on in these sets, in lexicographic order
 abbrev pub places_behind : Places → List ℤ → List (Vec ℤ Global) → List (Option ℕ)
-places_behind places numbers sets = map (λ later. place_in places (numbers ++ later)) (indices (sets_in sets))
+places_behind places numbers sets = map (λ later. place_in places (numbers ++ later)) (indices (sets_of sets))

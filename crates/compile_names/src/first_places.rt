@@ -4,7 +4,8 @@ ghost use Rattle.std.specs.Prelude.{◌≡◌, ◌≢◌, ◌≤◌, ◌+◌, �
 ghost use Rattle.sopl_ast.specs.Numbers.{or_else};
 ghost use Rattle.sopl_ast.specs.References.{now_of};
 ghost use Rattle.term_language.specs.Arrays.{same_index};
-ghost use Rattle.compile_names.specs.Kept.{place_in, places_behind, sets_in};
+ghost use Rattle.term_math.specs.Kept as kept;
+ghost use Rattle.compile_names.specs.Kept.{place_in, places_behind};
 ghost use Rattle.compile_names.specs.declared.first_places.Places.{Places};
 ghost use Rattle.compile_names.specs.Plans.{place_among};
 
@@ -117,7 +118,7 @@ fn put_singles<'a>(index: &mut Vec<i64>, sets: &'a [Vec<i64>]) -> Result<&'a [Ve
     ensures kept { IfOk result (λ left. take (length index.old.items) index.new.items ≡ index.old.items) }
     ensures fewer { IfOk result (λ left. length left.now ≤ length sets.now) }
     ensures places { IfOk result (λ left. (places : Places) → places_behind places index.new.items left.now ≡ places_behind places index.old.items sets.now) }
-    ensures all { IfOk result (λ left. (number : ℤ) (others : List (List ℤ)) → sets_in left.now ≢ (number ∷ []) ∷ others) }
+    ensures all { IfOk result (λ left. (number : ℤ) (others : List (List ℤ)) → kept.sets_of left.now ≢ (number ∷ []) ∷ others) }
 {
     let mut left = sets;
     'singles: while let Some((number, later)) = single(left) {
@@ -130,9 +131,9 @@ fn put_singles<'a>(index: &mut Vec<i64>, sets: &'a [Vec<i64>]) -> Result<&'a [Ve
 /// The number of the first set, where it has one alone, and the other sets.
 #[tactic(auto, using(crate::proofs::Singles::one_number, crate::proofs::Singles::no_set, crate::proofs::Singles::other_numbers))]
 fn single(sets: &[Vec<i64>]) -> Option<(i64, &[Vec<i64>])>
-    ensures number { IfSome result (λ first. sets_in sets.now ≡ (first.0 ∷ []) ∷ sets_in first.1.now) }
+    ensures number { IfSome result (λ first. kept.sets_of sets.now ≡ (first.0 ∷ []) ∷ kept.sets_of first.1.now) }
     ensures fewer { IfSome result (λ first. length first.1.now + 1 ≡ length sets.now) }
-    ensures none { IfNone result ((number : ℤ) (others : List (List ℤ)) → sets_in sets.now ≢ (number ∷ []) ∷ others) }
+    ensures none { IfNone result ((number : ℤ) (others : List (List ℤ)) → kept.sets_of sets.now ≢ (number ∷ []) ∷ others) }
 {
     let (set, later) = sets.split_first()?;
     match set.as_slice() {

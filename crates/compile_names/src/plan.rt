@@ -3,7 +3,7 @@
 ghost use Rattle.std.specs.Prelude.{◌≡◌, map, IfOk};
 ghost use Rattle.sopl_ast.specs.References.{now_of};
 ghost use Rattle.compile_laws.specs.Instances as instances;
-ghost use Rattle.compile_names.specs.Kept.{sets_in};
+ghost use Rattle.term_math.specs.Kept as kept;
 ghost use Rattle.term_language.specs.Arrays.{indices};
 ghost use Rattle.compile_names.specs.Plans.{order_of, place_among};
 
@@ -22,7 +22,7 @@ impl Plan {
     /// The plan of elements with these indices; where there is none, there is one set with no number. An index that no element has, as
     /// there is none where the elements have all indices of some sets, has no element in the order.
     pub fn of(alloc: Global, given: &[&[i64]]) -> Result<Plan, AllocError>
-        ensures sets { IfOk result (λ plan. sets_in plan.sets.items ≡ instances.sets_of (map now_of given.now)) }
+        ensures sets { IfOk result (λ plan. kept.sets_of plan.sets.items ≡ instances.sets_of (map now_of given.now)) }
         ensures order { IfOk result (λ plan. plan.order.items ≡ order_of (map now_of given.now)) }
     {
         let sets = sets_of(alloc, given)?;
@@ -38,7 +38,7 @@ fn ordered(
     given: &[&[i64]],
     sets: &[Vec<i64>],
 ) -> Result<Vec<Option<usize>>, AllocError>
-    ensures { IfOk result (λ order. order.items ≡ map (place_among 0 (map now_of given.now)) (indices (sets_in sets.now))) }
+    ensures { IfOk result (λ order. order.items ≡ map (place_among 0 (map now_of given.now)) (indices (kept.sets_of sets.now))) }
 {
     let places = Places::of(alloc, given)?;
     let mut index = Vec::new(alloc);

@@ -6,14 +6,15 @@ ghost use Rattle.std.specs.List.{range_with_len};
 ghost use Rattle.std.specs.Ordering.{int_cmp};
 ghost use Rattle.sopl_ast.specs.References.{now_of};
 ghost use Rattle.compile_laws.specs.Instances as instances;
-ghost use Rattle.compile_names.specs.Kept.{column, sets_in};
+ghost use Rattle.term_math.specs.Kept as kept;
+ghost use Rattle.compile_names.specs.Kept.{column};
 
 use std::alloc::{AllocError, Global};
 use std::collections::BTreeSet;
 
 /// The numbers that stand at each place of these indices, in ascending order and each once; one set with no number where there is no index.
 pub(crate) fn sets_of(alloc: Global, given: &[&[i64]]) -> Result<Vec<Vec<i64>>, AllocError>
-    ensures { IfOk result (λ sets. sets_in sets.items ≡ instances.sets_of (map now_of given.now)) }
+    ensures { IfOk result (λ sets. kept.sets_of sets.items ≡ instances.sets_of (map now_of given.now)) }
 {
     let Some(first) = given.first() else {
         return one_empty(alloc);
@@ -23,7 +24,7 @@ pub(crate) fn sets_of(alloc: Global, given: &[&[i64]]) -> Result<Vec<Vec<i64>>, 
 
 /// One set with no number.
 fn one_empty(alloc: Global) -> Result<Vec<Vec<i64>>, AllocError>
-    ensures { IfOk result (λ sets. sets_in sets.items ≡ [] ∷ []) }
+    ensures { IfOk result (λ sets. kept.sets_of sets.items ≡ [] ∷ []) }
 {
     let mut sets = Vec::new(alloc);
     sets.push(Vec::new(alloc))?;
@@ -33,7 +34,7 @@ fn one_empty(alloc: Global) -> Result<Vec<Vec<i64>>, AllocError>
 /// The numbers that stand at each of so many places of these indices.
 #[tactic(auto, using(crate::proofs::Columns::column_more, crate::proofs::Columns::columns_end))]
 fn columns(alloc: Global, given: &[&[i64]], count: usize) -> Result<Vec<Vec<i64>>, AllocError>
-    ensures { IfOk result (λ sets. sets_in sets.items ≡ map (column (map now_of given.now)) (range_with_len 0 count)) }
+    ensures { IfOk result (λ sets. kept.sets_of sets.items ≡ map (column (map now_of given.now)) (range_with_len 0 count)) }
 {
     let mut sets = Vec::new(alloc);
     'places: for place in 0..count {

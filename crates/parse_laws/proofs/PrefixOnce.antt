@@ -56,9 +56,6 @@ misplaced_stops size tokens at is =
       over = λ u us there. no_prefix 64 is.before u us (subst (λ l. NoneGoesOn is.before l) there is.stuck);
     }
 
-same_token : (u v : Token) (us vs : List Token) → u ∷ us ≡ v ∷ vs → u ≡ v
-same_token u v us vs e = cc
-
 deep_stops : (tokens : List Token) (at : ℕ) → IsTooDeep tokens at → Stops 64 tokens
 deep_stops tokens at is =
     record {
@@ -67,7 +64,7 @@ deep_stops tokens at is =
       split = is.split;
       prefix = is.prefix;
       over = λ u us there prefix.
-          is.over (subst (λ v. IsPrefix 64 (is.before ++ v ∷ [])) (sym (same_token is.token u is.behind us there)) prefix);
+          is.over (subst (λ v. IsPrefix 64 (is.before ++ v ∷ [])) (sym (same_first is.token u is.behind us there)) prefix);
     }
 
 -- one place stands before another: then what stands before the other is a prefix, and none
