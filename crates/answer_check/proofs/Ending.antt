@@ -16,14 +16,12 @@ use Rattle.compile_laws.specs.WellMade.{IsUnfolded}
 use Rattle.answer_texts.specs.Logs.{searched_problem}
 use Rattle.answer_texts.specs.Solved.{SolvedText}
 use Rattle.answer_texts.specs.declared.status.Status.{Status}
-use Rattle.answer_texts.specs.declared.status.Status.TheVariants.{Done, Refused, Limit}
-use Rattle.answer_texts.specs.Replies.{IsLimitedOn, IsRefusedOn}
-use Rattle.answer_texts.specs.Replies as ends
+use Rattle.answer_texts.specs.declared.status.Status.TheVariants.{Done}
 use Rattle.answer_texts.specs.declared.command.Command.TheVariants.{Solve}
 use Rattle.answer_texts.proofs.Ended.{accepted_end_once}
-use Rattle.answer_texts.proofs.Ends.{ends_alike, one_limit_on, one_refusal_on}
+use Rattle.answer_texts.proofs.Ends.{one_limit_on, one_refusal_on}
 use Rattle.answer_lines.specs.AnswerData.{limit_data, line_of, refused_data}
-use Rattle.answer_texts.proofs.Shared.{done_limit, done_refused, refused_limit}
+use Rattle.answer_texts.proofs.Shared.{not_both_told, not_limited, not_refused}
 use Rattle.answer_check.specs.CheckData.{accepted_data, rejected_data, unreadable_data}
 use Rattle.answer_check.specs.Claims.{HoldsOfPolicies}
 use Rattle.answer_check.specs.CheckLaws.{ChecksEndOnce, IsSameReply, AcceptedLogsAreAnswered}
@@ -63,18 +61,6 @@ claim_of_text text problem rows claim solved right =
     subst (λ (p : Problem). HoldsOfPolicies p claim) solved.accepted.stated
     (claims_are_true solved.model rows claim (text_unfolded text problem solved)
     (subst (λ (p : Problem). Accepted (searched_problem p) rows claim) (sym solved.accepted.stated) right))
-
-not_refused : (text : List ℕ) (problem : Problem) (refusal : Refusal) → SolvedText text problem → IsRefusedOn text refusal Solve → ⊥
-not_refused text problem refusal solved broken =
-    done_refused (ends_alike text 0 Solve Done Refused (ends.solved problem solved) (ends.refused_text Solve refusal broken))
-
-not_limited : (text : List ℕ) (problem : Problem) (excess : Excess) → SolvedText text problem → IsLimitedOn text excess Solve → ⊥
-not_limited text problem excess solved over =
-    done_limit (ends_alike text 0 Solve Done Limit (ends.solved problem solved) (ends.limited_text Solve excess over))
-
-not_both_told : (text : List ℕ) (refusal : Refusal) (excess : Excess) → IsRefusedOn text refusal Solve → IsLimitedOn text excess Solve → ⊥
-not_both_told text refusal excess broken over =
-    refused_limit (ends_alike text 0 Solve Refused Limit (ends.refused_text Solve refusal broken) (ends.limited_text Solve excess over))
 
 -- the same bytes are read in one way
 module _ (readings_are_unique : ReadingsAreUnique) where

@@ -1,7 +1,6 @@
 -- From what is found out of a text and a log to the reply.
 use Rattle.std.proofs.Common.{◌≡◌, ◌∙◌, inl, inr, ℕ, ℤ, pos, List, Result, Ok, Err, IfOk, IfErr, string_bytes, sym, ap, subst}
 use Rattle.std.specs.declared.alloc.AllocError.{AllocError}
-use Rattle.sopl_base.specs.declared.fault.Excess.{Excess}
 use Rattle.sopl_base.specs.declared.fault.Fault.{Fault}
 use Rattle.sopl_base.specs.declared.fault.Refusal.{Refusal}
 use Rattle.sopl_ast.specs.Instances.{Problem}
@@ -23,21 +22,21 @@ use Rattle.log_check.specs.declared.verdict.Verdict.TheVariants.{Accepted, Rejec
 use Rattle.scen_accept.proofs.NamesFormed.{model_from_tokens}
 use Rattle.scen_accept.specs.Stated.{States, model_in, problem_in}
 use Rattle.scen_accept.specs.declared.accepted.AcceptedProblem.{AcceptedProblem}
-use Rattle.answer_lines.specs.AnswerData.{limit_data, line_of, refused_data}
+use Rattle.answer_lines.specs.AnswerData.{line_of}
 use Rattle.answer_texts.specs.Away.{IsTurnedAway}
 use Rattle.answer_texts.specs.Models.{IsSolvable}
 use Rattle.answer_texts.specs.Logs.{searched_problem}
-use Rattle.answer_texts.specs.Replies.{IsFaultOn, IsLimitedOn, IsRefusedOn}
+use Rattle.answer_texts.specs.Replies.{IsFaultOn}
 use Rattle.answer_texts.specs.Solved.{SolvedText}
 use Rattle.answer_texts.specs.Solving.{IsProgramOf, IsSolveFault}
 use Rattle.answer_texts.specs.declared.command.Command.TheVariants.{Solve}
 use Rattle.answer_texts.specs.declared.reply.Reply.{Reply}
 use Rattle.answer_texts.specs.declared.status.Status.{Status}
-use Rattle.answer_texts.specs.declared.status.Status.TheVariants.{Done, Failing, Refused, Limit, Unreadable}
+use Rattle.answer_texts.specs.declared.status.Status.TheVariants.{Done, Failing, Unreadable}
 use Rattle.answer_texts.proofs.Answered.{unsolved_so}
 use Rattle.answer_texts.proofs.Printing.{same_denominator}
 use Rattle.answer_check.specs.CheckData.{unreadable_data}
-use Rattle.answer_check.specs.CheckReplies.{IsLogReply, accepted, rejected, unreadable, IsCheckReply, checked, refused_text, limited_text, IsProgramFor}
+use Rattle.answer_check.specs.CheckReplies.{IsLogReply, accepted, rejected, unreadable, IsCheckReply, checked, IsProgramFor}
 use Rattle.answer_check.specs.Verdicts.{status_of, verdict_data}
 use Rattle.answer_check.proofs.Claiming.{claims_are_true, searched_is}
 
@@ -70,25 +69,6 @@ module _ (model : ModelTree) (program : Program) (unfolded : IsUnfolded model) (
 pub unreadable_so : (problem : Problem) (bytes line : List ℕ) (mistake : Refusal) → IsReading bytes (refused mistake.code mistake.at)
     → line ≡ line_of (unreadable_data (pos mistake.at) (pos mistake.code)) → IsLogReply problem bytes Unreadable line
 unreadable_so problem bytes line mistake reads is = subst (λ l. IsLogReply problem bytes Unreadable l) (sym is) (unreadable mistake.code mistake.at reads)
-
--- a text that is refused
-pub refused_so : (text log : List ℕ) (refusal : Refusal) (result : Result Reply AllocError) → IsRefusedOn text refusal Solve
-    → IfOk result (λ reply. reply.status ≡ Refused)
-    → IfOk result (λ reply. string_bytes reply.line ≡ line_of (refused_data (pos refusal.at) (pos refusal.code)))
-    → IfOk result (λ reply. IsCheckReply text log reply.status (string_bytes reply.line))
-refused_so text log refusal (Ok reply) reason ends is =
-    subst (λ s. IsCheckReply text log s (string_bytes reply.line)) (sym ends)
-    (subst (λ l. IsCheckReply text log Refused l) (sym is) (refused_text refusal reason))
-refused_so text log refusal (Err error) reason ends is = tt
-
--- a text that passes a limit
-pub limited_so : (text log : List ℕ) (excess : Excess) (result : Result Reply AllocError) → IsLimitedOn text excess Solve
-    → IfOk result (λ reply. reply.status ≡ Limit) → IfOk result (λ reply. string_bytes reply.line ≡ line_of (limit_data excess))
-    → IfOk result (λ reply. IsCheckReply text log reply.status (string_bytes reply.line))
-limited_so text log excess (Ok reply) over ends is =
-    subst (λ s. IsCheckReply text log s (string_bytes reply.line)) (sym ends)
-    (subst (λ l. IsCheckReply text log Limit l) (sym is) (limited_text excess over))
-limited_so text log excess (Err error) over ends is = tt
 
 -- a text with its program
 pub program_made : (text : List ℕ) (stated : AcceptedProblem) (result : Result Program Fault) → States text stated

@@ -7,7 +7,7 @@ ghost use Rattle.answer_texts.specs.declared.command.Command.TheVariants.{Solve}
 ghost use Rattle.answer_check.specs.CheckReplies.{IsCheckReply, IsProgramFor};
 
 use crate::logs::log_reply;
-use answer_texts::{Reply, limit_reply, program_of, refused_reply};
+use answer_texts::{Reply, away_reply, program_of};
 use scen_accept::stated_in;
 use sopl_base::Fault;
 use sopl_term::Program;
@@ -19,11 +19,7 @@ pub fn fault_reply(alloc: Global, fault: Fault) -> Result<Reply, AllocError>
         → IfOk result (λ reply. IsCheckReply text log reply.status (string_bytes reply.line)) }
     ensures turned_away { IfOk result (λ reply. IsTurnedAway reply.status) }
 {
-    match fault {
-        Fault::Text(refusal) => refused_reply(alloc, refusal),
-        Fault::Limit(excess) => limit_reply(alloc, &excess),
-        Fault::NoMemory => Err(AllocError),
-    }
+    away_reply(alloc, fault)
 }
 
 /// The program of a text that a log of it is checked against. Or why `solve` does not solve the text: its first rule that is broken, or

@@ -18,30 +18,16 @@ use Rattle.policy_read.specs.Listed.{data_in}
 use Rattle.policy_read.specs.Policies.{Differs, NoJson, Outside, Point, PolicyReading, policy_in, policy_refusal}
 use Rattle.policy_read.specs.Printed.{AcceptedAreRead}
 use Rattle.answer_lines.specs.AnswerData.{limit_data, line_of, refused_data, unreadable_data}
-use Rattle.answer_texts.specs.Replies.{IsLimitedOn, IsRefusedOn}
-use Rattle.answer_texts.specs.Replies as ends
 use Rattle.answer_texts.specs.Solved.{SolvedText}
 use Rattle.answer_texts.specs.declared.command.Command.TheVariants.{Solve}
 use Rattle.answer_texts.specs.declared.status.Status.{Status}
-use Rattle.answer_texts.specs.declared.status.Status.TheVariants.{Done, Refused, Limit, Unreadable}
+use Rattle.answer_texts.specs.declared.status.Status.TheVariants.{Done, Unreadable}
 use Rattle.answer_texts.proofs.Ended.{accepted_end_once}
-use Rattle.answer_texts.proofs.Ends.{ends_alike, one_limit_on, one_refusal_on}
-use Rattle.answer_texts.proofs.Shared.{done_limit, done_refused, refused_limit}
+use Rattle.answer_texts.proofs.Ends.{one_limit_on, one_refusal_on}
+use Rattle.answer_texts.proofs.Shared.{not_both_told, not_limited, not_refused}
 use Rattle.answer_eval.specs.EvalData.{judgement_data, judgement_status, satisfied_data}
 use Rattle.answer_eval.specs.EvalLaws.{EvalsEndOnce, SatisfyingAreAnswered}
 use Rattle.answer_eval.specs.EvalReplies.{HoldsPolicy, IsPolicyReply, satisfied, hard_fails, chance_fails, objective_fails, unreadable, evaluated, text_refused, text_limited}
-
-not_refused : (text : List ℕ) (problem : Problem) (refusal : Refusal) → SolvedText text problem → IsRefusedOn text refusal Solve → ⊥
-not_refused text problem refusal solved broken =
-    done_refused (ends_alike text 0 Solve Done Refused (ends.solved problem solved) (ends.refused_text Solve refusal broken))
-
-not_limited : (text : List ℕ) (problem : Problem) (excess : Excess) → SolvedText text problem → IsLimitedOn text excess Solve → ⊥
-not_limited text problem excess solved over =
-    done_limit (ends_alike text 0 Solve Done Limit (ends.solved problem solved) (ends.limited_text Solve excess over))
-
-not_both : (text : List ℕ) (refusal : Refusal) (excess : Excess) → IsRefusedOn text refusal Solve → IsLimitedOn text excess Solve → ⊥
-not_both text refusal excess broken over =
-    refused_limit (ends_alike text 0 Solve Refused Limit (ends.refused_text Solve refusal broken) (ends.limited_text Solve excess over))
 
 -- the values that are read
 values_in : PolicyReading → List ℤ
@@ -138,9 +124,9 @@ module _ (reports_are_one : ReportsAreOne) where
   evals_end_once text bytes _ _ _ _ (text_refused refusal broken) (evaluated p s l solved reply) = absurd (not_refused text p refusal solved broken)
   evals_end_once text bytes _ _ _ _ (text_refused refusal broken) (text_refused other broke) =
       (refl, ap (λ (r : Refusal). line_of (refused_data (pos r.at) (pos r.code))) (one_refusal_on text 0 refusal other Solve Solve broken broke))
-  evals_end_once text bytes _ _ _ _ (text_refused refusal broken) (text_limited excess over) = absurd (not_both text refusal excess broken over)
+  evals_end_once text bytes _ _ _ _ (text_refused refusal broken) (text_limited excess over) = absurd (not_both_told text refusal excess broken over)
   evals_end_once text bytes _ _ _ _ (text_limited excess over) (evaluated p s l solved reply) = absurd (not_limited text p excess solved over)
-  evals_end_once text bytes _ _ _ _ (text_limited excess over) (text_refused refusal broken) = absurd (not_both text refusal excess broken over)
+  evals_end_once text bytes _ _ _ _ (text_limited excess over) (text_refused refusal broken) = absurd (not_both_told text refusal excess broken over)
   evals_end_once text bytes _ _ _ _ (text_limited excess over) (text_limited other overly) =
       (refl, ap (λ (e : Excess). line_of (limit_data e)) (one_limit_on text 0 excess other Solve Solve over overly))
 

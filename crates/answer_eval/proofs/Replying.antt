@@ -1,14 +1,11 @@
 -- From what is found out of a text and the bytes of a policy to the reply.
-use Rattle.std.proofs.Common.{◌≡◌, ◌∙◌, inl, inr, ℕ, ℤ, pos, List, Some, Result, Ok, Err, IfOk, IfErr, string_bytes, refl, sym, ap, subst}
+use Rattle.std.proofs.Common.{◌≡◌, inl, inr, ℕ, pos, List, Some, Result, Ok, Err, IfOk, IfErr, string_bytes, refl, sym, subst}
 use Rattle.std.specs.declared.alloc.AllocError.{AllocError}
-use Rattle.std.specs.Option.{option_map_or}
-use Rattle.sopl_base.specs.declared.fault.Excess.{Excess}
 use Rattle.sopl_base.specs.declared.fault.Fault.{Fault}
 use Rattle.sopl_base.specs.declared.fault.Refusal.{Refusal}
-use Rattle.sopl_ast.specs.Cells.{cells, policy_at}
-use Rattle.sopl_ast.specs.Instances.{Objective, Problem}
+use Rattle.sopl_ast.specs.Instances.{Problem}
 use Rattle.sopl_ast.specs.Optimal.{denominator}
-use Rattle.sopl_ast.specs.Policies.{IsPolicy, Policy}
+use Rattle.sopl_ast.specs.Policies.{Policy}
 use Rattle.sopl_ast.specs.Scenarios.{total_weight}
 use Rattle.policy_tree.proofs.Bijection.{points_are_policies}
 use Rattle.sopl_policy.specs.Kept.{IsPolicyFor, PolicyCells, policy_map}
@@ -17,20 +14,19 @@ use Rattle.scen_accept.specs.declared.accepted.AcceptedProblem.{AcceptedProblem}
 use Rattle.policy_eval.specs.Reports as report
 use Rattle.policy_eval.specs.Reports.{IsReport, Judgement}
 use Rattle.policy_read.specs.Policies.{Point, policy_in, policy_refusal}
-use Rattle.answer_lines.specs.AnswerData.{limit_data, line_of, refused_data, unreadable_data}
+use Rattle.answer_lines.specs.AnswerData.{line_of, unreadable_data}
 use Rattle.answer_texts.specs.Away.{IsTurnedAway}
 use Rattle.answer_texts.specs.Models.{IsSolvable}
-use Rattle.answer_texts.specs.Replies.{IsFaultOn, IsLimitedOn, IsRefusedOn}
-use Rattle.answer_texts.specs.Solved.{SolvedText}
+use Rattle.answer_texts.specs.Replies.{IsFaultOn}
 use Rattle.answer_texts.specs.Solving.{IsSolveFault}
 use Rattle.answer_texts.specs.declared.command.Command.TheVariants.{Solve}
 use Rattle.answer_texts.specs.declared.reply.Reply.{Reply}
 use Rattle.answer_texts.specs.declared.status.Status.{Status}
-use Rattle.answer_texts.specs.declared.status.Status.TheVariants.{Done, Failing, Refused, Limit, Unreadable}
+use Rattle.answer_texts.specs.declared.status.Status.TheVariants.{Done, Failing, Unreadable}
 use Rattle.answer_texts.proofs.Answered.{unsolved_so}
 use Rattle.answer_eval.specs.EvalData.{judgement_data, judgement_status}
 use Rattle.answer_eval.specs.EvalReplies.{HoldsPolicy, IsPolicyReply, satisfied, hard_fails, chance_fails, objective_fails, unreadable, IsEvalReply, evaluated}
-use Rattle.answer_eval.specs.EvalReplies.{text_refused, text_limited, IsStatedFor}
+use Rattle.answer_eval.specs.EvalReplies.{IsStatedFor}
 
 module _ (problem : Problem) (bytes : List ℕ) (policy : Policy) (holds : HoldsPolicy problem bytes policy) where
   by_judgement : (judgement : Judgement) → IsReport problem policy judgement
@@ -57,25 +53,6 @@ report_replies problem bytes kept judgement (Err error) for reads is ends writte
 pub unreadable_so : (problem : Problem) (bytes line : List ℕ) (mistake : Refusal) → policy_refusal (policy_in problem.decisions problem.stochastics bytes) ≡ Some mistake
     → line ≡ line_of (unreadable_data (pos mistake.at) (pos mistake.code)) → IsPolicyReply problem bytes Unreadable line
 unreadable_so problem bytes line mistake reads is = subst (λ l. IsPolicyReply problem bytes Unreadable l) (sym is) (unreadable mistake reads)
-
--- a text that is refused
-pub refused_so : (text bytes : List ℕ) (refusal : Refusal) (result : Result Reply AllocError) → IsRefusedOn text refusal Solve
-    → IfOk result (λ reply. reply.status ≡ Refused)
-    → IfOk result (λ reply. string_bytes reply.line ≡ line_of (refused_data (pos refusal.at) (pos refusal.code)))
-    → IfOk result (λ reply. IsEvalReply text bytes reply.status (string_bytes reply.line))
-refused_so text bytes refusal (Ok reply) reason ends is =
-    subst (λ s. IsEvalReply text bytes s (string_bytes reply.line)) (sym ends)
-    (subst (λ l. IsEvalReply text bytes Refused l) (sym is) (text_refused refusal reason))
-refused_so text bytes refusal (Err error) reason ends is = tt
-
--- a text that passes a limit
-pub limited_so : (text bytes : List ℕ) (excess : Excess) (result : Result Reply AllocError) → IsLimitedOn text excess Solve
-    → IfOk result (λ reply. reply.status ≡ Limit) → IfOk result (λ reply. string_bytes reply.line ≡ line_of (limit_data excess))
-    → IfOk result (λ reply. IsEvalReply text bytes reply.status (string_bytes reply.line))
-limited_so text bytes excess (Ok reply) over ends is =
-    subst (λ s. IsEvalReply text bytes s (string_bytes reply.line)) (sym ends)
-    (subst (λ l. IsEvalReply text bytes Limit l) (sym is) (text_limited excess over))
-limited_so text bytes excess (Err error) over ends is = tt
 
 -- what a text states, where it is solved
 pub stated_for : (text : List ℕ) (stated : AcceptedProblem) (result : Result AcceptedProblem Fault) → States text stated → IsLaid stated

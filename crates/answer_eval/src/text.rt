@@ -9,7 +9,7 @@ ghost use Rattle.answer_texts.specs.Solving.{IsSolveFault};
 ghost use Rattle.answer_texts.specs.declared.command.Command.TheVariants.{Solve};
 ghost use Rattle.answer_eval.specs.EvalReplies.{IsEvalReply, IsStatedFor};
 
-use answer_texts::{Reply, limit_reply, refused_reply, terms_allowed};
+use answer_texts::{Reply, away_reply, terms_allowed};
 use scen_accept::{AcceptedProblem, stated_in};
 use sopl_base::Fault;
 use std::alloc::{AllocError, Global};
@@ -42,9 +42,5 @@ pub fn unsolved_reply(alloc: Global, fault: Fault) -> Result<Reply, AllocError>
         → IfOk result (λ reply. IsEvalReply text bytes reply.status (string_bytes reply.line)) }
     ensures of_text { IfOk result (λ reply. IsTurnedAway reply.status) }
 {
-    match fault {
-        Fault::Text(refusal) => refused_reply(alloc, refusal),
-        Fault::Limit(excess) => limit_reply(alloc, &excess),
-        Fault::NoMemory => Err(AllocError),
-    }
+    away_reply(alloc, fault)
 }

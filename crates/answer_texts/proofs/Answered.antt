@@ -11,6 +11,7 @@ use Rattle.scen_accept.specs.Faults.{IsTextFault}
 use Rattle.scen_accept.specs.Stated.{States, model_in, problem_in}
 use Rattle.scen_accept.specs.declared.accepted.AcceptedProblem.{AcceptedProblem}
 use Rattle.answer_lines.specs.AnswerData.{limit_data, line_of, refused_data}
+use Rattle.answer_texts.specs.Away.{TellsFault}
 use Rattle.answer_texts.specs.Models.{IsSolvable}
 use Rattle.answer_texts.specs.Solved.{SolvedText}
 use Rattle.sopl_base.specs.declared.stop.SearchStop.{SearchStop}
@@ -20,8 +21,8 @@ use Rattle.answer_texts.specs.Logs.{IsUnused, SinkState}
 use Rattle.answer_texts.specs.Answering.{Answers, IsBoundedBy, IsCutOff, IsSettledBy, optimal as optimal_line, infeasible as infeasible_line, bounded as bounded_line}
 use Rattle.answer_texts.specs.declared.solve_answer.Answer.{Answer}
 use Rattle.answer_texts.specs.declared.solve_answer.Answer.TheVariants.{Settled, Cut}
-use Rattle.answer_texts.specs.Replies.{IsFaultOn, IsLimitedOn, IsRefusedOn, by_rule, by_size, by_terms, IsTextReply, optimal, infeasible, bounded, scenes, refused}
-use Rattle.answer_texts.specs.Replies.{limited, Replies, IsCut, StopsByCause}
+use Rattle.answer_texts.specs.Replies.{IsFaultOn, IsLimitedOn, IsRefusedOn, by_rule, by_size, by_terms, IsTextReply, optimal, infeasible, bounded, scenes}
+use Rattle.answer_texts.specs.Replies.{Replies, IsCut, StopsByCause}
 use Rattle.answer_texts.specs.AnswerReplies.{reply_of}
 use Rattle.answer_texts.specs.declared.command.Command.{Command}
 use Rattle.answer_texts.specs.declared.command.Command.TheVariants.{Solve, Tree}
@@ -29,24 +30,31 @@ use Rattle.answer_texts.specs.declared.reply.Reply.{Reply}
 use Rattle.answer_texts.specs.declared.status.Status.{Status}
 use Rattle.answer_texts.specs.declared.status.Status.TheVariants.{Done, Refused, Limit, Bounded}
 
--- a text that is refused
-pub refused_so : (command : Command) (text : List ℕ) (budget : ℕ) (refusal : Refusal) (result : Result Reply AllocError) → IsRefusedOn text refusal command
-    → IfOk result (λ reply. reply.status ≡ Refused)
+-- the reply to a text that is refused, or passes a limit, tells of the fault
+pub refused_told : (refusal : Refusal) (result : Result Reply AllocError) → IfOk result (λ reply. reply.status ≡ Refused)
     → IfOk result (λ reply. string_bytes reply.line ≡ line_of (refused_data (pos refusal.at) (pos refusal.code)))
-    → IfOk result (λ reply. IsTextReply text budget command None reply.status (string_bytes reply.line))
-refused_so command text budget refusal (Ok reply) reason ends is =
-    subst (λ s. IsTextReply text budget command None s (string_bytes reply.line)) (sym ends)
-    (subst (λ l. IsTextReply text budget command None Refused l) (sym is) (refused command refusal reason))
-refused_so command text budget refusal (Err error) reason ends is = tt
+    → IfOk result (λ reply. TellsFault (fault.Text refusal) reply.status (string_bytes reply.line))
+refused_told refusal (Ok reply) ends is = (ends, is)
+refused_told refusal (Err error) ends is = tt
 
--- a text that passes a limit
-pub limited_so : (command : Command) (text : List ℕ) (budget : ℕ) (excess : Excess) (result : Result Reply AllocError) → IsLimitedOn text excess command → IfOk result (λ reply. reply.status ≡ Limit)
-    → IfOk result (λ reply. string_bytes reply.line ≡ line_of (limit_data excess))
-    → IfOk result (λ reply. IsTextReply text budget command None reply.status (string_bytes reply.line))
-limited_so command text budget excess (Ok reply) over ends is =
-    subst (λ s. IsTextReply text budget command None s (string_bytes reply.line)) (sym ends)
-    (subst (λ l. IsTextReply text budget command None Limit l) (sym is) (limited command excess over))
-limited_so command text budget excess (Err error) over ends is = tt
+pub limit_told : (excess : Excess) (result : Result Reply AllocError) → IfOk result (λ reply. reply.status ≡ Limit)
+    → IfOk result (λ reply. string_bytes reply.line ≡ line_of (limit_data excess)) → IfOk result (λ reply. TellsFault (fault.Limit excess) reply.status (string_bytes reply.line))
+limit_told excess (Ok reply) ends is = (ends, is)
+limit_told excess (Err error) ends is = tt
+
+-- and is the reply to each text that has it, where it is so for texts that are refused and for those that pass a limit
+module _ (P : Status → List ℕ → Type 0) (command : Command) (text : List ℕ)
+    (refusals : (refusal : Refusal) → IsRefusedOn text refusal command → P Refused (line_of (refused_data (pos refusal.at) (pos refusal.code))))
+    (limits : (excess : Excess) → IsLimitedOn text excess command → P Limit (line_of (limit_data excess))) where
+  told_replies : (f : Fault) (status : Status) (line : List ℕ) → IsFaultOn text command f → TellsFault f status line → P status line
+  told_replies (fault.Text refusal) status line reason told = subst (λ s. P s line) (sym told.0) (subst (P Refused) (sym told.1) (refusals refusal reason))
+  told_replies (fault.Limit excess) status line over told = subst (λ s. P s line) (sym told.0) (subst (P Limit) (sym told.1) (limits excess over))
+  told_replies fault.NoMemory status line none told = absurd told
+
+  pub fault_so : (f : Fault) (result : Result Reply AllocError) → IsFaultOn text command f → IfOk result (λ reply. TellsFault f reply.status (string_bytes reply.line))
+      → IfOk result (λ reply. P reply.status (string_bytes reply.line))
+  fault_so f (Ok reply) reason told = told_replies f reply.status (string_bytes reply.line) reason told
+  fault_so f (Err error) reason told = tt
 
 -- a text that is not taken is taken by no command
 pub text_fault : (command : Command) (text : List ℕ) (f : Fault) → IsTextFault text f → IsFaultOn text command f

@@ -1,12 +1,33 @@
 -- Laws that crates above share.
-use Rattle.std.proofs.Common.{◌≡◌}
+use Rattle.std.proofs.Common.{◌≡◌, ℕ, List}
+use Rattle.sopl_base.specs.declared.fault.Excess.{Excess}
+use Rattle.sopl_base.specs.declared.fault.Refusal.{Refusal}
+use Rattle.sopl_ast.specs.Instances.{Problem}
+use Rattle.answer_texts.specs.Replies.{IsLimitedOn, IsRefusedOn}
+use Rattle.answer_texts.specs.Replies as ends
+use Rattle.answer_texts.specs.Solved.{SolvedText}
+use Rattle.answer_texts.specs.declared.command.Command.TheVariants.{Solve}
 use Rattle.answer_texts.specs.declared.status.Status.TheVariants.{Done, Limit, Refused}
+use Rattle.answer_texts.proofs.Ends.{ends_alike}
 
-pub done_limit : Done ≡ Limit → ⊥
+done_limit : Done ≡ Limit → ⊥
 done_limit e = cc
 
-pub done_refused : Done ≡ Refused → ⊥
+done_refused : Done ≡ Refused → ⊥
 done_refused e = cc
 
-pub refused_limit : Refused ≡ Limit → ⊥
+refused_limit : Refused ≡ Limit → ⊥
 refused_limit e = cc
+
+-- a text is solved, refused, or passes a limit: no two of these
+pub not_refused : (text : List ℕ) (problem : Problem) (refusal : Refusal) → SolvedText text problem → IsRefusedOn text refusal Solve → ⊥
+not_refused text problem refusal solved broken =
+    done_refused (ends_alike text 0 Solve Done Refused (ends.solved problem solved) (ends.refused_text Solve refusal broken))
+
+pub not_limited : (text : List ℕ) (problem : Problem) (excess : Excess) → SolvedText text problem → IsLimitedOn text excess Solve → ⊥
+not_limited text problem excess solved over =
+    done_limit (ends_alike text 0 Solve Done Limit (ends.solved problem solved) (ends.limited_text Solve excess over))
+
+pub not_both_told : (text : List ℕ) (refusal : Refusal) (excess : Excess) → IsRefusedOn text refusal Solve → IsLimitedOn text excess Solve → ⊥
+not_both_told text refusal excess broken over =
+    refused_limit (ends_alike text 0 Solve Refused Limit (ends.refused_text Solve refusal broken) (ends.limited_text Solve excess over))

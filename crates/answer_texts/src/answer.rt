@@ -8,6 +8,7 @@ ghost use Rattle.answer_lines.specs.Answer.{tree_data};
 ghost use Rattle.answer_lines.specs.AnswerData.{limit_data, line_of, refused_data};
 ghost use Rattle.sopl_base.specs.declared.stop.SearchStop.TheVariants as search;
 ghost use Rattle.answer_texts.specs.AnswerReplies.{reply_of as replied};
+ghost use Rattle.answer_texts.specs.Away.{IsTurnedAway, TellsFault};
 ghost use Rattle.answer_texts.specs.Logs.{state_of};
 ghost use Rattle.answer_texts.specs.Models.{IsSolvable};
 ghost use Rattle.answer_texts.specs.Replies.{IsFaultOn, IsTextReply, Replies, StopsByCause};
@@ -26,7 +27,7 @@ use sopl_io::Sink;
 use std::alloc::{AllocError, Global};
 
 /// The reply to a text that is refused so.
-pub fn refused_reply(alloc: Global, refusal: Refusal) -> Result<Reply, AllocError>
+fn refused_reply(alloc: Global, refusal: Refusal) -> Result<Reply, AllocError>
     ensures status { IfOk result (λ reply. reply.status ≡ Status.Refused) }
     ensures line { IfOk result (λ reply. string_bytes reply.line ≡ line_of (refused_data (pos refusal.at) (pos refusal.code))) }
 {
@@ -38,7 +39,7 @@ pub fn refused_reply(alloc: Global, refusal: Refusal) -> Result<Reply, AllocErro
 }
 
 /// The reply to a text that passes this limit.
-pub fn limit_reply(alloc: Global, excess: &Excess) -> Result<Reply, AllocError>
+fn limit_reply(alloc: Global, excess: &Excess) -> Result<Reply, AllocError>
     ensures status { IfOk result (λ reply. reply.status ≡ Status.Limit) }
     ensures line { IfOk result (λ reply. string_bytes reply.line ≡ line_of (limit_data excess.now)) }
 {
@@ -49,9 +50,10 @@ pub fn limit_reply(alloc: Global, excess: &Excess) -> Result<Reply, AllocError>
     })
 }
 
-/// The reply to a command that is not done on a text for this fault.
-#[tactic(auto, using(crate::proofs::Answered::refused_so, crate::proofs::Answered::limited_so))]
-fn fault_reply(alloc: Global, fault: Fault) -> Result<Reply, AllocError>
+/// The reply to a command that is not done on a text for this fault. It is refused only where memory runs out.
+pub fn away_reply(alloc: Global, fault: Fault) -> Result<Reply, AllocError>
+    ensures told { IfOk result (λ reply. TellsFault fault reply.status (string_bytes reply.line)) }
+    ensures turned_away { IfOk result (λ reply. IsTurnedAway reply.status) }
     ensures reply { (command : Command) (text : List ℕ) (budget : ℕ) → IsFaultOn text command fault
         → IfOk result (λ reply. IsTextReply text budget command None reply.status (string_bytes reply.line)) }
 {
@@ -98,7 +100,7 @@ fn tree_reply(alloc: Global, stated: &AcceptedProblem) -> Result<Reply, AllocErr
 {
     match terms_allowed(alloc, stated) {
         Ok(()) => shown_reply(alloc, stated),
-        Err(fault) => fault_reply(alloc, fault),
+        Err(fault) => away_reply(alloc, fault),
     }
 }
 
@@ -140,7 +142,7 @@ fn solved_reply<K: Sink>(
     match solved_answer(alloc, stated, budget, name, sink)? {
         Ok(answer) => Ok(reply_of(answer)),
         Err(fault) => {
-            let reply = fault_reply(alloc, fault)?;
+            let reply = away_reply(alloc, fault)?;
             Ok(reply)
         }
     }
@@ -199,7 +201,7 @@ pub fn reply_to<K: Sink>(
     match stated_in(alloc, text) {
         Ok(stated) => stated_reply(alloc, command, &stated, budget, name, sink),
         Err(fault) => {
-            let reply = fault_reply(alloc, fault)?;
+            let reply = away_reply(alloc, fault)?;
             Ok(reply)
         }
     }

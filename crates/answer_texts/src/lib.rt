@@ -14,7 +14,7 @@ mod solved;
 mod solved_laws;
 mod status;
 
-pub use answer::{limit_reply, refused_reply, reply_to};
+pub use answer::{away_reply, reply_to};
 pub use command::Command;
 pub use program::{program_of, terms_allowed};
 pub use reply::Reply;
