@@ -1,8 +1,6 @@
 //! A program is built: its terms and conditions one by one, then its constraints, and at last its objective.
 
-ghost use Rattle.std.specs.Prelude.{◌≡◌, ◌<◌, ◌≤◌, ◌≤ℤ◌, ◌+ℤ◌, ◌^◌, [], None, get_or, pos, length, IfOk};
-ghost use Rattle.std.specs.Int.{w128};
-ghost use Rattle.std.specs.Int.RustNames.{FitsSigned};
+ghost use Rattle.std.specs.Prelude.{◌≡◌, ◌<◌, ◌≤◌, ◌≤ℤ◌, ◌^◌, [], None, pos, length, IfOk};
 ghost use Rattle.std.specs.List.{AllByRecursion};
 ghost use Rattle.box_problem.specs.Box.{box_of};
 ghost use Rattle.term_language.specs.Globals.{total};
@@ -11,6 +9,7 @@ ghost use Rattle.sopl_term.specs.Built.{IsBuilding, IsNear, asked_direction, ask
 use crate::cells::cell_nodes;
 use sopl_base::{Direction, Interval};
 use std::alloc::{AllocError, Global};
+use term_goals::whole_weight;
 use term_program::Draft;
 use term_store::TermStore;
 
@@ -20,12 +19,6 @@ pub struct Builder {
     pub(crate) draft: Draft,
     pub(crate) direction: Direction,
     pub(crate) worst: bool,
-}
-
-/// A weight of scenarios.
-#[derive(Clone, Copy)]
-struct Sum {
-    weight: i128,
 }
 
 impl Builder {
@@ -54,7 +47,7 @@ impl Builder {
         let mut store = TermStore::new(alloc, roots)?;
         let nodes = cell_nodes(alloc, &mut store, roots.len() as u32)?;
         let list = Vec::from_slice(alloc, weights)?;
-        let whole = sum_of(weights);
+        let whole = whole_weight(weights);
         Ok(Builder {
             draft: Draft {
                 alloc,
@@ -62,39 +55,12 @@ impl Builder {
                 cells: roots.len() as u32,
                 nodes,
                 weights: list,
-                whole: whole.weight,
+                whole: whole.value,
                 hards: Vec::new(alloc),
                 chances: Vec::new(alloc),
             },
             direction,
             worst,
         })
-    }
-}
-
-/// The sum of weights.
-#[tactic(auto, using(term_program::proofs::Weighing::next_total, term_goals::proofs::Weights::no_total, term_program::proofs::Weighing::total_fits))]
-fn sum_of(weights: &[i128]) -> Sum
-    requires weighs { AllByRecursion (λ weight. pos 1 ≤ℤ weight) weights.now }
-    requires light { total weights.now ≤ℤ pos (2 ^ 100) }
-    ensures { result.weight ≡ total weights.now }
-{
-    let mut sum = Sum { weight: 0 };
-    for i in (0..weights.len()).rev() {
-        sum = sum.plus(weights, i);
-    }
-    sum
-}
-
-impl Sum {
-    /// The sum with the weight of a scenario more.
-    fn plus(&self, weights: &[i128], scenario: usize) -> Sum
-        requires exists { scenario < length weights.now }
-        requires fits { FitsSigned w128 (get_or weights.now scenario (pos 0) +ℤ self.now.weight) }
-        ensures { result.weight ≡ get_or weights.now scenario (pos 0) +ℤ self.now.weight }
-    {
-        Sum {
-            weight: weights[scenario] + self.weight,
-        }
     }
 }

@@ -2,14 +2,16 @@
 use Rattle.std.proofs.Common.{◌≡◌, ℕ, ◌+◌, ◌-◌, ◌*◌, ◌<◌, ◌≤◌, ◌^◌, zero, suc, max, ℤ, pos, negsuc, ◌+ℤ◌, ◌*ℤ◌, ◌≤ℤ◌, ◌<ℤ◌, unsigned_abs, List, [], ◌∷◌, length, get_or, drop}
 use Rattle.std.proofs.Common.{arith, refl, ap, sym, ◌∙◌}
 use Rattle.std.specs.Int.{w128, saturate_signed}
+use Rattle.std.specs.Int.RustNames.{FitsSigned}
 use Rattle.std.specs.List.{AllByRecursion}
-use Rattle.std.proofs.lemmas.Int.{ints}
+use Rattle.std.proofs.lemmas.Int.{ints, fits_signed_from_abs}
 use Rattle.std.proofs.lemmas.List.{at_drop_more, at_drop_all, get_or_default}
 use Rattle.box_problem.specs.Box.{Box}
 use Rattle.term_language.specs.Globals.{total}
 use Rattle.term_language.specs.Sizes.{size}
 use Rattle.term_language.specs.Terms.{Term}
 use Rattle.term_problem.specs.Objective.{greatest_size}
+use Rattle.sopl_base.proofs.Sizes.{plus_size}
 use Rattle.term_nodes.specs.declared.items.Item.{Item}
 use Rattle.term_nodes.specs.Built.{IsBuilt}
 use Rattle.term_nodes.specs.Things.{Thing, term_at, things}
@@ -104,10 +106,16 @@ product_passes (pos n) most = omega (arith, ints, most)
 product_passes (negsuc n) most = omega (arith, ints)
 
 -- the same for a loop that counts down
-pub total_back : (ws : List ℤ) (i : ℕ) (w sum : ℤ) → AreWeights ws → 0 < i → i ≤ length ws → w ≡ get_or ws (i - 1) (pos 0) → sum ≡ total (drop i ws) → unsigned_abs w + unsigned_abs sum < 2 ^ 127
+total_back : (ws : List ℤ) (i : ℕ) (w sum : ℤ) → AreWeights ws → 0 < i → i ≤ length ws → w ≡ get_or ws (i - 1) (pos 0) → sum ≡ total (drop i ws) → unsigned_abs w + unsigned_abs sum < 2 ^ 127
 total_back ws i w sum are positive most at is =
     let there : i - 1 < length ws = omega (arith, positive, most) in
     let again : i - 1 + 1 ≡ i = omega (arith, positive) in
     let x : ℤ = get_or ws (i - 1) (pos 0) in
     let room = total_room ws (i - 1) x sum are there (get_or_default ws (i - 1) (pos 0) x there) (is ∙ ap (λ (j : ℕ). total (drop j ws)) (sym again)) in
     omega (arith, room, ap (λ (z : ℤ). unsigned_abs z) at)
+
+pub total_fits : (ws : List ℤ) (i : ℕ) (w sum : ℤ) → AreWeights ws → 0 < i → i ≤ length ws → w ≡ get_or ws (i - 1) (pos 0) → sum ≡ total (drop i ws) → FitsSigned w128 (w +ℤ sum)
+total_fits ws i w sum are positive most at is =
+    let room = total_back ws i w sum are positive most at is in
+    let size = plus_size w sum in
+    fits_signed_from_abs w128 (w +ℤ sum) (omega (arith, room, size))

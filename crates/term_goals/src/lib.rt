@@ -8,6 +8,7 @@ mod sums;
 mod wide;
 
 pub use goal::{Goal, Objective};
+pub use sizes::whole_weight;
 pub use sums::{Atom, Summed};
 pub use wide::WideEnds;
 

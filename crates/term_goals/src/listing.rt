@@ -15,18 +15,17 @@ ghost use Rattle.term_nodes.specs.Things.{parts_at, term_at, things};
 ghost use Rattle.term_goals.specs.Goals.{AreCells, AtomsExist, HasRoom, IsBare, IsOperand, all_weight, atoms_ends, listed_ends};
 
 use crate::sums::{Atom, Summed};
+use sopl_base::Wide;
 use std::alloc::{AllocError, Global};
-use term_math::{Factor, WideCoefficient, WideFactor};
-use term_nodes::{Evaluator, Node, Signed, factor, form_at, item_at};
+use term_math::{Factor, WideCoefficient, factor};
+use term_nodes::{Evaluator, Node, Signed, form_at, item_at};
 
 /// The product of two numbers.
-fn product(a: &WideFactor, b: &Factor) -> WideFactor
-    requires room { unsigned_abs (a.now.k *ℤ b.now.k) < 2 ^ 127 }
-    ensures { result.k ≡ a.now.k *ℤ b.now.k }
+fn product(a: &Wide, b: &Factor) -> Wide
+    requires room { unsigned_abs (a.now.value *ℤ b.now.k) < 2 ^ 127 }
+    ensures { result.value ≡ a.now.value *ℤ b.now.k }
 {
-    WideFactor {
-        k: a.k * i128::from(b.k),
-    }
+    a.times(b.widened())
 }
 
 /// Adds a multiple of a term that has no constant and no cell of its own.
@@ -102,18 +101,13 @@ fn operand(here: &Evaluator, atom: &Atom) -> Option<Atom>
 /// Adds multiples of the terms that a term is made of, but for its constant and its cells. Products with numbers are left
 /// behind by a loop, since a chain of them is as deep as its text is long.
 #[cycle(list)]
-fn add(
-    list: &mut Vec<Atom>,
-    here: &Evaluator,
-    times: &WideFactor,
-    id: u32,
-) -> Result<(), AllocError>
+fn add(list: &mut Vec<Atom>, here: &Evaluator, times: &Wide, id: u32) -> Result<(), AllocError>
     requires ready { IsReady here.now }
-    requires room { unsigned_abs times.now.k * atoms_weight (box_in here.now.root) (term_at (things here.now.items.now) id) < 2 ^ 127 }
+    requires room { unsigned_abs times.now.value * atoms_weight (box_in here.now.root) (term_at (things here.now.items.now) id) < 2 ^ 127 }
     ensures sum { (b : Box) → Inside b (box_in here.now.root)
         → OnOk result (listed_ends (box_in here.now.root) b (things here.now.items.now) list.new.items
         ≡ ends.plus (listed_ends (box_in here.now.root) b (things here.now.items.now) list.old.items)
-        (ends.scaled times.now.k (rule.atoms rule.Near (box_in here.now.root) b (term_at (things here.now.items.now) id)))) }
+        (ends.scaled times.now.value (rule.atoms rule.Near (box_in here.now.root) b (term_at (things here.now.items.now) id)))) }
     ensures exist { OnOk result (AtomsExist (length here.now.items.now) list.old.items → AtomsExist (length here.now.items.now) list.new.items) }
 {
     let mut atom = Atom::times(times, id);
@@ -167,18 +161,18 @@ fn add_bare(list: &mut Vec<Atom>, here: &Evaluator, atom: &Atom) -> Result<(), A
 fn add_parts(
     list: &mut Vec<Atom>,
     here: &Evaluator,
-    times: &WideFactor,
+    times: &Wide,
     limit: u32,
     parts: &[Signed],
 ) -> Result<(), AllocError>
     requires ready { IsReady here.now }
     requires below { PartsBelow limit parts.now }
-    requires small { unsigned_abs times.now.k < 2 ^ 127 }
-    requires room { unsigned_abs times.now.k * sum_weight (box_in here.now.root) (parts_at (things here.now.items.now) parts.now) < 2 ^ 127 }
+    requires small { unsigned_abs times.now.value < 2 ^ 127 }
+    requires room { unsigned_abs times.now.value * sum_weight (box_in here.now.root) (parts_at (things here.now.items.now) parts.now) < 2 ^ 127 }
     ensures sum { (b : Box) → Inside b (box_in here.now.root)
         → OnOk result (listed_ends (box_in here.now.root) b (things here.now.items.now) list.new.items
         ≡ ends.plus (listed_ends (box_in here.now.root) b (things here.now.items.now) list.old.items)
-        (ends.scaled times.now.k (rule.sum_atoms rule.Near (box_in here.now.root) b (parts_at (things here.now.items.now) parts.now)))) }
+        (ends.scaled times.now.value (rule.sum_atoms rule.Near (box_in here.now.root) b (parts_at (things here.now.items.now) parts.now)))) }
     ensures exist { OnOk result (AtomsExist (length here.now.items.now) list.old.items → AtomsExist (length here.now.items.now) list.new.items) }
 {
     for part in parts {

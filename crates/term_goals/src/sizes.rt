@@ -1,6 +1,6 @@
 //! How large an objective is.
 
-ghost use Rattle.std.specs.Prelude.{◌≡◌, ◌+◌, ◌<◌, ◌^◌, ◌+ℤ◌, ◌*ℤ◌, pos, length, slice_index_or, unsigned_abs, IfOk, false};
+ghost use Rattle.std.specs.Prelude.{◌≡◌, ◌+◌, ◌<◌, ◌^◌, ◌*ℤ◌, pos, length, slice_index_or, unsigned_abs, IfOk, false};
 ghost use Rattle.term_language.specs.Globals.{total};
 ghost use Rattle.term_language.specs.Sizes.{atoms_weight, size};
 ghost use Rattle.term_problem.specs.Objective.{greatest_size};
@@ -10,39 +10,30 @@ ghost use Rattle.term_nodes.specs.Seen.{IsReady};
 ghost use Rattle.term_nodes.specs.Things.{term_at, things};
 ghost use Rattle.term_goals.specs.Goals.{AreWeights, IsMeasured, goal_size, terms_of};
 
-use sopl_base::{Excess, Fault, codes, limits};
+use sopl_base::{Excess, Fault, Wide, codes, limits};
 use std::alloc::{AllocError, Global};
-use term_math::WideFactor;
 use term_nodes::{Evaluator, form_at};
 
 /// The weight of a scenario.
-pub(crate) fn scenario_weight(weights: &[i128], scenario: usize) -> WideFactor
+pub(crate) fn scenario_weight(weights: &[i128], scenario: usize) -> Wide
     requires exists { scenario < length weights.now }
-    ensures { result.k ≡ slice_index_or weights.now scenario (pos 0) }
+    ensures { result.value ≡ slice_index_or weights.now scenario (pos 0) }
 {
-    WideFactor {
-        k: weights[scenario],
+    Wide {
+        value: weights[scenario],
     }
-}
-
-/// The sum of two numbers.
-fn plus(a: &WideFactor, b: &WideFactor) -> WideFactor
-    requires room { unsigned_abs a.now.k + unsigned_abs b.now.k < 2 ^ 127 }
-    ensures { result.k ≡ a.now.k +ℤ b.now.k }
-{
-    WideFactor { k: a.k + b.k }
 }
 
 /// The weight of all scenarios.
 #[tactic(auto, using(crate::proofs::Weights::next_total, crate::proofs::Weights::no_total))]
-fn total(weights: &[i128]) -> WideFactor
+pub fn whole_weight(weights: &[i128]) -> Wide
     requires weights { AreWeights weights.now }
-    ensures { result.k ≡ total weights.now }
+    ensures { result.value ≡ total weights.now }
 {
-    let mut sum = WideFactor { k: 0 };
+    let mut sum = Wide::of(0);
     for i in (0..weights.len()).rev() {
         let weight = scenario_weight(weights, i);
-        sum = plus(&weight, &sum);
+        sum = weight.plus(sum);
     }
     sum
 }
@@ -83,21 +74,21 @@ fn greatest_size(alloc: Global, here: &Evaluator, terms: &[u32]) -> Result<u128,
 }
 
 /// A size and one more.
-fn one_more(size: u128) -> WideFactor
+fn one_more(size: u128) -> Wide
     requires room { size < 2 ^ 126 }
-    ensures { result.k ≡ pos (size + 1) }
+    ensures { result.value ≡ pos (size + 1) }
 {
-    WideFactor {
-        k: size as i128 + 1,
+    Wide {
+        value: size as i128 + 1,
     }
 }
 
 /// Refuses a product above 2^126.
 #[tactic(auto, using(crate::proofs::Weights::product_refused, crate::proofs::Weights::product_passes))]
-fn measured_product(a: &WideFactor, b: &WideFactor) -> Result<(), Fault>
-    ensures { IsMeasured false (a.now.k *ℤ b.now.k) result }
+fn measured_product(a: &Wide, b: &Wide) -> Result<(), Fault>
+    ensures { IsMeasured false (a.now.value *ℤ b.now.value) result }
 {
-    let size = a.k.saturating_mul(b.k);
+    let size = a.value.saturating_mul(b.value);
     if size > limits::GOAL_SIZE {
         return Err(Fault::Limit(Excess {
             code: codes::TERM_SIZE,
@@ -121,5 +112,5 @@ pub(crate) fn measured(
     ensures { IsMeasured false (goal_size (box_in here.now.root) weights.now (terms_of (things here.now.items.now) terms.now)) result }
 {
     let most = greatest_size(alloc, here, terms)?;
-    measured_product(&total(weights), &one_more(most))
+    measured_product(&whole_weight(weights), &one_more(most))
 }

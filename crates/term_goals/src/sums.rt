@@ -13,7 +13,8 @@ ghost use Rattle.term_goals.specs.Wide.{IsWideFit, wide_ends};
 ghost use Rattle.term_goals.specs.Goals.{HasRoom, all_weight, atoms_ends};
 
 use crate::wide::WideEnds;
-use term_math::{BoxView, WideCoefficient, WideFactor, WideForm};
+use sopl_base::Wide;
+use term_math::{BoxView, WideCoefficient, WideForm};
 use term_nodes::Evaluator;
 
 /// So many times a term.
@@ -25,17 +26,20 @@ pub struct Atom {
 
 impl Atom {
     /// So many times this term.
-    pub(crate) fn times(factor: &WideFactor, term: u32) -> Atom
-        ensures { result ≡ record { k = factor.now.k; term = term } }
+    pub(crate) fn times(factor: &Wide, term: u32) -> Atom
+        ensures { result ≡ record { k = factor.now.value; term = term } }
     {
-        Atom { k: factor.k, term }
+        Atom {
+            k: factor.value,
+            term,
+        }
     }
 
     /// How many times.
-    pub(crate) fn factor(&self) -> WideFactor
-        ensures { result.k ≡ self.now.k }
+    pub(crate) fn factor(&self) -> Wide
+        ensures { result.value ≡ self.now.k }
     {
-        WideFactor { k: self.k }
+        Wide { value: self.k }
     }
 }
 
@@ -52,7 +56,12 @@ fn times_cell(view: &BoxView, coefficient: &WideCoefficient) -> WideEnds
     ensures { wide_ends result ≡ ends.scaled coefficient.now.k (ends.cell_ends (box_in view.now) coefficient.now.cell) }
 {
     let interval = view.cell(coefficient.cell);
-    WideEnds::scaled(&WideFactor { k: coefficient.k }, &interval)
+    WideEnds::scaled(
+        &Wide {
+            value: coefficient.k,
+        },
+        &interval,
+    )
 }
 
 /// The interval of the cells of a form.
@@ -77,7 +86,7 @@ fn times_atom(here: &Evaluator, atom: &Atom) -> WideEnds
     ensures { wide_ends result ≡ ends.scaled atom.now.k (rule.atoms rule.Near (box_in here.now.root) (box_in here.now.view) (term_at (things here.now.items.now) atom.now.term)) }
 {
     let seen = here.seen(atom.term);
-    WideEnds::scaled(&WideFactor { k: atom.k }, &seen.ends)
+    WideEnds::scaled(&atom.factor(), &seen.ends)
 }
 
 /// The interval of a multiple of the non-linear part of each term.

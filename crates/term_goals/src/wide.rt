@@ -5,7 +5,8 @@ ghost use Rattle.term_language.specs.Ends as rule;
 ghost use Rattle.term_math.specs.Shown.{ends_at, ends_of};
 ghost use Rattle.term_goals.specs.Wide.{IsWideFit, wide_ends};
 
-use term_math::{Ends, WideFactor};
+use sopl_base::Wide;
+use term_math::Ends;
 
 /// All whole numbers from `low` to `high`.
 #[derive(Clone, Copy, Debug, PartialEq, Eq)]
@@ -43,13 +44,13 @@ impl WideEnds {
     }
 
     /// So many times an interval: a negative factor swaps the ends.
-    pub(crate) fn scaled(factor: &WideFactor, ends: &Ends) -> WideEnds
-        requires fits { IsWideFit (ends_at factor.now.k (ends_of ends.now)) }
-        ensures { wide_ends result ≡ rule.scaled factor.now.k (ends_of ends.now) }
+    pub(crate) fn scaled(factor: &Wide, ends: &Ends) -> WideEnds
+        requires fits { IsWideFit (ends_at factor.now.value (ends_of ends.now)) }
+        ensures { wide_ends result ≡ rule.scaled factor.now.value (ends_of ends.now) }
     {
         let times = WideEnds {
-            low: factor.k * i128::from(ends.low),
-            high: factor.k * i128::from(ends.high),
+            low: factor.value * i128::from(ends.low),
+            high: factor.value * i128::from(ends.high),
         };
         times.sorted()
     }

@@ -1,5 +1,5 @@
 -- What is made of small numbers has room.
-use Rattle.std.proofs.Common.{◌≡◌, zero, suc, ◌-◌, ◌<◌, ◌≤◌, ◌^◌, ℤ, pos, negsuc, neg_ℤ, unsigned_abs, FitsSigned, of_z, false, arith, w64}
+use Rattle.std.proofs.Common.{◌≡◌, zero, suc, ◌<◌, ◌≤◌, ◌^◌, ℤ, pos, negsuc, neg_ℤ, unsigned_abs, FitsSigned, of_z, false, arith, w64}
 use Rattle.std.proofs.lemmas.Int.{fits_signed_from_abs, quot_is, rem_is}
 use Rattle.std.specs.Int.{cast_signed, cast_unsigned}
 use Rattle.std.specs.Int.RustNames.{int_div, int_rem}

@@ -1,14 +1,13 @@
 -- What operations and extremes are by the rules on terms.
-use Rattle.std.proofs.Common.{◌≡◌, ℕ, ◌+◌, ◌≤◌, max, ℤ, pos, unsigned_abs, int_div, int_rem, Bool, true, false, List, [], ◌∷◌, map, if◌then◌else◌, arith, refl, ap, ◌∙◌}
+use Rattle.std.proofs.Common.{◌≡◌, ◌+◌, ℤ, unsigned_abs, int_div, int_rem, Bool, true, false, List, [], ◌∷◌, map, if◌then◌else◌, arith, refl, ap, ◌∙◌}
 use Rattle.std.specs.List.{fold}
 use Rattle.std.specs.Ordering.{int_eq}
 use Rattle.std.proofs.lemmas.Int.{ints, clamps}
 use Rattle.box_problem.specs.Box.{Box}
-use Rattle.term_language.specs.Ends.{Ends, ends, exactly, size_of}
-use Rattle.term_language.specs.Forms.{Form, whole}
+use Rattle.term_language.specs.Ends.{Ends, ends, exactly}
 use Rattle.term_language.specs.Marks.{both, all_marks}
 use Rattle.term_language.specs.Rules.{Reading, Near, Wide, form, forms, atoms, mark, marks, interval, intervals, folds, folded, unless_folded, chosen}
-use Rattle.term_language.specs.Sizes.{alone_weight, atoms_weight, cells_weight, weight_of, size}
+use Rattle.term_language.specs.Sizes.{alone_weight, atoms_weight, cells_weight, weight_of}
 use Rattle.term_language.specs.Laws.{IsProper, AreProper}
 use Rattle.term_language.specs.Terms.{Term, Terms}
 use Rattle.term_language.proofs.FormValues.{by_if}

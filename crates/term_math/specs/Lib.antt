@@ -3,3 +3,4 @@ pub mod Sums
 pub mod Made
 pub mod Kept
 pub mod Within
+pub mod Sights

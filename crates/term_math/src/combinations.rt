@@ -9,16 +9,11 @@ ghost use Rattle.term_language.specs.Forms as rule;
 ghost use Rattle.term_math.specs.Shown.{cells_of, form_of};
 ghost use Rattle.term_math.specs.Sums.{coefficient_at, combination_of, is_there, mass, mass_of, nonzero, wide_form};
 
-use crate::ends::{Factor, WideFactor};
+use crate::ends::Factor;
 use crate::forms::{Coefficient, Form};
+use sopl_base::Wide;
 use std::alloc::{AllocError, Global};
 use std::collections::BTreeMap;
-
-/// A number of 128 bits.
-#[derive(Clone, Copy, Debug, PartialEq, Eq)]
-struct Wide {
-    k: i128,
-}
 
 /// So many times a cell.
 #[derive(Clone, Copy, Debug, PartialEq, Eq)]
@@ -57,9 +52,9 @@ impl Combination {
 
     /// So many times a form more.
     #[tactic(auto, using(crate::proofs::Weights::room_for_constant, crate::proofs::Weights::room_for_cells))]
-    pub fn add(&mut self, factor: &WideFactor, form: &Form) -> Result<(), AllocError>
-        requires room { mass_of (combination_of self.old) + unsigned_abs factor.now.k * mass_of (form_of form.now) < 2 ^ 127 }
-        ensures { OnOk result (combination_of self.new ≡ rule.plus_form factor.now.k (combination_of self.old) (form_of form.now)) }
+    pub fn add(&mut self, factor: &Wide, form: &Form) -> Result<(), AllocError>
+        requires room { mass_of (combination_of self.old) + unsigned_abs factor.now.value * mass_of (form_of form.now) < 2 ^ 127 }
+        ensures { OnOk result (combination_of self.new ≡ rule.plus_form factor.now.value (combination_of self.old) (form_of form.now)) }
     {
         self.add_constant(&constant_times(factor, form));
         self.plain = stays_plain(self.plain, form.plain, factor);
@@ -68,12 +63,12 @@ impl Combination {
 
     /// A constant more.
     fn add_constant(&mut self, more: &Wide)
-        requires room { unsigned_abs self.old.constant + unsigned_abs more.now.k < 2 ^ 127 }
-        ensures constant { self.new.constant ≡ self.old.constant +ℤ more.now.k }
+        requires room { unsigned_abs self.old.constant + unsigned_abs more.now.value < 2 ^ 127 }
+        ensures constant { self.new.constant ≡ self.old.constant +ℤ more.now.value }
         ensures cells { self.new.cells ≡ self.old.cells }
         ensures plain { self.new.plain ≡ self.old.plain }
     {
-        self.constant += more.k;
+        self.constant += more.value;
     }
 
     /// The sum as a form.
@@ -90,8 +85,8 @@ impl Combination {
 }
 
 /// Whether nothing but cells is in a sum.
-fn stays_plain(sum: bool, form: bool, factor: &WideFactor) -> bool
-    ensures { result ≡ (sum && (form || int_eq factor.now.k (pos 0))) }
+fn stays_plain(sum: bool, form: bool, factor: &Wide) -> bool
+    ensures { result ≡ (sum && (form || int_eq factor.now.value (pos 0))) }
 {
     if !sum {
         return false;
@@ -99,7 +94,7 @@ fn stays_plain(sum: bool, form: bool, factor: &WideFactor) -> bool
     if form {
         return true;
     }
-    factor.k == 0
+    factor.value == 0
 }
 
 /// How many times a cell there is so far.
@@ -124,23 +119,21 @@ fn put(cells: &mut BTreeMap<u32, i128>, more: &WideCoefficient) -> Result<(), Al
 }
 
 /// So many times the constant of a form.
-fn constant_times(factor: &WideFactor, form: &Form) -> Wide
-    requires room { unsigned_abs (factor.now.k *ℤ form.now.constant) < 2 ^ 127 }
-    ensures { result.k ≡ factor.now.k *ℤ form.now.constant }
+fn constant_times(factor: &Wide, form: &Form) -> Wide
+    requires room { unsigned_abs (factor.now.value *ℤ form.now.constant) < 2 ^ 127 }
+    ensures { result.value ≡ factor.now.value *ℤ form.now.constant }
 {
-    Wide {
-        k: factor.k * i128::from(form.constant),
-    }
+    factor.times(Wide::of(form.constant))
 }
 
 /// So many times a coefficient.
-fn times(factor: &WideFactor, coefficient: &Coefficient) -> WideCoefficient
-    requires room { unsigned_abs (factor.now.k *ℤ coefficient.now.k) < 2 ^ 127 }
-    ensures { result ≡ record { cell = coefficient.now.cell; k = factor.now.k *ℤ coefficient.now.k } }
+fn times(factor: &Wide, coefficient: &Coefficient) -> WideCoefficient
+    requires room { unsigned_abs (factor.now.value *ℤ coefficient.now.k) < 2 ^ 127 }
+    ensures { result ≡ record { cell = coefficient.now.cell; k = factor.now.value *ℤ coefficient.now.k } }
 {
     WideCoefficient {
         cell: coefficient.cell,
-        k: factor.k * i128::from(coefficient.k),
+        k: factor.times(Wide::of(coefficient.k)).value,
     }
 }
 
@@ -148,11 +141,11 @@ fn times(factor: &WideFactor, coefficient: &Coefficient) -> WideCoefficient
 #[tactic(auto, using(crate::proofs::Weights::room_at, crate::proofs::Weights::next_combined))]
 fn add_cells(
     cells: &mut BTreeMap<u32, i128>,
-    factor: &WideFactor,
+    factor: &Wide,
     more: &[Coefficient],
 ) -> Result<(), AllocError>
-    requires room { mass (nonzero cells.old.entries) + unsigned_abs factor.now.k * mass (cells_of more.now) < 2 ^ 127 }
-    ensures { OnOk result (nonzero cells.new.entries ≡ rule.combined factor.now.k (nonzero cells.old.entries) (cells_of more.now)) }
+    requires room { mass (nonzero cells.old.entries) + unsigned_abs factor.now.value * mass (cells_of more.now) < 2 ^ 127 }
+    ensures { OnOk result (nonzero cells.new.entries ≡ rule.combined factor.now.value (nonzero cells.old.entries) (cells_of more.now)) }
 {
     for i in (0..more.len()).rev() {
         put(cells, &times(factor, &more[i]))?;

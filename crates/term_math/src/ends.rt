@@ -4,6 +4,8 @@ ghost use Rattle.std.specs.Prelude.{◌≡◌, pos};
 ghost use Rattle.term_language.specs.Ends as rule;
 ghost use Rattle.term_math.specs.Shown.{IsFit, ends_at, ends_of};
 
+use sopl_base::Wide;
+
 /// All whole numbers from `low` to `high`.
 #[derive(Clone, Copy, Debug, PartialEq, Eq)]
 pub struct Ends {
@@ -17,20 +19,12 @@ pub struct Factor {
     pub k: i64,
 }
 
-/// The same with 128 bits.
-#[derive(Clone, Copy, Debug, PartialEq, Eq)]
-pub struct WideFactor {
-    pub k: i128,
-}
-
 impl Factor {
     /// The same number with 128 bits.
-    pub fn widened(&self) -> WideFactor
-        ensures { result.k ≡ self.now.k }
+    pub fn widened(&self) -> Wide
+        ensures { result.value ≡ self.now.k }
     {
-        WideFactor {
-            k: i128::from(self.k),
-        }
+        Wide::of(self.k)
     }
 }
 

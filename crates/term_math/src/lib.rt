@@ -16,20 +16,22 @@ mod measures;
 mod operations;
 mod ranges;
 mod tables;
+mod values;
 mod views;
 
 pub use absolute::sizes;
 pub use combinations::{Combination, WideCoefficient, WideForm, scaled};
 pub use divisions::{Divisor, quotients, remainders};
 pub use elements::Element;
-pub use ends::{Ends, Factor, WideFactor};
+pub use ends::{Ends, Factor};
 pub use extremes::Extreme;
 pub use forms::{Coefficient, Form};
 pub use marks::{
-    all_compare, and_truth, both, compared, none_compares, opposite, or_truth, truth_ends,
+    all_compare, and_truth, both, compared, judged, none_compares, opposite, or_truth, truth_ends,
 };
 pub use measures::{times_weight, weight_of, weight_of_times};
 pub use operations::Operation;
-pub use ranges::{ElementHull, Indices, Ranges, covered};
+pub use ranges::{Indices, Ranges, covered};
 pub use tables::Table;
+pub use values::{AbstractValue, factor};
 pub use views::{BoxView, Part};

@@ -103,8 +103,8 @@ pub fn all_compare(op: CmpOp, a: &Ends) -> bool
     }
 }
 
-/// False where an operand is Never defined or the condition fails, True where all are Always defined and it holds.
-fn judged(mark: Defined, fails: bool, holds: bool) -> Truth
+/// False where an operand is Never defined or the condition surely fails, True where all are Always defined and it surely holds.
+pub fn judged(mark: Defined, fails: bool, holds: bool) -> Truth
     ensures { result ≡ rule.judged mark fails holds }
 {
     match mark {

@@ -16,6 +16,7 @@ use crate::ends::Ends;
 use crate::lookups::width;
 use crate::marks::both;
 use crate::tables::Table;
+use crate::values::AbstractValue;
 use crate::views::BoxView;
 use term_language::Defined;
 
@@ -25,13 +26,6 @@ use term_language::Defined;
 pub enum Ranges<'a> {
     End,
     First(Ends, &'a Ranges<'a>),
-}
-
-/// What is seen of an element whose indices lie within intervals: the hull of the elements that may be read, and the mark.
-#[derive(Clone, Copy, Debug)]
-pub struct ElementHull {
-    pub ends: Ends,
-    pub mark: Defined,
 }
 
 /// Whether a number lies in an interval.
@@ -278,18 +272,15 @@ impl Table {
     /// the hull of the elements that these allow, or of all where they allow none; Never where they allow none, and no more defined than
     /// the indices.
     #[tactic(auto, using(crate::proofs::Indexed::none_ends, crate::proofs::Indexed::none_mark, crate::proofs::Indexed::some_ends, crate::proofs::Indexed::some_mark))]
-    pub fn within(&self, ranges: &Ranges, indices: &Indices, view: &BoxView) -> ElementHull
+    pub fn within(&self, ranges: &Ranges, indices: &Indices, view: &BoxView) -> AbstractValue
         requires complete { length (table_of self.now).items ≡ length (arrays.indices (table_of self.now).sets) }
         ensures ends { ends_of result.ends ≡ seen_ends (box_in view.now) (table_of self.now) (allowed_ends (box_in view.now) (table_of self.now) (Some (known_of indices.now (ranges_of ranges.now)))) }
         ensures mark { result.mark ≡ seen_mark indices.now.mark indices.now.covered (allowed_ends (box_in view.now) (table_of self.now) (Some (known_of indices.now (ranges_of ranges.now)))) }
     {
         let Some(ends) = self.allowed_hull(ranges, indices, view) else {
-            return ElementHull {
-                ends: self.hull(view),
-                mark: Defined::Never,
-            };
+            return AbstractValue::never(self.hull(view));
         };
-        ElementHull {
+        AbstractValue {
             ends,
             mark: indices.reached_mark(),
         }

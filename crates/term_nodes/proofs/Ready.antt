@@ -23,7 +23,7 @@ use Rattle.term_nodes.specs.declared.items.Item.{Item}
 use Rattle.term_nodes.specs.declared.evaluation.Evaluator.{Evaluator}
 use Rattle.term_nodes.specs.Things.{Thing, no_table, term_in, table_in, term_at, terms_at, table_at, parts_at, things}
 use Rattle.term_nodes.specs.Built.{IsAt, IsBuilt, IsSoundTerm}
-use Rattle.term_nodes.specs.declared.evaluation.AbstractValue as own
+use Rattle.term_math.specs.declared.values.AbstractValue as own
 use Rattle.term_nodes.specs.Seen.{IsReady, Sight, sight, sight_of, sum_sight}
 use Rattle.term_nodes.proofs.Reading.{nothing_past}
 use Rattle.term_nodes.proofs.Steps.{next_part}

@@ -9,23 +9,16 @@ use Rattle.term_language.specs.Rules as rule
 use Rattle.term_language.specs.declared.answers.Defined.{Defined}
 use Rattle.term_math.specs.declared.extremes.Extreme.{Extreme}
 use Rattle.term_math.specs.Made.{picked}
-use Rattle.term_math.specs.Shown.{box_in, ends_of}
+use Rattle.term_math.specs.Shown.{box_in}
+pub use Rattle.term_math.specs.Sights.{Sight, sight_of}
 use Rattle.term_math.specs.Within.{Known, all_covered, allowed_ends, seen_ends, seen_mark, with_dimensions}
 use Rattle.term_language.specs.Globals.{TaskEnds}
 use Rattle.term_nodes.specs.declared.evaluation.Evaluator.{Evaluator}
 use Rattle.term_nodes.specs.declared.nodes.Task.{Task}
 use Rattle.term_nodes.specs.Things.{tasks_at, terms_at, things}
-use Rattle.term_nodes.specs.declared.evaluation.AbstractValue as own
 use Rattle.term_nodes.specs.Built.{IsBuilt}
 
 -- the interval of the non-linear part, and the mark
-pub record Sight : Type 0 where
-  pub ends : ends.Ends
-  pub mark : Defined
-
-abbrev pub sight_of : own.AbstractValue → Sight
-sight_of s = record { ends = ends_of s.ends; mark = s.mark }
-
 abbrev pub sight : Box → Box → Term → Sight
 sight root b t = record { ends = rule.atoms rule.Near root b t; mark = rule.mark rule.Near root b t }
 

@@ -1,18 +1,16 @@
 //! What terms and conditions are over a box.
 
-ghost use Rattle.std.specs.Prelude.{◌≡◌, ◌<◌, ◌≤◌, [], length, negsuc, pos};
+ghost use Rattle.std.specs.Prelude.{◌≡◌, ◌<◌, ◌≤◌, [], length, negsuc};
 ghost use Rattle.term_language.specs.Arrays as arrays;
 ghost use Rattle.term_language.specs.Ends as ends;
 ghost use Rattle.term_language.specs.Forms as forms;
-ghost use Rattle.term_language.specs.Forms.{sign};
 ghost use Rattle.term_language.specs.Marks as marks;
 ghost use Rattle.term_language.specs.Rules as rule;
 ghost use Rattle.term_language.specs.Terms as term;
-ghost use Rattle.term_language.specs.declared.answers.Defined.TheVariants.{Always, Never};
-ghost use Rattle.term_math.specs.Shown.{IsFit, box_in, ends_at, ends_of, form_of};
+ghost use Rattle.term_math.specs.Shown.{box_in, ends_of, form_of};
 ghost use Rattle.term_math.specs.Kept.{sets_of, table_of};
 ghost use Rattle.term_math.specs.Within.{known_of, ranges_of, with_dimensions};
-ghost use Rattle.term_math.specs.Made.{IsPossible, extreme_term, operation_term, picked};
+ghost use Rattle.term_math.specs.Made.{IsPossible, extreme_term, operation_term};
 ghost use Rattle.term_nodes.specs.Things.{cond_at, conds_at, parts_at, table_at, term_at, terms_at, things};
 ghost use Rattle.term_nodes.specs.Built.{AllBelow, IsSoundTerm, PartsBelow};
 ghost use Rattle.term_nodes.specs.Operands.{left_operand, steps_down};
@@ -22,78 +20,9 @@ use crate::items::{Item, form_at, item_at, table_at};
 use crate::nodes::{Comparison, Node, Signed};
 use term_language::{Defined, Truth};
 use term_math::{
-    BoxView, Ends, Extreme, Factor, Indices, Operation, Ranges, Table, and_truth, both, compared,
-    opposite, or_truth, truth_ends,
+    AbstractValue, BoxView, Ends, Extreme, Indices, Operation, Ranges, Table, and_truth, both,
+    compared, factor, opposite, or_truth, truth_ends,
 };
-
-/// The interval of the non-linear part of a term, and its mark.
-#[derive(Clone, Copy, Debug)]
-pub struct AbstractValue {
-    pub ends: Ends,
-    pub mark: Defined,
-}
-
-impl AbstractValue {
-    /// Nothing but cells, and Always defined.
-    pub fn clear() -> AbstractValue
-        ensures { sight_of result ≡ record { ends = ends.exactly (pos 0); mark = Always } }
-    {
-        AbstractValue {
-            ends: Ends::zero(),
-            mark: Defined::Always,
-        }
-    }
-
-    /// What is Never defined.
-    pub fn never(ends: Ends) -> AbstractValue
-        ensures { sight_of result ≡ record { ends = ends_of ends; mark = Never } }
-    {
-        AbstractValue {
-            ends,
-            mark: Defined::Never,
-        }
-    }
-
-    /// A sum with a part more.
-    pub fn with_part(&self, subtracted: bool, part: &AbstractValue) -> AbstractValue
-        requires times { IsFit (ends_at (sign subtracted) (ends_of part.now.ends)) }
-        requires plus { IsFit (ends.plus (ends.scaled (sign subtracted) (ends_of part.now.ends)) (ends_of self.now.ends)) }
-        ensures { sight_of result ≡ record {
-          ends = ends.plus (ends.scaled (sign subtracted) (ends_of part.now.ends)) (ends_of self.now.ends);
-          mark = marks.both part.now.mark self.now.mark;
-        } }
-    {
-        let times = part.ends.scaled(&factor(subtracted));
-        AbstractValue {
-            ends: times.plus(&self.ends),
-            mark: both(part.mark, self.mark),
-        }
-    }
-
-    /// The one that is taken of this number and another, where the whole intervals of both are given.
-    pub fn or_other(&self, extreme: Extreme, other: &AbstractValue) -> AbstractValue
-        ensures { sight_of result ≡ record {
-          ends = picked extreme (ends_of self.now.ends) (ends_of other.now.ends);
-          mark = marks.both self.now.mark other.now.mark;
-        } }
-    {
-        AbstractValue {
-            ends: extreme.taken(&self.ends, &other.ends),
-            mark: both(self.mark, other.mark),
-        }
-    }
-}
-
-/// 1, or -1 for what is subtracted.
-pub fn factor(subtracted: bool) -> Factor
-    ensures { result.k ≡ sign subtracted }
-{
-    if subtracted {
-        Factor { k: -1 }
-    } else {
-        Factor { k: 1 }
-    }
-}
 
 /// Nodes, the root box, and a box inside it.
 #[derive(Clone, Copy)]
@@ -467,11 +396,7 @@ impl<'a> Evaluator<'a> {
         if !sets.is_empty() {
             return AbstractValue::never(found.hull(&self.view));
         }
-        let within = found.within(ranges, indices, &self.view);
-        AbstractValue {
-            ends: within.ends,
-            mark: within.mark,
-        }
+        found.within(ranges, indices, &self.view)
     }
 
     /// What a condition as a number is over the box.

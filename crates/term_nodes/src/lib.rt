@@ -10,7 +10,7 @@ mod items;
 mod nodes;
 mod pushes;
 
-pub use evaluation::{AbstractValue, Evaluator, factor};
+pub use evaluation::Evaluator;
 pub use items::{Facts, Item, form_at, item_at, table_at};
 pub use nodes::{Comparison, Node, Signed, Task};
 pub use pushes::push;

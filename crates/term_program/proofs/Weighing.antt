@@ -107,14 +107,3 @@ sum_fits root b all ws ids whole i sum weighs is light each below left =
     let here = at_drop_more total ws i (pos 0) there in
     let on = total_on ws i weighs in
     fits_between (kept (closed_at root b all ids i) (get_or ws i (pos 0)) +ℤ sum) (omega (arith, ints, up, rest_up)) (omega (arith, ints, down, rest_down, here, on, is, light))
-
--- the weight of all scenarios
-pub next_total : (ws : List ℤ) (i : ℕ) → i < length ws → total (drop i ws) ≡ get_or ws i (pos 0) +ℤ total (drop (i + 1) ws)
-next_total ws i below = at_drop_more total ws i (pos 0) below
-
-pub total_fits : (ws : List ℤ) (i : ℕ) (sum : ℤ) → Weighs ws → total ws ≤ℤ pos (2 ^ 100) → i < length ws → sum ≡ total (drop (i + 1) ws) → FitsSigned w128 (get_or ws i (pos 0) +ℤ sum)
-total_fits ws i sum weighs light below is =
-    let here = next_total ws i below in
-    let on = total_on ws i weighs in
-    let up = total_up (drop i ws) (weighs_on ws i weighs) in
-    fits_between (get_or ws i (pos 0) +ℤ sum) (omega (arith, ints, here, up, is)) (omega (arith, ints, here, on, light, is))

@@ -1,8 +1,6 @@
 //! What closes a box.
 
-ghost use Rattle.std.specs.Prelude.{◌≡◌, ◌≤◌, ◌≤ℤ◌, ◌<◌, ◌*ℤ◌, ◌+ℤ◌, false, get_or, int_lt, length, map, pos, None, slice_get};
-ghost use Rattle.std.specs.Int.{w128};
-ghost use Rattle.std.specs.Int.RustNames.{FitsSigned};
+ghost use Rattle.std.specs.Prelude.{◌≡◌, ◌≤◌, ◌≤ℤ◌, ◌<◌, ◌*ℤ◌, false, get_or, int_lt, length, map, pos, None, slice_get};
 ghost use Rattle.std.specs.Option.{option_map_or};
 ghost use Rattle.sopl_base.specs.declared.reason.Reason.TheVariants.{Bound, Chance, Hard, Undefined};
 ghost use Rattle.box_problem.specs.Box.{Inside, high, low};
@@ -21,28 +19,10 @@ use crate::draft::{ChanceConditions, Conditions};
 use crate::over::{part_of, view_of};
 use crate::program::Program;
 use box_store::BoxStore;
-use sopl_base::{Direction, Interval, Reason, reaches};
+use sopl_base::{Direction, Interval, Reason, Wide, reaches};
 use term_goals::{Goal, WideEnds};
 use term_language::{Defined, Truth};
 use term_math::BoxView;
-
-/// A weight of scenarios.
-#[derive(Clone, Copy)]
-struct Weight {
-    sum: i128,
-}
-
-impl Weight {
-    /// The sum of this weight and another.
-    fn plus(&self, other: &Weight) -> Weight
-        requires fits { FitsSigned w128 (self.now.sum +ℤ other.now.sum) }
-        ensures { result.sum ≡ self.now.sum +ℤ other.now.sum }
-    {
-        Weight {
-            sum: self.sum + other.sum,
-        }
-    }
-}
 
 impl Program {
     /// Whether a condition is False over a box.
@@ -85,34 +65,34 @@ impl Program {
     }
 
     /// The weight of a scenario, if its condition is not False over a box.
-    fn weight_kept(&self, conditions: &Conditions, scenario: usize, view: &BoxView) -> Weight
+    fn weight_kept(&self, conditions: &Conditions, scenario: usize, view: &BoxView) -> Wide
         requires made { IsMade self.now }
         requires inside { Inside (box_in view.now) (root_in self.now) }
         requires exists { scenario < length conditions.now.ids.items }
         requires each { length conditions.now.ids.items ≡ length self.now.draft.weights.items }
-        ensures { result.sum ≡ kept (is_false (rule.truth rule.Near (root_in self.now) (box_in view.now) (cond_at (things_in self.now) (get_or conditions.now.ids.items scenario 0))))
+        ensures { result.value ≡ kept (is_false (rule.truth rule.Near (root_in self.now) (box_in view.now) (cond_at (things_in self.now) (get_or conditions.now.ids.items scenario 0))))
             (get_or self.now.draft.weights.items scenario (pos 0)) }
     {
         if self.is_false(conditions.ids[scenario], view) {
-            return Weight { sum: 0 };
+            return Wide::of(0);
         }
-        Weight {
-            sum: self.draft.weights[scenario],
+        Wide {
+            value: self.draft.weights[scenario],
         }
     }
 
     /// The weight of the scenarios in which a constraint is not False over a box.
     #[tactic(auto, using(crate::proofs::Weighing::next_left, crate::proofs::Weighing::none_left, crate::proofs::Weighing::sum_fits))]
-    fn weight_left(&self, conditions: &Conditions, view: &BoxView) -> Weight
+    fn weight_left(&self, conditions: &Conditions, view: &BoxView) -> Wide
         requires made { IsMade self.now }
         requires inside { Inside (box_in view.now) (root_in self.now) }
         requires each { length conditions.now.ids.items ≡ length self.now.draft.weights.items }
-        ensures { result.sum ≡ weight_left (root_in self.now) (box_in view.now) (problem_in self.now).weights (conditions_of (things_in self.now) conditions.now) }
+        ensures { result.value ≡ weight_left (root_in self.now) (box_in view.now) (problem_in self.now).weights (conditions_of (things_in self.now) conditions.now) }
     {
-        let mut left = Weight { sum: 0 };
+        let mut left = Wide::of(0);
         for i in (0..conditions.ids.len()).rev() {
             let here = self.weight_kept(conditions, i, view);
-            left = here.plus(&left);
+            left = here.plus(left);
         }
         left
     }
@@ -128,7 +108,7 @@ impl Program {
             (chance.now.p *ℤ (problem_in self.now).whole) }
     {
         let left = self.weight_left(&chance.conditions, view);
-        !reaches(left.sum, self.draft.whole, chance.p, chance.q)
+        !reaches(left.value, self.draft.whole, chance.p, chance.q)
     }
 
     /// Whether a chance constraint closes a box.

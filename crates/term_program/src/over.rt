@@ -14,8 +14,7 @@ use crate::program::Program;
 use box_store::BoxStore;
 use sopl_base::Interval;
 use term_language::{Defined, Truth};
-use term_math::{BoxView, Ends, Part};
-use term_nodes::AbstractValue;
+use term_math::{AbstractValue, BoxView, Ends, Part};
 
 /// The box of a store.
 pub(crate) fn view_of(store: &BoxStore) -> BoxView<'_>

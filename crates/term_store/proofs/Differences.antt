@@ -20,7 +20,7 @@ use Rattle.term_nodes.specs.declared.nodes.Comparison.{Comparison}
 use Rattle.term_nodes.specs.declared.nodes.Node.TheVariants as node
 use Rattle.term_nodes.specs.declared.items.Item.{Item}
 use Rattle.term_nodes.specs.declared.items.Facts as facts
-use Rattle.term_nodes.specs.declared.evaluation.AbstractValue as seen
+use Rattle.term_math.specs.declared.values.AbstractValue as seen
 use Rattle.term_nodes.specs.Things.{term_at, things}
 use Rattle.term_nodes.specs.Built.{IsBuilt, IsNew, IsSoundTerm, kept, of_truth}
 use Rattle.term_nodes.specs.Seen.{Sight, sight_of, wide_sight}

@@ -18,7 +18,7 @@ use Rattle.term_math.proofs.Products.{weight_times}
 use Rattle.term_nodes.specs.declared.nodes.Node.TheVariants as node
 use Rattle.term_nodes.specs.declared.items.Item.{Item}
 use Rattle.term_nodes.specs.declared.items.Facts as facts
-use Rattle.term_nodes.specs.declared.evaluation.AbstractValue as seen
+use Rattle.term_math.specs.declared.values.AbstractValue as seen
 use Rattle.term_nodes.specs.Things.{a_term, term_at, things}
 use Rattle.term_nodes.specs.Built.{IsBuilt, IsNew, facts_of, kept}
 use Rattle.term_nodes.specs.Seen.{Sight, sight_of, wide_sight}

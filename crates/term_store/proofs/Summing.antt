@@ -21,7 +21,7 @@ use Rattle.term_nodes.specs.declared.nodes.Node.TheVariants as node
 use Rattle.term_nodes.specs.declared.nodes.Signed.{Signed}
 use Rattle.term_nodes.specs.declared.items.Item.{Item}
 use Rattle.term_nodes.specs.declared.items.Facts as facts
-use Rattle.term_nodes.specs.declared.evaluation.AbstractValue as seen
+use Rattle.term_math.specs.declared.values.AbstractValue as seen
 use Rattle.term_nodes.specs.Things.{Thing, a_term, term_at, parts_at, things}
 use Rattle.term_nodes.specs.Built.{IsBuilt, IsNew, PartsBelow, facts_of, kept}
 use Rattle.term_nodes.specs.Seen.{Sight, sight_of, wide_sight, wide_sum}

@@ -11,11 +11,11 @@ ghost use Rattle.term_store.specs.Stores.{IsAdded, IsSoundStore, all, root_of};
 
 use crate::known::condition;
 use crate::store::TermStore;
-use sopl_base::CmpOp;
+use sopl_base::{CmpOp, Wide};
 use std::alloc::AllocError;
 use term_language::Truth;
-use term_math::{Combination, Form, WideFactor, both, compared};
-use term_nodes::{AbstractValue, Comparison, Node};
+use term_math::{AbstractValue, Combination, Form, both, compared};
+use term_nodes::{Comparison, Node};
 
 impl TermStore {
     /// The linear form of a term minus another one.
@@ -28,8 +28,8 @@ impl TermStore {
         let left = self.form_known(a);
         let right = self.form_known(b);
         let mut sum = Combination::new(self.alloc);
-        sum.add(&WideFactor { k: 1 }, left)?;
-        sum.add(&WideFactor { k: -1 }, right)?;
+        sum.add(&Wide { value: 1 }, left)?;
+        sum.add(&Wide { value: -1 }, right)?;
         let wide = sum.form(self.alloc)?;
         wide.narrowed(self.alloc)
     }

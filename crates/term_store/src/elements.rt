@@ -26,8 +26,10 @@ use crate::terms::{cell_form, measured, number_form};
 use sopl_base::Fault;
 use std::alloc::{AllocError, Global};
 use term_language::{Defined, Truth};
-use term_math::{BoxView, Element, Ends, Factor, Form, Indices, Ranges, Table, both, weight_of};
-use term_nodes::{AbstractValue, Facts, Node, table_at};
+use term_math::{
+    AbstractValue, BoxView, Element, Ends, Factor, Form, Indices, Ranges, Table, both, weight_of,
+};
+use term_nodes::{Facts, Node, table_at};
 
 /// The form of an element, where its size is at most 2^40.
 fn item_form(alloc: Global, element: &Element, root: &BoxView) -> Result<Form, Fault>

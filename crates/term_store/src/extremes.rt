@@ -15,8 +15,8 @@ use crate::folded::folded_facts;
 use crate::store::TermStore;
 use sopl_base::Fault;
 use term_language::Defined;
-use term_math::{Extreme, both};
-use term_nodes::{AbstractValue, Facts, Node};
+use term_math::{AbstractValue, Extreme, both};
+use term_nodes::{Facts, Node};
 
 impl TermStore {
     /// The mark of several terms over the root box.

@@ -16,8 +16,8 @@ use crate::terms::{measured, number_form};
 use sopl_base::Fault;
 use std::alloc::Global;
 use term_language::{Defined, Truth};
-use term_math::{Ends, Factor, Form, weight_of};
-use term_nodes::{AbstractValue, Facts};
+use term_math::{AbstractValue, Ends, Factor, Form, weight_of};
+use term_nodes::Facts;
 
 /// What is known of a term that is a number, where its interval has that number alone.
 fn number_facts(alloc: Global, mark: Defined, wide: &AbstractValue) -> Facts

@@ -18,33 +18,9 @@ use crate::known::condition;
 use crate::store::TermStore;
 use std::alloc::AllocError;
 use term_language::{Defined, Truth};
-use term_math::{Ends, both};
+use term_math::{Ends, both, judged};
 use term_nodes::{Node, Task};
 use term_windows::{TaskRange, always_differ, always_fit, never_differ, never_fit};
-
-/// False where an operand is Never defined or the condition surely fails, True where all are Always defined and it surely holds.
-fn judged(mark: Defined, fails: bool, holds: bool) -> Truth
-    ensures { result ≡ marks.judged mark fails holds }
-{
-    match mark {
-        Defined::Never => Truth::False,
-        Defined::Maybe => {
-            if fails {
-                return Truth::False;
-            }
-            Truth::Unknown
-        }
-        Defined::Always => {
-            if fails {
-                return Truth::False;
-            }
-            if holds {
-                return Truth::True;
-            }
-            Truth::Unknown
-        }
-    }
-}
 
 /// Whether numbers in these intervals differ, where this is the mark of all.
 fn differ(mark: Defined, ends: &[Ends]) -> Truth

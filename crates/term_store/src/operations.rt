@@ -14,8 +14,8 @@ use crate::folded::folded_facts;
 use crate::store::TermStore;
 use sopl_base::Fault;
 use term_language::Defined;
-use term_math::{Divisor, Operation};
-use term_nodes::{AbstractValue, Facts, Node};
+use term_math::{AbstractValue, Divisor, Operation};
+use term_nodes::{Facts, Node};
 
 impl TermStore {
     /// Whether what is made of a term is a number.

@@ -10,8 +10,8 @@ ghost use Rattle.term_store.specs.Stores.{IsSoundStore, all, root_of};
 
 use crate::store::TermStore;
 use term_language::Truth;
-use term_math::{BoxView, Part};
-use term_nodes::{AbstractValue, Evaluator};
+use term_math::{AbstractValue, BoxView, Part};
+use term_nodes::Evaluator;
 
 impl TermStore {
     /// The nodes and the root, beside a box.

@@ -16,8 +16,8 @@ use crate::terms::measured;
 use sopl_base::Fault;
 use std::alloc::AllocError;
 use term_language::{Defined, Truth};
-use term_math::{Combination, Form, both};
-use term_nodes::{AbstractValue, Facts, Node, Signed, factor};
+use term_math::{AbstractValue, Combination, Form, both, factor};
+use term_nodes::{Facts, Node, Signed};
 
 impl TermStore {
     /// The sum of the forms of all parts.

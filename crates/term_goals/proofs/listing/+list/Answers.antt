@@ -58,8 +58,8 @@ add_parts-add-requires t c =
     let x : Signed = get_or c.args.parts.now c.loop-part.part-index none in
     let there = part_below c.args.limit c.args.parts.now c.loop-part.part-index x c.requires.below c.loop-part-test.true
     (get_or_default c.args.parts.now c.loop-part.part-index none x c.loop-part-test.true) in
-    let is = c.product-signed.ensures ∙ ap (λ (z : ℤ). c.args.times.now.k *ℤ z) c.factor.ensures in
-    (omega (arith, there), (c.requires.ready, part_room root all c.args.parts.now c.loop-part.part-index none c.args.times.now.k c.product-signed.result.k c.loop-part-test.true is c.requires.room))
+    let is = c.product-signed.ensures ∙ ap (λ (z : ℤ). c.args.times.now.value *ℤ z) c.factor.ensures in
+    (omega (arith, there), (c.requires.ready, part_room root all c.args.parts.now c.loop-part.part-index none c.args.times.now.value c.product-signed.result.value c.loop-part-test.true is c.requires.room))
 
 pub add_parts-loop-part-preserved : goal.add_parts-loop-part-preserved
 add_parts-loop-part-preserved t c = record {
@@ -67,8 +67,8 @@ add_parts-loop-part-preserved t c = record {
       let root = box_in c.args.here.now.root in
       let all = things c.args.here.now.items.now in
       let none : Signed = record { subtracted = false; term = 0 } in
-      let is = c.product-signed.ensures ∙ ap (λ (z : ℤ). c.args.times.now.k *ℤ z) c.factor.ensures in
-      part_step c.args.here.now b c.args.parts.now c.loop-part.part-index none c.args.times.now.k c.product-signed.result.k (listed_ends root b all c.loop-part.list.items)
+      let is = c.product-signed.ensures ∙ ap (λ (z : ℤ). c.args.times.now.value *ℤ z) c.factor.ensures in
+      part_step c.args.here.now b c.args.parts.now c.loop-part.part-index none c.args.times.now.value c.product-signed.result.value (listed_ends root b all c.loop-part.list.items)
       (listed_ends root b all c.add.new.list.items) _
       c.requires.ready inside c.loop-part-test.true is (c.in_ok-add.ensures.sum b inside) (c.loop-part.invariant.sum b inside);
   exist = λ all. c.in_ok-add.ensures.exist (c.loop-part.invariant.exist all);
@@ -78,7 +78,7 @@ pub add_parts-returns-clause-sum : goal.add_parts-returns-clause-sum
 add_parts-returns-clause-sum t c = λ b inside.
     let root = box_in c.args.here.now.root in
     let all = things c.args.here.now.items.now in
-    parts_done root b all c.args.parts.now c.loop-part.part-index c.args.times.now.k (listed_ends root b all c.loop-part.list.items) _ c.loop-part-test.false (c.loop-part.invariant.sum b inside)
+    parts_done root b all c.args.parts.now c.loop-part.part-index c.args.times.now.value (listed_ends root b all c.loop-part.list.items) _ c.loop-part-test.false (c.loop-part.invariant.sum b inside)
 
 pub add_parts-returns-clause-exist : goal.add_parts-returns-clause-exist
 add_parts-returns-clause-exist t c = c.loop-part.invariant.exist

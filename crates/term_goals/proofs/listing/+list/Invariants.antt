@@ -25,11 +25,11 @@ invariant-add-products l = record {
   below : l.atom.term ≤ l.id;
   room : unsigned_abs l.atom.k * atoms_weight (box_in l.here.root) (term_at (things l.here.items.now) l.atom.term) < 2 ^ 127;
   sum : (b : Box) → ends.scaled l.atom.k (atoms Near (box_in l.here.root) b (term_at (things l.here.items.now) l.atom.term))
-      ≡ ends.scaled l.times.k (atoms Near (box_in l.here.root) b (term_at (things l.here.items.now) l.id));
+      ≡ ends.scaled l.times.value (atoms Near (box_in l.here.root) b (term_at (things l.here.items.now) l.id));
 }
 
 abbrev pub invariant-add_parts-loop-part : goal.invariant-add_parts-loop-part
 invariant-add_parts-loop-part l =
     Listed (box_in l.here.root) (things l.here.items.now) (length l.here.items.now) l.initial.list.items l.list.items
-    (λ b. ends.scaled l.times.k (sum_atoms Near (box_in l.here.root) b (parts_at (things l.here.items.now) (drop l.part-index l.parts))))
-    (λ b. ends.scaled l.times.k (sum_atoms Near (box_in l.here.root) b (parts_at (things l.here.items.now) l.parts)))
+    (λ b. ends.scaled l.times.value (sum_atoms Near (box_in l.here.root) b (parts_at (things l.here.items.now) (drop l.part-index l.parts))))
+    (λ b. ends.scaled l.times.value (sum_atoms Near (box_in l.here.root) b (parts_at (things l.here.items.now) l.parts)))

@@ -9,7 +9,7 @@ use Rattle.term_goals.proofs.listing.add_atoms.Goals as goal
 pub add-requires-clause-room : goal.add-requires-clause-room
 add-requires-clause-room c =
     let none : Atom = record { k = pos 0; term = 0 } in
-    atom_room (box_in c.args.here.now.root) (things c.args.here.now.items.now) c.args.atoms.now c.loop-atom.atom-index none c.factor.result.k c.loop-atom-test.true c.factor.ensures c.requires.room
+    atom_room (box_in c.args.here.now.root) (things c.args.here.now.items.now) c.args.atoms.now c.loop-atom.atom-index none c.factor.result.value c.loop-atom-test.true c.factor.ensures c.requires.room
 
 pub loop-atom-preserved : goal.loop-atom-preserved
 loop-atom-preserved c = record {
@@ -17,7 +17,7 @@ loop-atom-preserved c = record {
       let root = box_in c.args.here.now.root in
       let all = things c.args.here.now.items.now in
       let none : Atom = record { k = pos 0; term = 0 } in
-      atom_step root b all c.args.atoms.now c.loop-atom.atom-index none c.factor.result.k (listed_ends root b all c.loop-atom.list.items) (listed_ends root b all c.add.new.list.items)
+      atom_step root b all c.args.atoms.now c.loop-atom.atom-index none c.factor.result.value (listed_ends root b all c.loop-atom.list.items) (listed_ends root b all c.add.new.list.items)
       _ c.loop-atom-test.true c.factor.ensures (c.in_ok-add.ensures.sum b inside) (c.loop-atom.invariant.sum b inside);
   exist = λ all. c.in_ok-add.ensures.exist (c.loop-atom.invariant.exist all);
 }

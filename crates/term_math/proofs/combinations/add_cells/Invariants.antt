@@ -5,4 +5,4 @@ use Rattle.term_math.specs.Sums.{nonzero}
 use Rattle.term_math.proofs.combinations.add_cells.Given as goal
 
 abbrev pub invariant-loop-i : goal.invariant-loop-i
-invariant-loop-i l = nonzero l.cells.entries ≡ rule.combined l.factor.k (nonzero l.initial.cells.entries) (cells_of (drop l.i l.more))
+invariant-loop-i l = nonzero l.cells.entries ≡ rule.combined l.factor.value (nonzero l.initial.cells.entries) (cells_of (drop l.i l.more))

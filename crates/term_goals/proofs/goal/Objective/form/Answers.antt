@@ -13,7 +13,7 @@ form_at-requires c = record {
 
 pub add-requires : goal.add-requires
 add-requires c = record {
-  room = form_back (box_in c.args.here.now.root) (things c.args.here.now.items.now) c.args.self.now.weights.now c.args.self.now.terms.now c.loop-i.i 0 c.scenario_weight-weight.result.k
+  room = form_back (box_in c.args.here.now.root) (things c.args.here.now.items.now) c.args.self.now.weights.now c.args.self.now.terms.now c.loop-i.i 0 c.scenario_weight-weight.result.value
       (combination_of c.loop-i.sum) (form_of c.form_at.result.now)
       c.requires.weights c.requires.small c.requires.each c.loop-i-test.true c.loop-i.auto.i c.scenario_weight-weight.ensures c.loop-i.invariant
       (c.form_at.ensures (box_in c.args.here.now.root) c.requires.ready.built);

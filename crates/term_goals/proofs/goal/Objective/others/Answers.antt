@@ -27,6 +27,6 @@ loop-i-preserved c =
     let root = box_in c.args.here.now.root in
     let all = things c.args.here.now.items.now in
     others_more root all c.args.self.now.weights.now c.args.self.now.terms.now c.loop-i.i 0 c.loop-i.list.items c.push.new.self.items
-    (others root all c.args.self.now.weights.now c.args.self.now.terms.now) c.scenario_weight-weight.result.k (form_of c.form_at.result.now)
+    (others root all c.args.self.now.weights.now c.args.self.now.terms.now) c.scenario_weight-weight.result.value (form_of c.form_at.result.now)
     c.requires.each c.loop-i-test.true (c.form_at.ensures root c.requires.ready.built) c.if-form_at.false c.scenario_weight-weight.ensures
     (c.in_ok-push.ensures.items ∙ ap (λ (a : Atom). c.loop-i.list.items ++ a ∷ []) c.times.ensures) c.loop-i.invariant

@@ -7,4 +7,4 @@ use Rattle.term_program.proofs.program.Program.weight_left.Given as goal
 
 abbrev pub invariant-loop-i : goal.invariant-loop-i
 invariant-loop-i l =
-    l.left.sum ≡ weight_left (root_in l.self) (box_in l.view) (drop l.i l.self.draft.weights.items) (map (cond_at (things_in l.self)) (drop l.i l.conditions.ids.items))
+    l.left.value ≡ weight_left (root_in l.self) (box_in l.view) (drop l.i l.self.draft.weights.items) (map (cond_at (things_in l.self)) (drop l.i l.conditions.ids.items))

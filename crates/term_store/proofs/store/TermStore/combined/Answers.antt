@@ -19,7 +19,7 @@ add-requires c =
     let part : Signed = get_or c.args.parts.now (c.loop-i.i - 1) none in
     let few : Fits w64 (length c.args.parts.now) = search rules in
     record {
-      room = part_room (root_of c.args.self.now) c.args.self.now.items.items c.args.parts.now c.loop-i.i part.term c.widened.result.k (combination_of c.loop-i.sum) (form_of c.form_known.result.now)
+      room = part_room (root_of c.args.self.now) c.args.self.now.items.items c.args.parts.now c.loop-i.i part.term c.widened.result.value (combination_of c.loop-i.sum) (form_of c.form_known.result.now)
           c.requires.sound.built few.fits
           (ap unsigned_abs (c.widened.ensures ∙ c.factor-once.ensures) ∙ sign_size part.subtracted) c.loop-i.invariant c.form_known.ensures;
     }
