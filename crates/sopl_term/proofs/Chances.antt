@@ -41,6 +41,7 @@ module _ (b : Builder) (cs : Vec ChanceConditions Global) (c : ChanceConditions)
       record {
         store = made.store;
         cells = made.cells;
+        near = made.near;
         nodes = made.nodes;
         problem =
             record {
@@ -104,6 +105,7 @@ module _ (b : Builder) (cs : Vec ChanceConditions Global) (building : IsBuilding
             record {
               store = made.store;
               cells = made.cells;
+              near = made.near;
               nodes = made.nodes;
               problem = subst IsProblem (sym chance_same) made.problem;
               light = made.light;

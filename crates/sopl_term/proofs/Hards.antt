@@ -54,6 +54,7 @@ module _ (b : Builder) (hs : Vec Conditions Global) (c : Conditions) (building :
       record {
         store = made.store;
         cells = made.cells;
+        near = made.near;
         nodes = made.nodes;
         problem =
             record {
@@ -114,6 +115,7 @@ module _ (b : Builder) (hs : Vec Conditions Global) (building : IsBuilding b) (s
             record {
               store = made.store;
               cells = made.cells;
+              near = made.near;
               nodes = made.nodes;
               problem = subst IsProblem (sym hard_same) made.problem;
               light = made.light;

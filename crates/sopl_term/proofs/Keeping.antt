@@ -4,6 +4,7 @@ use Rattle.std.proofs.lemmas.Bool.{cases_lt}
 use Rattle.std.proofs.lemmas.List.{get_or_past}
 use Rattle.std.specs.List.{AllByRecursion}
 use Rattle.box_problem.specs.Box.{Box}
+use Rattle.box_problem.specs.Near.{IsNearBox}
 use Rattle.term_language.specs.Terms.{Cond}
 use Rattle.term_problem.specs.Problems.{ChanceTerms, ProblemTerms, IsProblem}
 use Rattle.term_nodes.specs.Built.{AllBelow}
@@ -107,6 +108,7 @@ still_made p s made sound root grows = record {
   store = sound;
   nodes = cells_kept (draft_root p) (root_of s) (draft_things p) (all s) p.nodes.items root grows made.nodes;
   cells = made.cells ∙ sym (ap (λ (b : Box). length b.lows) root);
+  near = subst IsNearBox (sym root) made.near;
   problem = subst IsProblem (sym (same_problem p s made grows)) made.problem;
   light = made.light;
   few_scenarios = made.few_scenarios;

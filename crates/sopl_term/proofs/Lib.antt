@@ -4,4 +4,5 @@ pub mod Keeping
 pub mod Hards
 pub mod Chances
 pub mod Finishing
+pub mod Nearness
 pub mod Lists

@@ -2,6 +2,7 @@
 use Rattle.std.specs.Prelude.{◌≡◌, ◌<◌, ◌^◌, ℕ, pos, ◌≤ℤ◌, List, length, map, None, false}
 use Rattle.std.specs.List.{AllByRecursion}
 use Rattle.box_problem.specs.Box.{Box, Inside}
+use Rattle.box_problem.specs.Near.{IsNearBox}
 use Rattle.term_language.specs.Ends.{exactly, plus}
 use Rattle.term_language.specs.Terms.{Cond}
 use Rattle.term_problem.specs.Objective.{goal_ends_of}
@@ -56,6 +57,7 @@ HasConditions count c = AllBelow count c.ids.items
 pub record IsDraft (d : Draft) : Type 0 where
   pub store : IsSoundStore d.store
   pub cells : d.cells ≡ length (draft_root d).lows
+  pub near : IsNearBox (draft_root d)
   pub nodes : AreCells (draft_root d) (draft_things d) d.nodes.items
   pub problem : IsProblem (draft_problem d)
   pub light : d.whole ≤ℤ pos (2 ^ 100)

@@ -17,7 +17,7 @@ pub use closing::{refuted, refuted_in};
 pub use draft::{ChanceConditions, Conditions, Draft};
 pub use globals::GlobalTerms;
 pub use ids::{CondId, TermId};
-pub use laws::lawful_of;
+pub use laws::{lawful_of, roots_are_near};
 pub use mentions::{Mentioned, Mentions};
 pub use over::{Range, goal_ends, goal_ends_in, kleene, kleene_in, range_in, range_of};
 pub use program::Program;
