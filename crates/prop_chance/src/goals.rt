@@ -22,13 +22,13 @@ ghost use Rattle.prop_chance.specs.Goals.{Fits, IsIndexed, IsOpenTo, atoms_in, r
 use crate::cell_sets::{listed, put_all};
 use box_store::BoxStore;
 use prop_core::{Finding, Propagator};
-use prop_shave::{GoalDelta, Probe, TouchedParts, end_over, parts_touching};
+use prop_shave::{GoalDelta, Probe, TouchedParts, parts_touching};
 use sopl_base::{Reason, Step, Wide};
 use std::alloc::{AllocError, Global};
 use std::collections::BTreeSet;
 use term_goals::Atom;
 use term_language::Defined;
-use term_program::{Program, TermId, range_of, refuted};
+use term_program::{Program, TermId, end_over, range_of, refuted};
 
 /// Narrows a box for the objective: what it is to be better than, and where it has to be defined. For each scenario both ends of each cell that the
 /// objective's term mentions are tried, and then those of all these cells together; for an end only the parts of an expected objective are seen anew that

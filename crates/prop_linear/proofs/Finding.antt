@@ -156,11 +156,6 @@ pub is_linear : (program : Program) (instance scenario : ℕ) (cond : Cond) → 
 is_linear program instance scenario cond linear at =
     subst (λ (o : Option Cond). IfSome o (λ (c : Cond). shapes.shape_in (root_in program) c ≡ Linear)) at linear
 
--- a part of the problem's root is one of the program's
-pub inside_root : (program : Program) (b : Box) → Inside b (box_problem_of program).root → Inside b (root_in program)
-unfolding box_problem_of
-inside_root program b inside = inside
-
 module _ (program : Program) (mine : Reason) (d : Difference) (v : Option ℤ) (tells : TellsOf program mine d) (inside : Inside (box_of d) (root_in program)) where
   pub found_dead : (reason : Reason) → reason ≡ mine → closes d (box_of d) ≡ true → Closes (box_problem_of program) (mine ∷ []) v (box_of d) reason
   unfolding box_problem_of

@@ -6,11 +6,10 @@ ghost use Rattle.term_program.specs.Programs.{IsMade, root_in};
 
 use crate::any_prop::AnyProp;
 use box_store::BoxStore;
-use prop_shave::end_over;
 use sopl_base::{Direction, Interval};
 use sopl_search::SearchProblem;
 use std::alloc::{AllocError, Global};
-use term_program::Program;
+use term_program::{Program, end_over};
 
 /// The interval of each cell in the box of all points.
 #[tactic(auto, using(crate::proofs::Roots::first_none, crate::proofs::Roots::first_more, crate::proofs::Roots::first_all))]

@@ -1,19 +1,15 @@
 -- The better end over a box, and over a part in which one cell has another interval.
-use Rattle.std.proofs.Common.{◌≡◌, ◌∙◌, ◌↔◌, ℕ, ℤ, ◌+ℤ◌, ◌≤ℤ◌, ◌<ℤ◌, int_le, Bool, true, false, not, IsTrue, List, [], ◌∷◌, Some, arith, refl, ap, sym}
+use Rattle.std.proofs.Common.{◌≡◌, ◌∙◌, ℕ, ℤ, ◌+ℤ◌, ◌≤ℤ◌, false, List, [], ◌∷◌, arith, refl, ap, sym}
 use Rattle.std.proofs.lemmas.Int.{ints}
-use Rattle.sopl_base.specs.Better.{IsBetter}
 use Rattle.sopl_base.specs.declared.direction.Direction.{Direction}
 use Rattle.sopl_base.specs.declared.direction.Direction.TheVariants.{Minimize, Maximize, Nothing}
-use Rattle.sopl_base.specs.declared.reason.Reason.TheVariants.{Bound}
 use Rattle.box_problem.specs.Box.{Box, Inside, high, low}
 use Rattle.term_language.specs.Ends.{Ends, ends, exactly, plus, scaled}
 use Rattle.term_language.specs.Rules.{Near, interval}
 use Rattle.term_language.specs.Mentions.{mentions}
 use Rattle.term_language.proofs.Agreement.{intervals_agree}
-use Rattle.term_language.proofs.FormValues.{by_bool}
 use Rattle.term_problem.specs.Objective.{better_end, goal_ends}
-use Rattle.term_problem.specs.Problems.{ProblemTerms, direction_in}
-use Rattle.term_problem.specs.Refuted.{none_better, refutes}
+use Rattle.term_problem.specs.Problems.{direction_in}
 use Rattle.term_goals.specs.Goals.{listed_ends}
 use Rattle.term_goals.specs.declared.sums.Atom.{Atom}
 use Rattle.term_nodes.specs.Things.{Thing, term_at}
@@ -23,7 +19,7 @@ use Rattle.term_math.proofs.Inner.{part_inside}
 use Rattle.prop_shave.proofs.Adding.{differs_there, turn_of}
 use Rattle.prop_shave.proofs.Mentioned.{untouched, with_agrees}
 use Rattle.prop_shave.specs.Sums.{sum_over}
-use Rattle.prop_shave.specs.GoalSums.{AreParts, is_touched, no_better, part_over, touched_by}
+use Rattle.prop_shave.specs.GoalSums.{AreParts, is_touched, part_over, touched_by}
 
 -- the better end of a sum is the sum of the better ends
 plus_end : (direction : Direction) (a c : Ends) → better_end direction (plus a c) ≡ better_end direction a +ℤ better_end direction c
@@ -83,33 +79,3 @@ end_with program b cell lo hi atoms list end now are inside from_low ordered to_
     let over_box = goal_end program atoms b are inside in
     let over_part = goal_end program atoms c are (with_inside root b cell lo hi inside from_low ordered to_high) in
     omega (arith, ints, whole, sums, over_box, over_part, is, turned)
-
--- what is not less
-unless_less : (a b : ℤ) (r : Bool) → (IsTrue r ↔ (a <ℤ b)) → not r ≡ int_le b a
-unless_less a b true tells = let below = tells.0 refl in grind (arith, ints)
-unless_less a b false tells =
-    by_bool (λ t. int_le b a ≡ t → true ≡ int_le b a) (int_le b a) (λ met is. sym is)
-    (λ unmet is. let below : a <ℤ b = grind (arith, ints, is) in absurd (no (tells.1 below))) refl
-  where
-    no : ¬ (IsTrue false)
-    no e = cc
-
--- what is not better is no better
-pub not_better : (direction : Direction) (end v : ℤ) (r : Bool) → (IsTrue r ↔ IsBetter direction end v) → not r ≡ no_better direction end v
-not_better Minimize end v r tells = unless_less end v r tells
-not_better Maximize end v r tells = unless_less v end r tells
-not_better Nothing end v true tells = absurd (tells.0 refl)
-not_better Nothing end v false tells = refl
-
--- and the better end tells whether the bound closes a box
-no_better_is : (direction : Direction) (a : Ends) (v : ℤ) → none_better direction a v ≡ no_better direction (better_end direction a) v
-no_better_is Minimize a v = refl
-no_better_is Maximize a v = refl
-no_better_is Nothing a v = refl
-
-pub closes_by : (root b : Box) (terms : ProblemTerms) (end v : ℤ) (closed : Bool) → end ≡ better_end (direction_in terms) (goal_ends root b terms) → closed ≡ no_better (direction_in terms) end v
-    → closed ≡ refutes root terms Bound b (Some v)
-closes_by root b terms end v closed is told =
-    told
-    ∙ ap (λ (z : ℤ). no_better (direction_in terms) z v) is
-    ∙ sym (no_better_is (direction_in terms) (goal_ends root b terms) v)

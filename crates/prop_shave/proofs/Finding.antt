@@ -5,7 +5,7 @@ use Rattle.std.proofs.lemmas.List.Elements.{All-contains}
 use Rattle.sopl_base.specs.declared.reason.Reason.{Reason}
 use Rattle.sopl_base.specs.declared.reason.Reason.TheVariants.{Bound, Chance}
 use Rattle.sopl_base.specs.declared.reason.Step.{Step}
-use Rattle.box_problem.specs.Box.{Box, Inside, high, low, with_high, with_low}
+use Rattle.box_problem.specs.Box.{high, low, with_high, with_low}
 use Rattle.box_problem.specs.Rightness.{IsRight, Quiets}
 use Rattle.prop_shave.specs.declared.chance_delta.ChanceDelta.{ChanceDelta}
 use Rattle.prop_shave.specs.declared.goal_delta.GoalDelta.{GoalDelta}
@@ -14,18 +14,12 @@ use Rattle.term_problem.specs.Refuted.{refutes}
 use Rattle.prop_core.specs.Findings.{Closes, Narrows}
 use Rattle.term_problem.specs.Reasons.{reason_mentions}
 use Rattle.term_problem.proofs.Reasons.{reasons_agree}
-use Rattle.term_program.specs.declared.program.Program.{Program}
 use Rattle.term_program.specs.Programs.{problem_in, root_in, with_interval}
 use Rattle.prop_core.proofs.Rising.{for_each, itself}
 use Rattle.prop_shave.specs.declared.probes.Probe.{Probe}
 use Rattle.prop_shave.specs.Opened.{AreOpen, IsOpen, IsWhole}
 use Rattle.prop_shave.specs.Probes.{HasAll, closes}
 use Rattle.prop_shave.proofs.Elsewhere.{agree_high, agree_low, has_or_not}
-
--- a part of the problem's root is one of the program's
-pub inside_root : (program : Program) (b : Box) → Inside b (box_problem_of program).root → Inside b (root_in program)
-unfolding box_problem_of
-inside_root program b inside = inside
 
 pub found_dead : (q : Probe) → closes q q.store.now.box ≡ true → Closes (box_problem_of q.program.now) (q.reason ∷ []) q.best q.store.now.box q.reason
 unfolding box_problem_of

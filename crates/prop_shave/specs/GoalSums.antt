@@ -1,8 +1,7 @@
 -- The better end of an expected objective over a box, part by part.
-use Rattle.std.specs.Prelude.{◌≡◌, ℕ, ℤ, int_le, Bool, true, List, length}
+use Rattle.std.specs.Prelude.{◌≡◌, ℕ, ℤ, Bool, List, length}
 use Rattle.std.specs.List.{AllByRecursion, filter}
 use Rattle.sopl_base.specs.declared.direction.Direction.{Direction}
-use Rattle.sopl_base.specs.declared.direction.Direction.TheVariants.{Minimize, Maximize, Nothing}
 use Rattle.box_problem.specs.Box.{Box, Inside}
 use Rattle.term_language.specs.Ends.{exactly, plus, scaled}
 use Rattle.term_language.specs.Rules.{Near, interval}
@@ -19,12 +18,6 @@ use Rattle.prop_shave.specs.Sums.{has_cell}
 -- the better end of a multiple of a term over a box
 abbrev pub part_over : Direction → Box → List Thing → Box → Atom → ℤ
 part_over direction root all b a = better_end direction (scaled a.k (interval Near root b (term_at all a.term)))
-
--- the better end of an interval is not better than a value
-abbrev pub no_better : Direction → ℤ → ℤ → Bool
-no_better Minimize end v = int_le v end
-no_better Maximize end v = int_le end v
-no_better Nothing end v = true
 
 -- whether a part mentions a cell, and the parts that do
 abbrev pub is_touched : Box → List Thing → ℕ → Atom → Bool

@@ -3,9 +3,8 @@
 ghost use Rattle.std.specs.Prelude.{◌≡◌, IfSome};
 ghost use Rattle.term_language.specs.Ends.{between, ends, scaled};
 ghost use Rattle.term_problem.specs.Objective as objective;
-ghost use Rattle.prop_shave.specs.GoalSums.{no_better};
 
-use sopl_base::{Direction, Interval, Wide, better};
+use sopl_base::{Direction, Interval, Wide};
 use term_goals::Atom;
 
 /// Of two ends in any order the better one.
@@ -31,12 +30,4 @@ pub(crate) fn end_of_part(direction: Direction, atom: &Atom, interval: &Interval
     let first = k.checked_times(Wide::of(interval.lo))?;
     let second = k.checked_times(Wide::of(interval.hi))?;
     Some(better_of(direction, first, second))
-}
-
-/// Whether the better end of an interval is not better than a value.
-#[tactic(auto, using(crate::proofs::Ending::not_better))]
-pub(crate) fn is_no_better(direction: Direction, end: Wide, best: Wide) -> bool
-    ensures { result ≡ no_better direction end.value best.value }
-{
-    !better(direction, end.value, best.value)
 }

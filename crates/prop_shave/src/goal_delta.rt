@@ -3,7 +3,6 @@
 ghost use Rattle.std.specs.Prelude.{◌≡◌, ◌<◌, ◌≤ℤ◌, length, IfSome, Some};
 ghost use Rattle.sopl_base.specs.declared.reason.Reason.TheVariants.{Bound};
 ghost use Rattle.box_problem.specs.Box.{Inside, high, low};
-ghost use Rattle.term_language.specs.Ends.{ends};
 ghost use Rattle.term_problem.specs.Objective as objective;
 ghost use Rattle.term_problem.specs.Problems.{direction_in};
 ghost use Rattle.term_problem.specs.Refuted.{refutes};
@@ -11,12 +10,12 @@ ghost use Rattle.term_program.specs.Programs.{IsMade, problem_in, root_in, thing
 ghost use Rattle.prop_shave.specs.GoalSums.{part_over};
 ghost use Rattle.prop_shave.specs.GoalKnown.{IsCounted};
 
-use crate::goal_bounds::{end_of_part, is_no_better};
+use crate::goal_bounds::end_of_part;
 use crate::turning::turned;
 use box_store::BoxStore;
-use sopl_base::{Direction, Interval, Wide};
+use sopl_base::{Interval, Wide};
 use term_goals::Atom;
-use term_program::{Program, TermId, goal_ends, range_in, range_of};
+use term_program::{Program, TermId, is_no_better, range_in, range_of};
 
 /// The better end of a part over the box of a store, or none where it has no room.
 fn part_in(program: &Program, atom: &Atom, store: &BoxStore) -> Option<Wide>
@@ -47,27 +46,6 @@ fn part_with(
 {
     let range = range_in(program, TermId(atom.term), store, cell, part);
     end_of_part(program.direction(), atom, &range.interval)
-}
-
-/// The better end of an interval.
-fn end_of(direction: Direction, interval: &(i128, i128)) -> Wide
-    ensures { result.value ≡ objective.better_end direction (ends interval.now.0 interval.now.1) }
-{
-    match direction {
-        Direction::Minimize => Wide { value: interval.0 },
-        Direction::Maximize => Wide { value: interval.1 },
-        Direction::Nothing => Wide { value: 0 },
-    }
-}
-
-/// The better end of the objective's interval over the box of a store.
-pub fn end_over(program: &Program, store: &BoxStore) -> Wide
-    requires made { IsMade program.now }
-    requires inside { Inside store.now.box (root_in program.now) }
-    ensures end { result.value ≡ objective.better_end (direction_in (problem_in program.now)) (objective.goal_ends (root_in program.now) store.now.box (problem_in program.now)) }
-{
-    let interval = goal_ends(program, store);
-    end_of(program.direction(), &interval)
 }
 
 /// The better end of an expected objective over a box, a cell, and the parts of the objective's sum that mention the cell.

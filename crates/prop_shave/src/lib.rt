@@ -17,7 +17,7 @@ mod turning;
 mod weights;
 
 pub use chance_delta::{ChanceDelta, weight_left};
-pub use goal_delta::{GoalDelta, end_over};
+pub use goal_delta::GoalDelta;
 pub use lists::{has, put_if};
 pub use probes::Probe;
 pub use shave_steps::{CellEnd, Shave};

@@ -6,3 +6,5 @@ pub mod Goals
 pub mod Ranges
 pub mod Comparisons
 pub mod Lawful
+pub mod Roots
+pub mod Ending

@@ -1,5 +1,7 @@
 -- Which problem in terms a program is.
-use Rattle.std.specs.Prelude.{◌≡◌, ℕ, pos, ℤ, Bool, if◌then◌else◌, List, [], length, IfSome, IfNone, IsTrue, Option, option_map}
+use Rattle.std.specs.Prelude.{◌≡◌, ℕ, pos, ℤ, int_le, Bool, true, if◌then◌else◌, List, [], length, IfSome, IfNone, IsTrue, Option, option_map}
+use Rattle.sopl_base.specs.declared.direction.Direction.{Direction}
+use Rattle.sopl_base.specs.declared.direction.Direction.TheVariants.{Minimize, Maximize, Nothing}
 use Rattle.sopl_base.specs.declared.interval.Interval.{Interval}
 use Rattle.box_problem.specs.Box.{Box, with_low, with_high}
 use Rattle.term_language.specs.Ends.{Ends, ends}
@@ -37,6 +39,12 @@ summed_form root terms = option_map_or (λ (goal : GoalTerms). expected_form roo
 -- what a scenario of this weight counts for a condition that is False, or not
 abbrev pub kept : Bool → ℤ → ℤ
 kept closed weight = if closed then pos 0 else weight
+
+-- the better end of an interval is not better than a value
+abbrev pub no_better : Direction → ℤ → ℤ → Bool
+no_better Minimize end v = int_le v end
+no_better Maximize end v = int_le end v
+no_better Nothing end v = true
 
 -- a program as it is made
 pub record IsMade (p : Program) : Type 0 where

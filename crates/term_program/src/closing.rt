@@ -1,25 +1,25 @@
 //! What closes a box.
 
-ghost use Rattle.std.specs.Prelude.{◌≡◌, ◌≤◌, ◌≤ℤ◌, ◌<◌, ◌*ℤ◌, false, get_or, int_lt, length, map, pos, None, slice_get};
+ghost use Rattle.std.specs.Prelude.{◌≡◌, ◌≤◌, ◌≤ℤ◌, ◌<◌, ◌*ℤ◌, false, get_or, int_lt, length, pos, None, slice_get};
 ghost use Rattle.std.specs.Option.{option_map_or};
 ghost use Rattle.sopl_base.specs.declared.reason.Reason.TheVariants.{Bound, Chance, Hard, Undefined};
 ghost use Rattle.box_problem.specs.Box.{Inside, high, low};
-ghost use Rattle.term_language.specs.Globals.{total};
 ghost use Rattle.term_language.specs.Rules as rule;
 ghost use Rattle.term_problem.specs.Refuted.{is_false, is_never, refutes, weight_left};
-ghost use Rattle.term_problem.specs.Objective.{goal_ends};
+ghost use Rattle.term_problem.specs.Objective.{better_end, goal_ends};
+ghost use Rattle.term_problem.specs.Problems.{direction_in};
 ghost use Rattle.term_math.specs.Shown.{box_in};
 ghost use Rattle.term_goals.specs.Goals.{goal_of};
 ghost use Rattle.term_goals.specs.Wide.{wide_ends};
 ghost use Rattle.term_nodes.specs.Things.{cond_at, term_at};
 ghost use Rattle.term_program.specs.Drafts.{IsGoalOf, IsThreshold, conditions_of};
-ghost use Rattle.term_program.specs.Programs.{IsMade, kept, problem_in, root_in, things_in, with_interval};
+ghost use Rattle.term_program.specs.Programs.{IsMade, kept, no_better, problem_in, root_in, things_in, with_interval};
 
 use crate::draft::{ChanceConditions, Conditions};
 use crate::over::{part_of, view_of};
 use crate::program::Program;
 use box_store::BoxStore;
-use sopl_base::{Direction, Interval, Reason, Wide, reaches};
+use sopl_base::{Direction, Interval, Reason, Wide, better, reaches};
 use term_goals::{Goal, WideEnds};
 use term_language::{Defined, Truth};
 use term_math::BoxView;
@@ -177,7 +177,17 @@ impl Program {
         }
     }
 
+    /// The better end of the objective's interval over a box.
+    pub(crate) fn end_over(&self, view: &BoxView) -> Wide
+        requires made { IsMade self.now }
+        requires inside { Inside (box_in view.now) (root_in self.now) }
+        ensures { result.value ≡ better_end (direction_in (problem_in self.now)) (goal_ends (root_in self.now) (box_in view.now) (problem_in self.now)) }
+    {
+        better_end(self.direction(), &self.goal_interval(view))
+    }
+
     /// Whether no number of the objective's interval over a box is better than a value.
+    #[tactic(auto, using(crate::proofs::Ending::bound_closes))]
     fn bound_closes(&self, view: &BoxView, best: Option<i128>) -> bool
         requires made { IsMade self.now }
         requires inside { Inside (box_in view.now) (root_in self.now) }
@@ -186,12 +196,8 @@ impl Program {
         let Some(value) = best else {
             return false;
         };
-        let ends = self.goal_interval(view);
-        match self.direction() {
-            Direction::Minimize => value <= ends.low,
-            Direction::Maximize => ends.high <= value,
-            Direction::Nothing => true,
-        }
+        let end = self.end_over(view);
+        is_no_better(self.direction(), end, Wide { value })
     }
 
     /// Whether a reason closes a box, against the best value where there is one.
@@ -207,6 +213,25 @@ impl Program {
             Reason::Bound => self.bound_closes(view, best),
         }
     }
+}
+
+/// The better end of an interval.
+fn better_end(direction: Direction, ends: &WideEnds) -> Wide
+    ensures { result.value ≡ better_end direction (wide_ends ends.now) }
+{
+    match direction {
+        Direction::Minimize => Wide { value: ends.low },
+        Direction::Maximize => Wide { value: ends.high },
+        Direction::Nothing => Wide { value: 0 },
+    }
+}
+
+/// Whether the better end of an interval is not better than a value.
+#[tactic(auto, using(crate::proofs::Ending::not_better))]
+pub fn is_no_better(direction: Direction, end: Wide, best: Wide) -> bool
+    ensures { result ≡ no_better direction end.value best.value }
+{
+    !better(direction, end.value, best.value)
 }
 
 /// Whether a reason closes the box of a store, against the best value where there is one. A reason that names what is not there closes nothing.

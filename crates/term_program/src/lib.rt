@@ -13,12 +13,12 @@ mod over;
 mod program;
 mod shapes;
 
-pub use closing::{refuted, refuted_in};
+pub use closing::{is_no_better, refuted, refuted_in};
 pub use draft::{ChanceConditions, Conditions, Draft};
 pub use globals::GlobalTerms;
 pub use ids::{CondId, TermId};
 pub use laws::{lawful_of, roots_are_near};
 pub use mentions::{Mentioned, Mentions};
-pub use over::{Range, goal_ends, goal_ends_in, kleene, kleene_in, range_in, range_of};
+pub use over::{Range, end_over, goal_ends, goal_ends_in, kleene, kleene_in, range_in, range_of};
 pub use program::Program;
 pub use shapes::Form;

@@ -5,6 +5,7 @@ ghost use Rattle.box_problem.specs.Box.{Inside, high, low};
 ghost use Rattle.term_language.specs.Ends as ends;
 ghost use Rattle.term_language.specs.Rules as rule;
 ghost use Rattle.term_problem.specs.Objective as objective;
+ghost use Rattle.term_problem.specs.Problems.{direction_in};
 ghost use Rattle.term_math.specs.Shown.{box_in, box_under};
 ghost use Rattle.term_nodes.specs.Things.{cond_at, term_at};
 ghost use Rattle.term_program.specs.Programs.{IsMade, ends_in, problem_in, root_in, things_in, with_interval};
@@ -12,7 +13,7 @@ ghost use Rattle.term_program.specs.Programs.{IsMade, ends_in, problem_in, root_
 use crate::ids::{CondId, TermId};
 use crate::program::Program;
 use box_store::BoxStore;
-use sopl_base::Interval;
+use sopl_base::{Interval, Wide};
 use term_language::{Defined, Truth};
 use term_math::{AbstractValue, BoxView, Ends, Part};
 
@@ -139,6 +140,15 @@ pub fn goal_ends(program: &Program, store: &BoxStore) -> (i128, i128)
 {
     let found = program.goal_interval(&view_of(store));
     (found.low, found.high)
+}
+
+/// The better end of the objective's interval over the box of a store.
+pub fn end_over(program: &Program, store: &BoxStore) -> Wide
+    requires made { IsMade program.now }
+    requires inside { Inside store.now.box (root_in program.now) }
+    ensures end { result.value ≡ objective.better_end (direction_in (problem_in program.now)) (objective.goal_ends (root_in program.now) store.now.box (problem_in program.now)) }
+{
+    program.end_over(&view_of(store))
 }
 
 /// The interval of the objective over the box of a store, with another interval for one cell.

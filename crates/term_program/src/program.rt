@@ -1,9 +1,9 @@
 //! A program, and what it tells of itself.
 
-ghost use Rattle.std.specs.Prelude.{◌≡◌, ◌<◌, false, length, pos, if◌then◌else◌, Some, option_map, slice_get, [], IfOk, IfSome, IfNone};
+ghost use Rattle.std.specs.Prelude.{◌≡◌, ◌<◌, ◌^◌, false, length, pos, if◌then◌else◌, Some, option_map, slice_get, [], IfOk, IfSome, IfNone};
 ghost use Rattle.std.specs.Option.{option_and_then, option_map_or};
 ghost use Rattle.std.specs.List.{AllByRecursion};
-ghost use Rattle.box_problem.specs.Box.{Box, Inside, high, low};
+ghost use Rattle.box_problem.specs.Box.{Box, Inside, box_of, high, low};
 ghost use Rattle.term_language.specs.Ends.{exactly, plus};
 ghost use Rattle.term_problem.specs.Objective.{goal_ends};
 ghost use Rattle.term_nodes.specs.Built.{AllBelow};
@@ -21,7 +21,7 @@ use crate::globals::GlobalTerms;
 use crate::ids::{CondId, TermId};
 use crate::mentions::Mentioned;
 use sopl_base::{Direction, Interval};
-use std::alloc::AllocError;
+use std::alloc::{AllocError, Global};
 use term_goals::{Atom, Goal};
 
 /// A compiled problem: its terms, the weight of each scenario and that of all together, its constraints and its objective.
@@ -103,6 +103,20 @@ impl Program {
             lo: ends.low,
             hi: ends.high,
         }
+    }
+
+    /// The interval of each cell in the box of all points.
+    #[tactic(auto, using(crate::proofs::Roots::first_none, crate::proofs::Roots::first_more, crate::proofs::Roots::first_all))]
+    pub fn roots(&self, alloc: Global) -> Result<Vec<Interval>, AllocError>
+        requires made { IsMade self.now }
+        ensures root { IfOk result (λ roots. box_of roots.items ≡ root_in self.now) }
+        ensures few { IfOk result (λ roots. length roots.items < 2 ^ 32) }
+    {
+        let mut roots = Vec::new(alloc);
+        'cells: for cell in 0..self.cells() {
+            roots.push(self.root(cell))?;
+        }
+        Ok(roots)
     }
 
     /// The objective's term in a scenario, where there is an objective.

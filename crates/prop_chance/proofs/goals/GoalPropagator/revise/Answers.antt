@@ -1,4 +1,4 @@
-use Rattle.prop_shave.proofs.Finding.{inside_root}
+use Rattle.term_program.proofs.Lawful.{inside_root}
 use Rattle.prop_chance.proofs.goals.GoalPropagator.revise.Goals as goal
 
 pub closing-requires-clause-inside : goal.closing-requires-clause-inside

@@ -1,6 +1,7 @@
 use Rattle.std.proofs.Common.{sym, ◌∙◌}
 use Rattle.sopl_base.specs.declared.reason.Reason.TheVariants.{Hard}
-use Rattle.prop_linear.proofs.Finding.{cut_at, dead_at, inside_root, quiet_at}
+use Rattle.term_program.proofs.Lawful.{inside_root}
+use Rattle.prop_linear.proofs.Finding.{cut_at, dead_at, quiet_at}
 use Rattle.prop_linear.proofs.comparisons.LinearPropagator.revise.Goals as goal
 
 pub balance-balance-requires-clause-inside : goal.balance-balance-requires-clause-inside

@@ -1,8 +1,7 @@
 use Rattle.std.proofs.Common.{◌∙◌, ap}
 use Rattle.sopl_base.specs.declared.direction.Direction.{Direction}
-use Rattle.term_program.specs.Programs.{problem_in, root_in, with_interval}
-use Rattle.prop_shave.specs.GoalSums.{no_better}
-use Rattle.prop_shave.proofs.Ending.{closes_by}
+use Rattle.term_program.specs.Programs.{no_better, problem_in, root_in, with_interval}
+use Rattle.term_program.proofs.Ending.{closes_by}
 use Rattle.prop_shave.proofs.goal_delta.GoalDelta.closes_with.Goals as goal
 
 pub returns : goal.returns

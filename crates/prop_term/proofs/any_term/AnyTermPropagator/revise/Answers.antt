@@ -1,4 +1,4 @@
-use Rattle.prop_shave.proofs.Finding.{inside_root}
+use Rattle.term_program.proofs.Lawful.{inside_root}
 use Rattle.prop_term.proofs.any_term.AnyTermPropagator.revise.Goals as goal
 
 pub found-requires-clause-inside : goal.found-requires-clause-inside
