@@ -1,18 +1,15 @@
--- The root box of an accepted text's program: its ends are near, and it has as many bits as the limit allows.
+-- The root box of an accepted text's program: it has as many bits as the limit allows.
 use Rattle.std.proofs.Common.{◌≡◌, sym, subst, ℕ, ◌≤◌, List}
 use Rattle.sopl_ast.specs.Cells.{cells}
 use Rattle.sopl_ast.specs.Limits.{usual_limits}
 use Rattle.box_problem.specs.Box.{Box}
 use Rattle.box_problem.specs.Bits.{bits_in}
-use Rattle.box_problem.specs.Near.{IsNearBox}
 use Rattle.compile_laws.specs.Root.{root_box}
 use Rattle.term_program.specs.Stated.{box_problem_of}
-use Rattle.term_program.specs.Programs.{root_in}
 use Rattle.term_program.specs.declared.program.Program.{Program}
 use Rattle.scen_accept.specs.Stated.{States, model_in, problem_in}
 use Rattle.scen_accept.specs.declared.accepted.AcceptedProblem.{AcceptedProblem}
 use Rattle.compile_laws.proofs.Allowed.{root_has_few_bits}
-use Rattle.compile_laws.proofs.Near.{root_is_near}
 use Rattle.answer_texts.specs.Solving.{IsProgramOf}
 
 -- the box of the program's problem is that of the cells
@@ -20,12 +17,7 @@ root_is : (stated : AcceptedProblem) (program : Program) → IsProgramOf (proble
 unfolding box_problem_of
 root_is stated program is = is.root
 
--- its ends lie within 2 ^ 40
-pub root_near : (text : List ℕ) (stated : AcceptedProblem) (program : Program) → States text stated → IsProgramOf (problem_in stated) program → IsNearBox (box_problem_of program).root
-root_near text stated program states is =
-    subst (λ (b : Box). IsNearBox b) (sym (root_is stated program is)) (root_is_near (model_in stated) states.accepted.unfolded)
-
--- and it has 1024 bits at most
+-- it has 1024 bits at most
 pub root_few_bits : (text : List ℕ) (stated : AcceptedProblem) (program : Program) → States text stated → IsProgramOf (problem_in stated) program → bits_in (box_problem_of program).root ≤ 1024
 root_few_bits text stated program states is =
     subst (λ (b : Box). bits_in b ≤ 1024) (sym (root_is stated program is)) (root_has_few_bits usual_limits (model_in stated) (problem_in stated) states.accepted)

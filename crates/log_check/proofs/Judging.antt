@@ -3,7 +3,6 @@ use Rattle.std.proofs.Common.{◌≡◌, ◌∙◌, ℤ, pos, ◌+ℤ◌, ◌-�
 use Rattle.std.specs.Prelude.{slice_set}
 use Rattle.std.proofs.lemmas.Int.{ints}
 use Rattle.std.proofs.lemmas.List.{set-get_or}
-use Rattle.sopl_base.specs.declared.direction.Direction.{Direction}
 use Rattle.sopl_base.specs.declared.interval.Interval.{Interval}
 use Rattle.sopl_base.specs.declared.reason.Reason.{Reason}
 use Rattle.sopl_base.specs.declared.reason.Side.{Side}
@@ -11,9 +10,6 @@ use Rattle.sopl_base.specs.declared.reason.Side.TheVariants.{Le, Ge}
 use Rattle.sopl_base.specs.declared.reason.Step.{Step}
 use Rattle.box_problem.specs.Box.{Box, Inside, low, high}
 use Rattle.box_problem.specs.Steps.{CutsBetween, IsCut, cut_away, removed}
-use Rattle.term_language.specs.Ends.{Ends}
-use Rattle.term_problem.specs.Objective.{better_end, goal_ends}
-use Rattle.term_problem.specs.Problems.{direction_in}
 use Rattle.term_problem.specs.Refuted.{refutes}
 use Rattle.term_program.specs.declared.program.Program.{Program}
 use Rattle.term_program.specs.Programs.{problem_in, root_in, with_interval}
@@ -24,10 +20,6 @@ use Rattle.log_check.specs.Judged.{IsRemovedPart}
 abbrev box : List ℤ → List ℤ → Box
 box lows highs = record { lows = lows; highs = highs }
 
-pub inside_root : (program : Program) (b : Box) → Inside b (box_problem_of program).root → Inside b (root_in program)
-unfolding box_problem_of
-inside_root program b inside = inside
-
 pub refutes_is : (program : Program) (reason : Reason) (b : Box) (v : Option ℤ) (result : Bool) → result ≡ refutes (root_in program) (problem_in program) reason b v
     → result ≡ (box_problem_of program).refutes reason b v
 unfolding box_problem_of
@@ -37,11 +29,6 @@ pub removed_is : (program : Program) (s : Step) (b : Box) (v : Option ℤ) (part
     → result ≡ refutes (root_in program) (problem_in program) s.reason (with_interval b s.cell part.lo part.hi) v → result ≡ (box_problem_of program).refutes s.reason (removed b s) v
 unfolding box_problem_of
 removed_is program s b v part result removed is = is ∙ ap (λ (c : Box). refutes (root_in program) (problem_in program) s.reason c v) (sym removed.is)
-
-pub end_is : (program : Program) (b : Box) (direction : Direction) (both : Ends) (end : ℤ) → direction ≡ direction_in (problem_in program) → both ≡ goal_ends (root_in program) b (problem_in program)
-    → end ≡ better_end direction both → end ≡ (box_problem_of program).end b
-unfolding box_problem_of
-end_is program b direction both end toward ends is = is ∙ ap (λ (d : Direction). better_end d both) toward ∙ ap (better_end (direction_in (problem_in program))) ends
 
 pub low_inside : (program : Program) (s : Step) (b : Box) (part : Interval) → IsCut b s.cell s.side s.k → Inside b (root_in program) → IsRemovedPart b s part → low (root_in program) s.cell ≤ℤ part.lo
 low_inside program s b part cut inside removed = omega (arith, ints, inside.from_low s.cell cut.exists, removed.from_low)
@@ -76,13 +63,5 @@ removed_below b s part cut ge lo hi = record {
     below : CutsBetween Ge (low b s.cell) s.k (high b s.cell) → (s.k -ℤ pos 1) ≤ℤ high b s.cell
     below between = omega (arith, ints, between.1)
 
-pub direction_is : (program : Program) (direction : Direction) → direction ≡ direction_in (problem_in program) → direction ≡ (box_problem_of program).direction
-unfolding box_problem_of
-direction_is program direction is = is
-
 pub same_cut : (b : Box) (s : Step) (side : Side) → IsCut b s.cell s.side s.k → s.side ≡ side → IsCut b s.cell side s.k
 same_cut b s side cut same = subst (λ x. IsCut b s.cell x s.k) same cut
-
-pub root_is : (program : Program) (b : Box) → b ≡ root_in program → b ≡ (box_problem_of program).root
-unfolding box_problem_of
-root_is program b is = is

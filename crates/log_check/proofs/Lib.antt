@@ -12,6 +12,5 @@ pub mod Waiting
 pub mod Walking
 pub mod Siding
 pub mod Footers
-pub mod Roots
 pub mod Checking
 pub mod Rejecting

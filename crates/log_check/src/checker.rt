@@ -1,7 +1,6 @@
 //! The checker of logs.
 
 ghost use Rattle.std.specs.Prelude.{◌≡◌, ◌+◌, ◌<◌, ◌^◌, [], length, IfOk, IfSome};
-ghost use Rattle.box_problem.specs.Box.{box_of};
 ghost use Rattle.log_tree.specs.ReadingLaws.{NoneTooDeep};
 ghost use Rattle.log_rows.specs.Rows.{AreOrdered};
 ghost use Rattle.term_program.specs.Programs.{IsMade, root_in};
@@ -19,7 +18,6 @@ use crate::walk::Walk;
 use box_store::BoxStore;
 use log_rows::Row;
 use log_tree::Log;
-use sopl_base::Interval;
 use std::alloc::{AllocError, Global};
 use term_program::Program;
 
@@ -31,20 +29,6 @@ pub struct Checker {
     pub(crate) sides: Vec<Sides>,
     pub(crate) lines: usize,
     pub(crate) nodes: usize,
-}
-
-/// The interval of each cell in the box of all points.
-#[tactic(auto, using(crate::proofs::Roots::first_none, crate::proofs::Roots::first_more, crate::proofs::Roots::first_all))]
-fn roots_of(alloc: Global, program: &Program) -> Result<Vec<Interval>, AllocError>
-    requires made { IsMade program.now }
-    ensures root { IfOk result (λ roots. box_of roots.items ≡ root_in program.now) }
-    ensures few { IfOk result (λ roots. length roots.items < 2 ^ 32) }
-{
-    let mut roots = Vec::new(alloc);
-    'cells: for cell in 0..program.cells() {
-        roots.push(program.root(cell))?;
-    }
-    Ok(roots)
 }
 
 /// How many lines a log has, where a number of the machine can tell.
@@ -71,7 +55,7 @@ fn root_store(alloc: Global, program: &Program) -> Result<BoxStore, AllocError>
     ensures root { IfOk result (λ store. store.box ≡ root_in program.now) }
     ensures marks { IfOk result (λ store. store.marks ≡ []) }
 {
-    let roots = roots_of(alloc, program)?;
+    let roots = program.roots(alloc)?;
     BoxStore::new(alloc, roots.as_slice())
 }
 

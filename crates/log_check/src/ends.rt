@@ -10,7 +10,7 @@ ghost use Rattle.term_program.specs.Stated.{box_problem_of};
 ghost use Rattle.log_check.specs.Judged.{IsWithinClaim, cuts_at};
 ghost use Rattle.log_check.specs.Closing.{ChancesOpen, DefinedOpen, HardOpen, HardsOpen, IsClosing, IsPointOf, IsWrongPoint, NoneCloses};
 
-use crate::judge::{closes, end_over};
+use crate::judge::{better_end, closes};
 use crate::sides::Sides;
 use crate::tally::claimed;
 use box_store::BoxStore;
@@ -160,7 +160,7 @@ pub(crate) fn point_value(program: &Program, footer: &Footer, store: &BoxStore) 
     if let Some(_reason) = any_closing(program, store) {
         return None;
     }
-    let end = end_over(program, store);
+    let end = better_end(program, store);
     if !is_claimed(program.direction(), claimed(footer), &end) {
         return None;
     }

@@ -4,18 +4,16 @@ ghost use Rattle.std.specs.Prelude.{◌≡◌, ◌+ℤ◌, ◌-ℤ◌, pos};
 ghost use Rattle.sopl_base.specs.declared.reason.Side.TheVariants.{Le, Ge};
 ghost use Rattle.box_problem.specs.Box.{Inside, high, low};
 ghost use Rattle.box_problem.specs.Steps.{IsCut, removed};
-ghost use Rattle.term_language.specs.Ends.{ends};
-ghost use Rattle.term_problem.specs.Objective as objective;
 ghost use Rattle.term_program.specs.Programs.{IsMade};
 ghost use Rattle.term_program.specs.Stated.{box_problem_of};
 ghost use Rattle.log_check.specs.Judged.{IsRemovedPart};
 
 use box_store::BoxStore;
 use sopl_base::{Direction, Interval, Reason, Side, Step, Wide};
-use term_program::{Program, goal_ends, refuted, refuted_in};
+use term_program::{Program, end_over, refuted, refuted_in};
 
 /// Whether a reason closes the box of a store.
-#[tactic(auto, using(crate::proofs::Judging::inside_root, crate::proofs::Judging::refutes_is))]
+#[tactic(auto, using(term_program::proofs::Lawful::inside_root, crate::proofs::Judging::refutes_is))]
 pub(crate) fn closes(
     program: &Program,
     reason: Reason,
@@ -64,7 +62,7 @@ fn removed_part(step: &Step, store: &BoxStore) -> Interval
 }
 
 /// Whether a step's reason closes what the step removes of the box of a store.
-#[tactic(auto, using(crate::proofs::Judging::inside_root, crate::proofs::Judging::removed_is, crate::proofs::Judging::low_inside, crate::proofs::Judging::high_inside))]
+#[tactic(auto, using(term_program::proofs::Lawful::inside_root, crate::proofs::Judging::removed_is, crate::proofs::Judging::low_inside, crate::proofs::Judging::high_inside))]
 pub(crate) fn removes(program: &Program, step: &Step, store: &BoxStore, best: Option<i128>) -> bool
     requires made { IsMade program.now }
     requires inside { Inside store.now.box (box_problem_of program.now).root }
@@ -75,30 +73,18 @@ pub(crate) fn removes(program: &Program, step: &Step, store: &BoxStore, best: Op
     refuted_in(program, step.reason, store, best, step.cell, part)
 }
 
-/// The better one of two ends.
-fn better_end(direction: Direction, low: i128, high: i128) -> Wide
-    ensures end { result.value ≡ objective.better_end direction (ends low high) }
-{
-    match direction {
-        Direction::Minimize => Wide { value: low },
-        Direction::Maximize => Wide { value: high },
-        Direction::Nothing => Wide { value: 0 },
-    }
-}
-
 /// The better end of the objective over the box of a store.
-#[tactic(auto, using(crate::proofs::Judging::inside_root, crate::proofs::Judging::end_is))]
-pub(crate) fn end_over(program: &Program, store: &BoxStore) -> Wide
+#[tactic(auto, using(term_program::proofs::Lawful::inside_root, term_program::proofs::Lawful::end_is))]
+pub(crate) fn better_end(program: &Program, store: &BoxStore) -> Wide
     requires made { IsMade program.now }
     requires inside { Inside store.now.box (box_problem_of program.now).root }
     ensures end { result.value ≡ (box_problem_of program.now).end store.now.box }
 {
-    let (low, high) = goal_ends(program, store);
-    better_end(program.direction(), low, high)
+    end_over(program, store)
 }
 
 /// Which values are better.
-#[tactic(auto, using(crate::proofs::Judging::direction_is))]
+#[tactic(auto, using(term_program::proofs::Lawful::direction_is))]
 pub(crate) fn direction_of(program: &Program) -> Direction
     ensures direction { result ≡ (box_problem_of program.now).direction }
 {

@@ -9,7 +9,7 @@ ghost use Rattle.log_check.specs.Views.{IsReady, problem_in};
 ghost use Rattle.log_check.specs.Walks.{IsWrongHere};
 
 use crate::ends::{is_right_open, point_value, splits};
-use crate::judge::{closes, direction_of, end_over};
+use crate::judge::{better_end, closes, direction_of};
 use crate::steps::first_bad;
 use crate::tally::{Tally, claimed};
 use crate::view::LogView;
@@ -87,7 +87,7 @@ fn judge_open(view: &LogView<'_>, at: usize, store: &BoxStore, tally: &Tally) ->
     if !is_right_open(view.program, view.footer, store) {
         return None;
     }
-    let end = end_over(view.program, store);
+    let end = better_end(view.program, store);
     Some(tally.with_open(view.footer, direction_of(view.program), &end))
 }
 

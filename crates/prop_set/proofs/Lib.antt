@@ -1,4 +1,2 @@
 pub mod Together
-pub mod Roots
-pub mod Problem
 pub mod Asking

@@ -1,8 +1,6 @@
 //! What a search reads of a program.
 
-ghost use Rattle.std.specs.Prelude.{◌≡◌, ◌<◌, ◌^◌, length, IfOk};
-ghost use Rattle.box_problem.specs.Box.{box_of};
-ghost use Rattle.term_program.specs.Programs.{IsMade, root_in};
+ghost use Rattle.term_program.specs.Programs.{IsMade};
 
 use crate::any_prop::AnyProp;
 use box_store::BoxStore;
@@ -11,34 +9,20 @@ use sopl_search::SearchProblem;
 use std::alloc::{AllocError, Global};
 use term_program::{Program, end_over};
 
-/// The interval of each cell in the box of all points.
-#[tactic(auto, using(crate::proofs::Roots::first_none, crate::proofs::Roots::first_more, crate::proofs::Roots::first_all))]
-fn roots_of(alloc: Global, program: &Program) -> Result<Vec<Interval>, AllocError>
-    requires made { IsMade program.now }
-    ensures root { IfOk result (λ roots. box_of roots.items ≡ root_in program.now) }
-    ensures few { IfOk result (λ roots. length roots.items < 2 ^ 32) }
-{
-    let mut roots = Vec::new(alloc);
-    'cells: for cell in 0..program.cells() {
-        roots.push(program.root(cell))?;
-    }
-    Ok(roots)
-}
-
 impl SearchProblem for AnyProp {
     ghost valid = { IsMade };
 
-    #[tactic(auto, using(crate::proofs::Problem::root_is))]
+    #[tactic(auto, using(term_program::proofs::Lawful::root_is))]
     fn roots(alloc: Global, program: &Program) -> Result<Vec<Interval>, AllocError> {
-        roots_of(alloc, program)
+        program.roots(alloc)
     }
 
-    #[tactic(auto, using(crate::proofs::Problem::direction_is))]
+    #[tactic(auto, using(term_program::proofs::Lawful::direction_is))]
     fn direction(program: &Program) -> Direction {
         program.direction()
     }
 
-    #[tactic(auto, using(crate::proofs::Problem::inside_root, crate::proofs::Problem::end_is))]
+    #[tactic(auto, using(term_program::proofs::Lawful::inside_root, term_program::proofs::Lawful::end_is))]
     fn end(program: &Program, store: &BoxStore) -> i128 {
         end_over(program, store).value
     }

@@ -8,7 +8,6 @@ ghost use Rattle.box_problem.specs.Bits.{bits_in};
 ghost use Rattle.box_problem.specs.Box.{points};
 ghost use Rattle.box_problem.specs.Covers.{nodes_for};
 ghost use Rattle.sopl_base.specs.declared.stop.SearchStop.TheVariants.{NoMemory, Write};
-ghost use Rattle.box_problem.specs.Near.{IsNearBox};
 ghost use Rattle.sopl_search.specs.Logged.{IsPrefixLogged, IsLogged};
 ghost use Rattle.sopl_search.specs.Outcomes.{HasCause, IsSettled, IsTrueOf};
 ghost use Rattle.term_program.specs.Stated.{box_problem_of};
@@ -32,7 +31,6 @@ pub fn search_program<K: Sink>(
     sink: &mut K,
 ) -> Result<Outcome, SearchStop>
     requires made { IsMade program.now }
-    requires near { IsNearBox (box_problem_of program.now).root }
     requires bits { bits_in (box_problem_of program.now).root ≤ 1024 }
     requires budget { 1 ≤ budget }
     ensures truth { IfOk result (IsTrueOf (box_problem_of program.now)) }

@@ -2,13 +2,10 @@ use Rattle.std.proofs.Common.{rules}
 use Rattle.scen_accept.specs.Stated.{problem_in}
 use Rattle.sopl_io.proofs.Calling.{where_all}
 use Rattle.answer_texts.proofs.SolveAnswered.{answer_made, log_taken, program_finds_point, search_stopped}
-use Rattle.answer_texts.proofs.Root.{root_few_bits, root_near}
+use Rattle.answer_texts.proofs.Root.{root_few_bits}
 use Rattle.answer_texts.proofs.Calls.{found_calls, handed_on}
 use Rattle.answer_texts.proofs.Stopped.{on_err}
 use Rattle.answer_texts.proofs.solved.searched_answer.Goals as goal
-
-pub search_program-requires-clause-near : goal.search_program-requires-clause-near
-search_program-requires-clause-near g c = root_near c.requires.stated.0 c.args.stated.now c.args.program.now c.requires.stated.1 c.requires.program
 
 pub search_program-requires-clause-bits : goal.search_program-requires-clause-bits
 search_program-requires-clause-bits g c = root_few_bits c.requires.stated.0 c.args.stated.now c.args.program.now c.requires.stated.1 c.requires.program

@@ -1,5 +1,5 @@
 use Rattle.std.proofs.Common.{◌∙◌}
-use Rattle.log_check.proofs.Judging.{root_is}
+use Rattle.term_program.proofs.Lawful.{root_is}
 use Rattle.log_check.proofs.checker.Checker.new.Goals as goal
 
 pub returns-clause-root : goal.returns-clause-root
