@@ -5,6 +5,7 @@ pub mod Reasons
 pub mod Goals
 pub mod Ranges
 pub mod Comparisons
+pub mod LinearTerms
 pub mod Lawful
 pub mod Roots
 pub mod Ending

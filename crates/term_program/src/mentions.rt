@@ -193,7 +193,7 @@ fn cond_cells(draft: &Draft, id: u32) -> Result<Vec<u32>, AllocError>
 
 /// The cells that a term mentions.
 #[tactic(auto, using(crate::proofs::Lists::term_listed))]
-fn term_cells(draft: &Draft, id: u32) -> Result<Vec<u32>, AllocError>
+pub(crate) fn term_cells(draft: &Draft, id: u32) -> Result<Vec<u32>, AllocError>
     requires draft { IsDraft draft.now }
     ensures { IfOk result (λ cells. IsListOf (term_lists (draft_root draft.now) (draft_things draft.now) id) cells.items) }
 {
