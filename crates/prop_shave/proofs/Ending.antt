@@ -48,7 +48,7 @@ goal_end program atoms b are inside =
     ∙ ap (λ (z : ℤ). better_end direction constant +ℤ z) (listed_end direction (root_in program) b (things_in program) atoms)
 
 -- a box with another interval for one cell
-with_inside : (root b : Box) (cell : ℕ) (lo hi : ℤ) → Inside b root → low root cell ≤ℤ lo → lo ≤ℤ hi → hi ≤ℤ high root cell → Inside (with_interval b cell lo hi) root
+pub with_inside : (root b : Box) (cell : ℕ) (lo hi : ℤ) → Inside b root → low root cell ≤ℤ lo → lo ≤ℤ hi → hi ≤ℤ high root cell → Inside (with_interval b cell lo hi) root
 with_inside root b cell lo hi inside from_low ordered to_high =
     part_inside root b (record { cell = cell; ends = record { low = lo; high = hi } }) inside
     (record { from_low = from_low; ordered = ordered; to_high = to_high })

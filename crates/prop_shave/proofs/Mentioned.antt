@@ -23,7 +23,7 @@ finds cell (x ∷ cells) here =
       | inr later ↦ or_right (nat_eq x cell) (has_cell cell cells) (finds cell cells later)
     ]
 
-found : (cell : ℕ) (cells : List ℕ) → has_cell cell cells ≡ true → Contains cells cell
+pub found : (cell : ℕ) (cells : List ℕ) → has_cell cell cells ≡ true → Contains cells cell
 found cell [] is = absurd (cc)
 found cell (x ∷ cells) is =
     by_bool (λ t. nat_eq x cell ≡ t → (t || has_cell cell cells) ≡ true → Contains (x ∷ cells) cell) (nat_eq x cell)

@@ -39,7 +39,7 @@ impl Probe<'_> {
 
     /// Whether the reason closes the part of the box in which a cell has one of so many values at an end.
     #[tactic(auto, using(crate::proofs::Opening::part_from, crate::proofs::Opening::part_to))]
-    pub(crate) fn closes(&self, end: &CellEnd, removal: &Shave) -> bool
+    pub fn closes(&self, end: &CellEnd, removal: &Shave) -> bool
         requires asked { IsAsked self.now }
         requires end { IsEndOf self.now end.now }
         requires at_least_one { pos 1 ≤ℤ removal.now.count }

@@ -118,7 +118,7 @@ impl Probe<'_> {
 
     /// The lower end of a cell that has more than one value, or none.
     #[tactic(auto, using(crate::proofs::Opening::lower_is, crate::proofs::Opening::lower_fixed))]
-    fn lower_end(&self, cell: u32) -> Option<CellEnd>
+    pub fn lower_end(&self, cell: u32) -> Option<CellEnd>
         requires asked { IsAsked self.now }
         ensures end { IfSome result (IsEndOf self.now) }
         ensures cell { IfSome result (λ end. end.cell ≡ cell) }
