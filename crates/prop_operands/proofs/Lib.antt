@@ -1,0 +1,4 @@
+pub mod Keeping
+pub mod Seeing
+pub mod Mentioning
+pub mod Asking
