@@ -1,0 +1,6 @@
+pub mod Sharing
+pub mod Stepping
+pub mod Making
+pub mod Asking
+pub mod Alone
+pub mod Resting
