@@ -1,0 +1,5 @@
+use Rattle.term_program.proofs.Lawful.{inside_root}
+use Rattle.prop_cumul.proofs.cumul.CumulPropagator.revise.Goals as goal
+
+pub probe-probe-requires-clause-inside : goal.probe-probe-requires-clause-inside
+probe-probe-requires-clause-inside c = inside_root c.args.program.now c.args.store.now.box c.requires.inside
