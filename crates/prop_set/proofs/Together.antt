@@ -12,11 +12,13 @@ use Rattle.sopl_base.proofs.Lists.{range_more}
 use Rattle.term_language.specs.Terms.{Cond}
 use Rattle.prop_core.specs.Members.{together}
 use Rattle.term_program.specs.Stated.{box_problem_of}
+use Rattle.prop_alldiff.specs.Kinds.{IsAllDifferent}
+use Rattle.prop_cumul.specs.Kinds.{IsCumulative}
 use Rattle.prop_linear.specs.Kinds.{IsLinear}
 use Rattle.prop_set.specs.Kinds.{chance_reasons, goal_reasons, hard_reasons}
 use Rattle.term_program.specs.declared.program.Program.{Program}
 use Rattle.term_program.specs.declared.shapes.Form.{Form}
-use Rattle.term_program.specs.declared.shapes.Form.TheVariants.{Linear}
+use Rattle.term_program.specs.declared.shapes.Form.TheVariants.{AllDifferent, Cumulative, Linear}
 use Rattle.term_program.specs.Comparisons.{shape_in}
 use Rattle.term_program.specs.Programs.{problem_in, root_in}
 
@@ -101,3 +103,17 @@ pub linear_there : (program : Program) (instance scenario : ℕ) (cond : Cond) (
     → IsLinear program instance scenario
 linear_there program instance scenario cond form at is linear =
     subst (λ (o : Option Cond). IfSome o (λ (c : Cond). shape_in (root_in program) c ≡ Linear)) (sym at) (sym is ∙ linear)
+
+-- a condition of the form of `allDifferent`
+pub different_there : (program : Program) (instance scenario : ℕ) (cond : Cond) (form : Form)
+    → option_and_then (λ conditions. slice_get conditions scenario) (slice_get (problem_in program).hards instance) ≡ Some cond → form ≡ shape_in (root_in program) cond → form ≡ AllDifferent
+    → IsAllDifferent program instance scenario
+different_there program instance scenario cond form at is different =
+    subst (λ (o : Option Cond). IfSome o (λ (c : Cond). shape_in (root_in program) c ≡ AllDifferent)) (sym at) (sym is ∙ different)
+
+-- and one of the form of `cumulative`
+pub cumulative_there : (program : Program) (instance scenario : ℕ) (cond : Cond) (form : Form)
+    → option_and_then (λ conditions. slice_get conditions scenario) (slice_get (problem_in program).hards instance) ≡ Some cond → form ≡ shape_in (root_in program) cond → form ≡ Cumulative
+    → IsCumulative program instance scenario
+cumulative_there program instance scenario cond form at is cumulative =
+    subst (λ (o : Option Cond). IfSome o (λ (c : Cond). shape_in (root_in program) c ≡ Cumulative)) (sym at) (sym is ∙ cumulative)

@@ -7,14 +7,21 @@ ghost use Rattle.term_program.specs.Programs.{IsMade, problem_in};
 ghost use Rattle.prop_set.specs.Kinds.{Fits, hard_reasons, instance_reasons, reasons_of};
 
 use crate::any_prop::AnyProp;
+use prop_alldiff::AllDiff;
+use prop_cumul::Cumul;
 use prop_linear::Linear;
 use prop_term::AnyTerm;
 use std::alloc::{AllocError, Global};
 use term_program::{Form, Program};
 
 /// The propagator of a hard constraint in a scenario.
-#[tactic(auto, using(crate::proofs::Together::linear_there))]
-fn prop_of(program: &Program, instance: u32, scenario: u32) -> Result<AnyProp, AllocError>
+#[tactic(auto, using(crate::proofs::Together::linear_there, crate::proofs::Together::different_there, crate::proofs::Together::cumulative_there))]
+fn prop_of(
+    alloc: Global,
+    program: &Program,
+    instance: u32,
+    scenario: u32,
+) -> Result<AnyProp, AllocError>
     requires made { IsMade program.now }
     requires instance { instance < length (problem_in program.now).hards }
     requires scenario { scenario < length (problem_in program.now).weights }
@@ -23,13 +30,22 @@ fn prop_of(program: &Program, instance: u32, scenario: u32) -> Result<AnyProp, A
 {
     match program.form(program.hard(instance, scenario)) {
         Form::Linear => Ok(AnyProp::Linear(Linear::new(program, instance, scenario)?)),
-        _ => Ok(AnyProp::AnyTerm(AnyTerm::new(program, instance, scenario)?)),
+        Form::AllDifferent => Ok(AnyProp::AllDiff(AllDiff::new(
+            alloc, program, instance, scenario,
+        )?)),
+        Form::Cumulative => Ok(AnyProp::Cumul(Cumul::new(alloc, program, instance, scenario)?)),
+        Form::Other => Ok(AnyProp::AnyTerm(AnyTerm::new(program, instance, scenario)?)),
     }
 }
 
 /// Adds the propagators of a hard constraint in all scenarios.
 #[tactic(auto, using(crate::proofs::Together::fit_more, crate::proofs::Together::reasons_more, crate::proofs::Together::none_yet))]
-fn add_instance(program: &Program, instance: u32, list: &mut Vec<AnyProp>) -> Result<(), AllocError>
+fn add_instance(
+    alloc: Global,
+    program: &Program,
+    instance: u32,
+    list: &mut Vec<AnyProp>,
+) -> Result<(), AllocError>
     requires made { IsMade program.now }
     requires instance { instance < length (problem_in program.now).hards }
     requires fit { AllFit Fits program.now list.old.items }
@@ -37,7 +53,7 @@ fn add_instance(program: &Program, instance: u32, list: &mut Vec<AnyProp>) -> Re
     ensures reasons { OnOk result (together (map reasons_of list.new.items) ≡ together (map reasons_of list.old.items) ++ instance_reasons (problem_in program.now) instance) }
 {
     'scenarios: for scenario in 0..program.scenarios() {
-        list.push(prop_of(program, instance, scenario)?)?;
+        list.push(prop_of(alloc, program, instance, scenario)?)?;
     }
     Ok(())
 }
@@ -51,7 +67,7 @@ pub fn hard_props(alloc: Global, program: &Program) -> Result<Vec<AnyProp>, Allo
 {
     let mut list = Vec::new(alloc);
     'instances: for instance in 0..program.hards() {
-        add_instance(program, instance, &mut list)?;
+        add_instance(alloc, program, instance, &mut list)?;
     }
     Ok(list)
 }
