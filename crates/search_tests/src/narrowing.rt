@@ -47,8 +47,8 @@ fn rest_in(alloc: Global, text: &str, best: Option<i128>) -> Result<Vec<i64>, Fa
 /// closes the box. A chance constraint asks for enough weight; the expected value, and the worst one, is to be better than the best that is
 /// known, and nothing is better where there is no objective; and a bound and hard constraints narrow in turn. Scenarios
 /// that stand behind one another have what is seen first in common, and the decisions that follow it. Three values are left for
-/// three terms where two of them have two values, and none where there are fewer values than terms; tasks that may not run at once, and a
-/// length that is not negative; an index of its array.
+/// three terms where two of them have two values, and none where there are fewer values than terms, at either end, of terms that fall as their cell
+/// rises, and of terms with a cell in common; tasks that may not run at once, and a length that is not negative; an index of its array.
 const RESTS: &str = "\
 dvar int x in 0..9; stoch int d in {2:1, 6:3}; maximize expected(x); subject to { prob(x >= d) >= 1/4; } -> none : 2 9
 dvar int x in 0..9; stoch int d in {2:1, 6:3}; maximize expected(x); subject to { prob(x >= d) >= 3/4; } -> none : 6 9
@@ -71,6 +71,9 @@ dvar int x in 0..9; stoch int a in {1:1, 2:1}; stoch int b in {0:1, 3:1} stage 2
 dvar int x in 0..9; stoch int a in {1:1, 2:1}; stoch int b in {0:1, 3:1} stage 2; dvar int y in 0..9 stage 2; maximize expected(y); subject to { y <= 2*a; } -> 10 : 0 2 4 9 2 4
 range R = 1..3; dvar int x[R] in 1..3; subject to { allDifferent(all(i in R) x[i]); x[1] <= 2; x[2] <= 2; } -> none : 1 1 3 2 2 3
 range R = 1..3; dvar int x[R] in 1..2; subject to { allDifferent(all(i in R) x[i]); } -> none :
+range R = 1..3; dvar int x[R] in 0..3; subject to { allDifferent(all(i in R) (4 - x[i])); x[1] <= 1; x[2] <= 1; } -> none : 0 0 2 1 1 3
+range R = 1..3; dvar int x[R] in 1..4; subject to { allDifferent(all(i in R) (x[i] + 7)); x[1] >= 3; x[2] >= 3; } -> none : 3 3 1 4 4 2
+range R = 1..2; dvar int x[R] in 0..3; subject to { allDifferent(all(i in R) (x[1] + i*x[2] - x[2])); x[1] == 2; } -> none : 2 1 2 3
 range R = 1..2; dvar int s[R] in 0..4; subject to { cumulative(all(i in R) (s[i], 2, 1), 1); s[1] <= 0; } -> none : 0 2 0 4
 range R = 1..2; dvar int s[R] in 0..4; dvar int l in -3..9; subject to { cumulative(all(i in R) (s[i], l, i), 2); s[1] == 1; s[2] == 4; } -> none : 1 4 0 1 4 3
 range R = 1..4; int a[R] = [2, 9, 4, 7]; dvar int x in 0..6; subject to { a[x] >= 4; } -> none : 2 4
