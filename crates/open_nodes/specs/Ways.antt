@@ -16,6 +16,9 @@ use Rattle.open_nodes.specs.declared.split.SplitNode.{SplitNode, SplitNode', Hel
 abbrev pub node_number : SplitNode → ℕ
 node_number (SplitNode' above side node depth steps cut) = node
 
+abbrev pub split_depth : SplitNode → ℕ
+split_depth (SplitNode' above side node depth steps cut) = depth
+
 -- a cut as a log tells it
 abbrev pub row_cut : Halving → rows.Cut
 row_cut cut = record { cell = cut.cell; k = cut.k }

@@ -5,7 +5,7 @@ ghost use Rattle.sopl_base.specs.declared.reason.Side.TheVariants.{Le};
 ghost use Rattle.box_problem.specs.Box.{Box};
 ghost use Rattle.box_problem.specs.Steps.{IsCut, after_steps};
 ghost use Rattle.log_rows.specs.declared.rows.Row.{Row};
-ghost use Rattle.open_nodes.specs.Ways.{CutsWell, IsRow, StepsCut, final_box, given_box, given_row, node_number, split_cut, ups};
+ghost use Rattle.open_nodes.specs.Ways.{CutsWell, IsRow, StepsCut, final_box, given_box, given_row, node_number, split_cut, split_depth, ups};
 ghost use Rattle.open_nodes.specs.Walks.{with_ups};
 
 use crate::halving::Halving;
@@ -36,6 +36,7 @@ pub fn made(
     cut: Halving,
 ) -> Result<Rc<SplitNode>, AllocError>
     ensures node { IfOk result (λ made. node_number made.value ≡ node) }
+    ensures depth { IfOk result (λ made. split_depth made.value ≡ depth) }
     ensures way { IfOk result (λ made. ups made.value ≡ with_ups (option_map (λ split. split.value) above)) }
     ensures cut { IfOk result (λ made. split_cut made.value ≡ cut) }
     ensures box_is { IfOk result (λ made. (root : Box)
