@@ -17,8 +17,8 @@ use Rattle.compile_scene.proofs.Growing.{extends_not, extends_twice}
 use Rattle.sopl_term.specs.Built.{Grows, cond_ids, signed_of, task_ids, term_ids}
 use Rattle.term_nodes.specs.Built.{AllBelow, PartsBelow, TasksBelow}
 use Rattle.term_nodes.specs.Things.{Thing, cond_in, conds_at, parts_at, tasks_at, term_at, term_in, terms_at, thing_at}
-use Rattle.term_program.specs.declared.ids.CondId.{CondId}
-use Rattle.term_program.specs.declared.ids.TermId.{TermId}
+use Rattle.term_store.specs.declared.ids.CondId.{CondId}
+use Rattle.term_store.specs.declared.ids.TermId.{TermId}
 use Rattle.sopl_term.proofs.Keeping.{all_below}
 use Rattle.compile_exprs.specs.Made.{AreConds, AreParts, AreTasks, AreTerms, numbers_of, subterms_of_task, task_at}
 use Rattle.compile_exprs.proofs.Sizes.{AreSmall, large_behind}

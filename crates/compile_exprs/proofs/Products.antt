@@ -22,7 +22,7 @@ use Rattle.sopl_ast.specs.Lists.{factors}
 use Rattle.sopl_ast.specs.Tree as t
 use Rattle.sopl_ast.specs.Tree.{Tree, Factors, no_factor, factor}
 use Rattle.term_nodes.specs.Things.{a_term, term_at}
-use Rattle.term_program.specs.declared.ids.TermId.{TermId}
+use Rattle.term_store.specs.declared.ids.TermId.{TermId}
 use Rattle.compile_exprs.specs.Buildable.{Divides, FactorIsBuildable, FactorsAreBuildable}
 use Rattle.compile_exprs.specs.Made.{IsMade, IsOperand, MakesTerm}
 use Rattle.compile_exprs.proofs.Sizes.{AreSmall}

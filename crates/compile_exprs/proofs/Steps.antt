@@ -1,28 +1,35 @@
 -- What is made of what was added.
-use Rattle.std.proofs.Common.{◌≡◌, ◌∙◌, refl, ap, ap₂, sym, subst, arith, ℕ, ◌<◌, ◌≤◌, Bool, List, [], ◌∷◌, ◌++◌, length, Result, Ok, Err, IfOk, OnOk}
-use Rattle.std.specs.declared.alloc.Global.{Global}
-use Rattle.std.specs.declared.vec.Vec.{Vec}
+use Rattle.std.proofs.Common.{◌≡◌, ◌∙◌, refl, ap, ap₂, sym, subst, arith, inl, inr, ℕ, ◌<◌, ◌≤◌, ◌^◌, List, [], ◌∷◌, ◌++◌, length, Some, option_map, Result, Ok, Err, IfOk, OnOk}
+use Rattle.std.proofs.lemmas.List.{append_assoc}
 use Rattle.sopl_base.specs.declared.fault.Fault.{Fault}
+use Rattle.sopl_base.specs.declared.fault.Fault.TheVariants.{Limit}
+use Rattle.term_language.specs.Sizes.{size}
 use Rattle.box_problem.specs.Box.{Box}
 use Rattle.term_language.specs.Terms as c
-use Rattle.term_language.specs.Terms.{Term, Terms, Parts, Cond, Conds, Tasks}
+use Rattle.term_language.specs.Terms.{Term, Terms, Cond, Tasks}
 use Rattle.compile_laws.specs.Instances.{TaskTerms}
 use Rattle.compile_names.specs.declared.setting.Scenarios.{Scenarios}
-use Rattle.compile_laws.specs.Measured.{IsSizeFault, Measures, first_large}
-use Rattle.compile_laws.specs.Subterms.{subterms, condition_subterms}
-use Rattle.compile_laws.proofs.Measuring.{faults_end, faults_in_turn}
+use Rattle.compile_laws.specs.Measured.{IsSizeFault, Measures, first_large, large_excess}
+use Rattle.compile_laws.specs.Subterms.{all_subterms, condition_subterms, subterms}
+use Rattle.compile_laws.proofs.Measuring.{at_once, faults_end, faults_in_turn, none_large}
 use Rattle.compile_scene.specs.Scenes.{root_in}
 use Rattle.compile_scene.specs.Works.{Extends, IsReady, Stands, things_of}
 use Rattle.compile_scene.specs.declared.work.Lowering.{Lowering}
-use Rattle.compile_scene.proofs.Growing.{extends_not, extends_twice, grows_twice, stands_grows}
-use Rattle.sopl_term.specs.Built.{Grows, task_ids}
+use Rattle.compile_scene.proofs.Growing.{extended, extends_not, extends_twice, grows_twice, stands_grows}
+use Rattle.sopl_term.specs.Built.{Grows, task_ids, HasAddedCond, HasAddedTerm, built, root_built}
+use Rattle.sopl_term.specs.declared.builder.Builder.{Builder}
 use Rattle.term_nodes.specs.Built.{AllBelow, TasksBelow}
-use Rattle.term_nodes.specs.Things.{Thing, a_cond, a_term, cond_at, cond_in, tasks_at, term_at, term_in, terms_at}
+use Rattle.term_nodes.specs.Things.{Thing, a_cond, a_term, cond_at, cond_in, tasks_at, term_at, term_in, terms_at, thing_at}
 use Rattle.term_nodes.specs.declared.nodes.Task.{Task}
-use Rattle.term_program.specs.declared.ids.CondId.{CondId}
-use Rattle.term_program.specs.declared.ids.TermId.{TermId}
-use Rattle.compile_exprs.specs.Made.{AreReady, AreTasks, CondsAreThere, IsMade, IsOperand, IsTask, IsUsable, MakesCond, MakesConds, MakesParts, MakesTerm, MakesTerms}
-use Rattle.compile_exprs.specs.Made.{PartsAreThere, TermsAreThere, subterms_of_task}
+use Rattle.term_store.specs.Additions.{new_term}
+use Rattle.term_store.specs.Stores.{IsMeasured}
+use Rattle.sopl_base.specs.declared.comparison.CmpOp.{CmpOp}
+use Rattle.term_store.specs.declared.additions.NewCond.{NewCond}
+use Rattle.term_store.specs.declared.additions.NewCond.TheVariants as new
+use Rattle.term_store.specs.declared.additions.NewTerm.{NewTerm}
+use Rattle.term_store.specs.declared.ids.CondId.{CondId}
+use Rattle.term_store.specs.declared.ids.TermId.{TermId}
+use Rattle.compile_exprs.specs.Made.{AreTasks, AreTerms, AreThere, HasCondOperands, HasOperands, IsMade, IsOperand, IsTask, MakesCond, MakesTerm, operand_subterms, subterms_of_task}
 use Rattle.compile_exprs.proofs.Sizes.{AreSmall, both_small}
 
 -- Tasks stay where more is added.
@@ -42,66 +49,8 @@ later_tasks_below n m (t ∷ ids) more below =
 
 -- What was added may be used.
 
-pub usable_term : (setting : Scenarios) (before after : Lowering) (t : Term) (r : Result TermId Fault) → MakesTerm setting before after t r → IfOk r (λ (id : TermId). IsUsable after id.0)
-usable_term setting before after t (Ok id) made = record { building = made.extends.ready.building; exists = made.stands.exists }
-usable_term setting before after t (Err fault) made = tt
-
-pub usable_cond : (setting : Scenarios) (before after : Lowering) (t : Cond) (r : Result CondId Fault) → MakesCond setting before after t r → IfOk r (λ (id : CondId). IsUsable after id.0)
-usable_cond setting before after t (Ok id) made = record { building = made.extends.ready.building; exists = made.stands.exists }
-usable_cond setting before after t (Err fault) made = tt
-
-pub terms_ready : (setting : Scenarios) (before after : Lowering) (ts : Terms) (r : Result (Vec TermId Global) Fault) → MakesTerms setting before after ts r
-    → IfOk r (λ (ids : Vec TermId Global). AreReady setting after ids.items)
-terms_ready setting before after ts (Ok ids) made = record { ready = made.extends.ready; exist = made.exist }
-terms_ready setting before after ts (Err fault) made = tt
-
-pub terms_there : (setting : Scenarios) (before after : Lowering) (ts : Terms) (r : Result (Vec TermId Global) Fault) → MakesTerms setting before after ts r
-    → IfOk r (λ (ids : Vec TermId Global). TermsAreThere after ids.items)
-terms_there setting before after ts (Ok ids) made = record { building = made.extends.ready.building; exist = made.exist }
-terms_there setting before after ts (Err fault) made = tt
-
-pub conds_there : (setting : Scenarios) (before after : Lowering) (ts : Conds) (r : Result (Vec CondId Global) Fault) → MakesConds setting before after ts r
-    → IfOk r (λ (ids : Vec CondId Global). CondsAreThere after ids.items)
-conds_there setting before after ts (Ok ids) made = record { building = made.extends.ready.building; exist = made.exist }
-conds_there setting before after ts (Err fault) made = tt
-
-pub parts_there : (setting : Scenarios) (before after : Lowering) (ts : Parts) (r : Result (Vec (Bool × TermId) Global) Fault) → MakesParts setting before after ts r
-    → IfOk r (λ (ids : Vec (Bool × TermId) Global). PartsAreThere after ids.items)
-parts_there setting before after ts (Ok ids) made = record { building = made.extends.ready.building; exist = made.exist }
-parts_there setting before after ts (Err fault) made = tt
-
--- one that was added before another one
-pub both_terms : (setting : Scenarios) (before mid after : Lowering) (id : ℕ) (thing : Thing) (sizes : List Term) (t : Term) (r : Result TermId Fault) → IsMade setting before mid id thing sizes
-    → MakesTerm setting mid after t r → IfOk r (λ (other : TermId). IsUsable after other.0 × (id < length (things_of after)))
-both_terms setting before mid after id thing sizes t (Ok other) first second = (
-  record { building = second.extends.ready.building; exists = second.stands.exists },
-  omega (arith, first.stands.exists, second.extends.grows.more),
-)
-both_terms setting before mid after id thing sizes t (Err fault) first second = tt
-
-pub both_conds : (setting : Scenarios) (before mid after : Lowering) (id : ℕ) (thing : Thing) (sizes : List Term) (t : Cond) (r : Result CondId Fault) → IsMade setting before mid id thing sizes
-    → MakesCond setting mid after t r → IfOk r (λ (other : CondId). IsUsable after other.0 × (id < length (things_of after)))
-both_conds setting before mid after id thing sizes t (Ok other) first second = (
-  record { building = second.extends.ready.building; exists = second.stands.exists },
-  omega (arith, first.stands.exists, second.extends.grows.more),
-)
-both_conds setting before mid after id thing sizes t (Err fault) first second = tt
-
-pub both_tasks : (setting : Scenarios) (before mid after : Lowering) (ids : List (TermId × TermId × TermId)) (ts : Tasks) (t : Term) (r : Result TermId Fault) → AreTasks setting before mid ids ts
-    → MakesTerm setting mid after t r → IfOk r (λ (other : TermId). IsUsable after other.0 × TasksBelow (length (things_of after)) (task_ids ids))
-both_tasks setting before mid after ids ts t (Ok other) first second = (
-  record { building = second.extends.ready.building; exists = second.stands.exists },
-  later_tasks_below (length (things_of mid)) (length (things_of after)) (task_ids ids) second.extends.grows.more first.exist,
-)
-both_tasks setting before mid after ids ts t (Err fault) first second = tt
-
-pub operand_term : (setting : Scenarios) (mid after : Lowering) (id : ℕ) (t : Term) (r : Result TermId Fault) → IsOperand setting mid id → MakesTerm setting mid after t r
-    → IfOk r (λ (other : TermId). IsUsable after other.0 × (id < length (things_of after)))
-operand_term setting mid after id t (Ok other) first second = (
-  record { building = second.extends.ready.building; exists = second.stands.exists },
-  omega (arith, first.stands.exists, second.extends.grows.more),
-)
-operand_term setting mid after id t (Err fault) first second = tt
+pub are_there : (setting : Scenarios) (before after : Lowering) (ids : List TermId) (ts : Terms) → AreTerms setting before after ids ts → AreThere after ids
+are_there setting before after ids ts are = record { building = are.extends.ready.building; exist = are.exist }
 
 -- What a number stands for.
 
@@ -132,30 +81,85 @@ pub later_terms : (before after : List Thing) (ids : List ℕ) → Grows before 
 later_terms before after [] grows below = refl
 later_terms before after (id ∷ ids) grows below = ap₂ (λ x xs. c.term x xs) (ap term_in (grows.same id below.0)) (later_terms before after ids grows below.1)
 
--- A term is added to those before it, none of which is too large.
+-- A term is added to its operands, none of which is too large, and so is a condition.
 
-pub term_made : (setting : Scenarios) (before mid after : Lowering) (xs : List Term) (made t : Term) (r : Result TermId Fault)
-    → Extends setting before mid → AreSmall (root_in setting) xs → made ≡ t → subterms t ≡ xs ++ t ∷ []
-    → ((s : Scenarios) → IsReady s mid → Extends s mid after) → IfOk r (λ (id : TermId). Stands (things_of after) id.0 (a_term made))
-    → ((s : Scenarios) → IsReady s mid → Measures (root_in s) (made ∷ []) r)
-    → MakesTerm setting before after t r
-term_made setting before mid after xs made t (Ok id) extends small is sizes more stands measured = record {
-  extends = extends_twice setting before mid after extends (more setting extends.ready);
-  stands = subst (λ x. Stands (things_of after) id.0 (a_term x)) is stands;
-  small = ap (first_large (root_in setting)) sizes
-      ∙ both_small (root_in setting) xs (t ∷ []) small (subst (λ x. AreSmall (root_in setting) (x ∷ [])) is (measured setting extends.ready));
+measured_once : (root : Box) (t : Term) (r : Result TermId Fault) → IsMeasured (size root t) r → Measures root (t ∷ []) r
+measured_once root t (Ok id) small = none_large root (t ∷ []) (small, tt)
+measured_once root t (Err fault) (inl memory) = inl memory
+measured_once root t (Err fault) (inr large) = inr (ap (option_map (λ n. Limit (large_excess n))) (at_once root t [] (size root t) refl large.1) ∙ ap Some (sym large.0))
+
+one_measured : (setting : Scenarios) (work : Lowering) (t : Term) (r : Result TermId Fault) → IsMeasured (size (root_built work.builder) t) r → IsReady setting work → Measures (root_in setting) (t ∷ []) r
+one_measured setting work t r measured ready = subst (λ root. Measures root (t ∷ []) r) ready.root (measured_once (root_built work.builder) t r measured)
+
+-- a term behind those in its operands
+operands_all : (t : Term) → subterms t ≡ operand_subterms t ++ t ∷ []
+operands_all (c.Constant z) = refl
+operands_all (c.Cell cell) = refl
+operands_all (c.Sum parts) = refl
+operands_all (c.Product a b) = sym (append_assoc (subterms a) (subterms b) (c.Product a b ∷ []))
+operands_all (c.Quotient a divisor) = refl
+operands_all (c.Remainder a divisor) = refl
+operands_all (c.Least a later) = sym (append_assoc (subterms a) (all_subterms later) (c.Least a later ∷ []))
+operands_all (c.Greatest a later) = sym (append_assoc (subterms a) (all_subterms later) (c.Greatest a later ∷ []))
+operands_all (c.Size a) = refl
+operands_all (c.Element table indices) = refl
+operands_all (c.Number cond) = refl
+
+pub term_made : (setting : Scenarios) (before mid : Lowering) (b : Builder) (new : NewTerm) (t : Term) (r : Result TermId Fault) → HasOperands setting before mid new t → HasAddedTerm mid.builder b new r
+    → MakesTerm setting before (record mid { builder = b }) t r
+term_made setting before mid b new t (Ok id) o added = record {
+  extends = extends_twice setting before mid (record mid { builder = b }) o.extends (extended setting mid b added.kept o.extends.ready);
+  stands = subst (λ x. Stands (built b) id.0 (a_term x)) o.is added.adds.stands;
+  small = ap (first_large (root_in setting)) (operands_all t)
+      ∙ both_small (root_in setting) (operand_subterms t) (t ∷ []) o.small
+      (subst (λ x. AreSmall (root_in setting) (x ∷ [])) o.is (one_measured setting mid (new_term (things_of mid) new) (Ok id) added.adds.measured o.extends.ready));
 }
-term_made setting before mid after xs made t (Err fault) extends small is sizes more stands measured =
-    subst (λ l. IsSizeFault (root_in setting) l fault) (sym sizes)
-    (faults_in_turn (root_in setting) xs (t ∷ []) fault small (subst (λ x. IsSizeFault (root_in setting) (x ∷ []) fault) is (measured setting extends.ready)))
+term_made setting before mid b new t (Err fault) o added =
+    subst (λ l. IsSizeFault (root_in setting) l fault) (sym (operands_all t))
+    (faults_in_turn (root_in setting) (operand_subterms t) (t ∷ []) fault o.small
+    (subst (λ x. IsSizeFault (root_in setting) (x ∷ []) fault) o.is (one_measured setting mid (new_term (things_of mid) new) (Err fault) added.adds.measured o.extends.ready)))
 
--- a term alone
-pub term_alone : (setting : Scenarios) (before after : Lowering) (t : Term) (r : Result TermId Fault) → IsReady setting before → subterms t ≡ t ∷ []
-    → ((s : Scenarios) → IsReady s before → Extends s before after) → IfOk r (λ (id : TermId). Stands (things_of after) id.0 (a_term t))
-    → ((s : Scenarios) → IsReady s before → Measures (root_in s) (t ∷ []) r)
+pub cond_made : (setting : Scenarios) (before mid : Lowering) (b : Builder) (new : NewCond) (t : Cond) (id : CondId) → HasCondOperands setting before mid new t → HasAddedCond mid.builder b new (Ok id)
+    → IsMade setting before (record mid { builder = b }) id.0 (a_cond t) (condition_subterms t)
+cond_made setting before mid b new t id o added = record {
+  extends = extends_twice setting before mid (record mid { builder = b }) o.extends (extended setting mid b added.kept o.extends.ready);
+  stands = subst (λ x. Stands (built b) id.0 (a_cond x)) o.is added.adds.stands;
+  small = o.small;
+}
+
+-- Which operands were added: none, one term or one condition, two, or the elements of a list.
+
+pub no_operands : (setting : Scenarios) (work : Lowering) (new : NewTerm) (t : Term) → IsReady setting work → new_term (things_of work) new ≡ t → operand_subterms t ≡ [] → HasOperands setting work work new t
+no_operands setting work new t ready is none = record { extends = extends_not setting work ready; is = is; small = ap (first_large (root_in setting)) none }
+
+pub one_operand : (setting : Scenarios) (before work : Lowering) (id : ℕ) (thing : Thing) (sizes : List Term) (new : NewTerm) (t : Term) → IsMade setting before work id thing sizes
+    → new_term (things_of work) new ≡ t → operand_subterms t ≡ sizes → HasOperands setting before work new t
+one_operand setting before work id thing sizes new t made is all = record { extends = made.extends; is = is; small = ap (first_large (root_in setting)) all ∙ made.small }
+
+pub two_operands : (setting : Scenarios) (work after : Lowering) (first second : ℕ) (b : Term) (new : NewTerm) (t : Term) → IsOperand setting work first
+    → IsMade setting work after second (a_term b) (subterms b) → new_term (things_of after) new ≡ t → operand_subterms t ≡ subterms (term_at (things_of work) first) ++ subterms b
+    → HasOperands setting work after new t
+two_operands setting work after first second b new t operand made is all = record {
+  extends = made.extends;
+  is = is;
+  small = ap (first_large (root_in setting)) all ∙ both_small (root_in setting) (subterms (term_at (things_of work) first)) (subterms b) operand.small made.small;
+}
+
+-- one term that stood before
+pub operated : (setting : Scenarios) (work : Lowering) (id : ℕ) (new : NewTerm) (t : Term) → IsReady setting work → IsOperand setting work id → new_term (things_of work) new ≡ t
+    → operand_subterms t ≡ subterms (term_at (things_of work) id) → HasOperands setting work work new t
+operated setting work id new t ready operand is all = record { extends = extends_not setting work ready; is = is; small = ap (first_large (root_in setting)) all ∙ operand.small }
+
+-- the same terms
+pub same_terms : (setting : Scenarios) (before work : Lowering) (given ids : List TermId) (ts : Terms) → given ≡ ids → AreTerms setting before work ids ts → AreTerms setting before work given ts
+same_terms setting before work given ids ts same are = subst (λ l. AreTerms setting before work l ts) (sym same) are
+
+-- one of the terms in what is added is too large
+pub term_fails : (setting : Scenarios) (before after : Lowering) (t : Term) (fault : Fault) (r : Result TermId Fault) → r ≡ Err fault → IsSizeFault (root_in setting) (operand_subterms t) fault
     → MakesTerm setting before after t r
-term_alone setting before after t r ready sizes more stands measured =
-    term_made setting before before after [] t t r (extends_not setting before ready) refl refl sizes more stands measured
+term_fails setting before after t fault r failed large =
+    subst (MakesTerm setting before after t) (sym failed)
+    (subst (λ l. IsSizeFault (root_in setting) l fault) (sym (operands_all t)) (faults_end (root_in setting) (operand_subterms t) (t ∷ []) fault large))
 
 -- what was added behind other things
 pub made_behind : (setting : Scenarios) (before mid after : Lowering) (t : Term) (r : Result TermId Fault) → Extends setting before mid → MakesTerm setting mid after t r
@@ -163,15 +167,36 @@ pub made_behind : (setting : Scenarios) (before mid after : Lowering) (t : Term)
 made_behind setting before mid after t (Ok id) extends made = record { extends = extends_twice setting before mid after extends made.extends; stands = made.stands; small = made.small }
 made_behind setting before mid after t (Err fault) extends made = made
 
--- a condition of parts, none of which is too large
-pub cond_made : (setting : Scenarios) (before mid after : Lowering) (made t : Cond) (id : ℕ)
-    → Extends setting before mid → AreSmall (root_in setting) (condition_subterms t) → made ≡ t
-    → ((s : Scenarios) → IsReady s mid → Extends s mid after) → Stands (things_of after) id (a_cond made)
-    → IsMade setting before after id (a_cond t) (condition_subterms t)
-cond_made setting before mid after made t id extends small is more stands = record {
-  extends = extends_twice setting before mid after extends (more setting extends.ready);
-  stands = subst (λ x. Stands (things_of after) id (a_cond x)) is stands;
-  small = small;
+-- two sides of a comparison or of an implication, and tasks with their capacity
+pub compared : (setting : Scenarios) (before mid work : Lowering) (op : CmpOp) (left right : TermId) (a b : Term) → IsMade setting before mid left.0 (a_term a) (subterms a)
+    → IsMade setting mid work right.0 (a_term b) (subterms b) → HasCondOperands setting before work (new.Compare op left right) (c.Compare op a b)
+compared setting before mid work op left right a b first second = record {
+  extends = extends_twice setting before mid work first.extends second.extends;
+  is = ap₂ (λ x y. c.Compare op x y) (later_is (things_of mid) (things_of work) left.0 a second.extends.grows first.stands) (term_is (things_of work) right.0 b second.stands);
+  small = both_small (root_in setting) (subterms a) (subterms b) first.small second.small;
+}
+
+pub implied : (setting : Scenarios) (before mid work : Lowering) (left right : CondId) (a b : Cond) → IsMade setting before mid left.0 (a_cond a) (condition_subterms a)
+    → IsMade setting mid work right.0 (a_cond b) (condition_subterms b) → HasCondOperands setting before work (new.Implies left right) (c.Implies a b)
+implied setting before mid work left right a b first second = record {
+  extends = extends_twice setting before mid work first.extends second.extends;
+  is = ap₂ (λ x y. c.Implies x y) (later_cond_is (things_of mid) (things_of work) left.0 a second.extends.grows first.stands) (cond_is (things_of work) right.0 b second.stands);
+  small = both_small (root_in setting) (condition_subterms a) (condition_subterms b) first.small second.small;
+}
+
+module _ (setting : Scenarios) (before mid work : Lowering) (ids : List (TermId × TermId × TermId)) (ts : Tasks) where
+  pub tasks_is : (capacity : TermId) (t : Term) → AreTasks setting before mid ids ts → IsMade setting mid work capacity.0 (a_term t) (subterms t)
+      → c.Cumulative (tasks_at (things_of work) (task_ids ids)) (term_at (things_of work) capacity.0) ≡ c.Cumulative ts t
+  tasks_is capacity t tasks made =
+      ap₂ (λ x y. c.Cumulative x y) (later_tasks (things_of mid) (things_of work) (task_ids ids) made.extends.grows tasks.exist ∙ tasks.are) (term_is (things_of work) capacity.0 t made.stands)
+
+-- a term of a cell that stands from the start
+pub cell_made : (setting : Scenarios) (work : Lowering) (cell : ℕ) (id : TermId) → IsReady setting work → id.0 < length (things_of work) → thing_at (things_of work) id.0 ≡ a_term (c.Cell cell)
+    → size (root_built work.builder) (c.Cell cell) ≤ 2 ^ 40 → MakesTerm setting work work (c.Cell cell) (Ok id)
+cell_made setting work cell id ready exists is small = record {
+  extends = extends_not setting work ready;
+  stands = record { exists = exists; is = is };
+  small = one_measured setting work (c.Cell cell) (Ok id) small ready;
 }
 
 abbrev terms_of_task : Term → Term → Term → TaskTerms

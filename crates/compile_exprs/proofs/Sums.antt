@@ -7,7 +7,7 @@ use Rattle.compile_laws.specs.Subterms.{all_subterms, part_subterms, subterms}
 use Rattle.sopl_term.specs.Built.{signed_of, term_ids}
 use Rattle.term_nodes.specs.Built.{AllBelow, PartsBelow}
 use Rattle.term_nodes.specs.Things.{Thing, parts_at, term_at, terms_at}
-use Rattle.term_program.specs.declared.ids.TermId.{TermId}
+use Rattle.term_store.specs.declared.ids.TermId.{TermId}
 
 -- parts of which none is subtracted, by their numbers and as terms
 abbrev pub added : List TermId → List (Bool × TermId)

@@ -3,6 +3,7 @@ use Rattle.std.specs.Prelude.{◌≡◌, ◌<◌, ℕ, Bool, List, [], ◌∷◌
 use Rattle.std.specs.declared.alloc.Global.{Global}
 use Rattle.std.specs.declared.vec.Vec.{Vec}
 use Rattle.sopl_base.specs.declared.fault.Fault.{Fault}
+use Rattle.term_language.specs.Terms as c
 use Rattle.term_language.specs.Terms.{Term, Terms, Parts, Cond, Conds, Tasks}
 use Rattle.compile_laws.specs.Instances.{TaskTerms}
 use Rattle.compile_names.specs.declared.setting.Scenarios.{Scenarios}
@@ -10,7 +11,7 @@ use Rattle.compile_laws.specs.Measured.{IsSizeFault, first_large}
 use Rattle.compile_laws.specs.Subterms.{subterms, all_subterms, part_subterms, condition_subterms, all_condition_subterms, task_subterms}
 use Rattle.sopl_scen.specs.Layout.{count_in}
 use Rattle.compile_scene.specs.Scenes.{root_in}
-use Rattle.compile_scene.specs.Works.{Extends, IsReady, Stands, things_of}
+use Rattle.compile_scene.specs.Works.{Extends, Stands, things_of}
 use Rattle.compile_scene.specs.declared.scene.NumberedScenario.{NumberedScenario}
 use Rattle.compile_scene.specs.declared.work.Lowering.{Lowering}
 use Rattle.sopl_ast.specs.Known as place
@@ -18,8 +19,11 @@ use Rattle.sopl_ast.specs.Tree.{Tree}
 use Rattle.sopl_term.specs.Built.{IsBuilding, cond_ids, signed_of, task_ids, term_ids}
 use Rattle.term_nodes.specs.Built.{AllBelow, PartsBelow, TasksBelow}
 use Rattle.term_nodes.specs.Things.{Thing, a_cond, a_term, conds_at, parts_at, tasks_at, term_at, terms_at}
-use Rattle.term_program.specs.declared.ids.CondId.{CondId}
-use Rattle.term_program.specs.declared.ids.TermId.{TermId}
+use Rattle.term_store.specs.Additions.{new_cond, new_term}
+use Rattle.term_store.specs.declared.additions.NewCond.{NewCond}
+use Rattle.term_store.specs.declared.additions.NewTerm.{NewTerm}
+use Rattle.term_store.specs.declared.ids.CondId.{CondId}
+use Rattle.term_store.specs.declared.ids.TermId.{TermId}
 use Rattle.unfold_constants.specs.declared.constant_scope.ConstantScope.{ConstantScope}
 use Rattle.unfold_tables.specs.Tables.{table_known}
 use Rattle.compile_exprs.specs.Buildable.{IsBuildable}
@@ -30,27 +34,10 @@ pub record IsPlaced (scene : NumberedScenario) (known : ConstantScope) : Type 0 
   pub exists : scene.scenario < count_in scene.setting.now.tree.now
   pub table : IsOver scene.setting.now known
 
--- there is a thing of this number in a work that is being built
-pub record IsUsable (work : Lowering) (id : ℕ) : Type 0 where
-  pub building : IsBuilding work.builder
-  pub exists : id < length (things_of work)
-
--- there are things of these numbers in a work that is being built, or that is ready
-pub record AreReady (setting : Scenarios) (work : Lowering) (ids : List TermId) : Type 0 where
-  pub ready : IsReady setting work
-  pub exist : AllBelow (length (things_of work)) (term_ids ids)
-
-pub record TermsAreThere (work : Lowering) (ids : List TermId) : Type 0 where
+-- there are terms of these numbers in a work that is being built
+pub record AreThere (work : Lowering) (ids : List TermId) : Type 0 where
   pub building : IsBuilding work.builder
   pub exist : AllBelow (length (things_of work)) (term_ids ids)
-
-pub record CondsAreThere (work : Lowering) (ids : List CondId) : Type 0 where
-  pub building : IsBuilding work.builder
-  pub exist : AllBelow (length (things_of work)) (cond_ids ids)
-
-pub record PartsAreThere (work : Lowering) (ids : List (Bool × TermId)) : Type 0 where
-  pub building : IsBuilding work.builder
-  pub exist : PartsBelow (length (things_of work)) (signed_of ids)
 
 -- a place in a text where an expression may be built, and one where a task may be
 abbrev pub IsBody : Scenarios → Tree → place.Known → Type 0
@@ -142,3 +129,28 @@ MakesTasks setting before after ts (Err fault) = IsSizeFault (root_in setting) (
 pub record IsOperand (setting : Scenarios) (work : Lowering) (id : ℕ) : Type 0 where
   pub stands : Stands (things_of work) id (a_term (term_at (things_of work) id))
   pub small : first_large (root_in setting) (subterms (term_at (things_of work) id)) ≡ None
+
+-- the number expressions that stand in the operands of a term
+abbrev pub operand_subterms : Term → List Term
+operand_subterms (c.Constant z) = []
+operand_subterms (c.Cell cell) = []
+operand_subterms (c.Sum parts) = part_subterms parts
+operand_subterms (c.Product a b) = subterms a ++ subterms b
+operand_subterms (c.Quotient a divisor) = subterms a
+operand_subterms (c.Remainder a divisor) = subterms a
+operand_subterms (c.Least a later) = subterms a ++ all_subterms later
+operand_subterms (c.Greatest a later) = subterms a ++ all_subterms later
+operand_subterms (c.Size a) = subterms a
+operand_subterms (c.Element table indices) = all_subterms indices
+operand_subterms (c.Number cond) = condition_subterms cond
+
+-- the operands of a term were added, and none of the terms in them is too large; the same of a condition's
+pub record HasOperands (setting : Scenarios) (before work : Lowering) (new : NewTerm) (t : Term) : Type 0 where
+  pub extends : Extends setting before work
+  pub is : new_term (things_of work) new ≡ t
+  pub small : first_large (root_in setting) (operand_subterms t) ≡ None
+
+pub record HasCondOperands (setting : Scenarios) (before work : Lowering) (new : NewCond) (t : Cond) : Type 0 where
+  pub extends : Extends setting before work
+  pub is : new_cond (things_of work) new ≡ t
+  pub small : first_large (root_in setting) (condition_subterms t) ≡ None

@@ -2,19 +2,20 @@
 
 ghost use Rattle.std.specs.Prelude.{◌≡◌, [], length, option_map, IfOk, IfSome};
 ghost use Rattle.term_language.specs.Terms as c;
-ghost use Rattle.compile_exprs.specs.Made.{AreReady, IsPlaced, MakesTerm, MakesTerms};
+ghost use Rattle.compile_exprs.specs.Made.{AreTerms, AreThere, IsPlaced, MakesTerm};
 ghost use Rattle.compile_laws.specs.Instances.{elements, item_term, named_term, table_of, undefined};
 ghost use Rattle.sopl_scen.specs.Layout.{cells_for};
 ghost use Rattle.compile_scene.specs.Scenes.{HasCell, place_of};
-ghost use Rattle.compile_scene.specs.Works.{IsReady, things_of};
+ghost use Rattle.compile_scene.specs.Works.{IsReady};
 ghost use Rattle.compile_scene.specs.declared.work.Lowering.{Lowering};
 ghost use Rattle.term_math.specs.Kept as kept;
 ghost use Rattle.unfold_constants.specs.Here.{known_in};
 
+use crate::adding::add_term;
 use compile_scene::{Lowering, NumberedScenario};
 use sopl_ast::Name;
 use sopl_base::Fault;
-use sopl_term::TermId;
+use sopl_term::{NewTerm, TermId};
 use std::alloc::{AllocError, Global};
 use term_math::{Element, Table};
 use unfold_constants::ConstantScope;
@@ -40,12 +41,12 @@ pub(crate) fn undefined(
     ensures made { MakesTerm scene.now.setting.now work.old work.new undefined result }
 {
     let table = empty_array(work.alloc)?;
-    let id = work.array(table)?;
-    work.element(id, &[])
+    let id = work.builder.array(table)?;
+    add_term(work, &NewTerm::Element(id, &[]))
 }
 
 /// Adds a number or what is never defined, or finds the term of a cell.
-#[tactic(auto, using(compile_scene::proofs::Growing::extends_not))]
+#[tactic(auto, using(crate::proofs::Steps::cell_made, crate::proofs::Steps::no_operands))]
 fn item_term(
     scene: &NumberedScenario<'_, '_>,
     work: &mut Lowering,
@@ -56,8 +57,8 @@ fn item_term(
     ensures made { MakesTerm scene.now.setting.now work.old work.new (item_term (option_map kept.item_of item)) result }
 {
     match item {
-        Some(Element::Fixed(value)) => work.constant(value),
-        Some(Element::Free(cell)) => Ok(work.cell(cell)),
+        Some(Element::Fixed(value)) => add_term(work, &NewTerm::Constant(value)),
+        Some(Element::Free(cell)) => Ok(work.builder.cell_term(cell)),
         None => undefined(scene, work),
     }
 }
@@ -83,14 +84,14 @@ pub(crate) fn element(
     known: &ConstantScope<'_>,
     work: &mut Lowering,
     name: &Name,
-    at: Result<Vec<TermId>, Fault>,
+    at: &[TermId],
 ) -> Result<TermId, Fault>
     requires placed { IsPlaced scene.now known.now }
-    requires parts_exist { IfOk at (λ ids. AreReady scene.now.setting.now work.old ids.items) }
-    ensures made { (before : Lowering) (ts : c.Terms) → MakesTerms scene.now.setting.now before work.old ts at
+    requires ready { IsReady scene.now.setting.now work.old }
+    requires there { AreThere work.old at.now }
+    ensures made { (before : Lowering) (ts : c.Terms) → AreTerms scene.now.setting.now before work.old at.now ts
         → MakesTerm scene.now.setting.now before work.new (c.Element (table_of (elements (place_of scene.now (known_in known.now)) name.now)) ts) result }
 {
-    let ids = at?;
     let table = scene.table(work, name)?;
-    work.element(table, ids.as_slice())
+    add_term(work, &NewTerm::Element(table, at))
 }

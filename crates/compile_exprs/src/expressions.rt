@@ -1,6 +1,6 @@
 //! Expressions at a place in a scenario.
 
-ghost use Rattle.std.specs.Prelude.{◌≡◌, ◌<◌, IfOk, OnOk};
+ghost use Rattle.std.specs.Prelude.{◌<◌, IfOk, OnOk};
 ghost use Rattle.compile_exprs.specs.Over.{IsOver};
 ghost use Rattle.compile_laws.specs.Instances.{instance};
 ghost use Rattle.compile_laws.specs.Measured.{Measures};

@@ -2,12 +2,11 @@
 //! Its tests stand in `search_tests`.
 #![tactic(auto)]
 
+mod adding;
 mod chains;
-mod conditions;
 mod elements;
 mod expressions;
 mod lists;
-mod numbers;
 mod walk;
 
 pub use expressions::{condition_of, term_of};

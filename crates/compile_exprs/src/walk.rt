@@ -17,19 +17,16 @@ ghost use Rattle.sopl_ast.specs.Tree as t;
 ghost use Rattle.term_nodes.specs.Things.{term_at};
 ghost use Rattle.unfold_constants.specs.Here.{known_in};
 
-use crate::chains::{added_up, extreme, summed};
-use crate::conditions::{
-    all_of, any_of, compared, denied, differing, fitting, implied, no_condition,
-};
+use crate::adding::{add_cond, add_term};
+use crate::chains::{added_up, extreme};
 use crate::elements::{element, named};
 use crate::lists::{listed, listed_part};
-use crate::numbers::{literal, multiplied, negated, number, quotient, remainder, sized};
-use compile_counts::all_places;
+use compile_counts::{all_places, divisor};
 use compile_scene::{Lowering, NumberedScenario};
 use sopl_ast::{Binders, Expr, Factors, Kind, MulOp, Name};
 use sopl_base::{CmpOp, Fault};
-use sopl_term::{CondId, TermId};
-use term_math::Extreme;
+use sopl_term::{CondId, NewCond, NewTerm, TermId};
+use term_math::{Divisor, Extreme, Operation};
 use unfold_constants::{ConstantScope, TaskText};
 
 /// Adds the term of an expression; a condition is a number.
@@ -46,33 +43,33 @@ pub(crate) fn term<'a>(
     ensures made { MakesTerm scene.now.setting.now work.old work.new (instance (place_of scene.now (known_in known.now)) e.now).term result }
 {
     match &e.kind {
-        Kind::Lit(value) => literal(work, value),
+        Kind::Lit(value) => add_term(work, &NewTerm::Constant(*value)),
         Kind::Name(name) => named(scene, known, work, name),
         Kind::Index(name, at) => indexed(scene, known, work, name, at.as_slice()),
         Kind::Neg(part) => {
-            let id = term(scene, known, work, part);
-            negated(work, id)
+            let id = term(scene, known, work, part)?;
+            add_term(work, &NewTerm::Sum(&[(true, id)]))
         }
         Kind::Add(parts) => {
-            let ids = chain(scene, known, work, parts.as_slice());
-            summed(work, ids)
+            let ids = chain(scene, known, work, parts.as_slice())?;
+            add_term(work, &NewTerm::Sum(ids.as_slice()))
         }
         Kind::Mul(parts) => product(scene, known, work, parts),
         Kind::Sum(over, part) => {
-            let ids = behind(scene, known, work, over, part);
-            added_up(work, ids)
+            let ids = behind(scene, known, work, over, part)?;
+            added_up(work, ids.as_slice())
         }
         Kind::Least(parts) => {
-            let ids = terms(scene, known, work, parts.as_slice());
-            extreme(scene, work, Extreme::Least, ids)
+            let ids = terms(scene, known, work, parts.as_slice())?;
+            extreme(scene, work, Extreme::Least, ids.as_slice())
         }
         Kind::Greatest(parts) => {
-            let ids = terms(scene, known, work, parts.as_slice());
-            extreme(scene, work, Extreme::Greatest, ids)
+            let ids = terms(scene, known, work, parts.as_slice())?;
+            extreme(scene, work, Extreme::Greatest, ids.as_slice())
         }
         Kind::Abs(part) => {
-            let id = term(scene, known, work, part);
-            sized(work, id)
+            let id = term(scene, known, work, part)?;
+            add_term(work, &NewTerm::Operation(Operation::Size, id))
         }
         Kind::Cmp(_, _, _)
         | Kind::Not(_)
@@ -81,8 +78,8 @@ pub(crate) fn term<'a>(
         | Kind::Implies(_, _)
         | Kind::AllDifferent(_, _)
         | Kind::Cumulative(_, _, _, _, _) => {
-            let id = condition(scene, known, work, e);
-            number(work, id)
+            let id = condition(scene, known, work, e)?;
+            add_term(work, &NewTerm::Number(id))
         }
     }
 }
@@ -102,19 +99,22 @@ pub(crate) fn condition<'a>(
 {
     match &e.kind {
         Kind::Cmp(op, a, b) => comparison(scene, known, work, *op, a, b),
-        Kind::Not(part) => negation(scene, known, work, part),
+        Kind::Not(part) => {
+            let id = condition(scene, known, work, part)?;
+            add_cond(work, &NewCond::Not(id))
+        }
         Kind::And(parts) => {
-            let ids = conditions(scene, known, work, parts.as_slice());
-            all_of(work, ids)
+            let ids = conditions(scene, known, work, parts.as_slice())?;
+            add_cond(work, &NewCond::All(ids.as_slice()))
         }
         Kind::Or(parts) => {
-            let ids = conditions(scene, known, work, parts.as_slice());
-            any_of(work, ids)
+            let ids = conditions(scene, known, work, parts.as_slice())?;
+            add_cond(work, &NewCond::Any(ids.as_slice()))
         }
         Kind::Implies(a, b) => implication(scene, known, work, a, b),
         Kind::AllDifferent(over, part) => {
-            let ids = behind(scene, known, work, over, part);
-            differing(work, ids)
+            let ids = behind(scene, known, work, over, part)?;
+            add_cond(work, &NewCond::AllDifferent(ids.as_slice()))
         }
         Kind::Cumulative(over, start, duration, demand, most) => {
             let task = TaskText {
@@ -133,25 +133,8 @@ pub(crate) fn condition<'a>(
         | Kind::Sum(_, _)
         | Kind::Least(_)
         | Kind::Greatest(_)
-        | Kind::Abs(_) => no_condition(work),
+        | Kind::Abs(_) => add_cond(work, &NewCond::Any(&[])),
     }
-}
-
-/// Adds `!` of a condition.
-#[cycle(walk)]
-fn negation<'a>(
-    scene: &NumberedScenario<'_, '_>,
-    known: &ConstantScope<'a>,
-    work: &mut Lowering,
-    part: &'a Expr,
-) -> Result<CondId, Fault>
-    requires ready { IsReady scene.now.setting.now work.old }
-    requires placed { IsPlaced scene.now known.now }
-    requires buildable { IsBuildable (known_in known.now) part.now }
-    ensures made { MakesCond scene.now.setting.now work.old work.new (c.Not (instance (place_of scene.now (known_in known.now)) part.now).cond) result }
-{
-    let id = condition(scene, known, work, part);
-    denied(work, id)
 }
 
 /// Adds a comparison, its left side first.
@@ -172,8 +155,8 @@ fn comparison<'a>(
         (c.Compare op (instance (place_of scene.now (known_in known.now)) a.now).term (instance (place_of scene.now (known_in known.now)) b.now).term) result }
 {
     let left = term(scene, known, work, a)?;
-    let right = term(scene, known, work, b);
-    compared(work, op, left, right)
+    let right = term(scene, known, work, b)?;
+    add_cond(work, &NewCond::Compare(op, left, right))
 }
 
 /// Adds an implication, its condition first.
@@ -193,8 +176,8 @@ fn implication<'a>(
         (c.Implies (instance (place_of scene.now (known_in known.now)) a.now).cond (instance (place_of scene.now (known_in known.now)) b.now).cond) result }
 {
     let left = condition(scene, known, work, a)?;
-    let right = condition(scene, known, work, b);
-    implied(work, left, right)
+    let right = condition(scene, known, work, b)?;
+    add_cond(work, &NewCond::Implies(left, right))
 }
 
 /// Adds the element of a name at indices; without an index it is what the name stands for.
@@ -214,8 +197,8 @@ fn indexed<'a>(
     if at.is_empty() {
         return named(scene, known, work, name);
     }
-    let ids = terms(scene, known, work, at);
-    element(scene, known, work, name, ids)
+    let ids = terms(scene, known, work, at)?;
+    element(scene, known, work, name, ids.as_slice())
 }
 
 /// Adds terms, in order.
@@ -341,11 +324,19 @@ fn factor<'a>(
 {
     match part.0 {
         MulOp::Times => {
-            let second = term(scene, known, work, &part.1);
-            multiplied(work, before, second)
+            let second = term(scene, known, work, &part.1)?;
+            add_term(work, &NewTerm::Product(before, second))
         }
-        MulOp::Div => quotient(known, work, before, &part.1),
-        MulOp::Mod => remainder(known, work, before, &part.1),
+        MulOp::Div => {
+            let number = divisor(known, &part.1)?;
+            let by = Operation::Quotient(Divisor { number });
+            add_term(work, &NewTerm::Operation(by, before))
+        }
+        MulOp::Mod => {
+            let number = divisor(known, &part.1)?;
+            let by = Operation::Remainder(Divisor { number });
+            add_term(work, &NewTerm::Operation(by, before))
+        }
     }
 }
 
@@ -416,8 +407,8 @@ fn scheduled<'a>(
         (instance (place_of scene.now (known_in known.now)) most.now).term) result }
 {
     let tasks = tasks_behind(scene, known, work, over, task)?;
-    let capacity = term(scene, known, work, most);
-    fitting(work, tasks.as_slice(), capacity)
+    let capacity = term(scene, known, work, most)?;
+    add_cond(work, &NewCond::Cumulative(tasks.as_slice(), capacity))
 }
 
 /// Adds the terms of tasks, one task for each way in which their binders take their values.

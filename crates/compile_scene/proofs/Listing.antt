@@ -22,7 +22,7 @@ use Rattle.compile_scene.specs.declared.work.Arrays.{Arrays}
 use Rattle.compile_scene.specs.declared.work.Arrays.TheVariants.{Same, Each}
 use Rattle.compile_scene.specs.declared.work.Lowering.{Lowering}
 use Rattle.compile_scene.proofs.Growing.{extends_not, extends_twice, stands_grows}
-use Rattle.sopl_term.specs.declared.ids.TableId.{TableId}
+use Rattle.term_store.specs.declared.ids.TableId.{TableId}
 use Rattle.term_nodes.specs.Things.{Thing, a_table}
 
 -- Constants.

@@ -11,17 +11,13 @@ use Rattle.compile_scene.specs.declared.work.Arrays.{Arrays}
 use Rattle.compile_scene.specs.declared.work.Arrays.TheVariants.{Same, Each}
 use Rattle.compile_scene.specs.declared.work.Lowering.{Lowering}
 use Rattle.sopl_term.specs.Built.{Grows, IsBuilding, asked_direction, asked_worst, built, problem_built, root_built}
-use Rattle.sopl_term.specs.declared.ids.TableId.{TableId}
-use Rattle.term_nodes.specs.Things.{Thing, a_table, thing_at}
+use Rattle.term_store.specs.declared.ids.TableId.{TableId}
+use Rattle.term_nodes.specs.Things.{Thing, a_table}
+pub use Rattle.term_store.specs.Additions.{Stands}
 
 -- what stands at each number of a work
 abbrev pub things_of : Lowering → List Thing
 things_of work = built work.builder
-
--- a number exists, and stands for a thing
-pub record Stands (things : List Thing) (id : ℕ) (thing : Thing) : Type 0 where
-  pub exists : id < length things
-  pub is : thing_at things id ≡ thing
 
 -- the number of the array of a scenario, and that there is one
 abbrev pub id_in : Arrays → ℕ → ℕ

@@ -1,14 +1,11 @@
 //! What stands in a scenario for the names of a problem: a number or a cell for a name without an index, and an array for one with indices, which is made once
-//! for all scenarios where it is the same in
-//! all. Beside it the calls of a builder, each with what it adds and that all else stays as it was.
+//! for all scenarios where it is the same in all.
 //! Its tests stand in `search_tests`.
 #![tactic(auto)]
 
-mod conditions;
 mod roots;
 mod scene;
 mod tables;
-mod terms;
 mod work;
 
 pub use roots::cell_domains;

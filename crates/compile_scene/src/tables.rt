@@ -1,6 +1,6 @@
 //! The arrays of names are added.
 
-ghost use Rattle.std.specs.Prelude.{◌≡◌, ◌<◌, ◌∷◌, ℕ, None, length, map, nat_eq, IfNone, IfOk, IfSome, OnOk, true};
+ghost use Rattle.std.specs.Prelude.{◌≡◌, ◌<◌, ℕ, None, length, map, nat_eq, IfNone, IfOk, IfSome, OnOk, true};
 ghost use Rattle.std.specs.Cmp.Lexicographic.{pointwise};
 ghost use Rattle.std.specs.List.{AllByRecursion, list_all};
 ghost use Rattle.std.specs.Map.{lookup};
@@ -166,7 +166,7 @@ impl NumberedScenario<'_, '_> {
         ensures stands { IfOk result (λ id. Stands (things_of work.new) id.0 (a_table (table_in self.now.setting.now.tree.now self.now.scenario array.now))) }
     {
         let table = self.table_of(work.alloc, array)?;
-        work.array(table)
+        work.builder.array(table)
     }
 
     /// An array as it is in this scenario.

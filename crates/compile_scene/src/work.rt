@@ -1,6 +1,6 @@
 //! A program that is being built, and the arrays of names in it.
 
-ghost use Rattle.std.specs.Prelude.{◌≡◌, [], ℕ, List, Some, nat_eq, IfOk, OnOk, false};
+ghost use Rattle.std.specs.Prelude.{◌≡◌, [], ℕ, List, Some, nat_eq, OnOk, false};
 ghost use Rattle.std.specs.Cmp.Lexicographic.{pointwise};
 ghost use Rattle.std.specs.Map.{lookup};
 ghost use Rattle.compile_names.specs.declared.setting.Scenarios.{Scenarios};

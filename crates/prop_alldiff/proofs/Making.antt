@@ -11,7 +11,7 @@ use Rattle.term_program.specs.Comparisons.{is_linear_pair, shape_in}
 use Rattle.term_program.specs.Globals.{global_terms, term_ids}
 use Rattle.term_program.specs.Mentions.{IsListOf}
 use Rattle.term_program.specs.Programs.{IsMade, problem_in, root_in, things_in}
-use Rattle.term_program.specs.declared.ids.TermId.{TermId}
+use Rattle.term_store.specs.declared.ids.TermId.{TermId}
 use Rattle.term_program.specs.declared.program.Program.{Program}
 use Rattle.term_program.specs.declared.shapes.Form.{Form}
 use Rattle.term_program.specs.declared.shapes.Form.TheVariants as shape

@@ -7,7 +7,7 @@ use Rattle.sopl_base.proofs.Lists.{contains_one}
 use Rattle.term_nodes.specs.Things.{term_at}
 use Rattle.term_program.specs.LinearTerms.{IsOneCell}
 use Rattle.term_program.specs.Programs.{root_in, things_in}
-use Rattle.term_program.specs.declared.ids.TermId.{TermId}
+use Rattle.term_store.specs.declared.ids.TermId.{TermId}
 use Rattle.term_program.specs.declared.linear_terms.OneCell.{OneCell}
 use Rattle.term_program.specs.declared.program.Program.{Program}
 use Rattle.prop_operands.specs.Kept.{IsOnly}

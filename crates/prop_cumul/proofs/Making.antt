@@ -9,7 +9,7 @@ use Rattle.term_nodes.specs.Things.{Thing, cond_at, terms_at}
 use Rattle.term_program.specs.Comparisons.{is_linear_pair, shape_in}
 use Rattle.term_program.specs.Globals.{global_terms, tasks_then, term_ids}
 use Rattle.term_program.specs.Programs.{IsMade, problem_in, root_in, things_in}
-use Rattle.term_program.specs.declared.ids.TermId.{TermId}
+use Rattle.term_store.specs.declared.ids.TermId.{TermId}
 use Rattle.term_program.specs.declared.program.Program.{Program}
 use Rattle.term_program.specs.declared.shapes.Form.{Form}
 use Rattle.term_program.specs.declared.shapes.Form.TheVariants as shape

@@ -5,7 +5,7 @@ use Rattle.std.proofs.lemmas.List.{map-append, take_all, take_more}
 use Rattle.std.proofs.lemmas.List.Elements.{All-append, All-cons, All-nil}
 use Rattle.term_nodes.specs.Built.{AllBelow}
 use Rattle.term_program.specs.Globals.{term_ids}
-use Rattle.term_program.specs.declared.ids.TermId.{TermId}
+use Rattle.term_store.specs.declared.ids.TermId.{TermId}
 use Rattle.term_program.specs.declared.program.Program.{Program}
 use Rattle.prop_operands.specs.Kept.{IsOperand, operand_ids}
 use Rattle.prop_operands.specs.declared.operands.Operand.{Operand}

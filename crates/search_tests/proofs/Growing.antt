@@ -1,10 +1,12 @@
 -- A program under construction keeps what it has.
-use Rattle.std.proofs.Common.{◌∙◌, ap, sym, subst, arith, ℕ, ◌<◌, ◌≤◌, List, [], ◌∷◌, length, length-append}
+use Rattle.std.proofs.Common.{◌∙◌, sym, subst, arith, ℕ, ◌<◌, ◌≤◌, List, length, Result, Ok}
 use Rattle.box_problem.specs.Box.{Box}
 use Rattle.term_nodes.specs.Things.{Thing}
-use Rattle.term_store.specs.Stores.{IsAdded}
+use Rattle.sopl_base.specs.declared.fault.Fault.{Fault}
+use Rattle.term_store.specs.declared.additions.NewTerm.{NewTerm}
+use Rattle.term_store.specs.declared.ids.TermId.{TermId}
 use Rattle.sopl_term.specs.declared.builder.Builder.{Builder}
-use Rattle.sopl_term.specs.Built.{Grows, IsKept, root_built}
+use Rattle.sopl_term.specs.Built.{Grows, HasAddedTerm, IsKept, built, root_built}
 
 grows_twice : {xs ys zs : List Thing} → Grows xs ys → Grows ys zs → Grows xs zs
 grows_twice first second = record {
@@ -28,12 +30,11 @@ pub cells_kept : (a b : Builder) (cell : ℕ) → IsKept a b → cell < length (
 cells_kept a b cell kept there = subst (λ (root : Box). cell < length root.lows) (sym kept.root) there
 
 -- what was added is there, and so is what was there before
-pub there : (before after : List Thing) (id : ℕ) (thing : Thing) → IsAdded before after id thing → id < length after
-there before after id thing added =
-    let number = added.number in omega (arith, number, ap length added.added, length-append before (thing ∷ []))
+pub there : (before after : Builder) (new : NewTerm) (id : TermId) → HasAddedTerm before after new (Ok id) → id.0 < length (built after)
+there before after new id added = added.adds.stands.exists
 
-pub still : (before after : List Thing) (id k : ℕ) (thing : Thing) → IsAdded before after id thing → k < length before → k < length after
-still before after id k thing added was = omega (arith, was, ap length added.added, length-append before (thing ∷ []))
+pub still : (before after : Builder) (new : NewTerm) (r : Result TermId Fault) (k : ℕ) → HasAddedTerm before after new r → k < length (built before) → k < length (built after)
+still before after new r k added was = omega (arith, was, added.adds.grows.more)
 
-pub grown : (before after : List Thing) (id : ℕ) (thing : Thing) → IsAdded before after id thing → length before ≤ length after
-grown before after id thing added = omega (arith, ap length added.added, length-append before (thing ∷ []))
+pub grown : (before after : Builder) (new : NewTerm) (r : Result TermId Fault) → HasAddedTerm before after new r → length (built before) ≤ length (built after)
+grown before after new r added = added.adds.grows.more

@@ -38,7 +38,7 @@ use Rattle.sopl_term.specs.declared.builder.Builder.{Builder}
 use Rattle.term_goals.specs.Goals.{IsMeasured, goal_size, terms_of, too_large}
 use Rattle.term_nodes.specs.Things.{term_at, term_in}
 use Rattle.term_program.specs.Programs.{problem_in, with_goal}
-use Rattle.term_program.specs.declared.ids.TermId.{TermId}
+use Rattle.term_store.specs.declared.ids.TermId.{TermId}
 use Rattle.term_program.specs.declared.program.Program.{Program}
 use Rattle.unfold_laws.specs.Passing.{NothingFails}
 use Rattle.sopl_term.proofs.Finishing.{empty}

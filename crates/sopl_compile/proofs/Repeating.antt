@@ -26,8 +26,8 @@ use Rattle.sopl_compile.specs.Posed.{posed}
 use Rattle.sopl_compile.specs.Repeats.{DoRepeat, FollowsFrom, IsAlready, IsLast, Repeats}
 use Rattle.term_nodes.specs.Things.{Thing, a_cond, a_term}
 use Rattle.term_language.specs.Terms.{Term}
-use Rattle.term_program.specs.declared.ids.CondId.{CondId}
-use Rattle.term_program.specs.declared.ids.TermId.{TermId}
+use Rattle.term_store.specs.declared.ids.CondId.{CondId}
+use Rattle.term_store.specs.declared.ids.TermId.{TermId}
 
 module _ (setting : Scenarios) (laid : IsLaid setting) (known : Known) where
   -- the place of a scenario, where this is known

@@ -1,5 +1,5 @@
 -- A term for each cell.
-use Rattle.std.proofs.Common.{◌≡◌, ◌∙◌, refl, ap, sym, arith, ℕ, ◌+◌, ◌<◌, ◌≤◌, List, [], ◌∷◌, ◌++◌, map, length, get_or, subst}
+use Rattle.std.proofs.Common.{◌≡◌, ◌∙◌, refl, ap, sym, arith, ℕ, ◌+◌, ◌<◌, ◌≤◌, List, [], ◌∷◌, ◌++◌, map, length, get_or, subst, Ok, inl, inr}
 use Rattle.std.proofs.lemmas.List.FromFn.{get_or-map-range_with_len, length-map-range_with_len, map-range_with_len_more}
 use Rattle.std.specs.List.{range_with_len}
 use Rattle.sopl_base.proofs.Naturals.{from_zero}
@@ -7,7 +7,9 @@ use Rattle.box_problem.specs.Box.{Box}
 use Rattle.term_language.specs.Terms.{Cell}
 use Rattle.term_nodes.specs.Things.{Thing, a_term, nothing, term_at, term_in}
 use Rattle.term_goals.specs.Goals.{AreCells}
-use Rattle.term_store.specs.Stores.{IsAdded, IsSoundStore, all, root_of}
+use Rattle.term_store.specs.Additions.{AddsTerm, Stands}
+use Rattle.term_store.specs.Stores.{IsSoundStore, all, root_of}
+use Rattle.term_store.specs.declared.ids.TermId.{TermId}
 use Rattle.term_store.specs.declared.store.TermStore.{TermStore}
 use Rattle.sopl_term.specs.Built.{HasCells, cell_terms}
 
@@ -20,16 +22,32 @@ itself cell = cell
 pub no_cell : (s : TermStore) → IsSoundStore s → all s ≡ [] → HasCells s s [] 0
 no_cell s sound empty = record { sound = sound; root = refl; things = empty; nodes = refl }
 
-pub next_cell : (a b c : TermStore) (nodes next : List ℕ) (i id : ℕ) → HasCells a b nodes i → IsSoundStore c → root_of c ≡ root_of b → IsAdded (all b) (all c) id (a_term (Cell i)) → next
-    ≡ nodes ++ id ∷ [] → HasCells a c next (i + 1)
-next_cell a b c nodes next i id has sound root added next_is =
-    let number : id ≡ i = added.number ∙ ap length has.things ∙ length-map-range_with_len as_term 0 i in
-    record {
-      sound = sound;
-      root = root ∙ has.root;
-      things = added.added ∙ ap (λ (ts : List Thing). ts ++ as_term i ∷ []) has.things ∙ sym (map-range_with_len_more as_term 0 i i (from_zero i));
-      nodes = next_is ∙ ap (λ (n : ℕ). nodes ++ n ∷ []) number ∙ ap (λ (ns : List ℕ). ns ++ i ∷ []) has.nodes ∙ sym (map-range_with_len_more itself 0 i i (from_zero i));
-    }
+-- the number of a cell's term is the cell
+cell_number : (count id cell : ℕ) → Stands (cell_terms count) id (a_term (Cell cell)) → id ≡ cell
+cell_number count id cell stands =
+    let there : id < count = omega (arith, stands.exists, length-map-range_with_len as_term 0 count) in
+    let same : as_term id ≡ as_term cell = sym (get_or-map-range_with_len as_term 0 count id id nothing there (from_zero id)) ∙ stands.is in
+    cc
+
+pub next_cell : (a b c : TermStore) (nodes next : List ℕ) (i : ℕ) (id : TermId) → HasCells a b nodes i → IsSoundStore c → root_of c ≡ root_of b
+    → AddsTerm (root_of b) (all b) (all c) (Cell i) (Ok id) → next ≡ nodes ++ id.0 ∷ [] → HasCells a c next (i + 1)
+next_cell a b c nodes next i id has sound root adds next_is =
+    elim adds.most [
+      | inl same ↦
+          let stands : Stands (cell_terms i) id.0 (a_term (Cell i)) = subst (λ (ts : List Thing). Stands ts id.0 (a_term (Cell i))) (same ∙ has.things) adds.stands in
+          let none : i < i = omega (arith, stands.exists, length-map-range_with_len as_term 0 i, cell_number i id.0 i stands) in
+          absurd (omega (arith, none))
+      | inr added ↦
+          let things : all c ≡ cell_terms (i + 1) =
+          added ∙ ap (λ (ts : List Thing). ts ++ as_term i ∷ []) has.things ∙ sym (map-range_with_len_more as_term 0 i i (from_zero i)) in
+          let number : id.0 ≡ i = cell_number (i + 1) id.0 i (subst (λ (ts : List Thing). Stands ts id.0 (a_term (Cell i))) things adds.stands) in
+          record {
+            sound = sound;
+            root = root ∙ has.root;
+            things = things;
+            nodes = next_is ∙ ap (λ (n : ℕ). nodes ++ n ∷ []) number ∙ ap (λ (ns : List ℕ). ns ++ i ∷ []) has.nodes ∙ sym (map-range_with_len_more itself 0 i i (from_zero i));
+          }
+    ]
 
 numbered : (root : Box) (ts : List Thing) (nodes : List ℕ) (count : ℕ) → ts ≡ cell_terms count → nodes ≡ map itself (range_with_len 0 count) → count ≡ length root.lows → AreCells root ts nodes
 numbered root ts nodes count things_are nodes_are is =

@@ -6,7 +6,7 @@ use Rattle.term_language.specs.Laws.{IsProperCond}
 use Rattle.term_problem.specs.Problems.{ChanceTerms, ProblemTerms, IsProblem, IsChance}
 use Rattle.term_nodes.specs.Built.{AllBelow}
 use Rattle.term_nodes.specs.Things.{cond_at}
-use Rattle.term_program.specs.declared.ids.CondId.{CondId}
+use Rattle.term_store.specs.declared.ids.CondId.{CondId}
 use Rattle.term_program.specs.declared.draft.ChanceConditions.{ChanceConditions}
 use Rattle.term_program.specs.declared.draft.Draft.{Draft}
 use Rattle.sopl_term.specs.declared.builder.Builder.{Builder}

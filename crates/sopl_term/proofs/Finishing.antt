@@ -18,7 +18,7 @@ use Rattle.term_nodes.proofs.Reading.{length_things}
 use Rattle.term_nodes.proofs.Ready.{terms_proper}
 use Rattle.term_goals.specs.Goals.{goal_of, goal_size, terms_of}
 use Rattle.term_goals.specs.declared.goal.Goal.{Goal}
-use Rattle.term_program.specs.declared.ids.TermId.{TermId}
+use Rattle.term_store.specs.declared.ids.TermId.{TermId}
 use Rattle.term_program.specs.declared.draft.Draft.{Draft}
 use Rattle.sopl_term.specs.declared.builder.Builder.{Builder}
 use Rattle.term_program.specs.declared.program.Program.{Program}

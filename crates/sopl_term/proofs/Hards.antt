@@ -8,7 +8,7 @@ use Rattle.term_problem.specs.Problems.{ChanceTerms, ProblemTerms, IsProblem, Is
 use Rattle.term_nodes.specs.Built.{AllBelow}
 use Rattle.term_nodes.specs.Things.{cond_at}
 use Rattle.term_store.proofs.Adding.{proper_at}
-use Rattle.term_program.specs.declared.ids.CondId.{CondId}
+use Rattle.term_store.specs.declared.ids.CondId.{CondId}
 use Rattle.term_program.specs.declared.draft.Conditions.{Conditions}
 use Rattle.term_program.specs.declared.draft.Draft.{Draft}
 use Rattle.sopl_term.specs.declared.builder.Builder.{Builder}

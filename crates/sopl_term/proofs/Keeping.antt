@@ -1,5 +1,5 @@
 -- What was built stays where more is added.
-use Rattle.std.proofs.Common.{◌≡◌, ◌∙◌, refl, ap, sym, subst, arith, ℕ, None, ◌<◌, ◌≤◌, List, [], ◌∷◌, map, length, length-append, get_or, inl, inr}
+use Rattle.std.proofs.Common.{◌≡◌, ◌∙◌, refl, ap, sym, subst, arith, ℕ, None, ◌<◌, ◌≤◌, List, [], ◌∷◌, map, length, get_or, inl, inr}
 use Rattle.std.proofs.lemmas.Bool.{cases_lt}
 use Rattle.std.proofs.lemmas.List.{get_or_past}
 use Rattle.std.specs.List.{AllByRecursion}
@@ -10,9 +10,8 @@ use Rattle.term_problem.specs.Problems.{ChanceTerms, ProblemTerms, IsProblem}
 use Rattle.term_nodes.specs.Built.{AllBelow}
 use Rattle.term_language.specs.Terms.{Cell}
 use Rattle.term_goals.specs.Goals.{AreCells}
-use Rattle.term_nodes.specs.Things.{Thing, nothing, thing_at, cond_at, cond_in, term_at, term_in}
-use Rattle.term_nodes.proofs.Growing.{stays}
-use Rattle.term_store.specs.Stores.{IsSoundStore, IsAdded, root_of, all}
+use Rattle.term_nodes.specs.Things.{Thing, nothing, cond_at, cond_in, term_at, term_in}
+use Rattle.term_store.specs.Stores.{IsSoundStore, root_of, all}
 use Rattle.term_store.specs.declared.store.TermStore.{TermStore}
 use Rattle.term_program.specs.declared.draft.Conditions.{Conditions}
 use Rattle.term_program.specs.declared.draft.ChanceConditions.{ChanceConditions}
@@ -20,18 +19,6 @@ use Rattle.term_program.specs.declared.draft.Draft.{Draft}
 use Rattle.sopl_term.specs.declared.builder.Builder.{Builder}
 use Rattle.term_program.specs.Drafts.{HasConditions, IsDraft, conditions_of, chance_of, draft_problem, draft_root, draft_things}
 use Rattle.sopl_term.specs.Built.{Grows, IsBuilding, IsKept, built}
-
-grows_added : (before after : List Thing) (id : ℕ) (thing : Thing) → IsAdded before after id thing → Grows before after
-grows_added before after id thing added = record {
-  more = omega (arith, ap length added.added, length-append before (thing ∷ []));
-  same = λ i below. ap (λ (ts : List Thing). thing_at ts i) added.added ∙ stays before thing i below;
-}
-
-grows_same : (before after : List Thing) → after ≡ before → Grows before after
-grows_same before after is = record {
-  more = omega (arith, ap length is);
-  same = λ i below. ap (λ (ts : List Thing). thing_at ts i) is;
-}
 
 -- conditions
 same_conds : (before after : List Thing) (ids : List ℕ) → Grows before after → AllBelow (length before) ids → map (cond_at after) ids ≡ map (cond_at before) ids
@@ -119,8 +106,8 @@ still_made p s made sound root grows = record {
   thresholds = made.thresholds;
 }
 
-kept_over : (b : Builder) (s : TermStore) → IsBuilding b → IsSoundStore s → root_of s ≡ draft_root b.draft → Grows (built b) (all s) → IsKept b (record b { draft = over b.draft s })
-kept_over b s building sound root grows = record {
+pub kept_grown : (b : Builder) (s : TermStore) → IsBuilding b → IsSoundStore s → root_of s ≡ draft_root b.draft → Grows (built b) (all s) → IsKept b (record b { draft = over b.draft s })
+kept_grown b s building sound root grows = record {
   building = still_made b.draft s building sound root grows;
   root = root;
   problem = same_problem b.draft s building grows;
@@ -128,10 +115,3 @@ kept_over b s building sound root grows = record {
   direction = refl;
   worst = refl;
 }
-
-pub kept_added : (b : Builder) (s : TermStore) (id : ℕ) (thing : Thing) → IsBuilding b → IsSoundStore s → root_of s ≡ draft_root b.draft → IsAdded (built b) (all s) id thing
-    → IsKept b (record b { draft = over b.draft s })
-kept_added b s id thing building sound root added = kept_over b s building sound root (grows_added (built b) (all s) id thing added)
-
-pub kept_same : (b : Builder) (s : TermStore) → IsBuilding b → IsSoundStore s → root_of s ≡ draft_root b.draft → all s ≡ built b → IsKept b (record b { draft = over b.draft s })
-kept_same b s building sound root is = kept_over b s building sound root (grows_same (built b) (all s) is)

@@ -1,5 +1,5 @@
 -- What the calls of a builder do.
-use Rattle.std.specs.Prelude.{◌≡◌, ◌<◌, ◌≤◌, ◌-◌, ◌^◌, ◌≤ℤ◌, ℕ, ℤ, pos, negsuc, Bool, List, [], ◌∷◌, ◌++◌, length, map, Option, None, Some}
+use Rattle.std.specs.Prelude.{◌≡◌, ◌≤◌, ◌-◌, ◌^◌, ◌≤ℤ◌, ℕ, ℤ, pos, negsuc, Bool, List, [], ◌∷◌, ◌++◌, length, map, Option, None, Some, Result}
 use Rattle.std.specs.List.{range_with_len}
 use Rattle.term_language.specs.Terms as rule
 use Rattle.sopl_base.specs.declared.interval.Interval.{Interval}
@@ -8,15 +8,19 @@ use Rattle.term_store.specs.declared.store.TermStore.{TermStore}
 use Rattle.sopl_base.specs.declared.direction.Direction.{Direction}
 use Rattle.sopl_base.specs.declared.direction.Direction.TheVariants.{Minimize, Maximize, Nothing}
 use Rattle.term_problem.specs.Problems.{GoalTerms, ProblemTerms}
-use Rattle.term_nodes.specs.Things.{Thing, a_term, cond_at, term_at, terms_at, thing_at}
-use Rattle.term_nodes.specs.declared.nodes.Signed.{Signed}
-use Rattle.term_nodes.specs.declared.nodes.Task.{Task}
-use Rattle.term_program.specs.declared.ids.TermId.{TermId}
-use Rattle.term_program.specs.declared.ids.CondId.{CondId}
+use Rattle.term_nodes.specs.Things.{Thing, a_term, cond_at, term_at, thing_at}
+use Rattle.term_store.specs.declared.ids.TermId.{TermId}
+use Rattle.term_store.specs.declared.ids.CondId.{CondId}
+use Rattle.term_store.specs.declared.ids.TableId.{TableId}
 use Rattle.sopl_term.specs.declared.builder.Builder.{Builder}
 use Rattle.box_problem.specs.Box.{Box}
 use Rattle.term_program.specs.Drafts.{IsDraft, draft_problem, draft_root, draft_things}
-pub use Rattle.term_program.specs.Globals.{term_ids}
+use Rattle.std.specs.declared.alloc.AllocError.{AllocError}
+use Rattle.sopl_base.specs.declared.fault.Fault.{Fault}
+use Rattle.term_store.specs.Additions.{AddsCond, AddsTable, AddsTerm, MayAddCond, MayAddTerm, new_cond, new_term}
+use Rattle.term_store.specs.declared.additions.NewCond.{NewCond}
+use Rattle.term_store.specs.declared.additions.NewTerm.{NewTerm}
+pub use Rattle.term_store.specs.Additions.{Grows, cond_ids, signed_of, task_ids, term_ids}
 
 -- what stands at each number
 abbrev pub built : Builder → List Thing
@@ -55,11 +59,6 @@ pub record HasCells (before after : TermStore) (ids : List ℕ) (count : ℕ) : 
   pub things : all after ≡ cell_terms count
   pub nodes : ids ≡ map (λ (cell : ℕ). cell) (range_with_len 0 count)
 
--- no fewer things, and each number stands for the same
-pub record Grows (before after : List Thing) : Type 0 where
-  pub more : length before ≤ length after
-  pub same : (id : ℕ) → id < length before → thing_at after id ≡ thing_at before id
-
 -- what was added before is as it was: what each number stands for, the root, the constraints, and what the objective is to be
 pub record IsKept (before after : Builder) : Type 0 where
   pub building : IsBuilding after
@@ -77,15 +76,26 @@ pub record IsUnder (before after : Builder) : Type 0 where
   pub direction : asked_direction after ≡ asked_direction before
   pub worst : asked_worst after ≡ asked_worst before
 
--- the numbers of conditions, of the parts of a sum, and of tasks
-abbrev pub cond_ids : List CondId → List ℕ
-cond_ids ids = map (λ (id : CondId). id.0) ids
+-- a term and a condition may be added, and were: so was an array
+pub record CanAddTerm (b : Builder) (new : NewTerm) : Type 0 where
+  pub building : IsBuilding b
+  pub may : MayAddTerm (length (built b)) new
 
-abbrev pub signed_of : List (Bool × TermId) → List Signed
-signed_of parts = map (λ (p : Bool × TermId). record { subtracted = p.0; term = p.1.0 }) parts
+pub record CanAddCond (b : Builder) (new : NewCond) : Type 0 where
+  pub building : IsBuilding b
+  pub may : MayAddCond (length (built b)) new
 
-abbrev pub task_ids : List (TermId × TermId × TermId) → List Task
-task_ids tasks = map (λ (t : TermId × TermId × TermId). record { start = t.0.0; duration = t.1.0; demand = t.2.0 }) tasks
+pub record HasAddedTerm (before after : Builder) (new : NewTerm) (result : Result TermId Fault) : Type 0 where
+  pub kept : IsKept before after
+  pub adds : AddsTerm (root_built before) (built before) (built after) (new_term (built before) new) result
+
+pub record HasAddedCond (before after : Builder) (new : NewCond) (result : Result CondId AllocError) : Type 0 where
+  pub kept : IsKept before after
+  pub adds : AddsCond (built before) (built after) (new_cond (built before) new) result
+
+pub record HasAddedTable (before after : Builder) (table : rule.Table) (result : Result TableId AllocError) : Type 0 where
+  pub kept : IsKept before after
+  pub adds : AddsTable (built before) (built after) table result
 
 -- the conditions of these numbers
 abbrev pub conds_of : Builder → List CondId → List rule.Cond
@@ -97,15 +107,6 @@ with_hard terms conditions = record terms { hards = terms.hards ++ conditions �
 
 abbrev pub with_chance : ProblemTerms → List rule.Cond → ℤ → ℤ → ProblemTerms
 with_chance terms conditions p q = record terms { chances = terms.chances ++ record { conditions = conditions; p = p; q = q } ∷ [] }
-
--- the least and the greatest of several terms, of which there is at least one
-abbrev pub least_at : List Thing → List TermId → rule.Term
-least_at things [] = rule.Constant (pos 0)
-least_at things (first ∷ later) = rule.Least (term_at things first.0) (terms_at things (term_ids later))
-
-abbrev pub greatest_at : List Thing → List TermId → rule.Term
-greatest_at things [] = rule.Constant (pos 0)
-greatest_at things (first ∷ later) = rule.Greatest (term_at things first.0) (terms_at things (term_ids later))
 
 -- the objective that is asked for: none without terms
 abbrev pub goal_asked : Builder → List TermId → Option GoalTerms

@@ -1,24 +1,23 @@
 //! A term for each cell.
 
-ghost use Rattle.std.specs.Prelude.{◌≡◌, ◌<◌, [], length, IfOk, OnOk};
+ghost use Rattle.std.specs.Prelude.{◌≡◌, [], length, Ok, IfOk, OnOk};
 ghost use Rattle.term_language.specs.Terms as term;
 ghost use Rattle.term_goals.specs.Goals.{AreCells};
-ghost use Rattle.term_nodes.specs.Things.{a_term};
-ghost use Rattle.term_store.specs.Stores.{IsAdded, IsSoundStore, all, root_of};
+ghost use Rattle.term_store.specs.Additions.{AddsTerm};
+ghost use Rattle.term_store.specs.Stores.{IsSoundStore, all, root_of};
 ghost use Rattle.sopl_term.specs.Built.{cell_terms};
 
 use std::alloc::{AllocError, Global};
-use term_store::TermStore;
+use term_store::{NewTerm, TermId, TermStore};
 
 /// Adds a cell, whose ends lie within 2^40, so that only out of memory can refuse it.
-fn cell_node(store: &mut TermStore, cell: u32) -> Result<u32, AllocError>
+fn cell_node(store: &mut TermStore, cell: u32) -> Result<TermId, AllocError>
     requires sound { IsSoundStore store.old }
-    requires exists { cell < length (root_of store.old).lows }
     ensures sound { IsSoundStore store.new }
     ensures root { root_of store.new ≡ root_of store.old }
-    ensures added { IfOk result (λ id. IsAdded (all store.old) (all store.new) id (a_term (term.Cell cell))) }
+    ensures adds { IfOk result (λ id. AddsTerm (root_of store.old) (all store.old) (all store.new) (term.Cell cell) (Ok id)) }
 {
-    match store.cell(cell) {
+    match store.add_term(&NewTerm::Cell(cell)) {
         Ok(id) => Ok(id),
         Err(_) => Err(AllocError),
     }
@@ -42,7 +41,7 @@ pub(crate) fn cell_nodes(
     let mut nodes = Vec::new(alloc);
     for cell in 0..count {
         let id = cell_node(store, cell)?;
-        nodes.push(id)?;
+        nodes.push(id.0)?;
     }
     Ok(nodes)
 }

@@ -6,9 +6,9 @@ ghost use Rattle.sopl_term.specs.Built.{IsBuilding, IsUnder, built, cond_ids, co
 ghost use Rattle.term_program.specs.Drafts.{IsThreshold};
 
 use crate::builder::Builder;
-use crate::conditions::numbers_of;
 use std::alloc::AllocError;
-use term_program::{ChanceConditions, CondId, Conditions};
+use term_program::{ChanceConditions, Conditions};
+use term_store::{CondId, cond_numbers};
 
 /// Puts one more behind a list that has fewer than 2^32 - 1; a longer one counts as out of memory.
 fn put<T: Drop>(list: &mut Vec<T>, item: T) -> Result<(), AllocError>
@@ -52,7 +52,7 @@ impl Builder {
         ensures ok { OnOk result (problem_built self.new ≡ with_hard (problem_built self.old) (conds_of self.old conds.now)) }
         ensures err { OnErr result (problem_built self.new ≡ problem_built self.old) }
     {
-        let ids = numbers_of(self.draft.alloc, conds)?;
+        let ids = cond_numbers(self.draft.alloc, conds)?;
         put(&mut self.draft.hards, Conditions { ids })
     }
 
@@ -70,7 +70,7 @@ impl Builder {
         ensures ok { OnOk result (problem_built self.new ≡ with_chance (problem_built self.old) (conds_of self.old conds.now) p q) }
         ensures err { OnErr result (problem_built self.new ≡ problem_built self.old) }
     {
-        let ids = numbers_of(self.draft.alloc, conds)?;
+        let ids = cond_numbers(self.draft.alloc, conds)?;
         put(&mut self.draft.chances, with_threshold(ids, p, q))
     }
 }

@@ -8,10 +8,10 @@ ghost use Rattle.term_program.specs.Drafts.{IsGoalOf};
 ghost use Rattle.term_program.specs.Programs.{IsMade, problem_in, root_in, things_in, with_goal};
 
 use crate::builder::Builder;
-use crate::terms::term_numbers;
 use sopl_base::Fault;
 use term_goals::{Goal, Objective};
-use term_program::{Program, TermId};
+use term_program::Program;
+use term_store::{TermId, term_numbers};
 
 impl Builder {
     /// The objective with these terms, one for each scenario.

@@ -7,16 +7,17 @@ mod cells;
 mod conditions;
 mod constraints;
 mod finish;
-mod ids;
+mod indices;
 mod tables;
 mod terms;
 
 pub use builder::Builder;
-pub use ids::{Indices, TableId};
+pub use indices::Indices;
 pub use term_goals::Atom;
 pub use term_language::{Defined, Truth};
 pub use term_math::Coefficient;
 pub use term_program::{
-    CondId, Form, Program, Range, TermId, goal_ends, goal_ends_in, kleene, kleene_in, range_in,
-    range_of, refuted, refuted_in,
+    Form, Program, Range, goal_ends, goal_ends_in, kleene, kleene_in, range_in, range_of, refuted,
+    refuted_in,
 };
+pub use term_store::{CondId, NewCond, NewTerm, TableId, TermId};

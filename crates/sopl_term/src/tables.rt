@@ -1,23 +1,17 @@
-//! Arrays are added, and their elements.
+//! Arrays are added.
 
-ghost use Rattle.std.specs.Prelude.{◌≡◌, ◌<◌, length, map, IfOk, OnErr};
+ghost use Rattle.std.specs.Prelude.{◌≡◌, map, IfOk};
 ghost use Rattle.term_language.specs.Laws.{IsTable};
-ghost use Rattle.term_language.specs.Sizes as sizes;
-ghost use Rattle.term_language.specs.Terms as term;
 ghost use Rattle.term_math.specs.Kept as kept;
-ghost use Rattle.term_nodes.specs.Built.{AllBelow};
-ghost use Rattle.term_nodes.specs.Things.{a_table, a_term, table_at, terms_at, thing_at};
-ghost use Rattle.term_store.specs.Stores.{IsAdded, IsMeasured};
-ghost use Rattle.sopl_term.specs.Built.{IsBuilding, IsKept, built, item_of, root_built, table_of, term_ids};
+ghost use Rattle.term_nodes.specs.Things.{thing_at};
+ghost use Rattle.sopl_term.specs.Built.{HasAddedTable, IsBuilding, built, item_of, table_of};
 
 use crate::builder::Builder;
-use crate::ids::{Indices, TableId};
-use crate::terms::term_numbers;
-use sopl_base::Fault;
+use crate::indices::Indices;
 use std::alloc::{AllocError, Global};
 use term_math::{Element, Table};
 use term_nodes::{Node, item_at};
-use term_program::TermId;
+use term_store::{TableId, TermId};
 
 /// The numbers of index sets.
 fn copied(alloc: Global, sets: &[Indices]) -> Result<Vec<Vec<i64>>, AllocError>
@@ -31,7 +25,6 @@ fn copied(alloc: Global, sets: &[Indices]) -> Result<Vec<Vec<i64>>, AllocError>
     Ok(list)
 }
 
-#[tactic(auto, using(crate::proofs::Keeping::kept_added, crate::proofs::Keeping::kept_same))]
 impl Builder {
     /// The number or the cell that a term is.
     fn element_of(&self, id: TermId) -> Element
@@ -66,40 +59,19 @@ impl Builder {
     pub fn table(&mut self, sets: &[Indices], items: &[TermId]) -> Result<TableId, AllocError>
         requires building { IsBuilding self.old }
         requires table { IsTable (table_of (built self.old) sets.now items.now) }
-        ensures kept { IsKept self.old self.new }
-        ensures added { IfOk result (λ id. IsAdded (built self.old) (built self.new) id.0 (a_table (table_of (built self.old) sets.now items.now))) }
-        ensures err { OnErr result (built self.new ≡ built self.old) }
+        ensures added { HasAddedTable self.old self.new (table_of (built self.old) sets.now items.now) result }
     {
         let elements = self.elements_of(items)?;
         let sets = copied(self.draft.alloc, sets)?;
-        let id = self.draft.store.table(Table { sets, elements })?;
-        Ok(TableId(id))
+        self.array(Table { sets, elements })
     }
 
     /// An array by its sets and its elements, which are numbers and cells as they are: no term is added, so no size is measured.
     pub fn array(&mut self, table: Table) -> Result<TableId, AllocError>
         requires building { IsBuilding self.old }
         requires table { IsTable (kept.table_of table) }
-        ensures kept { IsKept self.old self.new }
-        ensures added { IfOk result (λ id. IsAdded (built self.old) (built self.new) id.0 (a_table (kept.table_of table))) }
-        ensures err { OnErr result (built self.new ≡ built self.old) }
+        ensures added { HasAddedTable self.old self.new (kept.table_of table) result }
     {
-        let id = self.draft.store.table(table)?;
-        Ok(TableId(id))
-    }
-
-    /// The element of an array at indices, one for each dimension; at other indices than the array's it is undefined.
-    pub fn element(&mut self, table: TableId, at: &[TermId]) -> Result<TermId, Fault>
-        requires building { IsBuilding self.old }
-        requires table { table.0 < length (built self.old) }
-        requires exist { AllBelow (length (built self.old)) (term_ids at.now) }
-        ensures kept { IsKept self.old self.new }
-        ensures added { IfOk result (λ id. IsAdded (built self.old) (built self.new) id.0 (a_term (term.Element (table_at (built self.old) table.0) (terms_at (built self.old) (term_ids at.now))))) }
-        ensures measured { IsMeasured (sizes.size (root_built self.old) (term.Element (table_at (built self.old) table.0) (terms_at (built self.old) (term_ids at.now)))) result }
-        ensures err { OnErr result (built self.new ≡ built self.old) }
-    {
-        let ids = term_numbers(self.draft.alloc, at)?;
-        let id = self.draft.store.element(table.0, ids.as_slice())?;
-        Ok(TermId(id))
+        self.draft.store.add_table(table)
     }
 }

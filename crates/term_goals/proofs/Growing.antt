@@ -172,7 +172,7 @@ part_step here b xs i d k m list next result ready inside below m_is next_is bef
     let s : ℤ = sign x.subtracted in
     let a : ends.Ends = atoms Near root b (term_at all x.term) in
     let rest : ends.Ends = sum_atoms Near root b (parts_at all (drop (i + 1) xs)) in
-    let is : sum_atoms Near root b (parts_at all (drop i xs)) ≡ ends.plus (ends.scaled s a) rest = ap (λ (e : Sight). e.ends) (next_part root b all xs i x below (get_or_default xs i d x below)) in
+    let is : sum_atoms Near root b (parts_at all (drop i xs)) ≡ ends.plus (ends.scaled s a) rest = ap (λ (e : Sight). e.ends) (next_part Near root b all xs i x below (get_or_default xs i d x below)) in
     let ordered = (narrow_parts Near root b root (parts_at all (drop (i + 1) xs)) ready.root_is_box inside (parts_proper root here.items.now (drop (i + 1) xs) ready.built)).within.ordered in
     let split : ends.scaled k (ends.plus (ends.scaled s a) rest) ≡ ends.plus (ends.scaled m a) (ends.scaled k rest) =
     scaled_plus k (ends.scaled s a) rest (scaled_ordered s a) ordered ∙ ap (λ (e : ends.Ends). ends.plus e (ends.scaled k rest)) (scaled_twice k s a ∙ ap (λ (z : ℤ). ends.scaled z a) (sym m_is)) in

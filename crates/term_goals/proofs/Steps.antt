@@ -108,7 +108,7 @@ atoms_lighter root all (suc i) (x ∷ xs) = omega (arith, atoms_lighter root all
 atom_bounds : (here : Evaluator) (id : ℕ) → IsReady here → Bounds (atoms Near (box_in here.root) (box_in here.view) (term_at (things here.items.now) id))
     (atoms_weight (box_in here.root) (term_at (things here.items.now) id))
 atom_bounds here id ready =
-    near_bounds (box_in here.root) (box_in here.view) (term_at (things here.items.now) id) ready.root_is_box ready.inside (small_term (box_in here.root) here.items.now id ready.built).proper
+    near_bounds Near (box_in here.root) (box_in here.view) (term_at (things here.items.now) id) ready.root_is_box ready.inside (small_term (box_in here.root) here.items.now id ready.built).proper
 
 atoms_bounds : (here : Evaluator) (xs : List Atom) → IsReady here
     → Bounds (atoms_ends (box_in here.root) (box_in here.view) (things here.items.now) xs) (all_weight (box_in here.root) (things here.items.now) xs)

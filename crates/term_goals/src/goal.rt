@@ -129,9 +129,9 @@ fn worst(here: &Evaluator, direction: Direction, terms: &[u32]) -> Ends
     if count == 0 {
         return Ends::zero();
     }
-    let mut found = here.range(terms[count - 1]).ends;
+    let mut found = here.near_range(terms[count - 1]).ends;
     for i in (0..count - 1).rev() {
-        let range = here.range(terms[i]);
+        let range = here.near_range(terms[i]);
         found = worse(direction, &range.ends, &found);
     }
     found

@@ -85,7 +85,7 @@ fn times_atom(here: &Evaluator, atom: &Atom) -> WideEnds
     requires fits { IsWideFit (ends_at atom.now.k (rule.atoms rule.Near (box_in here.now.root) (box_in here.now.view) (term_at (things here.now.items.now) atom.now.term))) }
     ensures { wide_ends result ≡ ends.scaled atom.now.k (rule.atoms rule.Near (box_in here.now.root) (box_in here.now.view) (term_at (things here.now.items.now) atom.now.term)) }
 {
-    let seen = here.seen(atom.term);
+    let seen = here.near_sight(atom.term);
     WideEnds::scaled(&atom.factor(), &seen.ends)
 }
 

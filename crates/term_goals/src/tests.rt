@@ -6,8 +6,7 @@ ghost use Rattle.term_goals.specs.Goals.{AreWeights};
 use super::*;
 use sopl_base::{Direction, Excess, Fault, Interval};
 use std::alloc::{AllocError, Global};
-use term_nodes::Signed;
-use term_store::TermStore;
+use term_store::{NewTerm, TermId, TermStore};
 
 /// A store over x from -7 to 9 and y from -5 to 4.
 fn small(alloc: Global) -> Result<TermStore, AllocError>
@@ -23,6 +22,26 @@ fn small(alloc: Global) -> Result<TermStore, AllocError>
     Ok(store)
 }
 
+/// A cell.
+fn add_cell(store: &mut TermStore, cell: u32) -> Result<u32, Fault>
+    requires sound { IsSoundStore store.old }
+    ensures sound { IsSoundStore store.new }
+    ensures root { root_of store.new ≡ root_of store.old }
+{
+    let id = store.add_term(&NewTerm::Cell(cell))?;
+    Ok(id.0)
+}
+
+/// A number.
+fn add_constant(store: &mut TermStore, value: i64) -> Result<u32, Fault>
+    requires sound { IsSoundStore store.old }
+    ensures sound { IsSoundStore store.new }
+    ensures root { root_of store.new ≡ root_of store.old }
+{
+    let id = store.add_term(&NewTerm::Constant(value))?;
+    Ok(id.0)
+}
+
 /// The sum of two terms.
 fn sum(store: &mut TermStore, a: u32, b: u32) -> Result<u32, Fault>
     requires sound { IsSoundStore store.old }
@@ -33,15 +52,9 @@ fn sum(store: &mut TermStore, a: u32, b: u32) -> Result<u32, Fault>
     if a >= count || b >= count {
         return Err(Fault::NoMemory);
     }
-    let first = Signed {
-        subtracted: false,
-        term: a,
-    };
-    let second = Signed {
-        subtracted: false,
-        term: b,
-    };
-    store.sum(&[first, second])
+    let parts = [(false, TermId(a)), (false, TermId(b))];
+    let id = store.add_term(&NewTerm::Sum(&parts))?;
+    Ok(id.0)
 }
 
 /// The product of two terms.
@@ -54,7 +67,8 @@ fn product(store: &mut TermStore, a: u32, b: u32) -> Result<u32, Fault>
     if a >= count || b >= count {
         return Err(Fault::NoMemory);
     }
-    store.product(a, b)
+    let id = store.add_term(&NewTerm::Product(TermId(a), TermId(b)))?;
+    Ok(id.0)
 }
 
 /// The interval over the root of an objective over two scenarios.
@@ -119,9 +133,9 @@ fn products(store: &mut TermStore, alloc: Global) -> Result<i128, Fault>
     requires sound { IsSoundStore store.old }
     requires empty { root_of store.old ≡ box_of [] }
 {
-    let x = store.cell(0)?;
-    let y = store.cell(1)?;
-    let factor = store.constant(-3)?;
+    let x = add_cell(store, 0)?;
+    let y = add_cell(store, 1)?;
+    let factor = add_constant(store, -3)?;
     let times = product(store, x, y)?;
     let negative = product(store, factor, times)?;
     let mixed = sum(store, times, factor)?;
@@ -157,9 +171,9 @@ fn expected(
 fn summed(store: &mut TermStore, alloc: Global) -> Result<bool, Fault>
     requires sound { IsSoundStore store.old }
 {
-    let x = store.cell(0)?;
-    let y = store.cell(1)?;
-    let factor = store.constant(-3)?;
+    let x = add_cell(store, 0)?;
+    let y = add_cell(store, 1)?;
+    let factor = add_constant(store, -3)?;
     let both = sum(store, x, y)?;
     let less = product(store, factor, x)?;
     let turned = sum(store, less, y)?;
@@ -183,8 +197,8 @@ fn sums_over_scenarios(rt: HostRuntime) {
 fn worst(store: &mut TermStore, alloc: Global) -> Result<bool, Fault>
     requires sound { IsSoundStore store.old }
 {
-    let x = store.cell(0)?;
-    let y = store.cell(1)?;
+    let x = add_cell(store, 0)?;
+    let y = add_cell(store, 1)?;
     let least = ends(store, alloc, (Direction::Minimize, true), &[3, 1], x, y)?;
     let greatest = ends(store, alloc, (Direction::Maximize, true), &[3, 1], x, y)?;
     Ok(least == (-5, 9) && greatest == (-7, 4))
@@ -208,7 +222,7 @@ fn counted(
     requires two { length weights.now ≡ 2 }
     ensures sound { IsSoundStore store.new }
 {
-    let number = store.constant(constant)?;
+    let number = add_constant(store, constant)?;
     match ends(
         store,
         alloc,

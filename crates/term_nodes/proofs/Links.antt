@@ -2,7 +2,7 @@
 use Rattle.std.proofs.Common.{◌≡◌, ◌≢◌, ℕ, ◌+◌, ◌-◌, ◌<◌, ◌≤◌, zero, suc, Bool, true, ◌&&◌, List, Option, Some, None, IfNone, IfSome, arith, refl, ap, subst, sym, ◌∙◌}
 use Rattle.box_problem.specs.Box.{Box}
 use Rattle.term_language.specs.Marks.{is_always}
-use Rattle.term_language.specs.Rules.{Wide, form, mark}
+use Rattle.term_language.specs.Rules.{Reading, Wide, form, mark}
 use Rattle.term_language.specs.Terms as rule
 use Rattle.term_math.specs.declared.operations.Operation.{Operation}
 use Rattle.term_math.specs.declared.operations.Operation.TheVariants.{Quotient, Remainder, Size}
@@ -164,32 +164,32 @@ pub operation_operand : (root : Box) (all : List Thing) (id : ℕ) (item : Item)
     ≡ left_operand (term_at all id)
 operation_operand root all id item op a at is = left_is root all id item a at (ap left_in is)
 
-pub product_below : (root b : Box) (all : List Thing) (id : ℕ) (item : Item) (x y : ℕ) (s : Sight) → IsAt root all id item → item.node ≡ node.Product x y → s
-    ≡ sight root b (left_operand (term_at all id)) → s ≡ sight root b (term_at all x)
-product_below root b all id item x y s at is seen = seen ∙ ap (sight root b) (sym (product_operand root all id item x y at is))
+pub product_below : (reading : Reading) (root b : Box) (all : List Thing) (id : ℕ) (item : Item) (x y : ℕ) (s : Sight) → IsAt root all id item → item.node ≡ node.Product x y → s
+    ≡ sight reading root b (left_operand (term_at all id)) → s ≡ sight reading root b (term_at all x)
+product_below reading root b all id item x y s at is seen = seen ∙ ap (sight reading root b) (sym (product_operand root all id item x y at is))
 
-pub operation_below : (root b : Box) (all : List Thing) (id : ℕ) (item : Item) (op : Operation) (x : ℕ) (s : Sight) → IsAt root all id item → item.node ≡ node.Operation op x → s
-    ≡ sight root b (left_operand (term_at all id)) → s ≡ sight root b (term_at all x)
-operation_below root b all id item op x s at is seen = seen ∙ ap (sight root b) (sym (operation_operand root all id item op x at is))
+pub operation_below : (reading : Reading) (root b : Box) (all : List Thing) (id : ℕ) (item : Item) (op : Operation) (x : ℕ) (s : Sight) → IsAt root all id item → item.node ≡ node.Operation op x → s
+    ≡ sight reading root b (left_operand (term_at all id)) → s ≡ sight reading root b (term_at all x)
+operation_below reading root b all id item op x s at is seen = seen ∙ ap (sight reading root b) (sym (operation_operand root all id item op x at is))
 
-pub no_operand : (root b : Box) (all : List Thing) (id : ℕ) (item : Item) (n : Node) (s : Sight) → IsAt root all id item → item.node ≡ n → left_in n ≡ None → s
-    ≡ sight root b (left_operand (term_at all id)) → s ≡ sight root b (term_at all id)
-no_operand root b all id item n s at is none seen = seen ∙ ap (sight root b) (sym (left_none root all id item at (ap left_in is ∙ none)))
+pub no_operand : (reading : Reading) (root b : Box) (all : List Thing) (id : ℕ) (item : Item) (n : Node) (s : Sight) → IsAt root all id item → item.node ≡ n → left_in n ≡ None → s
+    ≡ sight reading root b (left_operand (term_at all id)) → s ≡ sight reading root b (term_at all id)
+no_operand reading root b all id item n s at is none seen = seen ∙ ap (sight reading root b) (sym (left_none root all id item at (ap left_in is ∙ none)))
 
-pub nothing_there : (root b : Box) (all : List Thing) (id : ℕ) (s : Sight) → thing_at all id ≡ nothing → s ≡ sight root b (left_operand (term_at all id)) → s ≡ sight root b (term_at all id)
-nothing_there root b all id s none seen = seen ∙ ap (sight root b) (sym (left_nothing all id none))
+pub nothing_there : (reading : Reading) (root b : Box) (all : List Thing) (id : ℕ) (s : Sight) → thing_at all id ≡ nothing → s ≡ sight reading root b (left_operand (term_at all id)) → s ≡ sight reading root b (term_at all id)
+nothing_there reading root b all id s none seen = seen ∙ ap (sight reading root b) (sym (left_nothing all id none))
 
 -- the sight of what is reached
-pub reached_sight : (root b : Box) (all : List Thing) (top id n : ℕ) (s : Sight) → s ≡ sight root b (term_at all id) → term_at all id ≡ steps_down n (term_at all top) → s
-    ≡ sight root b (steps_down n (term_at all top))
-reached_sight root b all top id n s seen reached = seen ∙ ap (sight root b) reached
+pub reached_sight : (reading : Reading) (root b : Box) (all : List Thing) (top id n : ℕ) (s : Sight) → s ≡ sight reading root b (term_at all id) → term_at all id ≡ steps_down n (term_at all top) → s
+    ≡ sight reading root b (steps_down n (term_at all top))
+reached_sight reading root b all top id n s seen reached = seen ∙ ap (sight reading root b) reached
 
-pub further_sight : (root b : Box) (all : List Thing) (top middle n half : ℕ) (s : Sight) → half ≤ n → term_at all middle ≡ steps_down half (term_at all top) → s
-    ≡ sight root b (steps_down n (term_at all top)) → s ≡ sight root b (steps_down (n - half) (term_at all middle))
-further_sight root b all top middle n half s within is seen = seen ∙ ap (sight root b) (sym (further all top middle n half within is))
+pub further_sight : (reading : Reading) (root b : Box) (all : List Thing) (top middle n half : ℕ) (s : Sight) → half ≤ n → term_at all middle ≡ steps_down half (term_at all top) → s
+    ≡ sight reading root b (steps_down n (term_at all top)) → s ≡ sight reading root b (steps_down (n - half) (term_at all middle))
+further_sight reading root b all top middle n half s within is seen = seen ∙ ap (sight reading root b) (sym (further all top middle n half within is))
 
-pub no_steps : (root b : Box) (t : rule.Term) (n : ℕ) (s : Sight) → n ≡ 0 → s ≡ sight root b (steps_down n t) → s ≡ sight root b t
-no_steps root b t n s none seen = seen ∙ ap (λ (k : ℕ). sight root b (steps_down k t)) none
+pub no_steps : (reading : Reading) (root b : Box) (t : rule.Term) (n : ℕ) (s : Sight) → n ≡ 0 → s ≡ sight reading root b (steps_down n t) → s ≡ sight reading root b t
+no_steps reading root b t n s none seen = seen ∙ ap (λ (k : ℕ). sight reading root b (steps_down k t)) none
 
-pub last_step : (root b : Box) (t : rule.Term) (n : ℕ) (s : Sight) → n ≡ 1 → s ≡ sight root b (steps_down n t) → s ≡ sight root b (left_operand t)
-last_step root b t n s one seen = seen ∙ ap (λ (k : ℕ). sight root b (steps_down k t)) one
+pub last_step : (reading : Reading) (root b : Box) (t : rule.Term) (n : ℕ) (s : Sight) → n ≡ 1 → s ≡ sight reading root b (steps_down n t) → s ≡ sight reading root b (left_operand t)
+last_step reading root b t n s one seen = seen ∙ ap (λ (k : ℕ). sight reading root b (steps_down k t)) one

@@ -19,22 +19,22 @@ use Rattle.term_math.specs.declared.operations.Operation.{Operation}
 use Rattle.term_math.specs.Made.{IsSmall, operation_term, extreme_term, made, made_of, chosen_by, picked}
 use Rattle.term_math.proofs.Rules.{operation_form, operation_atoms, operation_mark, extreme_form, extreme_atoms, extreme_mark}
 use Rattle.term_nodes.specs.declared.evaluation.Evaluator.{Evaluator}
-use Rattle.term_nodes.specs.Seen.{IsReady, Sight, sight, extreme_range}
+use Rattle.term_nodes.specs.Seen.{reading_of, CanRead, Sight, sight, extreme_range}
 use Rattle.term_nodes.specs.Things.{Thing, term_at, terms_at, things}
 use Rattle.term_nodes.proofs.Ready.{small_term}
 
 -- whole intervals of small terms are small
-range_small : (here : Evaluator) (id : ℕ) → IsReady here → IsSmall (interval Near (box_in here.root) (box_in here.view) (term_at (things here.items.now) id))
+range_small : (here : Evaluator) (id : ℕ) → CanRead here → IsSmall (interval (reading_of here) (box_in here.root) (box_in here.view) (term_at (things here.items.now) id))
 range_small here id ready =
     let root = box_in here.root in
     let b = box_in here.view in
     let t = term_at (things here.items.now) id in
     let sound = small_term root here.items.now id ready.built in
-    let bounds = bounds_within (interval Near root b t) (interval Wide root root t) (size root t) (intervals_narrow Near root b root t ready.root_is_box ready.inside sound.proper)
+    let bounds = bounds_within (interval (reading_of here) root b t) (interval Wide root root t) (size root t) (intervals_narrow (reading_of here) root b root t ready.root_is_box ready.inside sound.proper)
     (bounded_whole root t sound.proper) in
     record { low = omega (arith, bounds.low, sound.small); high = omega (arith, bounds.high, sound.small) }
 
-pub operation_small : (here : Evaluator) (id : ℕ) (a : ends.Ends) → IsReady here → a ≡ interval Near (box_in here.root) (box_in here.view) (term_at (things here.items.now) id) → IsSmall a
+pub operation_small : (here : Evaluator) (id : ℕ) (a : ends.Ends) → CanRead here → a ≡ interval (reading_of here) (box_in here.root) (box_in here.view) (term_at (things here.items.now) id) → IsSmall a
 operation_small here id a ready is = subst IsSmall (sym is) (range_small here id ready)
 
 -- whether something folds is seen by its form
@@ -48,22 +48,22 @@ same_sight a c m n p q = (ap (λ (e : ends.Ends). record { ends = e; mark = m })
 operation_folds : (root : Box) (op : Operation) (t : rule.Term) → (form root (operation_term op t)).plain ≡ folds (form root t ∷ []) (mark Near root root t)
 operation_folds root op t = ap (λ f. f.plain) (operation_form root op t) ∙ folded_plain (folds (form root t ∷ []) (mark Near root root t)) (made_of op (form root t).constant)
 
-operation_seen : (root b : Box) (op : Operation) (t : rule.Term) (plain : Bool) (a : ends.Ends) (m : Defined) → plain ≡ (form root (operation_term op t)).plain → a
-    ≡ unless_folded plain (made op (interval Near root b t)) → m ≡ mark Near root b t → (◌≡◌ {A = Sight}) (record { ends = a; mark = m }) (sight root b (operation_term op t))
-operation_seen root b op t plain a m plain_is is marked =
-    same_sight a (atoms Near root b (operation_term op t)) m (mark Near root b (operation_term op t))
-    (is ∙ ap (λ (f : Bool). unless_folded f (made op (interval Near root b t))) (plain_is ∙ operation_folds root op t) ∙ sym (operation_atoms Near root b op t))
-    (marked ∙ sym (operation_mark Near root b op t))
+operation_seen : (reading : Reading) (root b : Box) (op : Operation) (t : rule.Term) (plain : Bool) (a : ends.Ends) (m : Defined) → plain ≡ (form root (operation_term op t)).plain → a
+    ≡ unless_folded plain (made op (interval reading root b t)) → m ≡ mark reading root b t → (◌≡◌ {A = Sight}) (record { ends = a; mark = m }) (sight reading root b (operation_term op t))
+operation_seen reading root b op t plain a m plain_is is marked =
+    same_sight a (atoms reading root b (operation_term op t)) m (mark reading root b (operation_term op t))
+    (is ∙ ap (λ (f : Bool). unless_folded f (made op (interval reading root b t))) (plain_is ∙ operation_folds root op t) ∙ sym (operation_atoms reading root b op t))
+    (marked ∙ sym (operation_mark reading root b op t))
 
-pub operation_folded : (root b : Box) (op : Operation) (t : rule.Term) (plain : Bool) (a : ends.Ends) (m : Defined) → plain ≡ (form root (operation_term op t)).plain → plain ≡ true → a
-    ≡ ends.exactly (pos 0) → m ≡ mark Near root b t → (◌≡◌ {A = Sight}) (record { ends = a; mark = m }) (sight root b (operation_term op t))
-operation_folded root b op t plain a m plain_is met zero marked =
-    operation_seen root b op t plain a m plain_is (zero ∙ ap (λ (f : Bool). unless_folded f (made op (interval Near root b t))) (sym met)) marked
+pub operation_folded : (reading : Reading) (root b : Box) (op : Operation) (t : rule.Term) (plain : Bool) (a : ends.Ends) (m : Defined) → plain ≡ (form root (operation_term op t)).plain → plain ≡ true → a
+    ≡ ends.exactly (pos 0) → m ≡ mark reading root b t → (◌≡◌ {A = Sight}) (record { ends = a; mark = m }) (sight reading root b (operation_term op t))
+operation_folded reading root b op t plain a m plain_is met zero marked =
+    operation_seen reading root b op t plain a m plain_is (zero ∙ ap (λ (f : Bool). unless_folded f (made op (interval reading root b t))) (sym met)) marked
 
-pub operation_alone : (root b : Box) (op : Operation) (t : rule.Term) (plain : Bool) (a : ends.Ends) (m : Defined) → plain ≡ (form root (operation_term op t)).plain → plain ≡ false → a
-    ≡ made op (interval Near root b t) → m ≡ mark Near root b t → (◌≡◌ {A = Sight}) (record { ends = a; mark = m }) (sight root b (operation_term op t))
-operation_alone root b op t plain a m plain_is unmet is marked =
-    operation_seen root b op t plain a m plain_is (is ∙ ap (λ (f : Bool). unless_folded f (made op (interval Near root b t))) (sym unmet)) marked
+pub operation_alone : (reading : Reading) (root b : Box) (op : Operation) (t : rule.Term) (plain : Bool) (a : ends.Ends) (m : Defined) → plain ≡ (form root (operation_term op t)).plain → plain ≡ false → a
+    ≡ made op (interval reading root b t) → m ≡ mark reading root b t → (◌≡◌ {A = Sight}) (record { ends = a; mark = m }) (sight reading root b (operation_term op t))
+operation_alone reading root b op t plain a m plain_is unmet is marked =
+    operation_seen reading root b op t plain a m plain_is (is ∙ ap (λ (f : Bool). unless_folded f (made op (interval reading root b t))) (sym unmet)) marked
 
 -- the same for the least and the greatest
 extreme_folds : (root : Box) (e : Extreme) (t : rule.Term) (later : rule.Terms) → (form root (extreme_term e t later)).plain
@@ -72,24 +72,24 @@ extreme_folds root e t later =
     ap (λ f. f.plain) (extreme_form root e t later)
     ∙ folded_plain (folds (form root t ∷ forms root later) (both (mark Near root root t) (all_marks (marks Near root root later)))) (chosen (chosen_by e) (form root t) (forms root later))
 
-extreme_seen : (root b : Box) (e : Extreme) (t : rule.Term) (later : rule.Terms) (plain : Bool) (a : ends.Ends) (m : Defined) → plain ≡ (form root (extreme_term e t later)).plain → a
-    ≡ unless_folded plain (extreme_range Near root b e t later).ends → m ≡ (extreme_range Near root b e t later).mark
-    → (◌≡◌ {A = Sight}) (record { ends = a; mark = m }) (sight root b (extreme_term e t later))
-extreme_seen root b e t later plain a m plain_is is marked =
-    same_sight a (atoms Near root b (extreme_term e t later)) m (mark Near root b (extreme_term e t later))
-    (is ∙ ap (λ (f : Bool). unless_folded f (extreme_range Near root b e t later).ends) (plain_is ∙ extreme_folds root e t later) ∙ sym (extreme_atoms Near root b e t later))
-    (marked ∙ sym (extreme_mark Near root b e t later))
+extreme_seen : (reading : Reading) (root b : Box) (e : Extreme) (t : rule.Term) (later : rule.Terms) (plain : Bool) (a : ends.Ends) (m : Defined) → plain ≡ (form root (extreme_term e t later)).plain → a
+    ≡ unless_folded plain (extreme_range reading root b e t later).ends → m ≡ (extreme_range reading root b e t later).mark
+    → (◌≡◌ {A = Sight}) (record { ends = a; mark = m }) (sight reading root b (extreme_term e t later))
+extreme_seen reading root b e t later plain a m plain_is is marked =
+    same_sight a (atoms reading root b (extreme_term e t later)) m (mark reading root b (extreme_term e t later))
+    (is ∙ ap (λ (f : Bool). unless_folded f (extreme_range reading root b e t later).ends) (plain_is ∙ extreme_folds root e t later) ∙ sym (extreme_atoms reading root b e t later))
+    (marked ∙ sym (extreme_mark reading root b e t later))
 
-pub extreme_folded : (root b : Box) (e : Extreme) (t : rule.Term) (later : rule.Terms) (plain : Bool) (a : ends.Ends) (r : Sight) → plain ≡ (form root (extreme_term e t later)).plain
-    → plain ≡ true → a ≡ ends.exactly (pos 0) → r ≡ extreme_range Near root b e t later → (◌≡◌ {A = Sight}) (record { ends = a; mark = r.mark }) (sight root b (extreme_term e t later))
-extreme_folded root b e t later plain a r plain_is met zero is =
-    extreme_seen root b e t later plain a r.mark plain_is (zero ∙ ap (λ (f : Bool). unless_folded f (extreme_range Near root b e t later).ends) (sym met)) (ap (λ (s : Sight). s.mark) is)
+pub extreme_folded : (reading : Reading) (root b : Box) (e : Extreme) (t : rule.Term) (later : rule.Terms) (plain : Bool) (a : ends.Ends) (r : Sight) → plain ≡ (form root (extreme_term e t later)).plain
+    → plain ≡ true → a ≡ ends.exactly (pos 0) → r ≡ extreme_range reading root b e t later → (◌≡◌ {A = Sight}) (record { ends = a; mark = r.mark }) (sight reading root b (extreme_term e t later))
+extreme_folded reading root b e t later plain a r plain_is met zero is =
+    extreme_seen reading root b e t later plain a r.mark plain_is (zero ∙ ap (λ (f : Bool). unless_folded f (extreme_range reading root b e t later).ends) (sym met)) (ap (λ (s : Sight). s.mark) is)
 
-pub extreme_alone : (root b : Box) (e : Extreme) (t : rule.Term) (later : rule.Terms) (plain : Bool) (r : Sight) → plain ≡ (form root (extreme_term e t later)).plain → plain ≡ false
-    → r ≡ extreme_range Near root b e t later → r ≡ sight root b (extreme_term e t later)
-extreme_alone root b e t later plain r plain_is unmet is =
-    is ∙ extreme_seen root b e t later plain (extreme_range Near root b e t later).ends (extreme_range Near root b e t later).mark plain_is
-    (ap (λ (f : Bool). unless_folded f (extreme_range Near root b e t later).ends) (sym unmet)) refl
+pub extreme_alone : (reading : Reading) (root b : Box) (e : Extreme) (t : rule.Term) (later : rule.Terms) (plain : Bool) (r : Sight) → plain ≡ (form root (extreme_term e t later)).plain → plain ≡ false
+    → r ≡ extreme_range reading root b e t later → r ≡ sight reading root b (extreme_term e t later)
+extreme_alone reading root b e t later plain r plain_is unmet is =
+    is ∙ extreme_seen reading root b e t later plain (extreme_range reading root b e t later).ends (extreme_range reading root b e t later).mark plain_is
+    (ap (λ (f : Bool). unless_folded f (extreme_range reading root b e t later).ends) (sym unmet)) refl
 
 -- one after the other is taken, from the first to the last
 abbrev pub taken : Reading → Box → Box → Extreme → ends.Ends → Defined → rule.Terms → Sight

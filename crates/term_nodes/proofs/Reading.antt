@@ -6,7 +6,7 @@ use Rattle.term_language.specs.Rules.{Near, Wide, form, mark, truth}
 use Rattle.term_language.specs.Sizes.{atoms_weight}
 use Rattle.term_math.specs.Shown.{ends_of, form_of}
 use Rattle.term_nodes.specs.declared.items.Item.{Item}
-use Rattle.term_nodes.specs.Seen.{Sight, wide_sight}
+use Rattle.term_nodes.specs.Seen.{Sight, sight}
 use Rattle.term_nodes.specs.Things.{Thing, nothing, cond_in, term_in, cond_at, term_at, thing_at, thing_of, things, things_from}
 use Rattle.term_nodes.specs.Built as built
 use Rattle.term_nodes.specs.Built.{IsAt, IsBuilt}
@@ -38,10 +38,10 @@ truth_is root items id item all below at =
     ap (λ (f : built.Facts). f.truth) here.kept ∙ ap (λ (t : Thing). truth Wide root root (cond_in t)) (sym here.thing)
 
 pub wide_is : (root : Box) (items : List Item) (id : ℕ) (item : Item) → IsBuilt root items → id < length items → item ≡ get_or items id item
-    → (◌≡◌ {A = Sight}) (record { ends = ends_of item.facts.wide; mark = item.facts.wide_mark }) (wide_sight root (term_at (things items) id))
+    → (◌≡◌ {A = Sight}) (record { ends = ends_of item.facts.wide; mark = item.facts.wide_mark }) (sight Wide root root (term_at (things items) id))
 wide_is root items id item all below at =
     let here = all.each id item below at in
-    (ap (λ (f : built.Facts). record { ends = f.wide; mark = f.wide_mark }) here.kept) ∙ ap (λ (t : Thing). wide_sight root (term_in t)) (sym here.thing)
+    (ap (λ (f : built.Facts). record { ends = f.wide; mark = f.wide_mark }) here.kept) ∙ ap (λ (t : Thing). sight Wide root root (term_in t)) (sym here.thing)
 
 pub weight_is : (root : Box) (items : List Item) (id : ℕ) (item : Item) → IsBuilt root items → id < length items → item ≡ get_or items id item → item.facts.weight
     ≡ atoms_weight root (term_at (things items) id)

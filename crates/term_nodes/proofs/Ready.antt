@@ -8,7 +8,7 @@ use Rattle.box_problem.specs.Box.{Box, IsBox, Inside}
 use Rattle.term_language.specs.Ends as ends
 use Rattle.term_language.specs.Forms as forms
 use Rattle.term_language.specs.Terms.{Term, Constant, Product, Sum, Parts}
-use Rattle.term_language.specs.Rules.{Near, Wide, form, atoms, sum_atoms, product_atoms}
+use Rattle.term_language.specs.Rules.{Reading, Wide, form, atoms, sum_atoms, product_atoms}
 use Rattle.term_language.specs.Sizes.{weight_of, cells_weight, atoms_weight, sum_weight, size}
 use Rattle.term_language.specs.Laws.{IsProper, AreProper, AreProperParts, IsTable}
 use Rattle.term_language.proofs.Bounds.{Bounds, bounded, bounded_parts, sign_size}
@@ -24,7 +24,7 @@ use Rattle.term_nodes.specs.declared.evaluation.Evaluator.{Evaluator}
 use Rattle.term_nodes.specs.Things.{Thing, no_table, term_in, table_in, term_at, terms_at, table_at, parts_at, things}
 use Rattle.term_nodes.specs.Built.{IsAt, IsBuilt, IsSoundTerm}
 use Rattle.term_math.specs.declared.values.AbstractValue as own
-use Rattle.term_nodes.specs.Seen.{IsReady, Sight, sight, sight_of, sum_sight}
+use Rattle.term_nodes.specs.Seen.{CanRead, Sight, reading_of, sight, sight_of, sum_sight}
 use Rattle.term_nodes.proofs.Reading.{nothing_past}
 use Rattle.term_nodes.proofs.Steps.{next_part}
 
@@ -63,13 +63,13 @@ table_proper root (first ∷ rest) id all =
     ]
 
 -- its interval over a box inside the root
-pub near_bounds : (root b : Box) (t : Term) → IsBox root → Inside b root → IsProper t → Bounds (atoms Near root b t) (atoms_weight root t)
-near_bounds root b t is_box inside proper =
-    bounds_within (atoms Near root b t) (atoms Wide root root t) (atoms_weight root t) (narrow Near root b root t is_box inside proper).within (bounded root t proper)
+pub near_bounds : (reading : Reading) (root b : Box) (t : Term) → IsBox root → Inside b root → IsProper t → Bounds (atoms reading root b t) (atoms_weight root t)
+near_bounds reading root b t is_box inside proper =
+    bounds_within (atoms reading root b t) (atoms Wide root root t) (atoms_weight root t) (narrow reading root b root t is_box inside proper).within (bounded root t proper)
 
-near_parts : (root b : Box) (parts : Parts) → IsBox root → Inside b root → AreProperParts parts → Bounds (sum_atoms Near root b parts) (sum_weight root parts)
-near_parts root b parts is_box inside proper =
-    bounds_within (sum_atoms Near root b parts) (sum_atoms Wide root root parts) (sum_weight root parts) (narrow_parts Near root b root parts is_box inside proper).within
+near_parts : (reading : Reading) (root b : Box) (parts : Parts) → IsBox root → Inside b root → AreProperParts parts → Bounds (sum_atoms reading root b parts) (sum_weight root parts)
+near_parts reading root b parts is_box inside proper =
+    bounds_within (sum_atoms reading root b parts) (sum_atoms Wide root root parts) (sum_weight root parts) (narrow_parts reading root b root parts is_box inside proper).within
     (bounded_parts root parts proper)
 
 drop_proper : (all : List Thing) (i : ℕ) (parts : List Signed) → AreProperParts (parts_at all parts) → AreProperParts (parts_at all (drop i parts))
@@ -83,27 +83,27 @@ drop_lighter root all (suc i) [] = omega arith
 drop_lighter root all (suc i) (p ∷ parts) = omega (arith, drop_lighter root all i parts)
 
 -- the steps of a sum
-pub times_fit : (here : Evaluator) (subtracted : _) (id : ℕ) → IsReady here
-    → IsFit (ends_at (forms.sign subtracted) (atoms Near (box_in here.root) (box_in here.view) (term_at (things here.items.now) id)))
+pub times_fit : (here : Evaluator) (subtracted : _) (id : ℕ) → CanRead here
+    → IsFit (ends_at (forms.sign subtracted) (atoms (reading_of here) (box_in here.root) (box_in here.view) (term_at (things here.items.now) id)))
 times_fit here subtracted id ready =
     let t = term_at (things here.items.now) id in
     let sound = small_term (box_in here.root) here.items.now id ready.built in
-    fit_at (forms.sign subtracted) (atoms Near (box_in here.root) (box_in here.view) t) (atoms_weight (box_in here.root) t)
-    (near_bounds (box_in here.root) (box_in here.view) t ready.root_is_box ready.inside sound.proper)
+    fit_at (forms.sign subtracted) (atoms (reading_of here) (box_in here.root) (box_in here.view) t) (atoms_weight (box_in here.root) t)
+    (near_bounds (reading_of here) (box_in here.root) (box_in here.view) t ready.root_is_box ready.inside sound.proper)
     (let once : unsigned_abs (forms.sign subtracted) * atoms_weight (box_in here.root) t
     ≡ 1 * atoms_weight (box_in here.root) t = ap (λ (n : ℕ). n * atoms_weight (box_in here.root) t) (sign_size subtracted) in
     omega (arith, once, sound.small))
 
-pub sum_fit : (here : Evaluator) (xs : List Signed) (i : ℕ) (x : Signed) → IsReady here → IsSoundTerm (box_in here.root) (Sum (parts_at (things here.items.now) xs)) → i < length xs → x
-    ≡ get_or xs i x → IsFit (ends.plus (ends.scaled (forms.sign x.subtracted) (atoms Near (box_in here.root) (box_in here.view) (term_at (things here.items.now) x.term)))
-    (sum_atoms Near (box_in here.root) (box_in here.view) (parts_at (things here.items.now) (drop (i + 1) xs))))
+pub sum_fit : (here : Evaluator) (xs : List Signed) (i : ℕ) (x : Signed) → CanRead here → IsSoundTerm (box_in here.root) (Sum (parts_at (things here.items.now) xs)) → i < length xs → x
+    ≡ get_or xs i x → IsFit (ends.plus (ends.scaled (forms.sign x.subtracted) (atoms (reading_of here) (box_in here.root) (box_in here.view) (term_at (things here.items.now) x.term)))
+    (sum_atoms (reading_of here) (box_in here.root) (box_in here.view) (parts_at (things here.items.now) (drop (i + 1) xs))))
 sum_fit here xs i x ready sound below at =
     let root = box_in here.root in
     let b = box_in here.view in
     let all = things here.items.now in
     let parts = parts_at all (drop i xs) in
-    subst IsFit (ap (λ s. s.ends) (next_part root b all xs i x below at))
-    (fit (sum_atoms Near root b parts) (sum_weight root parts) (near_parts root b parts ready.root_is_box ready.inside (drop_proper all i xs sound.proper))
+    subst IsFit (ap (λ s. s.ends) (next_part (reading_of here) root b all xs i x below at))
+    (fit (sum_atoms (reading_of here) root b parts) (sum_weight root parts) (near_parts (reading_of here) root b parts ready.root_is_box ready.inside (drop_proper all i xs sound.proper))
     (omega (arith, drop_lighter root all i xs, sound.small)))
 
 -- a product
@@ -114,17 +114,17 @@ sized_form root t f is small =
     ≡ unsigned_abs (form root t).constant + cells_weight root (form root t).cells = ap (λ (g : forms.Form). unsigned_abs g.constant + cells_weight root g.cells) is in
     omega (arith, same, small)
 
-product_same : (root b : Box) (s t : Term) (f g : Form) (n : ℕ) → form_of f ≡ form root s → form_of g ≡ form root t
-    → Bounds (product_atoms b (form root s) (form root t) (atoms Near root b s) (atoms Near root b t)) n
-    → Bounds (product_atoms b (form_of f) (form_of g) (atoms Near root b s) (atoms Near root b t)) n
-product_same root b s t f g n left right bounds =
-    subst (λ (h : forms.Form). Bounds (product_atoms b h (form_of g) (atoms Near root b s) (atoms Near root b t)) n) (sym left)
-    (subst (λ (h : forms.Form). Bounds (product_atoms b (form root s) h (atoms Near root b s) (atoms Near root b t)) n) (sym right) bounds)
+product_same : (reading : Reading) (root b : Box) (s t : Term) (f g : Form) (n : ℕ) → form_of f ≡ form root s → form_of g ≡ form root t
+    → Bounds (product_atoms b (form root s) (form root t) (atoms reading root b s) (atoms reading root b t)) n
+    → Bounds (product_atoms b (form_of f) (form_of g) (atoms reading root b s) (atoms reading root b t)) n
+product_same reading root b s t f g n left right bounds =
+    subst (λ (h : forms.Form). Bounds (product_atoms b h (form_of g) (atoms reading root b s) (atoms reading root b t)) n) (sym left)
+    (subst (λ (h : forms.Form). Bounds (product_atoms b (form root s) h (atoms reading root b s) (atoms reading root b t)) n) (sym right) bounds)
 
-pub product_fit : (here : Evaluator) (x y : ℕ) (f g : Form) → IsReady here → form_of f ≡ form (box_in here.root) (term_at (things here.items.now) x) → form_of g
+pub product_fit : (here : Evaluator) (x y : ℕ) (f g : Form) → CanRead here → form_of f ≡ form (box_in here.root) (term_at (things here.items.now) x) → form_of g
     ≡ form (box_in here.root) (term_at (things here.items.now) y) → IsSoundTerm (box_in here.root) (Product (term_at (things here.items.now) x) (term_at (things here.items.now) y))
-    → ProductFits (box_in here.view) f g (atoms Near (box_in here.root) (box_in here.view) (term_at (things here.items.now) x))
-    (atoms Near (box_in here.root) (box_in here.view) (term_at (things here.items.now) y))
+    → ProductFits (box_in here.view) f g (atoms (reading_of here) (box_in here.root) (box_in here.view) (term_at (things here.items.now) x))
+    (atoms (reading_of here) (box_in here.root) (box_in here.view) (term_at (things here.items.now) y))
 product_fit here x y f g ready left right sound =
     let root = box_in here.root in
     let b = box_in here.view in
@@ -132,11 +132,11 @@ product_fit here x y f g ready left right sound =
     let t = term_at (things here.items.now) y in
     let s_sound = small_term root here.items.now x ready.built in
     let t_sound = small_term root here.items.now y ready.built in
-    let whole = near_bounds root b (Product s t) ready.root_is_box ready.inside sound.proper in
-    product_fits root b f g (atoms Near root b s) (atoms Near root b t) (atoms_weight root s) (atoms_weight root t) (atoms_weight root (Product s t)) ready.root_is_box ready.inside
-    (near_bounds root b s ready.root_is_box ready.inside s_sound.proper) (near_bounds root b t ready.root_is_box ready.inside t_sound.proper)
+    let whole = near_bounds (reading_of here) root b (Product s t) ready.root_is_box ready.inside sound.proper in
+    product_fits root b f g (atoms (reading_of here) root b s) (atoms (reading_of here) root b t) (atoms_weight root s) (atoms_weight root t) (atoms_weight root (Product s t)) ready.root_is_box ready.inside
+    (near_bounds (reading_of here) root b s ready.root_is_box ready.inside s_sound.proper) (near_bounds (reading_of here) root b t ready.root_is_box ready.inside t_sound.proper)
     (sized_form root s f left s_sound.small) (sized_form root t g right t_sound.small)
-    (product_same root b s t f g (atoms_weight root (Product s t)) left right whole) (omega (arith, sound.small))
+    (product_same (reading_of here) root b s t f g (atoms_weight root (Product s t)) left right whole) (omega (arith, sound.small))
 
 -- a comparison
 pub difference_light : (root : Box) (s t : Term) (f : Form) → form_of f ≡ forms.plus_form (negsuc 0) (form root s) (form root t) → size root s ≤ 2 ^ 40 → size root t ≤ 2 ^ 40
@@ -161,10 +161,10 @@ difference_light root s t f is s_small t_small =
       t_small,
     )
 
-pub difference_fit : (here : Evaluator) (x y : ℕ) (f : Form) → IsReady here → form_of f
+pub difference_fit : (here : Evaluator) (x y : ℕ) (f : Form) → CanRead here → form_of f
     ≡ forms.plus_form (negsuc 0) (form (box_in here.root) (term_at (things here.items.now) x)) (form (box_in here.root) (term_at (things here.items.now) y))
-    → DifferenceFits (box_in here.view) f (atoms Near (box_in here.root) (box_in here.view) (term_at (things here.items.now) x))
-    (atoms Near (box_in here.root) (box_in here.view) (term_at (things here.items.now) y))
+    → DifferenceFits (box_in here.view) f (atoms (reading_of here) (box_in here.root) (box_in here.view) (term_at (things here.items.now) x))
+    (atoms (reading_of here) (box_in here.root) (box_in here.view) (term_at (things here.items.now) y))
 difference_fit here x y f ready is =
     let root = box_in here.root in
     let b = box_in here.view in
@@ -172,46 +172,46 @@ difference_fit here x y f ready is =
     let t = term_at (things here.items.now) y in
     let s_sound = small_term root here.items.now x ready.built in
     let t_sound = small_term root here.items.now y ready.built in
-    difference_fits root b f (atoms Near root b s) (atoms Near root b t) (atoms_weight root s) (atoms_weight root t) ready.root_is_box ready.inside
-    (near_bounds root b s ready.root_is_box ready.inside s_sound.proper) (near_bounds root b t ready.root_is_box ready.inside t_sound.proper)
+    difference_fits root b f (atoms (reading_of here) root b s) (atoms (reading_of here) root b t) (atoms_weight root s) (atoms_weight root t) ready.root_is_box ready.inside
+    (near_bounds (reading_of here) root b s ready.root_is_box ready.inside s_sound.proper) (near_bounds (reading_of here) root b t ready.root_is_box ready.inside t_sound.proper)
     (difference_light root s t f is s_sound.small t_sound.small)
 
-pub difference_seen : (here : Evaluator) (x y : ℕ) (f : Form) (l r : own.AbstractValue) → IsReady here → form_of f
+pub difference_seen : (here : Evaluator) (x y : ℕ) (f : Form) (l r : own.AbstractValue) → CanRead here → form_of f
     ≡ forms.plus_form (negsuc 0) (form (box_in here.root) (term_at (things here.items.now) x)) (form (box_in here.root) (term_at (things here.items.now) y)) → sight_of l
-    ≡ sight (box_in here.root) (box_in here.view) (term_at (things here.items.now) x) → sight_of r ≡ sight (box_in here.root) (box_in here.view) (term_at (things here.items.now) y)
+    ≡ sight (reading_of here) (box_in here.root) (box_in here.view) (term_at (things here.items.now) x) → sight_of r ≡ sight (reading_of here) (box_in here.root) (box_in here.view) (term_at (things here.items.now) y)
     → DifferenceFits (box_in here.view) f (ends_of l.ends) (ends_of r.ends)
 difference_seen here x y f l r ready is left right =
     subst (λ (a : ends.Ends). DifferenceFits (box_in here.view) f a (ends_of r.ends)) (sym (ap (λ (s : Sight). s.ends) left))
-    (subst (λ (a : ends.Ends). DifferenceFits (box_in here.view) f (atoms Near (box_in here.root) (box_in here.view) (term_at (things here.items.now) x)) a) (sym (ap (λ (s : Sight). s.ends) right))
+    (subst (λ (a : ends.Ends). DifferenceFits (box_in here.view) f (atoms (reading_of here) (box_in here.root) (box_in here.view) (term_at (things here.items.now) x)) a) (sym (ap (λ (s : Sight). s.ends) right))
     (difference_fit here x y f ready is))
 
-pub times_seen : (here : Evaluator) (subtracted : _) (id : ℕ) (s : own.AbstractValue) → IsReady here → sight_of s ≡ sight (box_in here.root) (box_in here.view) (term_at (things here.items.now) id)
+pub times_seen : (here : Evaluator) (subtracted : _) (id : ℕ) (s : own.AbstractValue) → CanRead here → sight_of s ≡ sight (reading_of here) (box_in here.root) (box_in here.view) (term_at (things here.items.now) id)
     → IsFit (ends_at (forms.sign subtracted) (ends_of s.ends))
 times_seen here subtracted id s ready is =
     subst (λ (a : ends.Ends). IsFit (ends_at (forms.sign subtracted) a)) (sym (ap (λ (s : Sight). s.ends) is)) (times_fit here subtracted id ready)
 
-pub sum_seen : (here : Evaluator) (xs : List Signed) (i : ℕ) (d : Signed) (part sum : own.AbstractValue) → IsReady here → IsSoundTerm (box_in here.root) (Sum (parts_at (things here.items.now) xs))
-    → 0 < i → i ≤ length xs → sight_of part ≡ sight (box_in here.root) (box_in here.view) (term_at (things here.items.now) (get_or xs (i - 1) d).term) → sight_of sum
-    ≡ sum_sight (box_in here.root) (box_in here.view) (parts_at (things here.items.now) (drop i xs))
+pub sum_seen : (here : Evaluator) (xs : List Signed) (i : ℕ) (d : Signed) (part sum : own.AbstractValue) → CanRead here → IsSoundTerm (box_in here.root) (Sum (parts_at (things here.items.now) xs))
+    → 0 < i → i ≤ length xs → sight_of part ≡ sight (reading_of here) (box_in here.root) (box_in here.view) (term_at (things here.items.now) (get_or xs (i - 1) d).term) → sight_of sum
+    ≡ sum_sight (reading_of here) (box_in here.root) (box_in here.view) (parts_at (things here.items.now) (drop i xs))
     → IsFit (ends.plus (ends.scaled (forms.sign (get_or xs (i - 1) d).subtracted) (ends_of part.ends)) (ends_of sum.ends))
 sum_seen here xs i d part sum ready sound positive most first later =
     let there : i - 1 < length xs = omega (arith, positive, most) in
     let again : i - 1 + 1 ≡ i = omega (arith, positive) in
     let x : Signed = get_or xs (i - 1) d in
     let fits = sum_fit here xs (i - 1) x ready sound there (get_or_default xs (i - 1) d x there) in
-    let here_fits = subst (λ (j : ℕ). IsFit (ends.plus (ends.scaled (forms.sign x.subtracted) (atoms Near (box_in here.root) (box_in here.view) (term_at (things here.items.now) x.term)))
-    (sum_atoms Near (box_in here.root) (box_in here.view) (parts_at (things here.items.now) (drop j xs))))) again fits in
+    let here_fits = subst (λ (j : ℕ). IsFit (ends.plus (ends.scaled (forms.sign x.subtracted) (atoms (reading_of here) (box_in here.root) (box_in here.view) (term_at (things here.items.now) x.term)))
+    (sum_atoms (reading_of here) (box_in here.root) (box_in here.view) (parts_at (things here.items.now) (drop j xs))))) again fits in
     subst (λ (a : ends.Ends). IsFit (ends.plus (ends.scaled (forms.sign x.subtracted) a) (ends_of sum.ends))) (sym (ap (λ (s : Sight). s.ends) first))
-    (subst (λ (a : ends.Ends). IsFit (ends.plus (ends.scaled (forms.sign x.subtracted) (atoms Near (box_in here.root) (box_in here.view) (term_at (things here.items.now) x.term))) a))
+    (subst (λ (a : ends.Ends). IsFit (ends.plus (ends.scaled (forms.sign x.subtracted) (atoms (reading_of here) (box_in here.root) (box_in here.view) (term_at (things here.items.now) x.term))) a))
     (sym (ap (λ (s : Sight). s.ends) later)) here_fits)
 
 -- the whole interval of a term
-pub range_fit : (here : Evaluator) (id : ℕ) (f : Form) (s : own.AbstractValue) → IsReady here → form_of f ≡ form (box_in here.root) (term_at (things here.items.now) id) → sight_of s
-    ≡ sight (box_in here.root) (box_in here.view) (term_at (things here.items.now) id) → WholeFits (box_in here.view) f (ends_of s.ends)
+pub range_fit : (here : Evaluator) (id : ℕ) (f : Form) (s : own.AbstractValue) → CanRead here → form_of f ≡ form (box_in here.root) (term_at (things here.items.now) id) → sight_of s
+    ≡ sight (reading_of here) (box_in here.root) (box_in here.view) (term_at (things here.items.now) id) → WholeFits (box_in here.view) f (ends_of s.ends)
 range_fit here id f s ready is seen =
     let root = box_in here.root in
     let t = term_at (things here.items.now) id in
     let sound = small_term root here.items.now id ready.built in
     subst (λ (a : ends.Ends). WholeFits (box_in here.view) f a) (sym (ap (λ (s : Sight). s.ends) seen))
-    (whole_fits root (box_in here.view) f (atoms Near root (box_in here.view) t) (atoms_weight root t) ready.root_is_box ready.inside
-    (near_bounds root (box_in here.view) t ready.root_is_box ready.inside sound.proper) (sized_form root t f is sound.small))
+    (whole_fits root (box_in here.view) f (atoms (reading_of here) root (box_in here.view) t) (atoms_weight root t) ready.root_is_box ready.inside
+    (near_bounds (reading_of here) root (box_in here.view) t ready.root_is_box ready.inside sound.proper) (sized_form root t f is sound.small))

@@ -7,7 +7,7 @@ use Rattle.term_language.specs.Forms.{sign}
 use Rattle.term_language.specs.Marks.{both, all_marks, and_truth, or_truth}
 use Rattle.term_language.specs.Terms as rule
 use Rattle.term_language.specs.declared.answers.Defined.TheVariants.{Always}
-use Rattle.term_language.specs.Rules.{Reading, Near, form, atoms, mark, marks, sum_atoms, truth, all_truth, any_truth}
+use Rattle.term_language.specs.Rules.{Reading, form, atoms, mark, marks, sum_atoms, truth, all_truth, any_truth}
 use Rattle.term_language.specs.declared.answers.Truth.{Truth}
 use Rattle.term_nodes.specs.declared.nodes.Node.{Node}
 use Rattle.term_nodes.specs.declared.nodes.Signed.{Signed}
@@ -17,15 +17,15 @@ use Rattle.term_nodes.specs.Built.{Facts, IsAt, IsBelow, IsSound, IsRight, Parts
 use Rattle.term_nodes.specs.Seen.{Sight, sight, sum_sight}
 
 -- what is known where it is known which node stands at a number
-pub seen_at : (root b : Box) (all : List Thing) (id : ℕ) (item : Item) (node : Node) (r : Sight) → IsAt root all id item → item.node ≡ node → r ≡ sight root b (term_in (thing_of all node))
-    → r ≡ sight root b (term_at all id)
-seen_at root b all id item node r at is seen =
-    seen ∙ ap (λ (n : Node). sight root b (term_in (thing_of all n))) (sym is) ∙ ap (λ (t : Thing). sight root b (term_in t)) (sym at.thing)
+pub seen_at : (reading : Reading) (root b : Box) (all : List Thing) (id : ℕ) (item : Item) (node : Node) (r : Sight) → IsAt root all id item → item.node ≡ node → r ≡ sight reading root b (term_in (thing_of all node))
+    → r ≡ sight reading root b (term_at all id)
+seen_at reading root b all id item node r at is seen =
+    seen ∙ ap (λ (n : Node). sight reading root b (term_in (thing_of all n))) (sym is) ∙ ap (λ (t : Thing). sight reading root b (term_in t)) (sym at.thing)
 
-pub truth_at : (root b : Box) (all : List Thing) (id : ℕ) (item : Item) (node : Node) (r : Truth) → IsAt root all id item → item.node ≡ node → r ≡ truth Near root b (cond_in (thing_of all node))
-    → r ≡ truth Near root b (cond_at all id)
-truth_at root b all id item node r at is seen =
-    seen ∙ ap (λ (n : Node). truth Near root b (cond_in (thing_of all n))) (sym is) ∙ ap (λ (t : Thing). truth Near root b (cond_in t)) (sym at.thing)
+pub truth_at : (reading : Reading) (root b : Box) (all : List Thing) (id : ℕ) (item : Item) (node : Node) (r : Truth) → IsAt root all id item → item.node ≡ node → r ≡ truth reading root b (cond_in (thing_of all node))
+    → r ≡ truth reading root b (cond_at all id)
+truth_at reading root b all id item node r at is seen =
+    seen ∙ ap (λ (n : Node). truth reading root b (cond_in (thing_of all n))) (sym is) ∙ ap (λ (t : Thing). truth reading root b (cond_in t)) (sym at.thing)
 
 pub below_at : (root : Box) (all : List Thing) (id : ℕ) (item : Item) (node : Node) → IsAt root all id item → item.node ≡ node → IsBelow id node
 below_at root all id item node at is = subst (IsBelow id) is at.below
@@ -54,22 +54,22 @@ pub no_seen_marks : (reading : Reading) (root b : Box) (all : List Thing) (xs : 
 no_seen_marks reading root b all xs i past = at_drop_all (λ ys. all_marks (marks reading root b (terms_at all ys))) xs i past
 
 -- the parts of a sum
-pub next_part : (root b : Box) (all : List Thing) (xs : List Signed) (i : ℕ) (x : Signed) → i < length xs → x ≡ get_or xs i x → sum_sight root b (parts_at all (drop i xs))
+pub next_part : (reading : Reading) (root b : Box) (all : List Thing) (xs : List Signed) (i : ℕ) (x : Signed) → i < length xs → x ≡ get_or xs i x → sum_sight reading root b (parts_at all (drop i xs))
     ≡ record {
-      ends = ends.plus (ends.scaled (sign x.subtracted) (atoms Near root b (term_at all x.term))) (sum_atoms Near root b (parts_at all (drop (i + 1) xs)));
+      ends = ends.plus (ends.scaled (sign x.subtracted) (atoms reading root b (term_at all x.term))) (sum_atoms reading root b (parts_at all (drop (i + 1) xs)));
       mark =
-          both (mark Near root b (term_at all x.term)) (sum_sight root b (parts_at all (drop (i + 1) xs))).mark;
+          both (mark reading root b (term_at all x.term)) (sum_sight reading root b (parts_at all (drop (i + 1) xs))).mark;
     }
-next_part root b all xs i x below at =
-    at_drop_more (λ ys. sum_sight root b (parts_at all ys)) xs i x below
+next_part reading root b all xs i x below at =
+    at_drop_more (λ ys. sum_sight reading root b (parts_at all ys)) xs i x below
     ∙ ap (λ (y : Signed). record {
-      ends = ends.plus (ends.scaled (sign y.subtracted) (atoms Near root b (term_at all y.term))) (sum_atoms Near root b (parts_at all (drop (i + 1) xs)));
+      ends = ends.plus (ends.scaled (sign y.subtracted) (atoms reading root b (term_at all y.term))) (sum_atoms reading root b (parts_at all (drop (i + 1) xs)));
       mark =
-          both (mark Near root b (term_at all y.term)) (sum_sight root b (parts_at all (drop (i + 1) xs))).mark;
+          both (mark reading root b (term_at all y.term)) (sum_sight reading root b (parts_at all (drop (i + 1) xs))).mark;
     }) (sym at)
 
-pub no_parts : (root b : Box) (all : List Thing) (xs : List Signed) (i : ℕ) → length xs ≤ i → sum_sight root b (parts_at all (drop i xs)) ≡ sum_sight root b (parts_at all [])
-no_parts root b all xs i past = at_drop_all (λ ys. sum_sight root b (parts_at all ys)) xs i past
+pub no_parts : (reading : Reading) (root b : Box) (all : List Thing) (xs : List Signed) (i : ℕ) → length xs ≤ i → sum_sight reading root b (parts_at all (drop i xs)) ≡ sum_sight reading root b (parts_at all [])
+no_parts reading root b all xs i past = at_drop_all (λ ys. sum_sight reading root b (parts_at all ys)) xs i past
 
 pub part_below : (limit : ℕ) (xs : List Signed) (i : ℕ) (x : Signed) → PartsBelow limit xs → i < length xs → x ≡ get_or xs i x → x.term < limit
 part_below limit [] i x below there at = omega (arith, there)
@@ -113,7 +113,7 @@ part_back limit xs i d below positive most =
     let there : i - 1 < length xs = omega (arith, positive, most) in
     part_below limit xs (i - 1) (get_or xs (i - 1) d) below there (get_or_default xs (i - 1) d (get_or xs (i - 1) d) there)
 
-pub all_parts : (root b : Box) (all : List Thing) (xs : List Signed) (i : ℕ) (r : Sight) → i ≤ 0 → r ≡ sum_sight root b (parts_at all (drop i xs)) → r ≡ sum_sight root b (parts_at all xs)
-all_parts root b all xs i r none is =
+pub all_parts : (reading : Reading) (root b : Box) (all : List Thing) (xs : List Signed) (i : ℕ) (r : Sight) → i ≤ 0 → r ≡ sum_sight reading root b (parts_at all (drop i xs)) → r ≡ sum_sight reading root b (parts_at all xs)
+all_parts reading root b all xs i r none is =
     let at_zero : i ≡ 0 = omega (arith, none) in
-    is ∙ ap (λ (j : ℕ). sum_sight root b (parts_at all (drop j xs))) at_zero
+    is ∙ ap (λ (j : ℕ). sum_sight reading root b (parts_at all (drop j xs))) at_zero

@@ -1,5 +1,5 @@
 -- What terms are over a box.
-use Rattle.std.specs.Prelude.{ℕ, ℤ, List, Option}
+use Rattle.std.specs.Prelude.{◌≡◌, ℕ, ℤ, Bool, true, false, List, Option}
 use Rattle.box_problem.specs.Box.{Box, IsBox, Inside}
 use Rattle.term_language.specs.Ends as ends
 use Rattle.std.specs.List.{fold}
@@ -19,11 +19,11 @@ use Rattle.term_nodes.specs.Things.{tasks_at, terms_at, things}
 use Rattle.term_nodes.specs.Built.{IsBuilt}
 
 -- the interval of the non-linear part, and the mark
-abbrev pub sight : Box → Box → Term → Sight
-sight root b t = record { ends = rule.atoms rule.Near root b t; mark = rule.mark rule.Near root b t }
+abbrev pub sight : rule.Reading → Box → Box → Term → Sight
+sight reading root b t = record { ends = rule.atoms reading root b t; mark = rule.mark reading root b t }
 
-abbrev pub sum_sight : Box → Box → Parts → Sight
-sum_sight root b parts = record { ends = rule.sum_atoms rule.Near root b parts; mark = rule.sum_mark rule.Near root b parts }
+abbrev pub sum_sight : rule.Reading → Box → Box → Parts → Sight
+sum_sight reading root b parts = record { ends = rule.sum_atoms reading root b parts; mark = rule.sum_mark reading root b parts }
 
 -- the whole interval of a term, and its mark
 abbrev pub range : rule.Reading → Box → Box → Term → Sight
@@ -55,22 +55,31 @@ abbrev pub indexed_sight : rule.Reading → Box → Box → Table → Terms → 
 indexed_sight reading root b table at sets mark known =
     known_sight b table (both (all_marks (rule.marks reading root b at)) mark) (with_dimensions (rule.intervals reading root b at) sets known)
 
+-- how elements are read
+abbrev pub by_width : Bool → rule.Reading
+by_width true = rule.Wide
+by_width false = rule.Near
+
+abbrev pub reading_of : Evaluator → rule.Reading
+reading_of here = by_width here.wide
+
 -- the intervals of several terms over the box, and those of several tasks
 abbrev pub intervals_seen : Evaluator → List ℕ → List ends.Ends
-intervals_seen here ids = rule.intervals rule.Near (box_in here.root) (box_in here.view) (terms_at (things here.items.now) ids)
+intervals_seen here ids = rule.intervals (reading_of here) (box_in here.root) (box_in here.view) (terms_at (things here.items.now) ids)
 
 abbrev pub tasks_seen : Evaluator → List Task → List TaskEnds
-tasks_seen here tasks = rule.task_ends rule.Near (box_in here.root) (box_in here.view) (tasks_at (things here.items.now) tasks)
+tasks_seen here tasks = rule.task_ends (reading_of here) (box_in here.root) (box_in here.view) (tasks_at (things here.items.now) tasks)
 
--- what a term is over the root, by the wide reading
-abbrev pub wide_sight : Box → Term → Sight
-wide_sight root t = record { ends = rule.atoms rule.Wide root root t; mark = rule.mark rule.Wide root root t }
+-- the nodes are right, and the box lies inside the root; by the wide reading it is the root
+pub record CanRead (here : Evaluator) : Type 0 where
+  pub built : IsBuilt (box_in here.root) here.items.now
+  pub root_is_box : IsBox (box_in here.root)
+  pub inside : Inside (box_in here.view) (box_in here.root)
+  pub whole : here.wide ≡ true → box_in here.view ≡ box_in here.root
 
-abbrev pub wide_sum : Box → Parts → Sight
-wide_sum root parts = record { ends = rule.sum_atoms rule.Wide root root parts; mark = rule.sum_mark rule.Wide root root parts }
-
--- the nodes are right, and the box lies inside the root
+-- and elements are read whose indices the box allows
 pub record IsReady (here : Evaluator) : Type 0 where
   pub built : IsBuilt (box_in here.root) here.items.now
   pub root_is_box : IsBox (box_in here.root)
   pub inside : Inside (box_in here.view) (box_in here.root)
+  pub near : here.wide ≡ false

@@ -10,7 +10,7 @@ ghost use Rattle.term_language.specs.declared.answers.Defined.TheVariants.{Alway
 ghost use Rattle.term_math.specs.Shown.{box_in, ends_of};
 ghost use Rattle.term_windows.specs.Windows.{inside_in};
 ghost use Rattle.term_nodes.specs.Built.{AllBelow};
-ghost use Rattle.term_nodes.specs.Seen.{IsReady, intervals_seen};
+ghost use Rattle.term_nodes.specs.Seen.{CanRead, intervals_seen, reading_of};
 ghost use Rattle.term_nodes.specs.Things.{terms_at, things};
 
 use crate::evaluation::Evaluator;
@@ -22,11 +22,11 @@ impl<'a> Evaluator<'a> {
     /// The mark of several terms over the box, all together.
     #[cycle(seen)]
     #[tactic(auto, using(crate::proofs::Steps::next_seen_marks, crate::proofs::Steps::no_seen_marks, crate::proofs::Steps::cond_below))]
-    fn marks(&self, limit: u32, terms: &[u32]) -> Defined
-        requires ready { IsReady self.now }
+    pub fn marks(&self, limit: u32, terms: &[u32]) -> Defined
+        requires ready { CanRead self.now }
         requires exists { limit ≤ length self.now.items.now }
         requires below { AllBelow limit terms.now }
-        ensures { result ≡ marks.all_marks (rule.marks rule.Near (box_in self.now.root) (box_in self.now.view) (terms_at (things self.now.items.now) terms.now)) }
+        ensures { result ≡ marks.all_marks (rule.marks (reading_of self.now) (box_in self.now.root) (box_in self.now.view) (terms_at (things self.now.items.now) terms.now)) }
     {
         let mut mark = Defined::Always;
         for i in (0..terms.len()).rev() {
@@ -40,7 +40,7 @@ impl<'a> Evaluator<'a> {
     #[cycle(seen)]
     #[tactic(auto, using(crate::proofs::Crowding::next_inside, crate::proofs::Crowding::next_outside, crate::proofs::Crowding::none_inside, crate::proofs::Steps::cond_below))]
     fn inside(&self, limit: u32, terms: &[u32], window: &Window) -> usize
-        requires ready { IsReady self.now }
+        requires ready { CanRead self.now }
         requires exists { limit ≤ length self.now.items.now }
         requires below { AllBelow limit terms.now }
         ensures { result ≡ inside_in window.now (intervals_seen self.now terms.now) }
@@ -60,7 +60,7 @@ impl<'a> Evaluator<'a> {
     #[cycle(seen)]
     #[tactic(auto, using(crate::proofs::Crowding::first_window, term_windows::proofs::Crowding::next_window, term_windows::proofs::Crowding::last_window, crate::proofs::Crowding::full_window))]
     fn crowded_from(&self, limit: u32, terms: &[u32], from: &Ends) -> bool
-        requires ready { IsReady self.now }
+        requires ready { CanRead self.now }
         requires exists { limit ≤ length self.now.items.now }
         requires below { AllBelow limit terms.now }
         ensures { result ≡ list_any (λ y. globals.are_crowded (intervals_seen self.now terms.now) from.now.low y.high) (intervals_seen self.now terms.now) }
@@ -80,7 +80,7 @@ impl<'a> Evaluator<'a> {
     #[cycle(seen)]
     #[tactic(auto, using(crate::proofs::Crowding::next_uncrowded, crate::proofs::Crowding::next_crowded, crate::proofs::Crowding::none_crowded_left, crate::proofs::Steps::cond_below))]
     fn never_differ(&self, limit: u32, terms: &[u32]) -> bool
-        requires ready { IsReady self.now }
+        requires ready { CanRead self.now }
         requires exists { limit ≤ length self.now.items.now }
         requires below { AllBelow limit terms.now }
         ensures { result ≡ globals.never_differ (intervals_seen self.now terms.now) }
@@ -98,7 +98,7 @@ impl<'a> Evaluator<'a> {
     #[cycle(seen)]
     #[tactic(auto, using(crate::proofs::Crowding::next_apart, crate::proofs::Crowding::not_apart, crate::proofs::Crowding::all_apart, crate::proofs::Steps::cond_below))]
     fn apart_from(&self, limit: u32, terms: &[u32], from: &Ends) -> bool
-        requires ready { IsReady self.now }
+        requires ready { CanRead self.now }
         requires exists { limit ≤ length self.now.items.now }
         requires below { AllBelow limit terms.now }
         ensures { result ≡ list_all (globals.are_apart (ends_of from.now)) (intervals_seen self.now terms.now) }
@@ -116,7 +116,7 @@ impl<'a> Evaluator<'a> {
     #[cycle(seen)]
     #[tactic(auto, using(crate::proofs::Crowding::first_apart, crate::proofs::Crowding::first_touches, crate::proofs::Crowding::none_touches, crate::proofs::Crowding::first_below, crate::proofs::Crowding::later_below))]
     fn always_differ(&self, limit: u32, terms: &[u32]) -> bool
-        requires ready { IsReady self.now }
+        requires ready { CanRead self.now }
         requires exists { limit ≤ length self.now.items.now }
         requires below { AllBelow limit terms.now }
         ensures { result ≡ globals.always_differ (intervals_seen self.now terms.now) }
@@ -136,7 +136,7 @@ impl<'a> Evaluator<'a> {
     #[cycle(seen)]
     #[tactic(auto, using(crate::proofs::Crowding::maybe_never, crate::proofs::Crowding::maybe_open))]
     fn may_differ(&self, limit: u32, terms: &[u32]) -> Truth
-        requires ready { IsReady self.now }
+        requires ready { CanRead self.now }
         requires exists { limit ≤ length self.now.items.now }
         requires below { AllBelow limit terms.now }
         ensures { result ≡ marks.judged Maybe (globals.never_differ (intervals_seen self.now terms.now)) (globals.always_differ (intervals_seen self.now terms.now)) }
@@ -151,7 +151,7 @@ impl<'a> Evaluator<'a> {
     #[cycle(seen)]
     #[tactic(auto, using(crate::proofs::Crowding::surely_apart, crate::proofs::Crowding::not_surely))]
     fn do_differ(&self, limit: u32, terms: &[u32]) -> Truth
-        requires ready { IsReady self.now }
+        requires ready { CanRead self.now }
         requires exists { limit ≤ length self.now.items.now }
         requires below { AllBelow limit terms.now }
         ensures { result ≡ marks.judged Always (globals.never_differ (intervals_seen self.now terms.now)) (globals.always_differ (intervals_seen self.now terms.now)) }
@@ -166,10 +166,10 @@ impl<'a> Evaluator<'a> {
     #[cycle(seen)]
     #[tactic(auto, using(crate::proofs::Crowding::judged_by))]
     pub(crate) fn all_different(&self, limit: u32, terms: &[u32]) -> Truth
-        requires ready { IsReady self.now }
+        requires ready { CanRead self.now }
         requires exists { limit ≤ length self.now.items.now }
         requires below { AllBelow limit terms.now }
-        ensures { result ≡ rule.truth rule.Near (box_in self.now.root) (box_in self.now.view) (term.AllDifferent (terms_at (things self.now.items.now) terms.now)) }
+        ensures { result ≡ rule.truth (reading_of self.now) (box_in self.now.root) (box_in self.now.view) (term.AllDifferent (terms_at (things self.now.items.now) terms.now)) }
     {
         match self.marks(limit, terms) {
             Defined::Never => Truth::False,

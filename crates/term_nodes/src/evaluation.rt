@@ -11,10 +11,10 @@ ghost use Rattle.term_math.specs.Shown.{box_in, ends_of, form_of};
 ghost use Rattle.term_math.specs.Kept.{sets_of, table_of};
 ghost use Rattle.term_math.specs.Within.{known_of, ranges_of, with_dimensions};
 ghost use Rattle.term_math.specs.Made.{IsPossible, extreme_term, operation_term};
-ghost use Rattle.term_nodes.specs.Things.{cond_at, conds_at, parts_at, table_at, term_at, terms_at, things};
-ghost use Rattle.term_nodes.specs.Built.{AllBelow, IsSoundTerm, PartsBelow};
+ghost use Rattle.term_nodes.specs.Things.{cond_at, cond_in, conds_at, parts_at, table_at, term_at, terms_at, thing_of, things};
+ghost use Rattle.term_nodes.specs.Built.{AllBelow, IsBelow, IsRight, IsSoundTerm, PartsBelow};
 ghost use Rattle.term_nodes.specs.Operands.{left_operand, steps_down};
-ghost use Rattle.term_nodes.specs.Seen.{IsReady, element_sight, extreme_range, indexed_sight, known_sight, sight, sight_of, sum_sight};
+ghost use Rattle.term_nodes.specs.Seen.{CanRead, IsReady, element_sight, extreme_range, indexed_sight, known_sight, reading_of, sight, sight_of, sum_sight};
 
 use crate::items::{Item, form_at, item_at, table_at};
 use crate::nodes::{Comparison, Node, Signed};
@@ -24,22 +24,52 @@ use term_math::{
     compared, factor, opposite, or_truth, truth_ends,
 };
 
-/// Nodes, the root box, and a box inside it.
+/// Nodes, the root box, and a box inside it; or the root box by the wide reading, where what is kept of each node says what it is.
 #[derive(Clone, Copy)]
 pub struct Evaluator<'a> {
     pub items: &'a [Item],
     pub root: BoxView<'a>,
     pub view: BoxView<'a>,
+    pub wide: bool,
+}
+
+#[tactic(auto, using(crate::proofs::Plain::can_read, crate::proofs::Plain::is_near))]
+impl<'a> Evaluator<'a> {
+    /// The whole interval of a term over the box, and its mark, where elements are read whose indices the box allows.
+    pub fn near_range(&self, id: u32) -> AbstractValue
+        requires ready { IsReady self.now }
+        requires exists { id < length self.now.items.now }
+        ensures interval { ends_of result.ends ≡ rule.interval rule.Near (box_in self.now.root) (box_in self.now.view) (term_at (things self.now.items.now) id) }
+        ensures mark { result.mark ≡ rule.mark rule.Near (box_in self.now.root) (box_in self.now.view) (term_at (things self.now.items.now) id) }
+    {
+        self.range(id)
+    }
+
+    /// What a term is over the box, where elements are read whose indices the box allows.
+    pub fn near_sight(&self, id: u32) -> AbstractValue
+        requires ready { IsReady self.now }
+        ensures { sight_of result ≡ sight rule.Near (box_in self.now.root) (box_in self.now.view) (term_at (things self.now.items.now) id) }
+    {
+        self.seen(id)
+    }
+
+    /// The truth of a condition over the box, where elements are read whose indices the box allows.
+    pub fn near_truth(&self, id: u32) -> Truth
+        requires ready { IsReady self.now }
+        ensures { result ≡ rule.truth rule.Near (box_in self.now.root) (box_in self.now.view) (cond_at (things self.now.items.now) id) }
+    {
+        self.truth(id)
+    }
 }
 
 impl<'a> Evaluator<'a> {
     /// The whole interval of a term over the box, and its mark.
     #[cycle(seen)]
     pub fn range(&self, id: u32) -> AbstractValue
-        requires ready { IsReady self.now }
+        requires ready { CanRead self.now }
         requires exists { id < length self.now.items.now }
-        ensures interval { ends_of result.ends ≡ rule.interval rule.Near (box_in self.now.root) (box_in self.now.view) (term_at (things self.now.items.now) id) }
-        ensures mark { result.mark ≡ rule.mark rule.Near (box_in self.now.root) (box_in self.now.view) (term_at (things self.now.items.now) id) }
+        ensures interval { ends_of result.ends ≡ rule.interval (reading_of self.now) (box_in self.now.root) (box_in self.now.view) (term_at (things self.now.items.now) id) }
+        ensures mark { result.mark ≡ rule.mark (reading_of self.now) (box_in self.now.root) (box_in self.now.view) (term_at (things self.now.items.now) id) }
     {
         let seen = self.seen(id);
         self.whole(id, &seen)
@@ -47,11 +77,11 @@ impl<'a> Evaluator<'a> {
 
     /// The whole interval of a term over the box, and its mark, where it is given what the term is there.
     fn whole(&self, id: u32, seen: &AbstractValue) -> AbstractValue
-        requires ready { IsReady self.now }
+        requires ready { CanRead self.now }
         requires exists { id < length self.now.items.now }
-        requires seen { sight_of seen.now ≡ sight (box_in self.now.root) (box_in self.now.view) (term_at (things self.now.items.now) id) }
-        ensures interval { ends_of result.ends ≡ rule.interval rule.Near (box_in self.now.root) (box_in self.now.view) (term_at (things self.now.items.now) id) }
-        ensures mark { result.mark ≡ rule.mark rule.Near (box_in self.now.root) (box_in self.now.view) (term_at (things self.now.items.now) id) }
+        requires seen { sight_of seen.now ≡ sight (reading_of self.now) (box_in self.now.root) (box_in self.now.view) (term_at (things self.now.items.now) id) }
+        ensures interval { ends_of result.ends ≡ rule.interval (reading_of self.now) (box_in self.now.root) (box_in self.now.view) (term_at (things self.now.items.now) id) }
+        ensures mark { result.mark ≡ rule.mark (reading_of self.now) (box_in self.now.root) (box_in self.now.view) (term_at (things self.now.items.now) id) }
     {
         let form = form_at(self.items, id);
         AbstractValue {
@@ -62,16 +92,22 @@ impl<'a> Evaluator<'a> {
 
     /// What a term is over the box.
     #[cycle(seen)]
-    #[tactic(auto, using(crate::proofs::Plain::plain_seen, crate::proofs::Links::product_operand, crate::proofs::Links::operation_operand, crate::proofs::Steps::seen_at, crate::proofs::Steps::below_at, crate::proofs::Steps::sound_at, crate::proofs::Steps::right_at, crate::proofs::Steps::plain_at))]
+    #[tactic(auto, using(crate::proofs::Plain::plain_seen, crate::proofs::Plain::wide_seen, crate::proofs::Plain::is_near, crate::proofs::Links::product_operand, crate::proofs::Links::operation_operand, crate::proofs::Steps::seen_at, crate::proofs::Steps::below_at, crate::proofs::Steps::sound_at, crate::proofs::Steps::right_at, crate::proofs::Steps::plain_at))]
     pub fn seen(&self, id: u32) -> AbstractValue
-        requires ready { IsReady self.now }
-        ensures { sight_of result ≡ sight (box_in self.now.root) (box_in self.now.view) (term_at (things self.now.items.now) id) }
+        requires ready { CanRead self.now }
+        ensures { sight_of result ≡ sight (reading_of self.now) (box_in self.now.root) (box_in self.now.view) (term_at (things self.now.items.now) id) }
     {
         let Some(item) = item_at(self.items, id) else {
             return AbstractValue::clear();
         };
         if item.facts.is_plain() {
             return AbstractValue::clear();
+        }
+        if self.wide {
+            return AbstractValue {
+                ends: item.facts.wide,
+                mark: item.facts.wide_mark,
+            };
         }
         match &item.node {
             Node::Constant(_) => AbstractValue::clear(),
@@ -107,10 +143,10 @@ impl<'a> Evaluator<'a> {
     #[cycle(seen)]
     #[tactic(auto, using(crate::proofs::Links::from_left, crate::proofs::Links::reached_sight))]
     fn chain(&self, id: u32, left: u32) -> AbstractValue
-        requires ready { IsReady self.now }
+        requires ready { CanRead self.now }
         requires below { left < id }
         requires left { term_at (things self.now.items.now) left ≡ left_operand (term_at (things self.now.items.now) id) }
-        ensures { sight_of result ≡ sight (box_in self.now.root) (box_in self.now.view) (term_at (things self.now.items.now) id) }
+        ensures { sight_of result ≡ sight (reading_of self.now) (box_in self.now.root) (box_in self.now.view) (term_at (things self.now.items.now) id) }
     {
         let bottom = self.bottom(left);
         let below = self.seen(bottom.id);
@@ -122,9 +158,9 @@ impl<'a> Evaluator<'a> {
     #[cycle(seen)]
     #[tactic(auto, using(crate::proofs::Links::no_steps, crate::proofs::Links::last_step, crate::proofs::Links::further_sight, crate::proofs::Links::reached_sight))]
     fn segment(&self, top: u32, steps: u32, below: &AbstractValue) -> AbstractValue
-        requires ready { IsReady self.now }
-        requires below { sight_of below.now ≡ sight (box_in self.now.root) (box_in self.now.view) (steps_down steps (term_at (things self.now.items.now) top)) }
-        ensures { sight_of result ≡ sight (box_in self.now.root) (box_in self.now.view) (term_at (things self.now.items.now) top) }
+        requires ready { CanRead self.now }
+        requires below { sight_of below.now ≡ sight (reading_of self.now) (box_in self.now.root) (box_in self.now.view) (steps_down steps (term_at (things self.now.items.now) top)) }
+        ensures { sight_of result ≡ sight (reading_of self.now) (box_in self.now.root) (box_in self.now.view) (term_at (things self.now.items.now) top) }
     {
         if steps == 0 {
             return *below;
@@ -142,9 +178,9 @@ impl<'a> Evaluator<'a> {
     #[cycle(seen)]
     #[tactic(auto, using(crate::proofs::Links::product_below, crate::proofs::Links::operation_below, crate::proofs::Links::no_operand, crate::proofs::Links::nothing_there, crate::proofs::Steps::seen_at, crate::proofs::Steps::below_at, crate::proofs::Steps::sound_at, crate::proofs::Steps::right_at, crate::proofs::Steps::plain_at))]
     fn raised(&self, id: u32, below: &AbstractValue) -> AbstractValue
-        requires ready { IsReady self.now }
-        requires below { sight_of below.now ≡ sight (box_in self.now.root) (box_in self.now.view) (left_operand (term_at (things self.now.items.now) id)) }
-        ensures { sight_of result ≡ sight (box_in self.now.root) (box_in self.now.view) (term_at (things self.now.items.now) id) }
+        requires ready { CanRead self.now }
+        requires below { sight_of below.now ≡ sight (reading_of self.now) (box_in self.now.root) (box_in self.now.view) (left_operand (term_at (things self.now.items.now) id)) }
+        ensures { sight_of result ≡ sight (reading_of self.now) (box_in self.now.root) (box_in self.now.view) (term_at (things self.now.items.now) id) }
     {
         let Some(item) = item_at(self.items, id) else {
             return *below;
@@ -174,11 +210,11 @@ impl<'a> Evaluator<'a> {
     /// What a sum is over the box.
     #[cycle(seen)]
     #[tactic(auto, using(crate::proofs::Steps::next_part, crate::proofs::Steps::no_parts, crate::proofs::Steps::part_below, crate::proofs::Ready::times_fit, crate::proofs::Ready::sum_fit))]
-    fn sum(&self, limit: u32, parts: &[Signed]) -> AbstractValue
-        requires ready { IsReady self.now }
+    pub fn sum(&self, limit: u32, parts: &[Signed]) -> AbstractValue
+        requires ready { CanRead self.now }
         requires below { PartsBelow limit parts.now }
         requires sound { IsSoundTerm (box_in self.now.root) (term.Sum (parts_at (things self.now.items.now) parts.now)) }
-        ensures { sight_of result ≡ sum_sight (box_in self.now.root) (box_in self.now.view) (parts_at (things self.now.items.now) parts.now) }
+        ensures { sight_of result ≡ sum_sight (reading_of self.now) (box_in self.now.root) (box_in self.now.view) (parts_at (things self.now.items.now) parts.now) }
     {
         let mut sum = AbstractValue::clear();
         for i in (0..parts.len()).rev() {
@@ -193,13 +229,13 @@ impl<'a> Evaluator<'a> {
     #[cycle(seen)]
     #[tactic(auto, using(crate::proofs::Ready::product_fit))]
     fn product(&self, limit: u32, a: u32, b: u32, left: &AbstractValue) -> AbstractValue
-        requires ready { IsReady self.now }
-        requires exists { limit < length self.now.items.now }
+        requires ready { CanRead self.now }
+        requires exists { limit ≤ length self.now.items.now }
         requires left { a < limit }
         requires right { b < limit }
         requires sound { IsSoundTerm (box_in self.now.root) (term.Product (term_at (things self.now.items.now) a) (term_at (things self.now.items.now) b)) }
-        requires seen { sight_of left.now ≡ sight (box_in self.now.root) (box_in self.now.view) (term_at (things self.now.items.now) a) }
-        ensures { sight_of result ≡ sight (box_in self.now.root) (box_in self.now.view) (term.Product (term_at (things self.now.items.now) a) (term_at (things self.now.items.now) b)) }
+        requires seen { sight_of left.now ≡ sight (reading_of self.now) (box_in self.now.root) (box_in self.now.view) (term_at (things self.now.items.now) a) }
+        ensures { sight_of result ≡ sight (reading_of self.now) (box_in self.now.root) (box_in self.now.view) (term.Product (term_at (things self.now.items.now) a) (term_at (things self.now.items.now) b)) }
     {
         let right = self.seen(b);
         let f = form_at(self.items, a);
@@ -219,12 +255,12 @@ impl<'a> Evaluator<'a> {
         a: u32,
         below: &AbstractValue,
     ) -> AbstractValue
-        requires ready { IsReady self.now }
+        requires ready { CanRead self.now }
         requires exists { a < length self.now.items.now }
         requires possible { IsPossible operation.now }
         requires plain { plain ≡ (rule.form (box_in self.now.root) (operation_term operation.now (term_at (things self.now.items.now) a))).plain }
-        requires seen { sight_of below.now ≡ sight (box_in self.now.root) (box_in self.now.view) (term_at (things self.now.items.now) a) }
-        ensures { sight_of result ≡ sight (box_in self.now.root) (box_in self.now.view) (operation_term operation.now (term_at (things self.now.items.now) a)) }
+        requires seen { sight_of below.now ≡ sight (reading_of self.now) (box_in self.now.root) (box_in self.now.view) (term_at (things self.now.items.now) a) }
+        ensures { sight_of result ≡ sight (reading_of self.now) (box_in self.now.root) (box_in self.now.view) (operation_term operation.now (term_at (things self.now.items.now) a)) }
     {
         let range = self.whole(a, below);
         if plain {
@@ -250,12 +286,12 @@ impl<'a> Evaluator<'a> {
         first: u32,
         later: &[u32],
     ) -> AbstractValue
-        requires ready { IsReady self.now }
-        requires exists { limit < length self.now.items.now }
+        requires ready { CanRead self.now }
+        requires exists { limit ≤ length self.now.items.now }
         requires first { first < limit }
         requires below { AllBelow limit later.now }
         requires plain { plain ≡ (rule.form (box_in self.now.root) (extreme_term extreme (term_at (things self.now.items.now) first) (terms_at (things self.now.items.now) later.now))).plain }
-        ensures { sight_of result ≡ sight (box_in self.now.root) (box_in self.now.view)
+        ensures { sight_of result ≡ sight (reading_of self.now) (box_in self.now.root) (box_in self.now.view)
             (extreme_term extreme (term_at (things self.now.items.now) first) (terms_at (things self.now.items.now) later.now)) }
     {
         let range = self.extreme_range(limit, extreme, first, later);
@@ -271,18 +307,18 @@ impl<'a> Evaluator<'a> {
     /// The least or the greatest of the whole intervals of several, and the mark of all.
     #[cycle(seen)]
     #[tactic(auto, using(crate::proofs::Ranges::next_taken, crate::proofs::Ranges::none_taken, crate::proofs::Ranges::taken_is, crate::proofs::Steps::cond_below))]
-    fn extreme_range(
+    pub fn extreme_range(
         &self,
         limit: u32,
         extreme: Extreme,
         first: u32,
         later: &[u32],
     ) -> AbstractValue
-        requires ready { IsReady self.now }
-        requires exists { limit < length self.now.items.now }
+        requires ready { CanRead self.now }
+        requires exists { limit ≤ length self.now.items.now }
         requires first { first < limit }
         requires below { AllBelow limit later.now }
-        ensures { sight_of result ≡ extreme_range rule.Near (box_in self.now.root) (box_in self.now.view) extreme (term_at (things self.now.items.now) first)
+        ensures { sight_of result ≡ extreme_range (reading_of self.now) (box_in self.now.root) (box_in self.now.view) extreme (term_at (things self.now.items.now) first)
             (terms_at (things self.now.items.now) later.now) }
     {
         let mut taken = self.range(first);
@@ -297,11 +333,12 @@ impl<'a> Evaluator<'a> {
     #[cycle(seen)]
     #[tactic(auto, using(crate::proofs::Elements::element_plain, crate::proofs::Elements::element_alone))]
     fn element(&self, plain: bool, limit: u32, table: u32, at: &[u32]) -> AbstractValue
-        requires ready { IsReady self.now }
-        requires exists { limit < length self.now.items.now }
+        requires ready { CanRead self.now }
+        requires exists { limit ≤ length self.now.items.now }
         requires below { AllBelow limit at.now }
+        requires near { reading_of self.now ≡ rule.Near }
         requires plain { plain ≡ (rule.form (box_in self.now.root) (term.Element (table_at (things self.now.items.now) table) (terms_at (things self.now.items.now) at.now))).plain }
-        ensures { sight_of result ≡ sight (box_in self.now.root) (box_in self.now.view) (term.Element (table_at (things self.now.items.now) table) (terms_at (things self.now.items.now) at.now)) }
+        ensures { sight_of result ≡ sight (reading_of self.now) (box_in self.now.root) (box_in self.now.view) (term.Element (table_at (things self.now.items.now) table) (terms_at (things self.now.items.now) at.now)) }
     {
         let range = self.element_range(limit, table, at);
         if plain {
@@ -317,12 +354,12 @@ impl<'a> Evaluator<'a> {
     #[cycle(seen)]
     #[tactic(auto, using(crate::proofs::Indexing::no_table_there))]
     pub fn element_range(&self, limit: u32, table: u32, at: &[u32]) -> AbstractValue
-        requires ready { IsReady self.now }
+        requires ready { CanRead self.now }
         requires exists { limit ≤ length self.now.items.now }
         requires below { AllBelow limit at.now }
         ensures { sight_of result ≡ element_sight (box_in self.now.view) (table_at (things self.now.items.now) table)
-            (marks.all_marks (rule.marks rule.Near (box_in self.now.root) (box_in self.now.view) (terms_at (things self.now.items.now) at.now)))
-            (rule.intervals rule.Near (box_in self.now.root) (box_in self.now.view) (terms_at (things self.now.items.now) at.now)) }
+            (marks.all_marks (rule.marks (reading_of self.now) (box_in self.now.root) (box_in self.now.view) (terms_at (things self.now.items.now) at.now)))
+            (rule.intervals (reading_of self.now) (box_in self.now.root) (box_in self.now.view) (terms_at (things self.now.items.now) at.now)) }
     {
         let Some(found) = table_at(self.items, table) else {
             return AbstractValue::never(Ends::zero());
@@ -353,11 +390,11 @@ impl<'a> Evaluator<'a> {
         indices: &Indices,
         behind: &Ranges,
     ) -> AbstractValue
-        requires ready { IsReady self.now }
+        requires ready { CanRead self.now }
         requires exists { limit ≤ length self.now.items.now }
         requires below { AllBelow limit at.now }
         requires complete { length (table_of found.now).items ≡ length (arrays.indices (table_of found.now).sets) }
-        ensures { sight_of result ≡ indexed_sight rule.Near (box_in self.now.root) (box_in self.now.view) (table_of found.now) (terms_at (things self.now.items.now) at.now)
+        ensures { sight_of result ≡ indexed_sight (reading_of self.now) (box_in self.now.root) (box_in self.now.view) (table_of found.now) (terms_at (things self.now.items.now) at.now)
             (sets_of sets.now) indices.now.mark (known_of indices.now (ranges_of behind.now)) }
     {
         let mut left = at;
@@ -402,9 +439,9 @@ impl<'a> Evaluator<'a> {
     /// What a condition as a number is over the box.
     #[cycle(seen)]
     fn number(&self, limit: u32, c: u32) -> AbstractValue
-        requires ready { IsReady self.now }
+        requires ready { CanRead self.now }
         requires below { c < limit }
-        ensures { sight_of result ≡ sight (box_in self.now.root) (box_in self.now.view) (term.Number (cond_at (things self.now.items.now) c)) }
+        ensures { sight_of result ≡ sight (reading_of self.now) (box_in self.now.root) (box_in self.now.view) (term.Number (cond_at (things self.now.items.now) c)) }
     {
         let truth = self.truth(c);
         AbstractValue {
@@ -415,33 +452,48 @@ impl<'a> Evaluator<'a> {
 
     /// The truth of a condition over the box.
     #[cycle(seen)]
-    #[tactic(auto, using(crate::proofs::Steps::truth_at, crate::proofs::Steps::below_at, crate::proofs::Steps::right_at))]
+    #[tactic(auto, using(crate::proofs::Steps::truth_at, crate::proofs::Plain::wide_truth))]
     pub fn truth(&self, id: u32) -> Truth
-        requires ready { IsReady self.now }
-        ensures { result ≡ rule.truth rule.Near (box_in self.now.root) (box_in self.now.view) (cond_at (things self.now.items.now) id) }
+        requires ready { CanRead self.now }
+        ensures { result ≡ rule.truth (reading_of self.now) (box_in self.now.root) (box_in self.now.view) (cond_at (things self.now.items.now) id) }
     {
         let Some(item) = item_at(self.items, id) else {
             return Truth::True;
         };
-        match &item.node {
-            Node::Constant(_) => Truth::True,
-            Node::Cell(_) => Truth::True,
-            Node::Sum(_) => Truth::True,
-            Node::Product(_, _) => Truth::True,
-            Node::Operation(_, _) => Truth::True,
-            Node::Extreme(_, _, _) => Truth::True,
-            Node::Element(_, _) => Truth::True,
-            Node::Number(_) => Truth::True,
-            Node::Compare(comparison) => self.compare(id, comparison),
+        if self.wide {
+            return item.facts.truth;
+        }
+        self.node_truth(id, &item.node)
+    }
+
+    /// The truth of a condition over the box, by its node; another node counts as a condition that holds.
+    #[cycle(seen)]
+    pub fn node_truth(&self, limit: u32, node: &Node) -> Truth
+        requires ready { CanRead self.now }
+        requires exists { limit ≤ length self.now.items.now }
+        requires below { IsBelow limit node.now }
+        requires right { IsRight (box_in self.now.root) (things self.now.items.now) node.now }
+        ensures { result ≡ rule.truth (reading_of self.now) (box_in self.now.root) (box_in self.now.view) (cond_in (thing_of (things self.now.items.now) node.now)) }
+    {
+        match node {
+            Node::Constant(_)
+            | Node::Cell(_)
+            | Node::Sum(_)
+            | Node::Product(_, _)
+            | Node::Operation(_, _)
+            | Node::Extreme(_, _, _)
+            | Node::Element(_, _)
+            | Node::Number(_)
+            | Node::Table(_) => Truth::True,
+            Node::Compare(comparison) => self.compare(limit, comparison),
             Node::Not(c) => opposite(self.truth(*c)),
-            Node::All(conds) => self.all(id, conds.as_slice()),
-            Node::Any(conds) => self.any(id, conds.as_slice()),
-            Node::Implies(a, c) => self.implies(id, *a, *c),
-            Node::AllDifferent(terms) => self.all_different(id, terms.as_slice()),
+            Node::All(conds) => self.all(limit, conds.as_slice()),
+            Node::Any(conds) => self.any(limit, conds.as_slice()),
+            Node::Implies(a, c) => self.implies(limit, *a, *c),
+            Node::AllDifferent(terms) => self.all_different(limit, terms.as_slice()),
             Node::Cumulative(tasks, capacity) => {
-                self.cumulative(id, tasks.as_slice(), *capacity)
+                self.cumulative(limit, tasks.as_slice(), *capacity)
             }
-            Node::Table(_) => Truth::True,
         }
     }
 
@@ -449,13 +501,13 @@ impl<'a> Evaluator<'a> {
     #[cycle(seen)]
     #[tactic(auto, using(crate::proofs::Ready::difference_fit))]
     fn compare(&self, limit: u32, comparison: &Comparison) -> Truth
-        requires ready { IsReady self.now }
-        requires exists { limit < length self.now.items.now }
+        requires ready { CanRead self.now }
+        requires exists { limit ≤ length self.now.items.now }
         requires left { comparison.now.left < limit }
         requires right { comparison.now.right < limit }
         requires difference { form_of comparison.now.form ≡ forms.plus_form (negsuc 0) (rule.form (box_in self.now.root) (term_at (things self.now.items.now) comparison.now.left))
             (rule.form (box_in self.now.root) (term_at (things self.now.items.now) comparison.now.right)) }
-        ensures { result ≡ rule.truth rule.Near (box_in self.now.root) (box_in self.now.view)
+        ensures { result ≡ rule.truth (reading_of self.now) (box_in self.now.root) (box_in self.now.view)
             (term.Compare comparison.now.op (term_at (things self.now.items.now) comparison.now.left) (term_at (things self.now.items.now) comparison.now.right)) }
     {
         let left = self.seen(comparison.left);
@@ -469,10 +521,10 @@ impl<'a> Evaluator<'a> {
     /// Whether one condition does not hold or the other one does, over the box.
     #[cycle(seen)]
     fn implies(&self, limit: u32, a: u32, c: u32) -> Truth
-        requires ready { IsReady self.now }
+        requires ready { CanRead self.now }
         requires left { a < limit }
         requires right { c < limit }
-        ensures { result ≡ rule.truth rule.Near (box_in self.now.root) (box_in self.now.view) (term.Implies (cond_at (things self.now.items.now) a) (cond_at (things self.now.items.now) c)) }
+        ensures { result ≡ rule.truth (reading_of self.now) (box_in self.now.root) (box_in self.now.view) (term.Implies (cond_at (things self.now.items.now) a) (cond_at (things self.now.items.now) c)) }
     {
         let premise = self.truth(a);
         let conclusion = self.truth(c);
@@ -483,9 +535,9 @@ impl<'a> Evaluator<'a> {
     #[cycle(seen)]
     #[tactic(auto, using(crate::proofs::Steps::next_all, crate::proofs::Steps::none_all, crate::proofs::Steps::cond_below))]
     fn all(&self, limit: u32, conds: &[u32]) -> Truth
-        requires ready { IsReady self.now }
+        requires ready { CanRead self.now }
         requires below { AllBelow limit conds.now }
-        ensures { result ≡ rule.all_truth rule.Near (box_in self.now.root) (box_in self.now.view) (conds_at (things self.now.items.now) conds.now) }
+        ensures { result ≡ rule.all_truth (reading_of self.now) (box_in self.now.root) (box_in self.now.view) (conds_at (things self.now.items.now) conds.now) }
     {
         let mut truth = Truth::True;
         for i in (0..conds.len()).rev() {
@@ -499,9 +551,9 @@ impl<'a> Evaluator<'a> {
     #[cycle(seen)]
     #[tactic(auto, using(crate::proofs::Steps::next_any, crate::proofs::Steps::none_any, crate::proofs::Steps::cond_below))]
     fn any(&self, limit: u32, conds: &[u32]) -> Truth
-        requires ready { IsReady self.now }
+        requires ready { CanRead self.now }
         requires below { AllBelow limit conds.now }
-        ensures { result ≡ rule.any_truth rule.Near (box_in self.now.root) (box_in self.now.view) (conds_at (things self.now.items.now) conds.now) }
+        ensures { result ≡ rule.any_truth (reading_of self.now) (box_in self.now.root) (box_in self.now.view) (conds_at (things self.now.items.now) conds.now) }
     {
         let mut truth = Truth::False;
         for i in (0..conds.len()).rev() {

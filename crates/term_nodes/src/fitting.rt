@@ -11,7 +11,7 @@ ghost use Rattle.term_crowds.specs.Crowds as crowds;
 ghost use Rattle.term_windows.specs.Tasks as windows;
 ghost use Rattle.term_windows.specs.Tasks.{task_ends_of};
 ghost use Rattle.term_nodes.specs.Built.{TasksBelow};
-ghost use Rattle.term_nodes.specs.Seen.{IsReady, tasks_seen};
+ghost use Rattle.term_nodes.specs.Seen.{CanRead, reading_of, tasks_seen};
 ghost use Rattle.term_nodes.specs.Tasks.{mark_seen, task_seen};
 ghost use Rattle.term_nodes.specs.Things.{tasks_at, term_at, things};
 
@@ -26,13 +26,13 @@ impl<'a> Evaluator<'a> {
     #[cycle(seen)]
     #[tactic(auto, using(crate::proofs::Tasking::task_made))]
     fn task(&self, limit: u32, task: &Task) -> TaskRange
-        requires ready { IsReady self.now }
+        requires ready { CanRead self.now }
         requires exists { limit ≤ length self.now.items.now }
         requires start { task.now.start < limit }
         requires duration { task.now.duration < limit }
         requires demand { task.now.demand < limit }
-        ensures task { task_ends_of result ≡ task_seen (box_in self.now.root) (box_in self.now.view) (things self.now.items.now) task.now }
-        ensures mark { result.mark ≡ mark_seen (box_in self.now.root) (box_in self.now.view) (things self.now.items.now) task.now }
+        ensures task { task_ends_of result ≡ task_seen (reading_of self.now) (box_in self.now.root) (box_in self.now.view) (things self.now.items.now) task.now }
+        ensures mark { result.mark ≡ mark_seen (reading_of self.now) (box_in self.now.root) (box_in self.now.view) (things self.now.items.now) task.now }
     {
         let start = self.range(task.start);
         let duration = self.range(task.duration);
@@ -49,10 +49,10 @@ impl<'a> Evaluator<'a> {
     #[cycle(seen)]
     #[tactic(auto, using(crate::proofs::Tasking::next_task_mark, crate::proofs::Tasking::no_task_mark))]
     fn task_marks(&self, limit: u32, tasks: &[Task]) -> Defined
-        requires ready { IsReady self.now }
+        requires ready { CanRead self.now }
         requires exists { limit ≤ length self.now.items.now }
         requires below { TasksBelow limit tasks.now }
-        ensures { result ≡ rule.task_mark rule.Near (box_in self.now.root) (box_in self.now.view) (tasks_at (things self.now.items.now) tasks.now) }
+        ensures { result ≡ rule.task_mark (reading_of self.now) (box_in self.now.root) (box_in self.now.view) (tasks_at (things self.now.items.now) tasks.now) }
     {
         let mut mark = Defined::Always;
         for i in (0..tasks.len()).rev() {
@@ -66,7 +66,7 @@ impl<'a> Evaluator<'a> {
     #[cycle(seen)]
     #[tactic(auto, using(crate::proofs::Tasking::next_negative, crate::proofs::Tasking::this_negative, crate::proofs::Tasking::none_negative))]
     fn some_negative(&self, limit: u32, tasks: &[Task]) -> bool
-        requires ready { IsReady self.now }
+        requires ready { CanRead self.now }
         requires exists { limit ≤ length self.now.items.now }
         requires below { TasksBelow limit tasks.now }
         ensures { result ≡ crowds.some_negative (tasks_seen self.now tasks.now) }
@@ -84,7 +84,7 @@ impl<'a> Evaluator<'a> {
     #[cycle(seen)]
     #[tactic(auto, using(term_windows::proofs::Fitting::first_room, crate::proofs::Tasking::next_room, crate::proofs::Tasking::no_room, crate::proofs::Tasking::room_left))]
     fn overfull_at(&self, limit: u32, tasks: &[Task], capacity: &Ends, time: &Amount) -> bool
-        requires ready { IsReady self.now }
+        requires ready { CanRead self.now }
         requires exists { limit ≤ length self.now.items.now }
         requires below { TasksBelow limit tasks.now }
         requires room { pos 0 ≤ℤ capacity.now.high }
@@ -106,7 +106,7 @@ impl<'a> Evaluator<'a> {
     #[cycle(seen)]
     #[tactic(auto, using(crate::proofs::Tasking::next_peak, crate::proofs::Tasking::some_peak, crate::proofs::Tasking::none_peak))]
     fn some_overfull(&self, limit: u32, tasks: &[Task], capacity: &Ends) -> bool
-        requires ready { IsReady self.now }
+        requires ready { CanRead self.now }
         requires exists { limit ≤ length self.now.items.now }
         requires below { TasksBelow limit tasks.now }
         requires room { pos 0 ≤ℤ capacity.now.high }
@@ -125,7 +125,7 @@ impl<'a> Evaluator<'a> {
     #[cycle(seen)]
     #[tactic(auto, using(term_windows::proofs::Fitting::never_by_negative, term_windows::proofs::Fitting::never_by_capacity, term_windows::proofs::Fitting::never_by_peak))]
     fn never_fit(&self, limit: u32, tasks: &[Task], capacity: &Ends) -> bool
-        requires ready { IsReady self.now }
+        requires ready { CanRead self.now }
         requires exists { limit ≤ length self.now.items.now }
         requires below { TasksBelow limit tasks.now }
         ensures { result ≡ globals.never_fit (tasks_seen self.now tasks.now) (ends_of capacity.now) }
@@ -143,7 +143,7 @@ impl<'a> Evaluator<'a> {
     #[cycle(seen)]
     #[tactic(auto, using(crate::proofs::Tasking::next_sound, crate::proofs::Tasking::not_sound, crate::proofs::Tasking::all_are_sound))]
     fn all_sound(&self, limit: u32, tasks: &[Task]) -> bool
-        requires ready { IsReady self.now }
+        requires ready { CanRead self.now }
         requires exists { limit ≤ length self.now.items.now }
         requires below { TasksBelow limit tasks.now }
         ensures { result ≡ crowds.all_sound (tasks_seen self.now tasks.now) }
@@ -161,7 +161,7 @@ impl<'a> Evaluator<'a> {
     #[cycle(seen)]
     #[tactic(auto, using(term_windows::proofs::Fitting::first_room, crate::proofs::Tasking::next_room, crate::proofs::Tasking::asks_some, crate::proofs::Tasking::no_most, crate::proofs::Tasking::most_left))]
     fn enough_at(&self, limit: u32, tasks: &[Task], capacity: &Ends, time: &Amount) -> bool
-        requires ready { IsReady self.now }
+        requires ready { CanRead self.now }
         requires exists { limit ≤ length self.now.items.now }
         requires below { TasksBelow limit tasks.now }
         requires room { pos 0 ≤ℤ capacity.now.low }
@@ -184,7 +184,7 @@ impl<'a> Evaluator<'a> {
     #[cycle(seen)]
     #[tactic(auto, using(crate::proofs::Tasking::next_enough, crate::proofs::Tasking::not_enough, crate::proofs::Tasking::all_are_enough))]
     fn all_enough(&self, limit: u32, tasks: &[Task], capacity: &Ends) -> bool
-        requires ready { IsReady self.now }
+        requires ready { CanRead self.now }
         requires exists { limit ≤ length self.now.items.now }
         requires below { TasksBelow limit tasks.now }
         requires room { pos 0 ≤ℤ capacity.now.low }
@@ -204,7 +204,7 @@ impl<'a> Evaluator<'a> {
     #[cycle(seen)]
     #[tactic(auto, using(term_windows::proofs::Fitting::unless_sound, term_windows::proofs::Fitting::unless_room, term_windows::proofs::Fitting::always_by_all))]
     fn always_fit(&self, limit: u32, tasks: &[Task], capacity: &Ends) -> bool
-        requires ready { IsReady self.now }
+        requires ready { CanRead self.now }
         requires exists { limit ≤ length self.now.items.now }
         requires below { TasksBelow limit tasks.now }
         ensures { result ≡ globals.always_fit (tasks_seen self.now tasks.now) (ends_of capacity.now) }
@@ -222,7 +222,7 @@ impl<'a> Evaluator<'a> {
     #[cycle(seen)]
     #[tactic(auto, using(crate::proofs::Crowding::maybe_never, crate::proofs::Crowding::maybe_open))]
     fn may_fit(&self, limit: u32, tasks: &[Task], capacity: &Ends) -> Truth
-        requires ready { IsReady self.now }
+        requires ready { CanRead self.now }
         requires exists { limit ≤ length self.now.items.now }
         requires below { TasksBelow limit tasks.now }
         ensures { result ≡ marks.judged Maybe (globals.never_fit (tasks_seen self.now tasks.now) (ends_of capacity.now)) (globals.always_fit (tasks_seen self.now tasks.now) (ends_of capacity.now)) }
@@ -237,7 +237,7 @@ impl<'a> Evaluator<'a> {
     #[cycle(seen)]
     #[tactic(auto, using(crate::proofs::Tasking::surely_not, crate::proofs::Tasking::surely_fit, crate::proofs::Tasking::not_surely_fit))]
     fn do_fit(&self, limit: u32, tasks: &[Task], capacity: &Ends) -> Truth
-        requires ready { IsReady self.now }
+        requires ready { CanRead self.now }
         requires exists { limit ≤ length self.now.items.now }
         requires below { TasksBelow limit tasks.now }
         ensures { result ≡ marks.judged Always (globals.never_fit (tasks_seen self.now tasks.now) (ends_of capacity.now)) (globals.always_fit (tasks_seen self.now tasks.now) (ends_of capacity.now)) }
@@ -255,11 +255,11 @@ impl<'a> Evaluator<'a> {
     #[cycle(seen)]
     #[tactic(auto, using(crate::proofs::Crowding::judged_by))]
     pub(crate) fn cumulative(&self, limit: u32, tasks: &[Task], capacity: u32) -> Truth
-        requires ready { IsReady self.now }
+        requires ready { CanRead self.now }
         requires exists { limit ≤ length self.now.items.now }
         requires below { TasksBelow limit tasks.now }
         requires capacity { capacity < limit }
-        ensures { result ≡ rule.truth rule.Near (box_in self.now.root) (box_in self.now.view) (term.Cumulative (tasks_at (things self.now.items.now) tasks.now) (term_at (things self.now.items.now) capacity)) }
+        ensures { result ≡ rule.truth (reading_of self.now) (box_in self.now.root) (box_in self.now.view) (term.Cumulative (tasks_at (things self.now.items.now) tasks.now) (term_at (things self.now.items.now) capacity)) }
     {
         let most = self.range(capacity);
         match both(self.task_marks(limit, tasks), most.mark) {

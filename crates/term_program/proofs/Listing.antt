@@ -18,7 +18,7 @@ use Rattle.term_nodes.specs.declared.nodes.Node.{Node}
 use Rattle.term_nodes.specs.declared.nodes.Node.TheVariants as node
 use Rattle.term_nodes.specs.declared.nodes.Task.{Task}
 use Rattle.term_program.specs.declared.globals.GlobalTerms.{GlobalTerms}
-use Rattle.term_program.specs.declared.ids.TermId.{TermId}
+use Rattle.term_store.specs.declared.ids.TermId.{TermId}
 use Rattle.term_program.specs.Globals.{AreTermsOf, ListsNode, ListsTerms, global_terms, numbers_in, tasks_then, term_ids}
 use Rattle.term_program.proofs.Comparisons.{is_global}
 use Rattle.term_program.proofs.Lists.{all_taken, same_key, take_more, taken}

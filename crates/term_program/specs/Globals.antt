@@ -1,5 +1,5 @@
 -- The terms of `allDifferent` and of `cumulative`, as a list.
-use Rattle.std.specs.Prelude.{◌≡◌, ◌<◌, ℕ, List, [], ◌∷◌, Option, length, map, IfSome, IfNone, Vec}
+use Rattle.std.specs.Prelude.{◌≡◌, ◌<◌, ℕ, List, [], ◌∷◌, Option, length, IfSome, IfNone, Vec}
 use Rattle.std.specs.Global.{Global}
 use Rattle.std.specs.BTreeMap.{get}
 use Rattle.std.specs.Ordering.{nat_cmp}
@@ -9,11 +9,8 @@ use Rattle.term_nodes.specs.Things.{Thing, cond_at, cond_in, terms_at, thing_of}
 use Rattle.term_nodes.specs.declared.nodes.Node.{Node}
 use Rattle.term_nodes.specs.declared.nodes.Task.{Task}
 use Rattle.term_program.specs.declared.globals.GlobalTerms.{GlobalTerms}
-use Rattle.term_program.specs.declared.ids.TermId.{TermId}
-
--- the numbers of terms
-abbrev pub term_ids : List TermId → List ℕ
-term_ids ids = map (λ (id : TermId). id.0) ids
+use Rattle.term_store.specs.declared.ids.TermId.{TermId}
+pub use Rattle.term_store.specs.Additions.{term_ids}
 
 -- the start, the length and the demand of each task, and others behind them
 abbrev pub tasks_then : Tasks → Terms → Terms

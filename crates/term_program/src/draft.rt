@@ -2,9 +2,8 @@
 
 ghost use Rattle.std.specs.Prelude.{◌≡◌, ◌<◌, Some, length, slice_get};
 
-use crate::ids::CondId;
 use std::alloc::Global;
-use term_store::TermStore;
+use term_store::{CondId, TermStore};
 
 /// The conditions of a constraint, one for each scenario, by their numbers in the store.
 #[derive(Drop)]

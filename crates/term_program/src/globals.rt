@@ -7,10 +7,10 @@ ghost use Rattle.term_program.specs.Drafts.{IsDraft, draft_things};
 ghost use Rattle.term_program.specs.Globals.{AreTermsOf, ListsNode, ListsTerms, numbers_in, term_ids};
 
 use crate::draft::Draft;
-use crate::ids::TermId;
 use std::alloc::{AllocError, Global};
 use std::collections::BTreeMap;
 use term_nodes::{Node, Task, item_at};
+use term_store::TermId;
 
 /// For each `allDifferent` and each `cumulative`, by its number, its terms.
 #[derive(Drop)]

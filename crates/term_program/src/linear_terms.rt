@@ -8,12 +8,12 @@ ghost use Rattle.term_program.specs.LinearTerms.{IsOneCell, form_of_one, has_one
 ghost use Rattle.term_program.specs.Mentions.{IsListOf};
 ghost use Rattle.term_program.specs.Programs.{IsMade, root_in, things_in};
 
-use crate::ids::TermId;
 use crate::mentions::term_cells;
 use crate::program::Program;
 use std::alloc::AllocError;
 use term_math::{Coefficient, Form};
 use term_nodes::item_at;
+use term_store::TermId;
 
 /// A constant and so many times a cell.
 #[derive(Clone, Copy, Debug, PartialEq, Eq)]

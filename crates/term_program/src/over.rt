@@ -10,12 +10,12 @@ ghost use Rattle.term_math.specs.Shown.{box_in, box_under};
 ghost use Rattle.term_nodes.specs.Things.{cond_at, term_at};
 ghost use Rattle.term_program.specs.Programs.{IsMade, ends_in, problem_in, root_in, things_in, with_interval};
 
-use crate::ids::{CondId, TermId};
 use crate::program::Program;
 use box_store::BoxStore;
 use sopl_base::{Interval, Wide};
 use term_language::{Defined, Truth};
 use term_math::{AbstractValue, BoxView, Ends, Part};
+use term_store::{CondId, TermId};
 
 /// The box of a store.
 pub(crate) fn view_of(store: &BoxStore) -> BoxView<'_>

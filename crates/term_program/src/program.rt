@@ -18,11 +18,11 @@ ghost use Rattle.term_program.specs.Programs.{IsListed, IsListedTerm, IsMade, pr
 
 use crate::draft::Draft;
 use crate::globals::GlobalTerms;
-use crate::ids::{CondId, TermId};
 use crate::mentions::Mentioned;
 use sopl_base::{Direction, Interval};
 use std::alloc::{AllocError, Global};
 use term_goals::{Atom, Goal};
+use term_store::{CondId, TermId};
 
 /// A compiled problem: its terms, the weight of each scenario and that of all together, its constraints and its objective.
 #[derive(Drop)]

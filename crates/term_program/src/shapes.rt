@@ -10,12 +10,12 @@ ghost use Rattle.term_program.specs.declared.shapes.Form.TheVariants.{Linear};
 ghost use Rattle.term_program.specs.Programs.{IsMade, root_in, things_in};
 ghost use Rattle.term_program.specs.Comparisons.{IsComparison, difference_of, global_shape, is_comparison, linear_in, shape_in};
 
-use crate::ids::CondId;
 use crate::program::Program;
 use sopl_base::CmpOp;
 use term_language::Defined;
 use term_math::{Coefficient, both};
 use term_nodes::{Comparison, Node, item_at};
+use term_store::CondId;
 
 /// What form a condition has: a comparison that is Always defined and has cells alone in it, `allDifferent`, `cumulative`, or another one.
 #[derive(Clone, Copy, Debug, PartialEq, Eq)]

@@ -1,32 +1,19 @@
 -- Forms of differences have room.
-use Rattle.std.proofs.Common.{◌≡◌, ℕ, ◌+◌, ◌*◌, ◌<◌, ◌≤◌, ◌^◌, ℤ, pos, negsuc, ◌*ℤ◌, unsigned_abs, List, length, arith, ap, subst, sym, ◌∙◌}
+use Rattle.std.proofs.Common.{◌≡◌, ℕ, ◌+◌, ◌*◌, ◌<◌, ◌≤◌, ◌^◌, ℤ, pos, negsuc, ◌*ℤ◌, unsigned_abs, List, arith, ap, ◌∙◌}
 use Rattle.std.proofs.lemmas.Int.{unsigned_abs-mul}
 use Rattle.sopl_base.proofs.Sizes.{plus_size}
 use Rattle.sopl_base.proofs.Naturals.{spread_left}
-use Rattle.box_problem.specs.Box.{Box, IsBox}
-use Rattle.box_problem.proofs.Boxes.{part_of_itself}
-use Rattle.term_language.specs.Ends as ends
+use Rattle.box_problem.specs.Box.{Box}
 use Rattle.term_language.specs.Forms.{Form, number_form, plus_form}
 use Rattle.term_language.specs.Terms as rule
-use Rattle.term_language.specs.Rules.{Wide, form, atoms, truth}
-use Rattle.term_language.specs.Sizes.{atoms_weight}
-use Rattle.term_language.proofs.Bounds.{bounded}
-use Rattle.term_math.specs.declared.forms.Form as own
-use Rattle.term_math.specs.Shown.{DifferenceFits, ends_of, form_of}
+use Rattle.term_language.specs.Rules.{form}
 use Rattle.term_math.specs.Sums.{mass, mass_of}
-use Rattle.term_math.proofs.Fits.{difference_fits}
 use Rattle.term_math.proofs.Weights.{combined_weighted, mass_weight}
-use Rattle.term_nodes.specs.declared.nodes.Comparison.{Comparison}
-use Rattle.term_nodes.specs.declared.nodes.Node.TheVariants as node
 use Rattle.term_nodes.specs.declared.items.Item.{Item}
-use Rattle.term_nodes.specs.declared.items.Facts as facts
-use Rattle.term_math.specs.declared.values.AbstractValue as seen
 use Rattle.term_nodes.specs.Things.{term_at, things}
-use Rattle.term_nodes.specs.Built.{IsBuilt, IsNew, IsSoundTerm, kept, of_truth}
-use Rattle.term_nodes.specs.Seen.{Sight, sight_of, wide_sight}
-use Rattle.term_store.proofs.Adding.{sound_cond}
+use Rattle.term_nodes.specs.Built.{IsBuilt, IsSoundTerm}
 use Rattle.term_store.proofs.OrderedForms.{form_ordered, once}
-use Rattle.term_nodes.proofs.Ready.{small_term, difference_light}
+use Rattle.term_nodes.proofs.Ready.{small_term}
 
 pub form_mass : (root : Box) (t : rule.Term) → IsSoundTerm root t → mass_of (form root t) ≤ 2 ^ 40
 form_mass root t sound = omega (arith, sound.small, mass_weight root (form root t).cells)
@@ -73,26 +60,3 @@ difference_small root items x y f all is =
     omega (arith, light, other, ap mass_of is, plus_mass (negsuc 0) (form root (term_at (things items) x)) (form root (term_at (things items) y)))
 
 -- the interval of a difference over the root
-pub known_fits : (root : Box) (items : List Item) (x y : ℕ) (f : own.Form) (l r : seen.AbstractValue) → IsBox root → IsBuilt root items → form_of f
-    ≡ plus_form (negsuc 0) (form root (term_at (things items) x)) (form root (term_at (things items) y)) → sight_of l ≡ wide_sight root (term_at (things items) x) → sight_of r
-    ≡ wide_sight root (term_at (things items) y) → DifferenceFits root f (ends_of l.ends) (ends_of r.ends)
-known_fits root items x y f l r is_box all is left right =
-    let s = term_at (things items) x in
-    let t = term_at (things items) y in
-    let s_sound = small_term root items x all in
-    let t_sound = small_term root items y all in
-    subst (λ (a : ends.Ends). DifferenceFits root f a (ends_of r.ends)) (sym (ap (λ (s : Sight). s.ends) left))
-    (subst (λ (a : ends.Ends). DifferenceFits root f (atoms Wide root root s) a) (sym (ap (λ (s : Sight). s.ends) right))
-    (difference_fits root root f (atoms Wide root root s) (atoms Wide root root t) (atoms_weight root s) (atoms_weight root t) is_box (part_of_itself root is_box)
-    (bounded root s s_sound.proper) (bounded root t t_sound.proper)
-    (difference_light root s t f is s_sound.small t_sound.small)))
-
-pub new_compare : (root : Box) (items : List Item) (c : Comparison) (f : facts.Facts) → IsBuilt root items → c.left < length items → c.right < length items → form_of c.form
-    ≡ plus_form (negsuc 0) (form root (term_at (things items) c.left)) (form root (term_at (things items) c.right)) → kept f
-    ≡ of_truth (truth Wide root root (rule.Compare c.op (term_at (things items) c.left) (term_at (things items) c.right))) → IsNew root items (record { node = node.Compare c; facts = f })
-new_compare root items c f all left right form_is is = record {
-  below = (left, right);
-  kept = is;
-  sound = sound_cond root (rule.Compare c.op (term_at (things items) c.left) (term_at (things items) c.right)) ((small_term root items c.left all).proper, (small_term root items c.right all).proper);
-  right = form_is;
-}

@@ -1,5 +1,5 @@
 -- What is known of a term that folds to a number, or is an atom, is right.
-use Rattle.std.proofs.Common.{◌≡◌, ℕ, ◌+◌, ◌<◌, ◌≤◌, ◌^◌, ℤ, unsigned_abs, Bool, true, false, ◌&&◌, List, [], ◌∷◌, map, length, get_or, drop, Vec, Global, arith, refl, ap, subst, sym, ◌∙◌}
+use Rattle.std.proofs.Common.{◌≡◌, ℕ, ◌+◌, ◌<◌, ◌≤◌, ℤ, unsigned_abs, Bool, true, false, ◌&&◌, List, [], ◌∷◌, map, length, get_or, drop, arith, refl, ap, subst, sym, ◌∙◌}
 use Rattle.std.specs.List.{fold, list_all}
 use Rattle.std.proofs.lemmas.List.{at_drop_more, at_drop_all}
 use Rattle.box_problem.specs.Box.{Box, IsBox}
@@ -16,20 +16,17 @@ use Rattle.term_language.proofs.Bounds.{bounded_whole}
 use Rattle.term_language.proofs.FormValues.{and_first, and_second}
 use Rattle.term_math.specs.declared.extremes.Extreme.{Extreme}
 use Rattle.term_math.specs.declared.operations.Operation.{Operation}
-use Rattle.term_math.specs.Made.{IsPossible, IsSmall, operation_term, extreme_term, made, made_of, chosen_by, picked}
+use Rattle.term_math.specs.Made.{IsSmall, operation_term, extreme_term, made, made_of, chosen_by, picked}
 use Rattle.term_math.proofs.Constants.{constant_interval, constant_intervals}
-use Rattle.term_math.proofs.Rules.{operation_form, operation_atoms, operation_mark, operation_weight, operation_proper, extreme_form, extreme_atoms, extreme_mark}
-use Rattle.term_math.proofs.Rules.{extreme_weight, extreme_proper, made_exactly, fold_exactly, folded_size}
-use Rattle.term_nodes.specs.declared.nodes.Node.TheVariants as node
+use Rattle.term_math.proofs.Rules.{operation_form, operation_atoms, operation_mark, operation_weight, extreme_form, extreme_atoms, extreme_mark}
+use Rattle.term_math.proofs.Rules.{extreme_weight, made_exactly, fold_exactly, folded_size}
 use Rattle.term_nodes.specs.declared.items.Item.{Item}
-use Rattle.term_nodes.specs.declared.items.Facts as facts
 use Rattle.term_nodes.specs.Things.{Thing, a_term, term_at, terms_at, things}
-use Rattle.term_nodes.specs.Built.{AllBelow, Facts, IsBuilt, IsNew, facts_of, kept}
+use Rattle.term_nodes.specs.Built.{Facts, IsBuilt, facts_of}
 use Rattle.term_nodes.specs.Seen.{Sight, extreme_range}
 use Rattle.term_nodes.proofs.Ranges.{both_always, both_grouped}
 use Rattle.term_nodes.proofs.Ready.{small_term, terms_proper}
 use Rattle.term_store.specs.Atoms.{of_folded, size_of_folded}
-use Rattle.term_store.proofs.Adding.{new_term}
 
 -- whole intervals over the root are small
 pub wide_small : (root : Box) (items : List Item) (id : ℕ) (a : ends.Ends) → IsBuilt root items → a ≡ interval Wide root root (term_at (things items) id) → IsSmall a
@@ -117,13 +114,6 @@ operation_measured root items op id b s is_box all b_is s_is =
     ∙ ap (λ (x : Sight). size_of_folded (folds (form root t ∷ []) (mark Near root root t)) x.ends) s_is
     ∙ operation_size root op t is_box (small_term root items id all).proper
 
-pub new_operation : (root : Box) (items : List Item) (op : Operation) (id : ℕ) (f : facts.Facts) → IsBuilt root items → id < length items → IsPossible op → kept f
-    ≡ facts_of root (a_term (operation_term op (term_at (things items) id))) → size root (operation_term op (term_at (things items) id)) ≤ 2 ^ 40
-    → IsNew root items (record { node = node.Operation op id; facts = f })
-new_operation root items op id f all there possible is small =
-    new_term root items (node.Operation op id) f (operation_term op (term_at (things items) id)) refl there is (operation_proper op (term_at (things items) id) (small_term root items id all).proper)
-    small possible
-
 -- the least and the greatest of several
 extreme_number : (root : Box) (e : Extreme) (t : rule.Term) (later : rule.Terms) → IsBox root → IsProper t → AreProper later
     → folds (form root t ∷ forms root later) (both (mark Near root root t) (all_marks (marks Near root root later))) ≡ true → chosen (chosen_by e) (form root t) (forms root later)
@@ -182,15 +172,6 @@ extreme_measured root items e first later b s is_box all b_is s_is =
     ap (λ (x : Bool). size_of_folded x s.ends) b_is
     ∙ ap (λ (x : Sight). size_of_folded (all_fold root t ts) x.ends) s_is
     ∙ extreme_size root e t ts is_box (small_term root items first all).proper (terms_proper root items later all)
-
-pub new_extreme : (root : Box) (items : List Item) (e : Extreme) (first : ℕ) (later : List ℕ) (list : Vec ℕ Global) (f : facts.Facts) → IsBuilt root items → first < length items
-    → AllBelow (length items) later → list.items ≡ later → kept f ≡ facts_of root (a_term (extreme_term e (term_at (things items) first) (terms_at (things items) later)))
-    → size root (extreme_term e (term_at (things items) first) (terms_at (things items) later)) ≤ 2 ^ 40 → IsNew root items (record { node = node.Extreme e first list; facts = f })
-new_extreme root items e first later list f all there below same is small =
-    new_term root items (node.Extreme e first list) f (extreme_term e (term_at (things items) first) (terms_at (things items) later))
-    (ap (λ (ids : List ℕ). a_term (extreme_term e (term_at (things items) first) (terms_at (things items) ids))) same)
-    (there, subst (AllBelow (length items)) (sym same) below) is
-    (extreme_proper e (term_at (things items) first) (terms_at (things items) later) (small_term root items first all).proper (terms_proper root items later all)) small tt
 
 -- steps over several terms
 pub next_constants : (root : Box) (all : List Thing) (xs : List ℕ) (i x : ℕ) → i < length xs → x ≡ get_or xs i x → list_all is_constant (forms root (terms_at all (drop i xs)))

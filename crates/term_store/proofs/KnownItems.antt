@@ -1,11 +1,10 @@
 -- An element whose indices are numbers, and an index of the array's, is as defined as its indices.
-use Rattle.std.proofs.Common.{◌≡◌, inl, inr, ℕ, ◌+◌, ◌<◌, ◌≤◌, ℤ, Bool, true, false, if◌then◌else◌, List, [], ◌∷◌, map, length, get_or, drop, Option, Some, arith}
+use Rattle.std.proofs.Common.{◌≡◌, inl, inr, ◌+◌, ℤ, Bool, true, false, if◌then◌else◌, List, [], ◌∷◌, map, Option, Some, arith}
 use Rattle.std.proofs.Common.{refl, ap, subst, sym, ◌∙◌}
 use Rattle.std.specs.List.{filter, flat_map, list_all, list_any}
 use Rattle.std.specs.Int.{int_gap}
 use Rattle.std.specs.Ordering.{int_eq}
 use Rattle.std.proofs.lemmas.Int.{ints}
-use Rattle.std.proofs.lemmas.List.{at_drop_more, at_drop_all}
 use Rattle.std.proofs.lemmas.Bool.{and_from, or_left, or_right}
 use Rattle.box_problem.specs.Box.{Box, IsBox}
 use Rattle.box_problem.proofs.Counts.{gap_leads}
@@ -28,8 +27,8 @@ use Rattle.term_language.proofs.ElementParts.{all_counted}
 use Rattle.term_language.proofs.Operations.{equal_tests}
 use Rattle.term_language.proofs.ElementPoints.{mem_append}
 use Rattle.term_math.proofs.Constants.{constant_intervals}
-use Rattle.term_nodes.proofs.Ranges.{both_always, both_grouped}
-use Rattle.term_nodes.specs.Things.{Thing, a_term, term_at, terms_at}
+use Rattle.term_nodes.proofs.Ranges.{both_always}
+use Rattle.term_nodes.specs.Things.{a_term}
 use Rattle.term_nodes.specs.Built.{Facts, facts_of}
 use Rattle.term_store.specs.Atoms.{of_item}
 
@@ -167,14 +166,3 @@ module _ (root : Box) (table : rule.Table) (ts : rule.Terms) (item : rule.Item) 
       ∙ ap (λ (m : Defined). facts_with (item_form (Some item)) m far) (is_near ∙ sym (known_marks Near))
       ∙ ap (λ (m : Defined). facts_with (item_form (Some item)) (mark Near root root (rule.Element table ts)) m) (is_far ∙ sym (known_marks Wide))
       ∙ ap (λ (f : Form). facts_with f (mark Near root root (rule.Element table ts)) (mark Wide root root (rule.Element table ts))) known
-
--- steps over the indices
-pub next_wide : (root : Box) (m : Defined) (all : List Thing) (xs : List ℕ) (i x : ℕ) → i < length xs → x ≡ get_or xs i x → both m (all_marks (marks Wide root root (terms_at all (drop i xs))))
-    ≡ both (both m (mark Wide root root (term_at all x))) (all_marks (marks Wide root root (terms_at all (drop (i + 1) xs))))
-next_wide root m all xs i x below at =
-    at_drop_more (λ ys. both m (all_marks (marks Wide root root (terms_at all ys)))) xs i x below
-    ∙ ap (λ (y : ℕ). both m (both (mark Wide root root (term_at all y)) (all_marks (marks Wide root root (terms_at all (drop (i + 1) xs)))))) (sym at)
-    ∙ sym (both_grouped m (mark Wide root root (term_at all x)) (all_marks (marks Wide root root (terms_at all (drop (i + 1) xs)))))
-
-pub none_wide : (root : Box) (m : Defined) (all : List Thing) (xs : List ℕ) (i : ℕ) → length xs ≤ i → both m (all_marks (marks Wide root root (terms_at all (drop i xs)))) ≡ m
-none_wide root m all xs i past = at_drop_all (λ ys. both m (all_marks (marks Wide root root (terms_at all ys)))) xs i past ∙ both_always m

@@ -6,4 +6,5 @@ pub mod Multiplying
 pub mod Folding
 pub mod Indexing
 pub mod KnownItems
-pub mod Ranging
+pub mod Added
+pub mod WideReading

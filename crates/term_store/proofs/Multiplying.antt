@@ -1,5 +1,5 @@
 -- What is known of a product is right, and has room.
-use Rattle.std.proofs.Common.{◌≡◌, ℕ, ◌+◌, ◌*◌, ◌<◌, ◌≤◌, ◌^◌, max, ℤ, pos, unsigned_abs, if◌then◌else◌, List, length, arith, refl, ap, subst, sym}
+use Rattle.std.proofs.Common.{◌≡◌, ℕ, ◌+◌, ◌*◌, ◌<◌, ◌≤◌, ◌^◌, max, ℤ, pos, unsigned_abs, if◌then◌else◌, List, arith, ap, subst, sym}
 use Rattle.std.proofs.Math.Nat.{mul-le-mul_left, mul-le-mul_right}
 use Rattle.box_problem.specs.Box.{Box, IsBox}
 use Rattle.box_problem.proofs.Boxes.{part_of_itself}
@@ -11,18 +11,15 @@ use Rattle.term_language.specs.Sizes.{weight_of, atoms_weight, product_weight, s
 use Rattle.term_language.proofs.Bounds.{Bounds, bounded, bounded_whole}
 use Rattle.term_language.proofs.FormValues.{by_bool, by_if}
 use Rattle.term_math.specs.declared.forms.Form as own
-use Rattle.term_math.specs.Shown.{WholeFits, ProductFits, ends_of, form_of}
+use Rattle.term_math.specs.Shown.{ProductFits, ends_of, form_of}
 use Rattle.term_math.specs.Sums.{mass_of, weight_in}
-use Rattle.term_math.proofs.Fits.{product_fits, whole_fits}
+use Rattle.term_math.proofs.Fits.{product_fits}
 use Rattle.term_math.proofs.Products.{weight_times}
-use Rattle.term_nodes.specs.declared.nodes.Node.TheVariants as node
 use Rattle.term_nodes.specs.declared.items.Item.{Item}
-use Rattle.term_nodes.specs.declared.items.Facts as facts
+use Rattle.term_nodes.specs.Things.{term_at, things}
+use Rattle.term_nodes.specs.Built.{IsBuilt}
 use Rattle.term_math.specs.declared.values.AbstractValue as seen
-use Rattle.term_nodes.specs.Things.{a_term, term_at, things}
-use Rattle.term_nodes.specs.Built.{IsBuilt, IsNew, facts_of, kept}
-use Rattle.term_nodes.specs.Seen.{Sight, sight_of, wide_sight}
-use Rattle.term_store.proofs.Adding.{new_term}
+use Rattle.term_nodes.specs.Seen.{Sight, sight_of, sight}
 use Rattle.term_nodes.proofs.Ready.{small_term, sized_form}
 use Rattle.term_store.proofs.Differences.{form_mass}
 use Rattle.term_store.proofs.Summing.{plus_large, weight_large, form_light}
@@ -107,16 +104,8 @@ weight_room root items x y h weight all is weight_is =
     omega (arith, ap (weight_in root) is, weight_is, light, heavy)
 
 -- intervals over the root
-pub interval_fits : (root : Box) (items : List Item) (id : ℕ) (f : own.Form) (s : seen.AbstractValue) → IsBox root → IsBuilt root items → form_of f ≡ form root (term_at (things items) id)
-    → sight_of s ≡ wide_sight root (term_at (things items) id) → WholeFits root f (ends_of s.ends)
-interval_fits root items id f s is_box all is seen =
-    let t = term_at (things items) id in
-    let sound = small_term root items id all in
-    subst (λ (a : ends.Ends). WholeFits root f a) (sym (ap (λ (s : Sight). s.ends) seen))
-    (whole_fits root root f (atoms Wide root root t) (atoms_weight root t) is_box (part_of_itself root is_box) (bounded root t sound.proper) (sized_form root t f is sound.small))
-
 pub product_known_fits : (root : Box) (items : List Item) (x y : ℕ) (f g : own.Form) (l r : seen.AbstractValue) → IsBox root → IsBuilt root items → form_of f ≡ form root (term_at (things items) x)
-    → form_of g ≡ form root (term_at (things items) y) → sight_of l ≡ wide_sight root (term_at (things items) x) → sight_of r ≡ wide_sight root (term_at (things items) y)
+    → form_of g ≡ form root (term_at (things items) y) → sight_of l ≡ sight Wide root root (term_at (things items) x) → sight_of r ≡ sight Wide root root (term_at (things items) y)
     → size root (rule.Product (term_at (things items) x) (term_at (things items) y)) ≤ 2 ^ 40 → ProductFits root f g (ends_of l.ends) (ends_of r.ends)
 product_known_fits root items x y f g l r is_box all left right l_is r_is small =
     let s = term_at (things items) x in
@@ -131,10 +120,3 @@ product_known_fits root items x y f g l r is_box all left right l_is r_is small 
     (subst (λ (a : ends.Ends). ProductFits root f g (atoms Wide root root s) a) (sym (ap (λ (s : Sight). s.ends) r_is))
     (product_fits root root f g (atoms Wide root root s) (atoms Wide root root t) (atoms_weight root s) (atoms_weight root t) (atoms_weight root (rule.Product s t)) is_box (part_of_itself root is_box)
     (bounded root s s_sound.proper) (bounded root t t_sound.proper) (sized_form root s f left s_sound.small) (sized_form root t g right t_sound.small) moved (omega (arith, small))))
-
-pub new_product : (root : Box) (items : List Item) (x y : ℕ) (f : facts.Facts) → IsBuilt root items → x < length items → y < length items → kept f
-    ≡ facts_of root (a_term (rule.Product (term_at (things items) x) (term_at (things items) y))) → size root (rule.Product (term_at (things items) x) (term_at (things items) y)) ≤ 2 ^ 40
-    → IsNew root items (record { node = node.Product x y; facts = f })
-new_product root items x y f all left right is small =
-    new_term root items (node.Product x y) f (rule.Product (term_at (things items) x) (term_at (things items) y)) refl (left, right) is
-    ((small_term root items x all).proper, (small_term root items y all).proper) small tt

@@ -1,7 +1,7 @@
 -- Steps of what is known of a sum, from the last part to the first.
-use Rattle.std.proofs.Common.{◌≡◌, ℕ, ◌+◌, ◌-◌, ◌*◌, ◌<◌, ◌≤◌, ◌^◌, zero, suc, ℤ, ◌*ℤ◌, unsigned_abs, List, [], ◌∷◌, length, get_or, drop, Vec, Global, arith, ap, subst, sym, ◌∙◌}
+use Rattle.std.proofs.Common.{◌≡◌, ℕ, ◌+◌, ◌-◌, ◌*◌, ◌<◌, ◌≤◌, ◌^◌, zero, suc, ℤ, ◌*ℤ◌, unsigned_abs, List, [], ◌∷◌, length, get_or, drop, arith, ap, subst, sym, ◌∙◌}
 use Rattle.std.proofs.lemmas.Int.{unsigned_abs-mul}
-use Rattle.std.proofs.lemmas.List.{at_drop_more, at_drop_all, get_or_default}
+use Rattle.std.proofs.lemmas.List.{at_drop_more, at_drop_all}
 use Rattle.sopl_base.proofs.Sizes.{plus_size}
 use Rattle.sopl_base.proofs.Naturals.{spread_left}
 use Rattle.box_problem.specs.Box.{Box}
@@ -9,25 +9,18 @@ use Rattle.term_language.specs.Ends as ends
 use Rattle.term_language.specs.Forms as forms
 use Rattle.term_language.specs.Terms as rule
 use Rattle.term_language.specs.Marks.{both}
-use Rattle.term_language.specs.Rules.{Near, Wide, form, sum_form, mark, sum_mark, atoms, sum_atoms}
+use Rattle.term_language.specs.Rules.{Near, form, sum_form, mark, sum_mark}
 use Rattle.term_language.specs.Sizes.{weight_of, atoms_weight, sum_weight, size}
 use Rattle.term_language.specs.Laws.{AreProperParts}
-use Rattle.term_language.proofs.Bounds.{bounded, bounded_parts, sign_size}
-use Rattle.term_math.specs.Shown.{IsFit, ends_at, ends_of}
+use Rattle.term_language.proofs.Bounds.{sign_size}
 use Rattle.term_math.specs.Sums.{mass_of, weight_in, weighted}
-use Rattle.term_math.proofs.Fits.{fit, fit_at}
 use Rattle.term_math.proofs.Weights.{combined_weighted, cells_weighted, mass_weight}
-use Rattle.term_nodes.specs.declared.nodes.Node.TheVariants as node
 use Rattle.term_nodes.specs.declared.nodes.Signed.{Signed}
 use Rattle.term_nodes.specs.declared.items.Item.{Item}
-use Rattle.term_nodes.specs.declared.items.Facts as facts
-use Rattle.term_math.specs.declared.values.AbstractValue as seen
-use Rattle.term_nodes.specs.Things.{Thing, a_term, term_at, parts_at, things}
-use Rattle.term_nodes.specs.Built.{IsBuilt, IsNew, PartsBelow, facts_of, kept}
-use Rattle.term_nodes.specs.Seen.{Sight, sight_of, wide_sight, wide_sum}
+use Rattle.term_nodes.specs.Things.{Thing, term_at, parts_at, things}
+use Rattle.term_nodes.specs.Built.{IsBuilt, PartsBelow}
 use Rattle.term_nodes.proofs.Reading.{length_things}
-use Rattle.term_nodes.proofs.Ready.{drop_lighter, small_term}
-use Rattle.term_store.proofs.Adding.{new_term}
+use Rattle.term_nodes.proofs.Ready.{small_term}
 
 -- marks
 pub next_mark : (root : Box) (all : List Thing) (xs : List Signed) (i : ℕ) (x : Signed) → i < length xs → x ≡ get_or xs i x → sum_mark Near root root (parts_at all (drop i xs))
@@ -39,58 +32,9 @@ next_mark root all xs i x below at =
 pub no_mark : (root : Box) (all : List Thing) (xs : List Signed) (i : ℕ) → length xs ≤ i → sum_mark Near root root (parts_at all (drop i xs)) ≡ sum_mark Near root root (parts_at all [])
 no_mark root all xs i past = at_drop_all (λ ys. sum_mark Near root root (parts_at all ys)) xs i past
 
--- by the wide reading
-pub next_wide : (root : Box) (all : List Thing) (xs : List Signed) (i : ℕ) (x : Signed) → i < length xs → x ≡ get_or xs i x → wide_sum root (parts_at all (drop i xs))
-    ≡ record {
-      ends = ends.plus (ends.scaled (forms.sign x.subtracted) (atoms Wide root root (term_at all x.term))) (sum_atoms Wide root root (parts_at all (drop (i + 1) xs)));
-      mark =
-          both (mark Wide root root (term_at all x.term)) (wide_sum root (parts_at all (drop (i + 1) xs))).mark;
-    }
-next_wide root all xs i x below at =
-    at_drop_more (λ ys. wide_sum root (parts_at all ys)) xs i x below
-    ∙ ap (λ (y : Signed). record {
-      ends = ends.plus (ends.scaled (forms.sign y.subtracted) (atoms Wide root root (term_at all y.term))) (sum_atoms Wide root root (parts_at all (drop (i + 1) xs)));
-      mark = both (mark Wide root root (term_at all y.term)) (wide_sum root (parts_at all (drop (i + 1) xs))).mark;
-    }) (sym at)
-
-pub no_wide : (root : Box) (all : List Thing) (xs : List Signed) (i : ℕ) → length xs ≤ i → wide_sum root (parts_at all (drop i xs)) ≡ wide_sum root (parts_at all [])
-no_wide root all xs i past = at_drop_all (λ ys. wide_sum root (parts_at all ys)) xs i past
-
-pub all_wide : (root : Box) (all : List Thing) (xs : List Signed) (i : ℕ) (r : Sight) → i ≤ 0 → r ≡ wide_sum root (parts_at all (drop i xs)) → r ≡ wide_sum root (parts_at all xs)
-all_wide root all xs i r none is =
-    let at_zero : i ≡ 0 = omega (arith, none) in
-    is ∙ ap (λ (j : ℕ). wide_sum root (parts_at all (drop j xs))) at_zero
-
 pub parts_proper : (root : Box) (items : List Item) (xs : List Signed) → IsBuilt root items → AreProperParts (parts_at (things items) xs)
 parts_proper root items [] all = tt
 parts_proper root items (x ∷ xs) all = ((small_term root items x.term all).proper, parts_proper root items xs all)
-
-pub wide_times_fit : (root : Box) (items : List Item) (subtracted : _) (id : ℕ) (s : seen.AbstractValue) → IsBuilt root items → sight_of s ≡ wide_sight root (term_at (things items) id)
-    → IsFit (ends_at (forms.sign subtracted) (ends_of s.ends))
-wide_times_fit root items subtracted id s all is =
-    let t = term_at (things items) id in
-    let sound = small_term root items id all in
-    let once : unsigned_abs (forms.sign subtracted) * atoms_weight root t ≡ 1 * atoms_weight root t = ap (λ (n : ℕ). n * atoms_weight root t) (sign_size subtracted) in
-    subst (λ (a : ends.Ends). IsFit (ends_at (forms.sign subtracted) a)) (sym (ap (λ (s : Sight). s.ends) is))
-    (fit_at (forms.sign subtracted) (atoms Wide root root t) (atoms_weight root t) (bounded root t sound.proper) (omega (arith, once, sound.small)))
-
-pub wide_sum_fit : (root : Box) (items : List Item) (xs : List Signed) (i : ℕ) (d : Signed) (part sum : seen.AbstractValue) → IsBuilt root items → sum_weight root (parts_at (things items) xs) ≤ 2 ^ 40
-    → 0 < i → i ≤ length xs → sight_of part ≡ wide_sight root (term_at (things items) (get_or xs (i - 1) d).term) → sight_of sum ≡ wide_sum root (parts_at (things items) (drop i xs))
-    → IsFit (ends.plus (ends.scaled (forms.sign (get_or xs (i - 1) d).subtracted) (ends_of part.ends)) (ends_of sum.ends))
-wide_sum_fit root items xs i d part sum all small positive most first later =
-    let there : i - 1 < length xs = omega (arith, positive, most) in
-    let again : i - 1 + 1 ≡ i = omega (arith, positive) in
-    let x : Signed = get_or xs (i - 1) d in
-    let ts : List Thing = things items in
-    let parts : rule.Parts = parts_at ts (drop (i - 1) xs) in
-    let next = next_wide root ts xs (i - 1) x there (get_or_default xs (i - 1) d x there) in
-    let fits : IsFit (sum_atoms Wide root root parts) = fit (sum_atoms Wide root root parts) (sum_weight root parts) (bounded_parts root parts (parts_proper root items (drop (i - 1) xs) all))
-    (omega (arith, drop_lighter root ts (i - 1) xs, small)) in
-    let here_fits = subst IsFit (ap (λ (s : Sight). s.ends) next) fits in
-    let moved = subst (λ (j : ℕ). IsFit (ends.plus (ends.scaled (forms.sign x.subtracted) (atoms Wide root root (term_at ts x.term))) (sum_atoms Wide root root (parts_at ts (drop j xs)))))
-    again here_fits in
-    subst (λ (a : ends.Ends). IsFit (ends.plus (ends.scaled (forms.sign x.subtracted) a) (ends_of sum.ends))) (sym (ap (λ (s : Sight). s.ends) first))
-    (subst (λ (a : ends.Ends). IsFit (ends.plus (ends.scaled (forms.sign x.subtracted) (atoms Wide root root (term_at ts x.term))) a)) (sym (ap (λ (s : Sight). s.ends) later)) moved)
 
 -- forms
 pub next_sum : (root : Box) (all : List Thing) (xs : List Signed) (i : ℕ) (x : Signed) → i < length xs → x ≡ get_or xs i x → sum_form root (parts_at all (drop i xs))
@@ -191,12 +135,6 @@ next_weight root all xs i x below at =
 
 pub no_sum_weight : (root : Box) (all : List Thing) (xs : List Signed) (i : ℕ) → length xs ≤ i → sum_weight root (parts_at all (drop i xs)) ≡ 0
 no_sum_weight root all xs i past = at_drop_all (λ ys. sum_weight root (parts_at all ys)) xs i past
-
-pub new_sum : (root : Box) (items : List Item) (xs : List Signed) (list : Vec Signed Global) (f : facts.Facts) → IsBuilt root items → PartsBelow (length items) xs → list.items ≡ xs → kept f
-    ≡ facts_of root (a_term (rule.Sum (parts_at (things items) xs))) → size root (rule.Sum (parts_at (things items) xs)) ≤ 2 ^ 40 → IsNew root items (record { node = node.Sum list; facts = f })
-new_sum root items xs list f all below same is small =
-    new_term root items (node.Sum list) f (rule.Sum (parts_at (things items) xs)) (ap (λ (ys : List Signed). a_term (rule.Sum (parts_at (things items) ys))) same)
-    (subst (PartsBelow (length items)) (sym same) below) is (parts_proper root items xs all) small tt
 
 pub parts_there : (items : List Item) (xs : List Signed) → PartsBelow (length (things items)) xs → PartsBelow (length items) xs
 parts_there items xs there = subst (λ (n : ℕ). PartsBelow n xs) (length_things items) there

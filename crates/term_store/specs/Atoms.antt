@@ -2,7 +2,7 @@
 use Rattle.std.specs.Prelude.{ℕ, pos, unsigned_abs, Bool, map, Some, if◌then◌else◌}
 use Rattle.term_language.specs.Ends.{Ends, exactly, hull_of, cell_ends}
 use Rattle.box_problem.specs.Box.{Box}
-use Rattle.term_language.specs.Terms.{Item, Fixed, Free, Table, Terms, Element}
+use Rattle.term_language.specs.Terms.{Item, Fixed, Free, Table, Term, Terms, Constant, Cell, Element}
 use Rattle.term_language.specs.Rules.{Wide, folded, unless_folded, item_form, item_ends, mark}
 use Rattle.term_language.specs.Sizes.{alone_weight, weight_of}
 use Rattle.term_language.specs.declared.answers.Defined.{Defined}
@@ -38,6 +38,11 @@ of_item item near far = record {
 abbrev pub size_of_item : Box → Item → ℕ
 size_of_item root (Fixed z) = unsigned_abs z
 size_of_item root (Free cell) = weight_of (cell_ends root cell)
+
+-- a number or a cell as a term
+abbrev pub leaf_of : Item → Term
+leaf_of (Fixed z) = Constant z
+leaf_of (Free cell) = Cell cell
 
 -- an element over the root box by the wide reading, whichever it is
 abbrev pub any_element : Box → Table → Terms → Sight

@@ -1,3 +1,3 @@
 pub mod Stores
+pub mod Additions
 pub mod Atoms
-pub mod Tasks

@@ -1,35 +1,29 @@
-//! Arrays are added, and their elements.
+//! What is known of the elements of arrays.
 
-ghost use Rattle.std.specs.Prelude.{◌≡◌, ◌<◌, Some, length, map, IfOk, OnErr, option_map};
-ghost use Rattle.term_language.specs.Arrays as arrays;
+ghost use Rattle.std.specs.Prelude.{◌≡◌, ◌<◌, Some, length, map, IfOk, option_map};
 ghost use Rattle.term_language.specs.Arrays.{item_at};
 ghost use Rattle.term_language.specs.Ends as ends;
 ghost use Rattle.term_language.specs.Forms as forms;
-ghost use Rattle.term_language.specs.Laws.{IsTable};
 ghost use Rattle.term_language.specs.Marks as marks;
 ghost use Rattle.term_language.specs.Rules as rule;
 ghost use Rattle.term_language.specs.Sizes as sizes;
 ghost use Rattle.term_language.specs.Terms as term;
 ghost use Rattle.term_math.specs.Shown.{box_in, ends_of, form_of};
-ghost use Rattle.term_math.specs.Kept.{item_of, sets_of, table_of};
-ghost use Rattle.term_math.specs.Within.{known_of, ranges_of};
+ghost use Rattle.term_math.specs.Kept.{item_of};
 ghost use Rattle.term_nodes.specs.Built.{AllBelow, facts_of, kept};
-ghost use Rattle.term_nodes.specs.Seen.{indexed_sight, sight_of};
-ghost use Rattle.term_nodes.specs.Things.{a_table, a_term, table_at, terms_at};
-ghost use Rattle.term_store.specs.Atoms.{any_element, of_item, size_of_item};
-ghost use Rattle.term_store.specs.Stores.{IsAdded, IsMeasured, IsSoundStore, all, root_of};
+ghost use Rattle.term_nodes.specs.Seen.{sight_of};
+ghost use Rattle.term_nodes.specs.Things.{a_term, table_at, terms_at};
+ghost use Rattle.term_store.specs.Atoms.{any_element, leaf_of, of_item, size_of_item};
+ghost use Rattle.term_store.specs.Stores.{IsMeasured, IsSoundStore, all, root_of};
 
 use crate::folded::folded_facts;
-use crate::known::condition;
 use crate::store::TermStore;
 use crate::terms::{cell_form, measured, number_form};
 use sopl_base::Fault;
 use std::alloc::{AllocError, Global};
 use term_language::{Defined, Truth};
-use term_math::{
-    AbstractValue, BoxView, Element, Ends, Factor, Form, Indices, Ranges, Table, both, weight_of,
-};
-use term_nodes::{Facts, Node, table_at};
+use term_math::{AbstractValue, BoxView, Element, Ends, Factor, Form, both, weight_of};
+use term_nodes::{Facts, table_at};
 
 /// The form of an element, where its size is at most 2^40.
 fn item_form(alloc: Global, element: &Element, root: &BoxView) -> Result<Form, Fault>
@@ -72,18 +66,6 @@ fn item_facts(
 }
 
 impl TermStore {
-    /// An array, with one element for each of its indices.
-    pub fn table(&mut self, table: Table) -> Result<u32, AllocError>
-        requires sound { IsSoundStore self.old }
-        requires table { IsTable (table_of table) }
-        ensures sound { IsSoundStore self.new }
-        ensures root { root_of self.new ≡ root_of self.old }
-        ensures added { IfOk result (λ id. IsAdded (all self.old) (all self.new) id (a_table (table_of table))) }
-        ensures err { OnErr result (all self.new ≡ all self.old) }
-    {
-        self.add(Node::Table(table), condition(self.alloc, Truth::True))
-    }
-
     /// The constants of the forms of terms.
     #[tactic(auto, using(crate::proofs::Indexing::next_numbers, crate::proofs::Indexing::no_numbers, term_nodes::proofs::Steps::cond_below))]
     fn constants(&self, ids: &[u32]) -> Result<Vec<i64>, AllocError>
@@ -145,68 +127,6 @@ impl TermStore {
         self.here(&root).element_range(self.count(), table, at).mark
     }
 
-    /// The mark of an element over the root box by the wide reading.
-    #[tactic(auto, using(crate::proofs::Indexing::no_table_wide, crate::proofs::Indexing::no_items_wide))]
-    fn element_wide_mark(&self, table: u32, at: &[u32]) -> Defined
-        requires sound { IsSoundStore self.now }
-        requires exist { AllBelow (length self.now.items.items) at.now }
-        ensures { result ≡ rule.mark rule.Wide (root_of self.now) (root_of self.now) (term.Element (table_at (all self.now) table) (terms_at (all self.now) at.now)) }
-    {
-        let Some(found) = table_at(self.items.as_slice(), table) else {
-            return Defined::Never;
-        };
-        if found.elements.is_empty() {
-            return Defined::Never;
-        }
-        self.wide_indexed(
-            found,
-            at,
-            found.sets.as_slice(),
-            &Indices::none(),
-            &Ranges::End,
-        )
-        .mark
-    }
-
-    /// What an element is over the root box by the wide reading of its indices, where that of the indices behind these is given, and their
-    /// dimensions: those of one number say yes or no, and calls nest for the others alone.
-    #[tactic(auto, using(term_nodes::proofs::Indexing::no_set_left, term_nodes::proofs::Indexing::no_index_left))]
-    fn wide_indexed(
-        &self,
-        found: &Table,
-        at: &[u32],
-        sets: &[Vec<i64>],
-        indices: &Indices,
-        behind: &Ranges,
-    ) -> AbstractValue
-        requires sound { IsSoundStore self.now }
-        requires exist { AllBelow (length self.now.items.items) at.now }
-        requires complete { length (table_of found.now).items ≡ length (arrays.indices (table_of found.now).sets) }
-        ensures { sight_of result ≡ indexed_sight rule.Wide (root_of self.now) (root_of self.now) (table_of found.now) (terms_at (all self.now) at.now)
-            (sets_of sets.now) indices.now.mark (known_of indices.now (ranges_of behind.now)) }
-    {
-        let root = self.root();
-        let here = self.here(&root);
-        let mut left = at;
-        let mut dimensions = sets;
-        let mut known = *indices;
-        while let Some((last, before)) = left.split_last() {
-            let Some((set, others)) = dimensions.split_last() else {
-                return AbstractValue::never(found.hull(&root));
-            };
-            let range = self.range_known(*last);
-            let more = known.with(&range.ends, range.mark, set.as_slice());
-            if set.len() != 1 {
-                let ranges = Ranges::First(range.ends, &*behind);
-                return self.wide_indexed(found, before, others, &more, &ranges);
-            }
-            left = before;
-            dimensions = others;
-            known = more;
-        }
-        here.after_indices(found, dimensions, &known, behind)
-    }
-
     /// What an element is over the root box, by the wide reading: any of the array's.
     fn element_wide(&self, table: u32, at: &[u32]) -> AbstractValue
         requires sound { IsSoundStore self.now }
@@ -234,23 +154,24 @@ impl TermStore {
         mark
     }
 
-    /// The mark of several terms over the root box, all together, by the wide reading.
-    #[tactic(auto, using(crate::proofs::KnownItems::next_wide, crate::proofs::KnownItems::none_wide, term_nodes::proofs::Steps::cond_below))]
-    pub(crate) fn wide_marks(&self, at: &[u32]) -> Defined
+    /// What is known of a number or a cell, where its size is at most 2^40.
+    #[tactic(auto, using(crate::proofs::Adding::leaf_size))]
+    pub(crate) fn leaf_facts(&self, element: &Element) -> Result<Facts, Fault>
         requires sound { IsSoundStore self.now }
-        requires exist { AllBelow (length self.now.items.items) at.now }
-        ensures { result ≡ marks.all_marks (rule.marks rule.Wide (root_of self.now) (root_of self.now) (terms_at (all self.now) at.now)) }
+        ensures facts { IfOk result (λ facts. kept facts ≡ facts_of (root_of self.now) (a_term (leaf_of (item_of element.now)))) }
+        ensures measured { IsMeasured (sizes.size (root_of self.now) (leaf_of (item_of element.now))) result }
     {
-        let mut mark = Defined::Always;
-        for id in at {
-            let here = self.wide_known(*id).mark;
-            mark = both(mark, here);
-        }
-        mark
+        item_facts(
+            self.alloc,
+            element,
+            &self.root(),
+            Defined::Always,
+            Defined::Always,
+        )
     }
 
     /// What is known of an element, where its size is at most 2^40: of one that is an item whatever the box, its indices alone are read.
-    fn element_facts(&self, table: u32, at: &[u32]) -> Result<Facts, Fault>
+    pub(crate) fn element_facts(&self, table: u32, at: &[u32]) -> Result<Facts, Fault>
         requires sound { IsSoundStore self.now }
         requires exist { AllBelow (length self.now.items.items) at.now }
         ensures facts { IfOk result (λ facts. kept facts ≡ facts_of (root_of self.now) (a_term (term.Element (table_at (all self.now) table) (terms_at (all self.now) at.now)))) }
@@ -269,22 +190,5 @@ impl TermStore {
                 folded_facts(self.alloc, false, mark, &wide)
             }
         }
-    }
-
-    /// The element of an array at indices.
-    pub fn element(&mut self, table: u32, at: &[u32]) -> Result<u32, Fault>
-        requires sound { IsSoundStore self.old }
-        requires table { table < length (all self.old) }
-        requires exist { AllBelow (length (all self.old)) at.now }
-        ensures sound { IsSoundStore self.new }
-        ensures root { root_of self.new ≡ root_of self.old }
-        ensures added { IfOk result (λ id. IsAdded (all self.old) (all self.new) id (a_term (term.Element (table_at (all self.old) table) (terms_at (all self.old) at.now)))) }
-        ensures measured { IsMeasured (sizes.size (root_of self.old) (term.Element (table_at (all self.old) table) (terms_at (all self.old) at.now))) result }
-        ensures err { OnErr result (all self.new ≡ all self.old) }
-    {
-        let facts = self.element_facts(table, at)?;
-        let list = Vec::from_slice(self.alloc, at)?;
-        let id = self.add(Node::Element(table, list), facts)?;
-        Ok(id)
     }
 }

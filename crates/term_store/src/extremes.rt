@@ -1,22 +1,20 @@
-//! The least and the greatest of several are added.
+//! What is known of the least and the greatest of several.
 
-ghost use Rattle.std.specs.Prelude.{◌≡◌, ◌<◌, ◌∷◌, length, IfOk, OnErr};
+ghost use Rattle.std.specs.Prelude.{◌≡◌, ◌<◌, ◌∷◌, length, IfOk};
 ghost use Rattle.term_language.specs.Marks as marks;
 ghost use Rattle.term_language.specs.Rules as rule;
 ghost use Rattle.term_language.specs.Sizes as sizes;
-ghost use Rattle.term_language.specs.Terms as term;
 ghost use Rattle.term_math.specs.Made.{extreme_term};
 ghost use Rattle.term_nodes.specs.Built.{AllBelow, facts_of, kept};
-ghost use Rattle.term_nodes.specs.Seen.{extreme_range, sight_of};
 ghost use Rattle.term_nodes.specs.Things.{a_term, term_at, terms_at};
-ghost use Rattle.term_store.specs.Stores.{IsAdded, IsMeasured, IsSoundStore, all, root_of};
+ghost use Rattle.term_store.specs.Stores.{IsMeasured, IsSoundStore, all, root_of};
 
 use crate::folded::folded_facts;
 use crate::store::TermStore;
 use sopl_base::Fault;
 use term_language::Defined;
-use term_math::{AbstractValue, Extreme, both};
-use term_nodes::{Facts, Node};
+use term_math::{Extreme, both};
+use term_nodes::Facts;
 
 impl TermStore {
     /// The mark of several terms over the root box.
@@ -58,24 +56,13 @@ impl TermStore {
         }
     }
 
-    /// The least or the greatest of whole intervals over the root box, and the mark of all, by the wide reading.
-    #[tactic(auto, using(term_nodes::proofs::Ranges::next_taken, term_nodes::proofs::Ranges::none_taken, term_nodes::proofs::Ranges::taken_is, term_nodes::proofs::Steps::cond_below))]
-    fn extreme_known(&self, extreme: Extreme, first: u32, later: &[u32]) -> AbstractValue
-        requires sound { IsSoundStore self.now }
-        requires first { first < length self.now.items.items }
-        requires exist { AllBelow (length self.now.items.items) later.now }
-        ensures { sight_of result ≡ extreme_range rule.Wide (root_of self.now) (root_of self.now) extreme (term_at (all self.now) first) (terms_at (all self.now) later.now) }
-    {
-        let mut taken = self.range_known(first);
-        for id in later {
-            let other = self.range_known(*id);
-            taken = taken.or_other(extreme, &other);
-        }
-        taken
-    }
-
     /// What is known of the least or the greatest of several terms, where its size is at most 2^40.
-    fn extreme_facts(&self, extreme: Extreme, first: u32, later: &[u32]) -> Result<Facts, Fault>
+    pub(crate) fn extreme_facts(
+        &self,
+        extreme: Extreme,
+        first: u32,
+        later: &[u32],
+    ) -> Result<Facts, Fault>
         requires sound { IsSoundStore self.now }
         requires first { first < length self.now.items.items }
         requires exist { AllBelow (length self.now.items.items) later.now }
@@ -86,50 +73,5 @@ impl TermStore {
         let mark = self.marks_known(first, later);
         let wide = self.extreme_known(extreme, first, later);
         folded_facts(self.alloc, folds, mark, &wide)
-    }
-
-    /// The least or the greatest of several terms.
-    fn extreme(&mut self, extreme: Extreme, first: u32, later: &[u32]) -> Result<u32, Fault>
-        requires sound { IsSoundStore self.old }
-        requires first { first < length (all self.old) }
-        requires exist { AllBelow (length (all self.old)) later.now }
-        ensures sound { IsSoundStore self.new }
-        ensures root { root_of self.new ≡ root_of self.old }
-        ensures added { IfOk result (λ id. IsAdded (all self.old) (all self.new) id (a_term (extreme_term extreme (term_at (all self.old) first) (terms_at (all self.old) later.now)))) }
-        ensures measured { IsMeasured (sizes.size (root_of self.old) (extreme_term extreme (term_at (all self.old) first) (terms_at (all self.old) later.now))) result }
-        ensures err { OnErr result (all self.new ≡ all self.old) }
-    {
-        let facts = self.extreme_facts(extreme, first, later)?;
-        let list = Vec::from_slice(self.alloc, later)?;
-        let id = self.add(Node::Extreme(extreme, first, list), facts)?;
-        Ok(id)
-    }
-
-    /// The least of a term and later ones.
-    pub fn least(&mut self, first: u32, later: &[u32]) -> Result<u32, Fault>
-        requires sound { IsSoundStore self.old }
-        requires first { first < length (all self.old) }
-        requires exist { AllBelow (length (all self.old)) later.now }
-        ensures sound { IsSoundStore self.new }
-        ensures root { root_of self.new ≡ root_of self.old }
-        ensures added { IfOk result (λ id. IsAdded (all self.old) (all self.new) id (a_term (term.Least (term_at (all self.old) first) (terms_at (all self.old) later.now)))) }
-        ensures measured { IsMeasured (sizes.size (root_of self.old) (term.Least (term_at (all self.old) first) (terms_at (all self.old) later.now))) result }
-        ensures err { OnErr result (all self.new ≡ all self.old) }
-    {
-        self.extreme(Extreme::Least, first, later)
-    }
-
-    /// The greatest of a term and later ones.
-    pub fn greatest(&mut self, first: u32, later: &[u32]) -> Result<u32, Fault>
-        requires sound { IsSoundStore self.old }
-        requires first { first < length (all self.old) }
-        requires exist { AllBelow (length (all self.old)) later.now }
-        ensures sound { IsSoundStore self.new }
-        ensures root { root_of self.new ≡ root_of self.old }
-        ensures added { IfOk result (λ id. IsAdded (all self.old) (all self.new) id (a_term (term.Greatest (term_at (all self.old) first) (terms_at (all self.old) later.now)))) }
-        ensures measured { IsMeasured (sizes.size (root_of self.old) (term.Greatest (term_at (all self.old) first) (terms_at (all self.old) later.now))) result }
-        ensures err { OnErr result (all self.new ≡ all self.old) }
-    {
-        self.extreme(Extreme::Greatest, first, later)
     }
 }

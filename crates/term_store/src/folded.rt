@@ -6,8 +6,8 @@ ghost use Rattle.term_language.specs.Forms.{is_constant};
 ghost use Rattle.term_language.specs.Rules as rule;
 ghost use Rattle.term_math.specs.Shown.{ends_of};
 ghost use Rattle.term_nodes.specs.Built.{AllBelow, kept};
-ghost use Rattle.term_nodes.specs.Seen.{range, sight_of};
-ghost use Rattle.term_nodes.specs.Things.{term_at, terms_at};
+ghost use Rattle.term_nodes.specs.Seen.{sight_of};
+ghost use Rattle.term_nodes.specs.Things.{terms_at};
 ghost use Rattle.term_store.specs.Atoms.{of_folded, size_of_folded};
 ghost use Rattle.term_store.specs.Stores.{IsMeasured, IsSoundStore, all, root_of};
 
@@ -70,18 +70,6 @@ pub(crate) fn folded_facts(
 }
 
 impl TermStore {
-    /// The whole interval of a term over the root box, and its mark, by the wide reading.
-    pub(crate) fn range_known(&self, id: u32) -> AbstractValue
-        requires sound { IsSoundStore self.now }
-        requires exists { id < length self.now.items.items }
-        ensures { sight_of result ≡ range rule.Wide (root_of self.now) (root_of self.now) (term_at (all self.now) id) }
-    {
-        AbstractValue {
-            ends: self.interval_known(id),
-            mark: self.wide_known(id).mark,
-        }
-    }
-
     /// Whether the forms of all terms are numbers.
     #[tactic(auto, using(crate::proofs::Folding::next_constants, crate::proofs::Folding::no_constants, term_nodes::proofs::Steps::cond_below))]
     pub(crate) fn all_constant(&self, ids: &[u32]) -> bool

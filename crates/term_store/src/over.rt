@@ -27,6 +27,7 @@ impl TermStore {
             items: self.items.as_slice(),
             root: self.root(),
             view: *view,
+            wide: false,
         }
     }
 
@@ -36,7 +37,7 @@ impl TermStore {
         requires inside { Inside (box_in view.now) (root_of self.now) }
         ensures { result ≡ rule.truth rule.Near (root_of self.now) (box_in view.now) (cond_at (all self.now) id) }
     {
-        self.here(view).truth(id)
+        self.here(view).near_truth(id)
     }
 
     /// The interval and the mark of a term over the box.
@@ -47,7 +48,7 @@ impl TermStore {
         ensures interval { ends_of result.ends ≡ rule.interval rule.Near (root_of self.now) (box_in view.now) (term_at (all self.now) id) }
         ensures mark { result.mark ≡ rule.mark rule.Near (root_of self.now) (box_in view.now) (term_at (all self.now) id) }
     {
-        self.here(view).range(id)
+        self.here(view).near_range(id)
     }
 
     /// The truth of a condition over the box, with another interval for one cell.

@@ -1,23 +1,23 @@
-//! Products are added.
+//! What is known of products.
 
-ghost use Rattle.std.specs.Prelude.{◌≡◌, ◌<◌, ◌≤◌, ◌^◌, length, IfOk, OnErr};
+ghost use Rattle.std.specs.Prelude.{◌≡◌, ◌<◌, ◌≤◌, ◌^◌, length, IfOk};
 ghost use Rattle.term_language.specs.Forms as forms;
 ghost use Rattle.term_language.specs.Rules as rule;
 ghost use Rattle.term_language.specs.Sizes as sizes;
 ghost use Rattle.term_language.specs.Terms as term;
-ghost use Rattle.term_math.specs.Shown.{ends_of, form_of};
+ghost use Rattle.term_math.specs.Shown.{form_of};
 ghost use Rattle.term_math.specs.Sums.{wide_form};
 ghost use Rattle.term_nodes.specs.Things.{a_term, term_at};
 ghost use Rattle.term_nodes.specs.Built.{facts_of, kept};
-ghost use Rattle.term_store.specs.Stores.{IsAdded, IsMeasured, IsSoundStore, all, root_of};
+ghost use Rattle.term_store.specs.Stores.{IsMeasured, IsSoundStore, all, root_of};
 
 use crate::store::TermStore;
 use crate::terms::measured;
 use sopl_base::Fault;
 use std::alloc::AllocError;
 use term_language::Truth;
-use term_math::{Ends, Form, WideForm, both, scaled, times_weight, weight_of_times};
-use term_nodes::{Facts, Node};
+use term_math::{Form, WideForm, both, scaled, times_weight, weight_of_times};
+use term_nodes::Facts;
 
 impl TermStore {
     /// The form of a product.
@@ -44,16 +44,6 @@ impl TermStore {
         })
     }
 
-    /// The whole interval of a term over the root box, by the wide reading.
-    pub(crate) fn interval_known(&self, id: u32) -> Ends
-        requires sound { IsSoundStore self.now }
-        requires exists { id < length self.now.items.items }
-        ensures { ends_of result ≡ rule.interval rule.Wide (root_of self.now) (root_of self.now) (term_at (all self.now) id) }
-    {
-        let wide = self.wide_known(id);
-        self.root().whole(self.form_known(id), &wide.ends)
-    }
-
     /// The weight of the non-linear part of a product.
     fn product_weight(&self, a: u32, b: u32) -> u128
         requires sound { IsSoundStore self.now }
@@ -75,7 +65,7 @@ impl TermStore {
     }
 
     /// The form of a product, where its size is at most 2^40.
-    fn measured_product(&self, a: u32, b: u32) -> Result<Form, Fault>
+    pub(crate) fn measured_product(&self, a: u32, b: u32) -> Result<Form, Fault>
         requires sound { IsSoundStore self.now }
         requires left { a < length self.now.items.items }
         requires right { b < length self.now.items.items }
@@ -90,7 +80,7 @@ impl TermStore {
     }
 
     /// What is known of a product, where its form is given.
-    fn product_facts(&self, a: u32, b: u32, form: Form) -> Facts
+    pub(crate) fn product_facts(&self, a: u32, b: u32, form: Form) -> Facts
         requires sound { IsSoundStore self.now }
         requires left { a < length self.now.items.items }
         requires right { b < length self.now.items.items }
@@ -114,22 +104,5 @@ impl TermStore {
             weight: self.product_weight(a, b) as u64,
             truth: Truth::True,
         }
-    }
-
-    /// A product.
-    pub fn product(&mut self, a: u32, b: u32) -> Result<u32, Fault>
-        requires sound { IsSoundStore self.old }
-        requires left { a < length (all self.old) }
-        requires right { b < length (all self.old) }
-        ensures sound { IsSoundStore self.new }
-        ensures root { root_of self.new ≡ root_of self.old }
-        ensures added { IfOk result (λ id. IsAdded (all self.old) (all self.new) id (a_term (term.Product (term_at (all self.old) a) (term_at (all self.old) b)))) }
-        ensures measured { IsMeasured (sizes.size (root_of self.old) (term.Product (term_at (all self.old) a) (term_at (all self.old) b))) result }
-        ensures err { OnErr result (all self.new ≡ all self.old) }
-    {
-        let form = self.measured_product(a, b)?;
-        let facts = self.product_facts(a, b, form);
-        let id = self.add(Node::Product(a, b), facts)?;
-        Ok(id)
     }
 }

@@ -1,16 +1,23 @@
 //! A store of terms and conditions over a root box.
 
-ghost use Rattle.std.specs.Prelude.{◌≡◌, ◌<◌, [], length, IfOk, OnErr};
+ghost use Rattle.std.specs.Prelude.{◌≡◌, [], length, IfOk, OnErr};
 ghost use Rattle.box_problem.specs.Box.{box_of};
-ghost use Rattle.term_language.specs.Terms as term;
-ghost use Rattle.term_nodes.specs.Things.{a_cond, cond_at, conds_at, thing_of};
-ghost use Rattle.term_nodes.specs.Built.{AllBelow, IsNew};
-ghost use Rattle.term_store.specs.Stores.{IsAdded, IsSoundStore, all, root_of};
+ghost use Rattle.term_language.specs.Laws.{IsTable};
+ghost use Rattle.term_language.specs.Sizes.{size};
+ghost use Rattle.term_math.specs.Kept.{table_of};
+ghost use Rattle.term_nodes.specs.Things.{no_table, table_in, term_in, thing_of};
+ghost use Rattle.term_nodes.specs.Built.{IsBelow, IsNew, IsRight};
+ghost use Rattle.term_store.specs.Additions.{AddsCond, AddsTable, AddsTerm, MayAddCond, MayAddTerm, new_cond, new_term};
+ghost use Rattle.term_store.specs.Stores.{IsAdded, IsMeasured, IsSoundStore, all, root_of};
 
+use crate::additions::{NewCond, NewTerm};
+use crate::ids::{CondId, TableId, TermId};
 use crate::known::condition;
-use sopl_base::Interval;
+use sopl_base::{Fault, Interval};
 use std::alloc::{AllocError, Global};
-use term_math::{opposite, or_truth};
+use std::collections::BTreeMap;
+use term_language::Truth;
+use term_math::Table;
 use term_nodes::{Facts, Item, Node, push};
 
 /// Terms and conditions over the cells of a root box, each by a number.
@@ -20,6 +27,7 @@ pub struct TermStore {
     pub(crate) lows: Vec<i64>,
     pub(crate) highs: Vec<i64>,
     pub(crate) items: Vec<Item>,
+    pub(crate) constants: BTreeMap<i64, u32>,
 }
 
 impl TermStore {
@@ -36,6 +44,7 @@ impl TermStore {
             lows,
             highs,
             items: Vec::new(alloc),
+            constants: BTreeMap::new(alloc),
         })
     }
 
@@ -48,7 +57,7 @@ impl TermStore {
     }
 
     /// Adds a node with what is known of it.
-    pub(crate) fn add(&mut self, node: Node, facts: Facts) -> Result<u32, AllocError>
+    fn add(&mut self, node: Node, facts: Facts) -> Result<u32, AllocError>
         requires sound { IsSoundStore self.old }
         requires new { IsNew (root_of self.old) self.old.items.items (record { node = node; facts = facts }) }
         ensures sound { IsSoundStore self.new }
@@ -60,61 +69,65 @@ impl TermStore {
         Ok(id)
     }
 
-    /// `!`.
-    pub fn not(&mut self, c: u32) -> Result<u32, AllocError>
+    /// Adds a node, where the size of its term is at most 2^40.
+    fn add_node(&mut self, node: Node) -> Result<u32, Fault>
         requires sound { IsSoundStore self.old }
-        requires exists { c < length (all self.old) }
+        requires below { IsBelow (length self.old.items.items) node }
+        requires right { IsRight (root_of self.old) (all self.old) node }
+        requires table { table_in (thing_of (all self.old) node) ≡ no_table }
         ensures sound { IsSoundStore self.new }
         ensures root { root_of self.new ≡ root_of self.old }
-        ensures added { IfOk result (λ id. IsAdded (all self.old) (all self.new) id (a_cond (term.Not (cond_at (all self.old) c)))) }
+        ensures added { IfOk result (λ id. IsAdded (all self.old) (all self.new) id (thing_of (all self.old) node)) }
+        ensures measured { IsMeasured (size (root_of self.old) (term_in (thing_of (all self.old) node))) result }
         ensures err { OnErr result (all self.new ≡ all self.old) }
     {
-        let truth = opposite(self.truth_known(c));
-        self.add(Node::Not(c), condition(self.alloc, truth))
+        let facts = self.facts(&node)?;
+        let id = self.add(node, facts)?;
+        Ok(id)
     }
 
-    /// `=>`.
-    pub fn implies(&mut self, a: u32, c: u32) -> Result<u32, AllocError>
+    /// Adds a term; a constant that equals one that was added before is that one.
+    pub fn add_term(&mut self, new: &NewTerm<'_>) -> Result<TermId, Fault>
         requires sound { IsSoundStore self.old }
-        requires left { a < length (all self.old) }
-        requires right { c < length (all self.old) }
+        requires may { MayAddTerm (length (all self.old)) new.now }
         ensures sound { IsSoundStore self.new }
         ensures root { root_of self.new ≡ root_of self.old }
-        ensures added { IfOk result (λ id. IsAdded (all self.old) (all self.new) id (a_cond (term.Implies (cond_at (all self.old) a) (cond_at (all self.old) c)))) }
-        ensures err { OnErr result (all self.new ≡ all self.old) }
+        ensures adds { AddsTerm (root_of self.old) (all self.old) (all self.new) (new_term (all self.old) new.now) result }
     {
-        let premise = self.truth_known(a);
-        let conclusion = self.truth_known(c);
-        let truth = or_truth(opposite(premise), conclusion);
-        self.add(Node::Implies(a, c), condition(self.alloc, truth))
+        if let Some(id) = self.standing(new) {
+            return Ok(id);
+        }
+        let node = self.term_node(new)?;
+        let id = self.add_node(node)?;
+        self.remember(new, id);
+        Ok(TermId(id))
     }
 
-    /// `&&` of all.
-    pub fn all(&mut self, conds: &[u32]) -> Result<u32, AllocError>
+    /// Adds a condition.
+    pub fn add_cond(&mut self, new: &NewCond<'_>) -> Result<CondId, AllocError>
         requires sound { IsSoundStore self.old }
-        requires exist { AllBelow (length (all self.old)) conds.now }
+        requires may { MayAddCond (length (all self.old)) new.now }
         ensures sound { IsSoundStore self.new }
         ensures root { root_of self.new ≡ root_of self.old }
-        ensures added { IfOk result (λ id. IsAdded (all self.old) (all self.new) id (a_cond (term.All (conds_at (all self.old) conds.now)))) }
-        ensures err { OnErr result (all self.new ≡ all self.old) }
+        ensures adds { AddsCond (all self.old) (all self.new) (new_cond (all self.old) new.now) result }
     {
-        let truth = self.all_known(conds);
-        let list = Vec::from_slice(self.alloc, conds)?;
-        self.add(Node::All(list), condition(self.alloc, truth))
+        let node = self.cond_node(new)?;
+        match self.add_node(node) {
+            Ok(id) => Ok(CondId(id)),
+            Err(_) => Err(AllocError),
+        }
     }
 
-    /// `||` of all.
-    pub fn any(&mut self, conds: &[u32]) -> Result<u32, AllocError>
+    /// Adds an array, with one element for each of its indices.
+    pub fn add_table(&mut self, table: Table) -> Result<TableId, AllocError>
         requires sound { IsSoundStore self.old }
-        requires exist { AllBelow (length (all self.old)) conds.now }
+        requires table { IsTable (table_of table) }
         ensures sound { IsSoundStore self.new }
         ensures root { root_of self.new ≡ root_of self.old }
-        ensures added { IfOk result (λ id. IsAdded (all self.old) (all self.new) id (a_cond (term.Any (conds_at (all self.old) conds.now)))) }
-        ensures err { OnErr result (all self.new ≡ all self.old) }
+        ensures adds { AddsTable (all self.old) (all self.new) (table_of table) result }
     {
-        let truth = self.any_known(conds);
-        let list = Vec::from_slice(self.alloc, conds)?;
-        self.add(Node::Any(list), condition(self.alloc, truth))
+        let id = self.add(Node::Table(table), condition(self.alloc, Truth::True))?;
+        Ok(TableId(id))
     }
 }
 

@@ -1,6 +1,6 @@
-//! Sums are added.
+//! What is known of sums.
 
-ghost use Rattle.std.specs.Prelude.{◌≡◌, ◌<◌, ◌≤◌, ◌^◌, length, IfOk, OnErr};
+ghost use Rattle.std.specs.Prelude.{◌≡◌, ◌<◌, ◌≤◌, ◌^◌, length, IfOk};
 ghost use Rattle.term_language.specs.Rules as rule;
 ghost use Rattle.term_language.specs.Sizes as sizes;
 ghost use Rattle.term_language.specs.Terms as term;
@@ -8,16 +8,15 @@ ghost use Rattle.term_math.specs.Sums.{combination_of};
 ghost use Rattle.term_math.specs.Shown.{form_of};
 ghost use Rattle.term_nodes.specs.Things.{a_term, parts_at, term_at};
 ghost use Rattle.term_nodes.specs.Built.{PartsBelow, facts_of, kept};
-ghost use Rattle.term_nodes.specs.Seen.{sight_of, wide_sum};
-ghost use Rattle.term_store.specs.Stores.{IsAdded, IsMeasured, IsSoundStore, all, root_of};
+ghost use Rattle.term_store.specs.Stores.{IsMeasured, IsSoundStore, all, root_of};
 
 use crate::store::TermStore;
 use crate::terms::measured;
 use sopl_base::Fault;
 use std::alloc::AllocError;
 use term_language::{Defined, Truth};
-use term_math::{AbstractValue, Combination, Form, both, factor};
-use term_nodes::{Facts, Node, Signed};
+use term_math::{Combination, Form, both, factor};
+use term_nodes::{Facts, Signed};
 
 impl TermStore {
     /// The sum of the forms of all parts.
@@ -91,26 +90,8 @@ impl TermStore {
         mark
     }
 
-    /// What a sum is over the root box, by the wide reading.
-    #[tactic(auto, using(crate::proofs::Summing::next_wide, crate::proofs::Summing::no_wide))]
-    fn sum_wide(&self, parts: &[Signed]) -> AbstractValue
-        requires sound { IsSoundStore self.now }
-        requires exist { PartsBelow (length self.now.items.items) parts.now }
-        requires small { sizes.sum_weight (root_of self.now) (parts_at (all self.now) parts.now) ≤ 2 ^ 40 }
-        ensures { sight_of result ≡ wide_sum (root_of self.now) (parts_at (all self.now) parts.now) }
-    {
-        let mut sum = AbstractValue::clear();
-        let count = parts.len();
-        for i in (0..count).rev() {
-            let part = &parts[i];
-            let wide = self.wide_known(part.term);
-            sum = sum.with_part(part.subtracted, &wide);
-        }
-        sum
-    }
-
     /// The form of a sum, and the weight of the non-linear part of it, where its size is at most 2^40.
-    fn measured_sum(&self, parts: &[Signed]) -> Result<Form, Fault>
+    pub(crate) fn measured_sum(&self, parts: &[Signed]) -> Result<Form, Fault>
         requires sound { IsSoundStore self.now }
         requires exist { PartsBelow (length self.now.items.items) parts.now }
         ensures form { IfOk result (λ form. form_of form ≡ rule.sum_form (root_of self.now) (parts_at (all self.now) parts.now)) }
@@ -124,25 +105,8 @@ impl TermStore {
         Ok(form)
     }
 
-    /// A sum, of which some parts are subtracted.
-    pub fn sum(&mut self, parts: &[Signed]) -> Result<u32, Fault>
-        requires sound { IsSoundStore self.old }
-        requires exist { PartsBelow (length (all self.old)) parts.now }
-        ensures sound { IsSoundStore self.new }
-        ensures root { root_of self.new ≡ root_of self.old }
-        ensures added { IfOk result (λ id. IsAdded (all self.old) (all self.new) id (a_term (term.Sum (parts_at (all self.old) parts.now)))) }
-        ensures measured { IsMeasured (sizes.size (root_of self.old) (term.Sum (parts_at (all self.old) parts.now))) result }
-        ensures err { OnErr result (all self.new ≡ all self.old) }
-    {
-        let form = self.measured_sum(parts)?;
-        let facts = self.sum_facts(parts, form);
-        let list = Vec::from_slice(self.alloc, parts)?;
-        let id = self.add(Node::Sum(list), facts)?;
-        Ok(id)
-    }
-
     /// What is known of a sum, where its form is given.
-    fn sum_facts(&self, parts: &[Signed], form: Form) -> Facts
+    pub(crate) fn sum_facts(&self, parts: &[Signed], form: Form) -> Facts
         requires sound { IsSoundStore self.now }
         requires exist { PartsBelow (length self.now.items.items) parts.now }
         requires form { form_of form ≡ rule.sum_form (root_of self.now) (parts_at (all self.now) parts.now) }

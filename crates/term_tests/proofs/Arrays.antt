@@ -7,7 +7,7 @@ use Rattle.term_math.specs.Kept.{sets_of, table_of}
 use Rattle.term_math.specs.declared.tables.Table.{Table}
 use Rattle.term_math.proofs.Apart.{all_apart, table_is}
 use Rattle.term_nodes.specs.Things.{Thing, thing_at}
-use Rattle.term_program.specs.declared.ids.TermId.{TermId}
+use Rattle.term_store.specs.declared.ids.TermId.{TermId}
 use Rattle.sopl_term.specs.Built as builder
 
 pub pair_is : (table : Table) (set : Vec ℤ Global) → table.sets.items ≡ set ∷ [] → set.items ≡ pos 1 ∷ pos 3 ∷ [] → length table.elements.items ≡ 2 → IsTable (table_of table)

@@ -1,14 +1,14 @@
 ghost use Rattle.std.specs.Prelude.{◌≡◌, IfOk};
 ghost use Rattle.term_language.specs.Laws.{IsTable};
 ghost use Rattle.term_math.specs.Kept.{table_of};
+ghost use Rattle.term_math.specs.Made.{IsPossible};
 ghost use Rattle.term_store.specs.Stores.{IsSoundStore};
 
 use sopl_base::{CmpOp, Fault, Interval};
 use std::alloc::{AllocError, Global};
 use term_language::{Defined, Truth};
-use term_math::{Divisor, Element, Table};
-use term_nodes::Signed;
-use term_store::TermStore;
+use term_math::{Divisor, Element, Extreme, Operation, Table};
+use term_store::{NewCond, NewTerm, TableId, TermId, TermStore};
 
 /// A store over x from -7 to 9 and y from -5 to 4.
 fn small(alloc: Global) -> Result<TermStore, AllocError>
@@ -24,6 +24,34 @@ fn small(alloc: Global) -> Result<TermStore, AllocError>
     Ok(store)
 }
 
+/// A cell.
+fn add_cell(store: &mut TermStore, cell: u32) -> Result<u32, Fault>
+    requires sound { IsSoundStore store.old }
+    ensures sound { IsSoundStore store.new }
+{
+    let id = store.add_term(&NewTerm::Cell(cell))?;
+    Ok(id.0)
+}
+
+/// A number.
+fn add_constant(store: &mut TermStore, value: i64) -> Result<u32, Fault>
+    requires sound { IsSoundStore store.old }
+    ensures sound { IsSoundStore store.new }
+{
+    let id = store.add_term(&NewTerm::Constant(value))?;
+    Ok(id.0)
+}
+
+/// An array.
+fn add_table(store: &mut TermStore, array: Table) -> Result<u32, Fault>
+    requires sound { IsSoundStore store.old }
+    requires proper { IsTable (table_of array) }
+    ensures sound { IsSoundStore store.new }
+{
+    let id = store.add_table(array)?;
+    Ok(id.0)
+}
+
 /// The sum of two terms, or their difference.
 fn sum(store: &mut TermStore, a: u32, subtracted: bool, b: u32) -> Result<u32, Fault>
     requires sound { IsSoundStore store.old }
@@ -33,15 +61,9 @@ fn sum(store: &mut TermStore, a: u32, subtracted: bool, b: u32) -> Result<u32, F
     if a >= count || b >= count {
         return Err(Fault::NoMemory);
     }
-    let first = Signed {
-        subtracted: false,
-        term: a,
-    };
-    let second = Signed {
-        subtracted,
-        term: b,
-    };
-    store.sum(&[first, second])
+    let parts = [(false, TermId(a)), (subtracted, TermId(b))];
+    let id = store.add_term(&NewTerm::Sum(&parts))?;
+    Ok(id.0)
 }
 
 /// The product of two terms.
@@ -53,7 +75,8 @@ fn product(store: &mut TermStore, a: u32, b: u32) -> Result<u32, Fault>
     if a >= count || b >= count {
         return Err(Fault::NoMemory);
     }
-    store.product(a, b)
+    let id = store.add_term(&NewTerm::Product(TermId(a), TermId(b)))?;
+    Ok(id.0)
 }
 
 /// A comparison of two terms.
@@ -65,8 +88,21 @@ fn compare(store: &mut TermStore, op: CmpOp, a: u32, b: u32) -> Result<u32, Faul
     if a >= count || b >= count {
         return Err(Fault::NoMemory);
     }
-    let id = store.compare(op, a, b)?;
-    Ok(id)
+    let id = store.add_cond(&NewCond::Compare(op, TermId(a), TermId(b)))?;
+    Ok(id.0)
+}
+
+/// What is made of a term.
+fn operation(store: &mut TermStore, operation: Operation, a: u32) -> Result<u32, Fault>
+    requires sound { IsSoundStore store.old }
+    requires possible { IsPossible operation }
+    ensures sound { IsSoundStore store.new }
+{
+    if a >= store.count() {
+        return Err(Fault::NoMemory);
+    }
+    let id = store.add_term(&NewTerm::Operation(operation, TermId(a)))?;
+    Ok(id.0)
 }
 
 /// A term divided by -2, and what is left of it by 4.
@@ -74,14 +110,8 @@ fn divided(store: &mut TermStore, a: u32) -> Result<(u32, u32), Fault>
     requires sound { IsSoundStore store.old }
     ensures sound { IsSoundStore store.new }
 {
-    if a >= store.count() {
-        return Err(Fault::NoMemory);
-    }
-    let quotient = store.quotient(a, &Divisor { number: -2 })?;
-    if a >= store.count() {
-        return Err(Fault::NoMemory);
-    }
-    let remainder = store.remainder(a, &Divisor { number: 4 })?;
+    let quotient = operation(store, Operation::Quotient(Divisor { number: -2 }), a)?;
+    let remainder = operation(store, Operation::Remainder(Divisor { number: 4 }), a)?;
     Ok((quotient, remainder))
 }
 
@@ -90,14 +120,11 @@ fn size(store: &mut TermStore, a: u32) -> Result<u32, Fault>
     requires sound { IsSoundStore store.old }
     ensures sound { IsSoundStore store.new }
 {
-    if a >= store.count() {
-        return Err(Fault::NoMemory);
-    }
-    store.size(a)
+    operation(store, Operation::Size, a)
 }
 
-/// The least and the greatest of two terms.
-fn extremes(store: &mut TermStore, a: u32, b: u32) -> Result<(u32, u32), Fault>
+/// The least or the greatest of two terms.
+fn extreme(store: &mut TermStore, which: Extreme, a: u32, b: u32) -> Result<u32, Fault>
     requires sound { IsSoundStore store.old }
     ensures sound { IsSoundStore store.new }
 {
@@ -105,12 +132,17 @@ fn extremes(store: &mut TermStore, a: u32, b: u32) -> Result<(u32, u32), Fault>
     if a >= count || b >= count {
         return Err(Fault::NoMemory);
     }
-    let least = store.least(a, &[b])?;
-    let count = store.count();
-    if a >= count || b >= count {
-        return Err(Fault::NoMemory);
-    }
-    let greatest = store.greatest(a, &[b])?;
+    let id = store.add_term(&NewTerm::Extreme(which, &[TermId(a), TermId(b)]))?;
+    Ok(id.0)
+}
+
+/// The least and the greatest of two terms.
+fn extremes(store: &mut TermStore, a: u32, b: u32) -> Result<(u32, u32), Fault>
+    requires sound { IsSoundStore store.old }
+    ensures sound { IsSoundStore store.new }
+{
+    let least = extreme(store, Extreme::Least, a, b)?;
+    let greatest = extreme(store, Extreme::Greatest, a, b)?;
     Ok((least, greatest))
 }
 
@@ -137,8 +169,8 @@ fn intervals(store: &mut TermStore) -> Result<bool, Fault>
     requires sound { IsSoundStore store.old }
     ensures sound { IsSoundStore store.new }
 {
-    let x = store.cell(0)?;
-    let y = store.cell(1)?;
+    let x = add_cell(store, 0)?;
+    let y = add_cell(store, 1)?;
     let both = sum(store, x, false, y)?;
     let difference = sum(store, x, true, y)?;
     let none = sum(store, x, true, x)?;
@@ -158,8 +190,8 @@ fn made(store: &mut TermStore) -> Result<bool, Fault>
     requires sound { IsSoundStore store.old }
     ensures sound { IsSoundStore store.new }
 {
-    let x = store.cell(0)?;
-    let y = store.cell(1)?;
+    let x = add_cell(store, 0)?;
+    let y = add_cell(store, 1)?;
     let (quotient, remainder) = divided(store, x)?;
     let size = size(store, x)?;
     let (least, greatest) = extremes(store, x, y)?;
@@ -183,7 +215,7 @@ fn folded(store: &mut TermStore) -> Result<bool, Fault>
     requires sound { IsSoundStore store.old }
     ensures sound { IsSoundStore store.new }
 {
-    let number = store.constant(-7)?;
+    let number = add_constant(store, -7)?;
     let (quotient, remainder) = divided(store, number)?;
     let (least, greatest) = extremes(store, quotient, remainder)?;
     Ok(
@@ -211,8 +243,8 @@ fn truths(store: &mut TermStore) -> Result<bool, Fault>
     requires sound { IsSoundStore store.old }
     ensures sound { IsSoundStore store.new }
 {
-    let x = store.cell(0)?;
-    let y = store.cell(1)?;
+    let x = add_cell(store, 0)?;
+    let y = add_cell(store, 1)?;
     let less = compare(store, CmpOp::Lt, x, y)?;
     let same = compare(store, CmpOp::Le, x, x)?;
     let other = compare(store, CmpOp::Ne, y, y)?;
@@ -233,11 +265,32 @@ fn truths_over_the_root(rt: HostRuntime) {
 #[test]
 fn refused_for_its_size(rt: HostRuntime) {
     let mut store = small(rt.alloc()).expect(&rt, "memory");
-    assert!(rt; store.constant(1 << 40).is_ok(), "the greatest number");
-    match store.constant(-(1 << 40) - 1) {
+    assert!(rt;
+        add_constant(&mut store, 1 << 40).is_ok(),
+        "the greatest number"
+    );
+    match add_constant(&mut store, -(1 << 40) - 1) {
         Err(Fault::Limit(excess)) => assert_eq!(rt; excess.counted, (1 << 40) + 1),
         _ => assert!(rt; false, "a limit"),
     }
+}
+
+/// Whether equal constants are one node, and others are not.
+fn shared(store: &mut TermStore) -> Result<bool, Fault>
+    requires sound { IsSoundStore store.old }
+    ensures sound { IsSoundStore store.new }
+{
+    let first = add_constant(store, 5)?;
+    let other = add_constant(store, -5)?;
+    let count = store.count();
+    let again = add_constant(store, 5)?;
+    Ok(first == again && first != other && store.count() == count)
+}
+
+#[test]
+fn equal_constants_are_one_node(rt: HostRuntime) {
+    let mut store = small(rt.alloc()).expect(&rt, "memory");
+    assert_eq!(rt; shared(&mut store), Ok(true));
 }
 
 /// An array over 1 and 3.
@@ -270,12 +323,13 @@ fn element(store: &mut TermStore, table: u32, number: i64) -> Result<u32, Fault>
     requires sound { IsSoundStore store.old }
     ensures sound { IsSoundStore store.new }
 {
-    let index = store.constant(number)?;
+    let index = add_constant(store, number)?;
     let count = store.count();
     if table >= count || index >= count {
         return Err(Fault::NoMemory);
     }
-    store.element(table, &[index])
+    let id = store.add_term(&NewTerm::Element(TableId(table), &[TermId(index)]))?;
+    Ok(id.0)
 }
 
 /// The elements at 1, at 3 and at 2, and how they are seen: 10, x, and nothing that is defined.
@@ -284,7 +338,7 @@ fn elements(store: &mut TermStore, array: Table) -> Result<bool, Fault>
     requires proper { IsTable (table_of array) }
     ensures sound { IsSoundStore store.new }
 {
-    let table = store.table(array)?;
+    let table = add_table(store, array)?;
     let first = element(store, table, 1)?;
     let second = element(store, table, 3)?;
     let none = element(store, table, 2)?;
@@ -301,7 +355,7 @@ fn element_of_none(store: &mut TermStore, array: Table) -> Result<bool, Fault>
     requires proper { IsTable (table_of array) }
     ensures sound { IsSoundStore store.new }
 {
-    let table = store.table(array)?;
+    let table = add_table(store, array)?;
     let none = element(store, table, 1)?;
     Ok(marked(store, none, 0, 0, Defined::Never))
 }
@@ -329,7 +383,7 @@ fn large(store: &mut TermStore, array: Table) -> Result<bool, Fault>
     requires proper { IsTable (table_of array) }
     ensures sound { IsSoundStore store.new }
 {
-    let table = store.table(array)?;
+    let table = add_table(store, array)?;
     element(store, table, 1)?;
     let at_three = refused(element(store, table, 3));
     let outside = refused(element(store, table, 2));

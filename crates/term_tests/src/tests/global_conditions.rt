@@ -7,13 +7,12 @@ ghost use Rattle.term_math.specs.Kept.{table_of};
 ghost use Rattle.term_store.specs.Stores.{IsSoundStore};
 
 use super::indices::at_one;
-use super::pair;
+use super::{add_cell, add_table, pair};
 use sopl_base::{Fault, Interval};
 use std::alloc::{AllocError, Global};
 use term_language::Truth;
 use term_math::{Element, Table};
-use term_nodes::Task;
-use term_store::TermStore;
+use term_store::{NewCond, TermId, TermStore};
 
 /// A cell from 0 to 9, and cells of one number.
 const X: u32 = 0;
@@ -85,31 +84,36 @@ fn add_terms(store: &mut TermStore, array: Table) -> Result<(), Fault>
     ensures sound { IsSoundStore store.new }
 {
     for cell in 0..12 {
-        store.cell(cell)?;
+        add_cell(store, cell)?;
     }
-    let table = store.table(array)?;
+    let table = add_table(store, array)?;
     at_one(store, table, ONE)?;
     at_one(store, table, EARLY)?;
     at_one(store, table, TWO)?;
     Ok(())
 }
 
+/// Terms by their numbers.
+fn terms_of(alloc: Global, ids: &[u32]) -> Result<Vec<TermId>, AllocError> {
+    ids.iter().map(|id| TermId(*id)).collect(alloc)
+}
+
 /// Whether a term is there.
-fn is_below(id: u32, count: u32) -> bool
-    ensures { result ≡ nat_lt id count }
+fn is_below(id: &TermId, count: u32) -> bool
+    ensures { result ≡ nat_lt id.now.0 count }
 {
-    id < count
+    id.0 < count
 }
 
 /// Whether all terms are there.
-fn are_below(terms: &[u32], count: u32) -> bool
-    ensures { result ≡ list_all (λ id. nat_lt id count) terms.now }
+fn are_below(terms: &[TermId], count: u32) -> bool
+    ensures { result ≡ list_all (λ id. nat_lt id.0 count) terms.now }
 {
-    terms.iter().all(|id| is_below(*id, count))
+    terms.iter().all(|id| is_below(id, count))
 }
 
 /// The truth of `allDifferent` over the root.
-fn differ(store: &mut TermStore, terms: &[u32]) -> Result<Truth, Fault>
+fn differ(store: &mut TermStore, terms: &[TermId]) -> Result<Truth, Fault>
     requires sound { IsSoundStore store.old }
     ensures sound { IsSoundStore store.new }
 {
@@ -117,8 +121,8 @@ fn differ(store: &mut TermStore, terms: &[u32]) -> Result<Truth, Fault>
     if !are_below(terms, count) {
         return Err(Fault::NoMemory);
     }
-    let id = store.all_different(terms)?;
-    Ok(store.kleene(id, &store.root()))
+    let id = store.add_cond(&NewCond::AllDifferent(terms))?;
+    Ok(store.kleene(id.0, &store.root()))
 }
 
 const DIFFERENT: &[(&[u32], Truth)] = &[
@@ -145,13 +149,27 @@ const DIFFERENT: &[(&[u32], Truth)] = &[
     (&[ONE, NEVER, MAYBE], Truth::False),
 ];
 
+/// Whether a list of terms differs so.
+fn differs_so(
+    alloc: Global,
+    store: &mut TermStore,
+    ids: &[u32],
+    truth: Truth,
+) -> Result<bool, Fault>
+    requires sound { IsSoundStore store.old }
+    ensures sound { IsSoundStore store.new }
+{
+    let terms = terms_of(alloc, ids)?;
+    Ok(differ(store, terms.as_slice())? == truth)
+}
+
 /// Whether each list of terms differs so.
-fn all_differ_so(store: &mut TermStore) -> Result<bool, Fault>
+fn all_differ_so(alloc: Global, store: &mut TermStore) -> Result<bool, Fault>
     requires sound { IsSoundStore store.old }
     ensures sound { IsSoundStore store.new }
 {
     for (terms, truth) in DIFFERENT {
-        if differ(store, terms)? != *truth {
+        if !differs_so(alloc, store, terms, *truth)? {
             return Ok(false);
         }
     }
@@ -172,19 +190,18 @@ fn filled(alloc: Global) -> Result<TermStore, Fault>
 fn terms_that_differ(rt: HostRuntime) {
     let mut store = filled(rt.alloc()).expect(&rt, "memory");
     assert_eq!(rt; store.count(), TERMS);
-    assert_eq!(rt; all_differ_so(&mut store), Ok(true));
+    assert_eq!(rt; all_differ_so(rt.alloc(), &mut store), Ok(true));
 }
 
 /// The start, the length and the demand of a task.
 type TaskTerms = (u32, u32, u32);
 
+/// A task, by its terms.
+type Task = (TermId, TermId, TermId);
+
 /// A task of three terms.
 fn task_of(terms: &TaskTerms) -> Task {
-    Task {
-        start: terms.0,
-        duration: terms.1,
-        demand: terms.2,
-    }
+    (TermId(terms.0), TermId(terms.1), TermId(terms.2))
 }
 
 /// Tasks of three terms each.
@@ -194,14 +211,14 @@ fn tasks_of(alloc: Global, rows: &[TaskTerms]) -> Result<Vec<Task>, AllocError> 
 
 /// Whether the terms of a task are there.
 fn is_task_below(task: &Task, count: u32) -> bool
-    ensures { result ≡ (nat_lt task.now.start count && nat_lt task.now.duration count && nat_lt task.now.demand count) }
+    ensures { result ≡ (nat_lt task.now.0.0 count && nat_lt task.now.1.0 count && nat_lt task.now.2.0 count) }
 {
-    task.start < count && task.duration < count && task.demand < count
+    task.0.0 < count && task.1.0 < count && task.2.0 < count
 }
 
 /// Whether the terms of all tasks are there.
 fn are_tasks_below(tasks: &[Task], count: u32) -> bool
-    ensures { result ≡ list_all (λ t. nat_lt t.start count && nat_lt t.duration count && nat_lt t.demand count) tasks.now }
+    ensures { result ≡ list_all (λ t. nat_lt t.0.0 count && nat_lt t.1.0 count && nat_lt t.2.0 count) tasks.now }
 {
     tasks.iter().all(|task| is_task_below(task, count))
 }
@@ -218,8 +235,8 @@ fn fit(store: &mut TermStore, tasks: &[Task], capacity: u32) -> Result<Truth, Fa
     if !are_tasks_below(tasks, count) {
         return Err(Fault::NoMemory);
     }
-    let id = store.cumulative(tasks, capacity)?;
-    Ok(store.kleene(id, &store.root()))
+    let id = store.add_cond(&NewCond::Cumulative(tasks, TermId(capacity)))?;
+    Ok(store.kleene(id.0, &store.root()))
 }
 
 const FITTING: &[(&[TaskTerms], u32, Truth)] = &[

@@ -5,12 +5,12 @@ ghost use Rattle.term_language.specs.Laws.{IsTable};
 ghost use Rattle.term_math.specs.Kept.{table_of};
 ghost use Rattle.term_store.specs.Stores.{IsSoundStore};
 
-use super::{compare, empty, marked, pair};
+use super::{add_cell, add_table, compare, empty, marked, pair};
 use sopl_base::{CmpOp, Fault, Interval};
 use std::alloc::{AllocError, Global};
 use term_language::Defined;
 use term_math::{Element, Table};
-use term_store::TermStore;
+use term_store::{CondId, NewTerm, TableId, TermId, TermStore};
 
 /// A store over cells by which arrays are indexed; cell 0 is an element.
 fn indexed(alloc: Global) -> Result<TermStore, AllocError>
@@ -46,7 +46,8 @@ pub(crate) fn at_one(store: &mut TermStore, table: u32, index: u32) -> Result<u3
     if table >= count || index >= count {
         return Err(Fault::NoMemory);
     }
-    store.element(table, &[index])
+    let id = store.add_term(&NewTerm::Element(TableId(table), &[TermId(index)]))?;
+    Ok(id.0)
 }
 
 /// The element of an array of two dimensions.
@@ -58,7 +59,9 @@ fn at_two(store: &mut TermStore, table: u32, row: u32, column: u32) -> Result<u3
     if table >= count || row >= count || column >= count {
         return Err(Fault::NoMemory);
     }
-    store.element(table, &[row, column])
+    let at = [TermId(row), TermId(column)];
+    let id = store.add_term(&NewTerm::Element(TableId(table), &at))?;
+    Ok(id.0)
 }
 
 /// An array over 1 and 2, and over 2 and 3.
@@ -99,7 +102,9 @@ fn at_three(
     if table >= count || row >= count || column >= count || layer >= count {
         return Err(Fault::NoMemory);
     }
-    store.element(table, &[row, column, layer])
+    let at = [TermId(row), TermId(column), TermId(layer)];
+    let id = store.add_term(&NewTerm::Element(TableId(table), &at))?;
+    Ok(id.0)
 }
 
 /// An array over 1 and 2, over 4 and over 3.
@@ -129,7 +134,7 @@ fn seen(
     requires sound { IsSoundStore store.old }
     ensures sound { IsSoundStore store.new }
 {
-    let index = store.cell(cell)?;
+    let index = add_cell(store, cell)?;
     let id = at_one(store, table, index)?;
     Ok(marked(store, id, hull.0, hull.1, mark))
 }
@@ -140,7 +145,7 @@ fn at_cells(store: &mut TermStore, array: Table) -> Result<bool, Fault>
     requires proper { IsTable (table_of array) }
     ensures sound { IsSoundStore store.new }
 {
-    let table = store.table(array)?;
+    let table = add_table(store, array)?;
     for (cell, hull, mark) in [
         (1, (10, 10), Defined::Always),
         (2, (-7, 10), Defined::Never),
@@ -162,7 +167,7 @@ fn at_pairs(store: &mut TermStore, array: Table) -> Result<bool, Fault>
     requires proper { IsTable (table_of array) }
     ensures sound { IsSoundStore store.new }
 {
-    let table = store.table(array)?;
+    let table = add_table(store, array)?;
     for (row, column, hull, mark) in [
         (3, 7, (-7, 23), Defined::Always),
         (3, 2, (12, 22), Defined::Always),
@@ -171,8 +176,8 @@ fn at_pairs(store: &mut TermStore, array: Table) -> Result<bool, Fault>
         (4, 2, (12, 22), Defined::Maybe),
         (3, 6, (-7, 23), Defined::Never),
     ] {
-        let first = store.cell(row)?;
-        let second = store.cell(column)?;
+        let first = add_cell(store, row)?;
+        let second = add_cell(store, column)?;
         let id = at_two(store, table, first, second)?;
         if !marked(store, id, hull.0, hull.1, mark) {
             return Ok(false);
@@ -187,7 +192,7 @@ fn at_triples(store: &mut TermStore, array: Table) -> Result<bool, Fault>
     requires proper { IsTable (table_of array) }
     ensures sound { IsSoundStore store.new }
 {
-    let table = store.table(array)?;
+    let table = add_table(store, array)?;
     for (row, column, layer, hull, mark) in [
         (3, 8, 9, (143, 243), Defined::Always),
         (2, 8, 9, (243, 243), Defined::Always),
@@ -196,9 +201,9 @@ fn at_triples(store: &mut TermStore, array: Table) -> Result<bool, Fault>
         (3, 6, 2, (143, 243), Defined::Never),
         (1, 7, 9, (143, 243), Defined::Never),
     ] {
-        let first = store.cell(row)?;
-        let second = store.cell(column)?;
-        let third = store.cell(layer)?;
+        let first = add_cell(store, row)?;
+        let second = add_cell(store, column)?;
+        let third = add_cell(store, layer)?;
         let id = at_three(store, table, first, second, third)?;
         if !marked(store, id, hull.0, hull.1, mark) {
             return Ok(false);
@@ -215,10 +220,10 @@ fn at_others(store: &mut TermStore, one: Table, two: Table, none: Table) -> Resu
     requires none { IsTable (table_of none) }
     ensures sound { IsSoundStore store.new }
 {
-    let one = store.table(one)?;
-    let two = store.table(two)?;
-    let none = store.table(none)?;
-    let index = store.cell(1)?;
+    let one = add_table(store, one)?;
+    let two = add_table(store, two)?;
+    let none = add_table(store, none)?;
+    let index = add_cell(store, 1)?;
     let more = at_two(store, one, index, index)?;
     let fewer = at_one(store, two, index)?;
     let nowhere = seen(store, none, 3, (0, 0), Defined::Never)?;
@@ -236,15 +241,15 @@ fn at_elements(store: &mut TermStore, array: Table, inner: Table) -> Result<bool
     requires inner { IsTable (table_of inner) }
     ensures sound { IsSoundStore store.new }
 {
-    let outer = store.table(array)?;
-    let inner = store.table(inner)?;
+    let outer = add_table(store, array)?;
+    let inner = add_table(store, inner)?;
     for (cell, hull, mark) in [
         (1, (-7, 9), Defined::Always),
         (2, (-7, 10), Defined::Never),
         (3, (-7, 9), Defined::Maybe),
         (4, (-7, 10), Defined::Maybe),
     ] {
-        let index = store.cell(cell)?;
+        let index = add_cell(store, cell)?;
         let element = at_one(store, inner, index)?;
         let id = at_one(store, outer, element)?;
         if !marked(store, id, hull.0, hull.1, mark) {
@@ -260,15 +265,15 @@ fn at_condition(store: &mut TermStore, array: Table) -> Result<bool, Fault>
     requires proper { IsTable (table_of array) }
     ensures sound { IsSoundStore store.new }
 {
-    let table = store.table(array)?;
-    let a = store.cell(2)?;
-    let b = store.cell(3)?;
+    let table = add_table(store, array)?;
+    let a = add_cell(store, 2)?;
+    let b = add_cell(store, 3)?;
     let same = compare(store, CmpOp::Eq, a, b)?;
     if same >= store.count() {
         return Err(Fault::NoMemory);
     }
-    let number = store.number(same)?;
-    let id = at_one(store, table, number)?;
+    let number = store.add_term(&NewTerm::Number(CondId(same)))?;
+    let id = at_one(store, table, number.0)?;
     Ok(marked(store, id, 10, 10, Defined::Maybe))
 }
 

@@ -4,12 +4,15 @@ ghost use Rattle.term_language.specs.Laws.{IsTable};
 ghost use Rattle.term_math.specs.Kept.{table_of};
 ghost use Rattle.term_store.specs.Stores.{IsSoundStore};
 
-use super::{compare, divided, element, extremes, pair, product, size, small, sum};
+use super::{
+    add_cell, add_constant, add_table, compare, divided, element, extremes, pair, product, size,
+    small, sum,
+};
 use sopl_base::{CmpOp, Fault};
 use std::alloc::{AllocError, Global};
 use term_cells::Nodes;
 use term_math::{Element, Table};
-use term_store::TermStore;
+use term_store::{CondId, NewCond, NewTerm, TermStore};
 
 /// Whether these are the cells that a term mentions.
 fn of_term(alloc: Global, store: &TermStore, id: u32, want: &[u32]) -> Result<bool, AllocError>
@@ -71,7 +74,8 @@ fn number(store: &mut TermStore, c: u32) -> Result<u32, Fault>
     if c >= store.count() {
         return Err(Fault::NoMemory);
     }
-    store.number(c)
+    let id = store.add_term(&NewTerm::Number(CondId(c)))?;
+    Ok(id.0)
 }
 
 /// A condition that is made of one or two.
@@ -84,12 +88,12 @@ fn joined(store: &mut TermStore, way: char, a: u32, c: u32) -> Result<u32, Fault
         return Err(Fault::NoMemory);
     }
     let id = match way {
-        '!' => store.not(a)?,
-        '&' => store.all(&[a, c])?,
-        '|' => store.any(&[a, c])?,
-        _ => store.implies(a, c)?,
+        '!' => store.add_cond(&NewCond::Not(CondId(a)))?,
+        '&' => store.add_cond(&NewCond::All(&[CondId(a), CondId(c)]))?,
+        '|' => store.add_cond(&NewCond::Any(&[CondId(a), CondId(c)]))?,
+        _ => store.add_cond(&NewCond::Implies(CondId(a), CondId(c)))?,
     };
-    Ok(id)
+    Ok(id.0)
 }
 
 /// Terms of the cells 3 and 1, and the cells that they mention, also where they cancel or a factor is 0.
@@ -97,9 +101,9 @@ fn terms(alloc: Global, store: &mut TermStore) -> Result<bool, Fault>
     requires sound { IsSoundStore store.old }
     ensures sound { IsSoundStore store.new }
 {
-    let x = store.cell(3)?;
-    let y = store.cell(1)?;
-    let five = store.constant(5)?;
+    let x = add_cell(store, 3)?;
+    let y = add_cell(store, 1)?;
+    let five = add_constant(store, 5)?;
     let difference = sum(store, x, true, y)?;
     let none = sum(store, x, true, x)?;
     let times = product(store, none, y)?;
@@ -134,9 +138,9 @@ fn conds(alloc: Global, store: &mut TermStore) -> Result<bool, Fault>
     requires sound { IsSoundStore store.old }
     ensures sound { IsSoundStore store.new }
 {
-    let x = store.cell(3)?;
-    let y = store.cell(1)?;
-    let z = store.cell(2)?;
+    let x = add_cell(store, 3)?;
+    let y = add_cell(store, 1)?;
+    let z = add_cell(store, 2)?;
     let first = compare(store, CmpOp::Eq, x, y)?;
     let second = compare(store, CmpOp::Ne, z, x)?;
     let not = joined(store, '!', first, first)?;
@@ -165,7 +169,7 @@ fn elements(alloc: Global, store: &mut TermStore, array: Table) -> Result<bool, 
     requires proper { IsTable (table_of array) }
     ensures sound { IsSoundStore store.new }
 {
-    let table = store.table(array)?;
+    let table = add_table(store, array)?;
     let first = element(store, table, 1)?;
     let second = element(store, table, 3)?;
     let outside = element(store, table, 2)?;

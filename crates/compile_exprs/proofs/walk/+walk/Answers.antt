@@ -1,10 +1,10 @@
-use Rattle.std.proofs.Common.{rules, arith, ◌≡◌, ◌∙◌, ◌<◌, ap, sym, subst, length, map, Err, IfOk}
+use Rattle.std.proofs.Common.{rules, arith, ◌≡◌, ◌∙◌, ◌<◌, [], refl, ap, ap₂, sym, subst, length, map, Err, ℤ, SFits}
 use Rattle.sopl_base.proofs.Lists.{drop_next, mapped_next}
 use Rattle.term_language.specs.Terms as rule
-use Rattle.compile_laws.specs.Instances.{chain_instance, conditions, instance, instances, places, product_instance, tasks_of, terms_of}
+use Rattle.compile_laws.specs.Instances.{chain_instance, conditions, instance, instances, places, product_instance, tasks_of, terms_of, elements, table_of}
 use Rattle.compile_laws.specs.Measured.{IsSizeFault}
 use Rattle.compile_laws.specs.Subterms.{condition_subterms, subterms, task_subterms}
-use Rattle.compile_laws.proofs.Measuring.{faults_end}
+use Rattle.compile_laws.proofs.Measuring.{faults_end, faults_in_turn}
 use Rattle.compile_scene.specs.Scenes.{place_of, root_in}
 use Rattle.compile_scene.specs.Works.{things_of}
 use Rattle.sopl_ast.proofs.Lighter.{weight-trees, weight-terms, weight-factors}
@@ -13,17 +13,25 @@ use Rattle.sopl_ast.specs.Lists.{binders, factors, terms, trees}
 use Rattle.sopl_ast.specs.Tree as shape
 use Rattle.sopl_ast.specs.Tree.{Node, factor, no_factor}
 use Rattle.sopl_ast.specs.Weight.{weight}
-use Rattle.sopl_term.specs.Built.{task_ids}
-use Rattle.term_nodes.specs.Built.{TasksBelow}
-use Rattle.term_nodes.specs.Things.{term_at}
-use Rattle.term_program.specs.declared.ids.TermId.{TermId}
+use Rattle.sopl_term.specs.Built.{cond_ids, signed_of, task_ids, term_ids}
+use Rattle.term_nodes.specs.Built.{AllBelow, PartsBelow, TasksBelow}
+use Rattle.term_nodes.specs.Things.{tasks_at, term_at, terms_at}
 use Rattle.unfold_constants.specs.Here.{known_in}
-use Rattle.compile_exprs.specs.Made.{AreTasks, IsUsable, MakesCond, MakesConds, MakesParts, MakesTask, MakesTasks, MakesTerm, MakesTerms}
+use Rattle.compile_exprs.specs.Made.{AreThere, MakesCond, MakesConds, MakesParts, MakesTask, MakesTasks, MakesTerm, MakesTerms}
 use Rattle.compile_exprs.proofs.Loops.{conds_end, conds_fault, left_first, left_holds, left_more, parts_end, parts_fault, tasks_end, tasks_fault, terms_end, terms_fault}
 use Rattle.compile_counts.proofs.Loops.{none_is, none_seen}
 use Rattle.compile_exprs.proofs.Parts.{all_hold, chain_is, conditions_are, index_is, instances_are, places_are, task_instance, task_places_are, tasks_are, terms_are, terms_hold}
-use Rattle.compile_exprs.proofs.Products.{factored_fault, factored_holds, factored_more, product_fault}
-use Rattle.compile_exprs.proofs.Steps.{both_tasks, cond_is, demand_large, duration_large, start_large, task_made, term_is}
+use Rattle.compile_exprs.proofs.Products.{divided_by, factored_fault, factored_holds, factored_more, product_fault}
+use Rattle.compile_exprs.proofs.Steps.{are_there, compared, cond_is, demand_large, duration_large, implied, later_is, later_tasks_below, no_operands, one_operand, operated, start_large, task_made, tasks_is, term_fails, term_is, two_operands, same_terms}
+use Rattle.compile_scene.proofs.Growing.{extends_not, extends_twice}
+use Rattle.compile_exprs.proofs.Sizes.{both_small, listed_fault}
+use Rattle.compile_exprs.proofs.Sums.{sum_sizes}
+use Rattle.std.specs.Int.{w64}
+use Rattle.std.proofs.lemmas.Int.{to_z-of_z}
+use Rattle.term_math.specs.Made.{IsDivisor}
+use Rattle.term_math.specs.declared.extremes.Extreme.TheVariants.{Least, Greatest}
+use Rattle.compile_exprs.specs.Buildable.{IsBuildable}
+use Rattle.compile_exprs.proofs.Extremes.{extreme_sizes}
 use Rattle.compile_exprs.proofs.walk.+walk.Goals as goal
 
 pub terms-parts-init : goal.terms-parts-init
@@ -259,11 +267,30 @@ scheduled-returns-in_err-tasks s c =
           (faults_end (root_in c.args.scene.now.setting.now) (task_subterms tasks) (subterms (instance place c.args.most.now).term) c.in_err-tasks.field-0.0 c.in_err-tasks.ensures.made);
     }
 
-pub scheduled-fitting-requires : goal.scheduled-fitting-requires
-scheduled-fitting-requires s c =
+pub scheduled-add_cond-requires : goal.scheduled-add_cond-requires
+scheduled-add_cond-requires s c =
+    let capacity = c.in_ok-capacity.ensures.made in
+    let tasks = c.in_ok-tasks.ensures.made in
     record {
-      parts_exist = subst (λ l. IfOk c.term-capacity.result (λ (other : TermId). IsUsable c.term-capacity.new.work other.0 × TasksBelow (length (things_of c.term-capacity.new.work)) (task_ids l)))
-          (sym c.as_slice.ensures.value) (both_tasks _ _ _ _ c.in_ok-tasks.tasks.items _ _ c.term-capacity.result c.in_ok-tasks.ensures.made c.term-capacity.ensures.made);
+      can = record {
+        building = capacity.extends.ready.building;
+        may = (
+          subst (λ l. TasksBelow (length (things_of c.term.new.work)) (task_ids l)) (sym c.as_slice.ensures.value)
+              (later_tasks_below (length (things_of c.tasks_behind.new.work)) (length (things_of c.term.new.work)) (task_ids c.in_ok-tasks.tasks.items) capacity.extends.grows.more tasks.exist),
+          capacity.stands.exists,
+        );
+      };
+    }
+
+pub scheduled-returns-in_err-capacity : goal.scheduled-returns-in_err-capacity
+scheduled-returns-in_err-capacity s c =
+    let same : c.from_residual-in_err-capacity.result ≡ Err c.in_err-capacity.field-0.0 = search rules in
+    let place = place_of c.args.scene.now (known_in c.args.known.now) in
+    let tasks = tasks_of (map (task_instance c.args.task.now.start.now c.args.task.now.duration.now c.args.task.now.demand.now) (places place (binders c.args.over.now))) in
+    record {
+      made = subst (MakesCond c.args.scene.now.setting.now c.args.work.now c.term.new.work (rule.Cumulative tasks (instance place c.args.most.now).term)) (sym same)
+          (faults_in_turn (root_in c.args.scene.now.setting.now) (task_subterms tasks) (subterms (instance place c.args.most.now).term) c.in_err-capacity.field-0.0
+          c.in_ok-tasks.ensures.made.small c.in_err-capacity.ensures.made);
     }
 
 pub scheduled-returns : goal.scheduled-returns
@@ -271,8 +298,13 @@ scheduled-returns s c =
     let place = place_of c.args.scene.now (known_in c.args.known.now) in
     let tasks = tasks_of (map (task_instance c.args.task.now.start.now c.args.task.now.duration.now c.args.task.now.demand.now) (places place (binders c.args.over.now))) in
     record {
-      made = c.fitting.ensures.made _ _ _ _ _
-          (subst (λ l. AreTasks c.args.scene.now.setting.now c.args.work.now c.tasks_behind.new.work l tasks) (sym c.as_slice.ensures.value) c.in_ok-tasks.ensures.made) c.term-capacity.ensures.made;
+      made = c.add_cond.ensures.made c.args.scene.now.setting.now c.args.work.now (rule.Cumulative tasks (instance place c.args.most.now).term)
+          (record {
+            extends = extends_twice _ _ _ _ c.in_ok-tasks.ensures.made.extends c.in_ok-capacity.ensures.made.extends;
+            is = ap (λ l. rule.Cumulative (tasks_at (things_of c.term.new.work) (task_ids l)) (term_at (things_of c.term.new.work) c.in_ok-capacity.capacity.0)) c.as_slice.ensures.value
+                ∙ tasks_is _ _ _ _ c.in_ok-tasks.tasks.items tasks c.in_ok-capacity.capacity _ c.in_ok-tasks.ensures.made c.in_ok-capacity.ensures.made;
+            small = both_small _ (task_subterms tasks) _ c.in_ok-tasks.ensures.made.small c.in_ok-capacity.ensures.made.small;
+          });
     }
 
 pub comparison-returns-in_err-left : goal.comparison-returns-in_err-left
@@ -286,9 +318,29 @@ comparison-returns-in_err-left s c =
           (subterms (instance (place_of c.args.scene.now (known_in c.args.known.now)) c.args.b.now).term) c.in_err-left.field-0.0 c.in_err-left.ensures.made);
     }
 
+pub comparison-returns-in_err-right : goal.comparison-returns-in_err-right
+comparison-returns-in_err-right s c =
+    let same : c.from_residual-in_err-right.result ≡ Err c.in_err-right.field-0.0 = search rules in
+    record {
+      made = subst (MakesCond c.args.scene.now.setting.now c.args.work.now c.term-2.new.work
+          (rule.Compare c.args.op (instance (place_of c.args.scene.now (known_in c.args.known.now)) c.args.a.now).term
+          (instance (place_of c.args.scene.now (known_in c.args.known.now)) c.args.b.now).term)) (sym same)
+          (faults_in_turn (root_in c.args.scene.now.setting.now) (subterms (instance (place_of c.args.scene.now (known_in c.args.known.now)) c.args.a.now).term)
+          (subterms (instance (place_of c.args.scene.now (known_in c.args.known.now)) c.args.b.now).term) c.in_err-right.field-0.0 c.in_ok-left.ensures.made.small c.in_err-right.ensures.made);
+    }
+
+pub comparison-add_cond-requires : goal.comparison-add_cond-requires
+comparison-add_cond-requires s c =
+    let left = c.in_ok-left.ensures.made in
+    let right = c.in_ok-right.ensures.made in
+    record { can = record { building = right.extends.ready.building; may = (omega (arith, left.stands.exists, right.extends.grows.more), right.stands.exists) } }
+
 pub comparison-returns : goal.comparison-returns
 comparison-returns s c =
-    record { made = c.compared.ensures.made _ _ _ _ _ c.in_ok-left.ensures.made c.term-right.ensures.made }
+    record {
+      made = c.add_cond.ensures.made c.args.scene.now.setting.now c.args.work.now _
+          (compared _ _ _ _ c.args.op c.in_ok-left.left c.in_ok-right.right _ _ c.in_ok-left.ensures.made c.in_ok-right.ensures.made);
+    }
 
 pub implication-returns-in_err-left : goal.implication-returns-in_err-left
 implication-returns-in_err-left s c =
@@ -301,9 +353,30 @@ implication-returns-in_err-left s c =
           (condition_subterms (instance (place_of c.args.scene.now (known_in c.args.known.now)) c.args.b.now).cond) c.in_err-left.field-0.0 c.in_err-left.ensures.made);
     }
 
+pub implication-returns-in_err-right : goal.implication-returns-in_err-right
+implication-returns-in_err-right s c =
+    let same : c.from_residual-in_err-right.result ≡ Err c.in_err-right.field-0.0 = search rules in
+    record {
+      made = subst (MakesCond c.args.scene.now.setting.now c.args.work.now c.condition-2.new.work
+          (rule.Implies (instance (place_of c.args.scene.now (known_in c.args.known.now)) c.args.a.now).cond
+          (instance (place_of c.args.scene.now (known_in c.args.known.now)) c.args.b.now).cond)) (sym same)
+          (faults_in_turn (root_in c.args.scene.now.setting.now) (condition_subterms (instance (place_of c.args.scene.now (known_in c.args.known.now)) c.args.a.now).cond)
+          (condition_subterms (instance (place_of c.args.scene.now (known_in c.args.known.now)) c.args.b.now).cond) c.in_err-right.field-0.0 c.in_ok-left.ensures.made.small
+          c.in_err-right.ensures.made);
+    }
+
+pub implication-add_cond-requires : goal.implication-add_cond-requires
+implication-add_cond-requires s c =
+    let left = c.in_ok-left.ensures.made in
+    let right = c.in_ok-right.ensures.made in
+    record { can = record { building = right.extends.ready.building; may = (omega (arith, left.stands.exists, right.extends.grows.more), right.stands.exists) } }
+
 pub implication-returns : goal.implication-returns
 implication-returns s c =
-    record { made = c.implied.ensures.made _ _ _ _ _ c.in_ok-left.ensures.made c.condition-right.ensures.made }
+    record {
+      made = c.add_cond.ensures.made c.args.scene.now.setting.now c.args.work.now _
+          (implied _ _ _ _ c.in_ok-left.left c.in_ok-right.right _ _ c.in_ok-left.ensures.made c.in_ok-right.ensures.made);
+    }
 
 pub multiply-factor-requires : goal.multiply-factor-requires
 multiply-factor-requires s c = (
@@ -348,107 +421,6 @@ product-returns-in_err-first s c =
           c.first.ensures.first c.in_err-first.ensures.made));
     }
 
-pub negation-returns : goal.negation-returns
-negation-returns s c = record { made = c.denied.ensures.made _ _ _ c.condition-id.ensures.made }
-
-pub condition-returns-in-And : goal.condition-returns-in-And
-condition-returns-in-And s c =
-    let same : Node c.e.inside.at (shape.And (trees c.as_slice.result.now)) ≡ c.args.e.now = search rules in
-    record {
-      made = subst (λ e. MakesCond c.args.scene.now.setting.now c.args.work.now c.all_of.new.work (instance (place_of c.args.scene.now (known_in c.args.known.now)) e).cond c.all_of.result)
-          same (c.all_of.ensures.made _ _ _ c.conditions-ids.ensures.made);
-    }
-
-pub condition-returns-in-Or : goal.condition-returns-in-Or
-condition-returns-in-Or s c =
-    let same : Node c.e.inside.at (shape.Or (trees c.as_slice-in-Or.result.now)) ≡ c.args.e.now = search rules in
-    record {
-      made = subst (λ e. MakesCond c.args.scene.now.setting.now c.args.work.now c.any_of.new.work (instance (place_of c.args.scene.now (known_in c.args.known.now)) e).cond c.any_of.result)
-          same (c.any_of.ensures.made _ _ _ c.conditions-ids-in-Or.ensures.made);
-    }
-
-pub factor-returns-in-Times : goal.factor-returns-in-Times
-factor-returns-in-Times s c =
-    record {
-      made = subst (λ op. MakesTerm c.args.scene.now.setting.now c.args.work.now c.multiplied.new.work
-          (product_instance (place_of c.args.scene.now (known_in c.args.known.now)) (term_at (things_of c.args.work.now) c.args.before.0) (factor op c.args.part.now.1 no_factor)) c.multiplied.result)
-          (sym c.in-Times.is)
-          (c.multiplied.ensures.made _ _ _ c.requires.operand c.term-second.ensures.made);
-    }
-
-pub indexed-returns : goal.indexed-returns
-indexed-returns s c =
-    let some : 0 < length c.args.at.now = search rules in
-    record {
-      made = subst (λ x. MakesTerm c.args.scene.now.setting.now c.args.work.now c.element.new.work x c.element.result)
-          (sym (index_is (place_of c.args.scene.now (known_in c.args.known.now)) c.args.name.now c.args.at.now some))
-          (c.element.ensures.made _ _ c.terms-ids.ensures.made);
-    }
-
-pub term-returns-in-Neg : goal.term-returns-in-Neg
-term-returns-in-Neg s c =
-    let same : Node c.e.inside.at (shape.Neg c.deref.result.now) ≡ c.args.e.now = search rules in
-    record {
-      made = subst (λ e. MakesTerm c.args.scene.now.setting.now c.args.work.now c.negated.new.work (instance (place_of c.args.scene.now (known_in c.args.known.now)) e).term c.negated.result)
-          same (c.negated.ensures.made _ _ _ c.term-id.ensures.made);
-    }
-
-pub term-returns-in-Add : goal.term-returns-in-Add
-term-returns-in-Add s c =
-    let same : Node c.e.inside.at (shape.Add (terms c.as_slice-in-Add.result.now)) ≡ c.args.e.now = search rules in
-    record {
-      made = subst (λ e. MakesTerm c.args.scene.now.setting.now c.args.work.now c.summed.new.work (instance (place_of c.args.scene.now (known_in c.args.known.now)) e).term c.summed.result)
-          same (c.summed.ensures.made _ _ _ c.chain-ids.ensures.made);
-    }
-
-pub term-returns-in-Sum : goal.term-returns-in-Sum
-term-returns-in-Sum s c =
-    let same : Node c.e.inside.at (shape.Sum (binders c.in-Sum.over) c.deref-in-Sum.result.now) ≡ c.args.e.now = search rules in
-    record {
-      made = subst (λ e. MakesTerm c.args.scene.now.setting.now c.args.work.now c.added_up.new.work (instance (place_of c.args.scene.now (known_in c.args.known.now)) e).term
-          c.added_up.result) same (c.added_up.ensures.made _ _ _ c.behind-ids.ensures.made);
-    }
-
-pub term-returns-in-Least : goal.term-returns-in-Least
-term-returns-in-Least s c =
-    let same : Node c.e.inside.at (shape.Least (trees c.as_slice-in-Least.result.now)) ≡ c.args.e.now = search rules in
-    record {
-      made = subst (λ e. MakesTerm c.args.scene.now.setting.now c.args.work.now c.extreme.new.work (instance (place_of c.args.scene.now (known_in c.args.known.now)) e).term c.extreme.result)
-          same (c.extreme.ensures.made _ _ c.terms-ids.ensures.made);
-    }
-
-pub term-returns-in-Greatest : goal.term-returns-in-Greatest
-term-returns-in-Greatest s c =
-    let same : Node c.e.inside.at (shape.Greatest (trees c.as_slice-in-Greatest.result.now)) ≡ c.args.e.now = search rules in
-    record {
-      made = subst (λ e. MakesTerm c.args.scene.now.setting.now c.args.work.now c.extreme-in-Greatest.new.work (instance (place_of c.args.scene.now (known_in c.args.known.now)) e).term
-          c.extreme-in-Greatest.result) same (c.extreme-in-Greatest.ensures.made _ _ c.terms-ids-in-Greatest.ensures.made);
-    }
-
-pub term-returns-in-Abs : goal.term-returns-in-Abs
-term-returns-in-Abs s c =
-    let same : Node c.e.inside.at (shape.Abs c.deref-in-Abs.result.now) ≡ c.args.e.now = search rules in
-    record {
-      made = subst (λ e. MakesTerm c.args.scene.now.setting.now c.args.work.now c.sized.new.work (instance (place_of c.args.scene.now (known_in c.args.known.now)) e).term c.sized.result)
-          same (c.sized.ensures.made _ _ _ c.term-id-in-Abs.ensures.made);
-    }
-
-pub term-returns-in-Cmp : goal.term-returns-in-Cmp
-term-returns-in-Cmp s c =
-    let same : rule.Number (instance (place_of c.args.scene.now (known_in c.args.known.now)) c.args.e.now).cond
-    ≡ (instance (place_of c.args.scene.now (known_in c.args.known.now)) c.args.e.now).term = search rules in
-    record {
-      made = subst (λ x. MakesTerm c.args.scene.now.setting.now c.args.work.now c.number.new.work x c.number.result) same (c.number.ensures.made _ _ _ c.condition-id.ensures.made);
-    }
-
-pub condition-returns-in-AllDifferent : goal.condition-returns-in-AllDifferent
-condition-returns-in-AllDifferent s c =
-    let same : Node c.e.inside.at (shape.AllDifferent (binders c.in-AllDifferent.over) c.deref-in-AllDifferent.result.now) ≡ c.args.e.now = search rules in
-    record {
-      made = subst (λ e. MakesCond c.args.scene.now.setting.now c.args.work.now c.differing.new.work (instance (place_of c.args.scene.now (known_in c.args.known.now)) e).cond c.differing.result)
-          same (c.differing.ensures.made _ _ _ c.behind-ids.ensures.made);
-    }
-
 pub condition-returns-in-Cumulative : goal.condition-returns-in-Cumulative
 condition-returns-in-Cumulative s c =
     let same : Node c.e.inside.at (shape.Cumulative (binders c.in-Cumulative.over) c.deref-in-Cumulative.result.now c.deref-in-Cumulative-2.result.now c.deref-in-Cumulative-3.result.now
@@ -457,3 +429,289 @@ condition-returns-in-Cumulative s c =
       made = subst (λ e. MakesCond c.args.scene.now.setting.now c.args.work.now c.scheduled.new.work (instance (place_of c.args.scene.now (known_in c.args.known.now)) e).cond c.scheduled.result)
           same c.scheduled.ensures.made;
     }
+
+pub term-returns-in-Lit : goal.term-returns-in-Lit
+term-returns-in-Lit s c =
+    let fits : SFits w64 c.in-Lit.value = search rules in
+    let same : Node c.e.inside.at (shape.Lit c.in-Lit.value) ≡ c.args.e.now = search rules in
+    record {
+      made = subst (λ e. MakesTerm c.args.scene.now.setting.now c.args.work.now c.add_term.new.work (instance (place_of c.args.scene.now (known_in c.args.known.now)) e).term c.add_term.result) same
+          (c.add_term.ensures.made c.args.scene.now.setting.now c.args.work.now (rule.Constant c.in-Lit.value) (no_operands c.args.scene.now.setting.now c.args.work.now _ _ c.requires.ready (ap (λ z. rule.Constant z) (to_z-of_z w64 c.in-Lit.value fits)) refl));
+    }
+
+pub term-returns-in_err-id-in-Neg : goal.term-returns-in_err-id-in-Neg
+term-returns-in_err-id-in-Neg s c =
+    let same : Node c.e.inside.at (shape.Neg c.deref.result.now) ≡ c.args.e.now = search rules in
+    record {
+      made = subst (λ e. MakesTerm c.args.scene.now.setting.now c.args.work.now c.term.new.work (instance (place_of c.args.scene.now (known_in c.args.known.now)) e).term c.from_residual.result) same
+          (term_fails c.args.scene.now.setting.now c.args.work.now c.term.new.work (instance (place_of c.args.scene.now (known_in c.args.known.now)) (Node c.e.inside.at (shape.Neg c.deref.result.now))).term c.in_err-id-in-Neg.field-0.0 c.from_residual.result (search rules) (faults_end (root_in c.args.scene.now.setting.now) (subterms (instance (place_of c.args.scene.now (known_in c.args.known.now)) c.deref.result.now).term) [] c.in_err-id-in-Neg.field-0.0 c.in_err-id-in-Neg.ensures.made));
+    }
+
+pub term-returns-in_err-ids-in-Add : goal.term-returns-in_err-ids-in-Add
+term-returns-in_err-ids-in-Add s c =
+    let same : Node c.e.inside.at (shape.Add (terms c.as_slice-in-Add.result.now)) ≡ c.args.e.now = search rules in
+    record {
+      made = subst (λ e. MakesTerm c.args.scene.now.setting.now c.args.work.now c.chain.new.work (instance (place_of c.args.scene.now (known_in c.args.known.now)) e).term c.from_residual-in_err-ids-in-Add.result) same
+          (term_fails c.args.scene.now.setting.now c.args.work.now c.chain.new.work (instance (place_of c.args.scene.now (known_in c.args.known.now)) (Node c.e.inside.at (shape.Add (terms c.as_slice-in-Add.result.now)))).term c.in_err-ids-in-Add.field-0.0 c.from_residual-in_err-ids-in-Add.result (search rules) c.in_err-ids-in-Add.ensures.made);
+    }
+
+pub term-returns-in_err-ids-in-Sum : goal.term-returns-in_err-ids-in-Sum
+term-returns-in_err-ids-in-Sum s c =
+    let same : Node c.e.inside.at (shape.Sum (binders c.in-Sum.over) c.deref-in-Sum.result.now) ≡ c.args.e.now = search rules in
+    record {
+      made = subst (λ e. MakesTerm c.args.scene.now.setting.now c.args.work.now c.behind.new.work (instance (place_of c.args.scene.now (known_in c.args.known.now)) e).term c.from_residual-in_err-ids-in-Sum.result) same
+          (term_fails c.args.scene.now.setting.now c.args.work.now c.behind.new.work (instance (place_of c.args.scene.now (known_in c.args.known.now)) (Node c.e.inside.at (shape.Sum (binders c.in-Sum.over) c.deref-in-Sum.result.now))).term c.in_err-ids-in-Sum.field-0.0 c.from_residual-in_err-ids-in-Sum.result (search rules) (listed_fault (root_in c.args.scene.now.setting.now) _ _ c.in_err-ids-in-Sum.field-0.0 (sum_sizes (map (λ here. (instance here c.deref-in-Sum.result.now).term) (places (place_of c.args.scene.now (known_in c.args.known.now)) (binders c.in-Sum.over)))) c.in_err-ids-in-Sum.ensures.made));
+    }
+
+pub term-returns-in_err-ids-in-Least : goal.term-returns-in_err-ids-in-Least
+term-returns-in_err-ids-in-Least s c =
+    let same : Node c.e.inside.at (shape.Least (trees c.as_slice-in-Least.result.now)) ≡ c.args.e.now = search rules in
+    record {
+      made = subst (λ e. MakesTerm c.args.scene.now.setting.now c.args.work.now c.terms.new.work (instance (place_of c.args.scene.now (known_in c.args.known.now)) e).term c.from_residual-in_err-ids-in-Least.result) same
+          (term_fails c.args.scene.now.setting.now c.args.work.now c.terms.new.work (instance (place_of c.args.scene.now (known_in c.args.known.now)) (Node c.e.inside.at (shape.Least (trees c.as_slice-in-Least.result.now)))).term c.in_err-ids-in-Least.field-0.0 c.from_residual-in_err-ids-in-Least.result (search rules) (listed_fault (root_in c.args.scene.now.setting.now) _ _ c.in_err-ids-in-Least.field-0.0 (sym (extreme_sizes Least (instances (place_of c.args.scene.now (known_in c.args.known.now)) (trees c.as_slice-in-Least.result.now)))) c.in_err-ids-in-Least.ensures.made));
+    }
+
+pub term-returns-in_err-ids-in-Greatest : goal.term-returns-in_err-ids-in-Greatest
+term-returns-in_err-ids-in-Greatest s c =
+    let same : Node c.e.inside.at (shape.Greatest (trees c.as_slice-in-Greatest.result.now)) ≡ c.args.e.now = search rules in
+    record {
+      made = subst (λ e. MakesTerm c.args.scene.now.setting.now c.args.work.now c.terms-in-Greatest.new.work (instance (place_of c.args.scene.now (known_in c.args.known.now)) e).term c.from_residual-in_err-ids-in-Greatest.result) same
+          (term_fails c.args.scene.now.setting.now c.args.work.now c.terms-in-Greatest.new.work (instance (place_of c.args.scene.now (known_in c.args.known.now)) (Node c.e.inside.at (shape.Greatest (trees c.as_slice-in-Greatest.result.now)))).term c.in_err-ids-in-Greatest.field-0.0 c.from_residual-in_err-ids-in-Greatest.result (search rules) (listed_fault (root_in c.args.scene.now.setting.now) _ _ c.in_err-ids-in-Greatest.field-0.0 (sym (extreme_sizes Greatest (instances (place_of c.args.scene.now (known_in c.args.known.now)) (trees c.as_slice-in-Greatest.result.now)))) c.in_err-ids-in-Greatest.ensures.made));
+    }
+
+pub term-returns-in_err-id-in-Abs : goal.term-returns-in_err-id-in-Abs
+term-returns-in_err-id-in-Abs s c =
+    let same : Node c.e.inside.at (shape.Abs c.deref-in-Abs.result.now) ≡ c.args.e.now = search rules in
+    record {
+      made = subst (λ e. MakesTerm c.args.scene.now.setting.now c.args.work.now c.term-in-Abs.new.work (instance (place_of c.args.scene.now (known_in c.args.known.now)) e).term c.from_residual-in_err-id-in-Abs.result) same
+          (term_fails c.args.scene.now.setting.now c.args.work.now c.term-in-Abs.new.work (instance (place_of c.args.scene.now (known_in c.args.known.now)) (Node c.e.inside.at (shape.Abs c.deref-in-Abs.result.now))).term c.in_err-id-in-Abs.field-0.0 c.from_residual-in_err-id-in-Abs.result (search rules) c.in_err-id-in-Abs.ensures.made);
+    }
+
+pub term-returns-in_err-id-in-Cmp : goal.term-returns-in_err-id-in-Cmp
+term-returns-in_err-id-in-Cmp s c =
+    let same : rule.Number (instance (place_of c.args.scene.now (known_in c.args.known.now)) c.args.e.now).cond ≡ (instance (place_of c.args.scene.now (known_in c.args.known.now)) c.args.e.now).term = search rules in
+    record {
+      made = subst (λ x. MakesTerm c.args.scene.now.setting.now c.args.work.now c.condition.new.work x c.from_residual-in_err-id-in-Cmp.result) same
+          (term_fails c.args.scene.now.setting.now c.args.work.now c.condition.new.work (rule.Number (instance (place_of c.args.scene.now (known_in c.args.known.now)) c.args.e.now).cond) c.in_err-id-in-Cmp.field-0.0 c.from_residual-in_err-id-in-Cmp.result (search rules) c.in_err-id-in-Cmp.ensures.made);
+    }
+
+pub term-returns-in_ok-id-in-Cmp : goal.term-returns-in_ok-id-in-Cmp
+term-returns-in_ok-id-in-Cmp s c =
+    let same : rule.Number (instance (place_of c.args.scene.now (known_in c.args.known.now)) c.args.e.now).cond ≡ (instance (place_of c.args.scene.now (known_in c.args.known.now)) c.args.e.now).term = search rules in
+    record {
+      made = subst (λ x. MakesTerm c.args.scene.now.setting.now c.args.work.now c.add_term-in-Cmp.new.work x c.add_term-in-Cmp.result) same
+          (c.add_term-in-Cmp.ensures.made c.args.scene.now.setting.now c.args.work.now _ (one_operand _ _ _ _ _ _ _ _ c.in_ok-id-in-Cmp.ensures.made (ap (λ x. rule.Number x) (cond_is _ _ _ c.in_ok-id-in-Cmp.ensures.made.stands)) refl));
+    }
+
+pub term-behind-requires : goal.term-behind-requires
+term-behind-requires s c =
+    let same : Node c.e.inside.at (shape.Sum (binders c.in-Sum.over) c.deref-in-Sum.result.now) ≡ c.args.e.now = search rules in
+    let holds = subst (IsBuildable (known_in c.args.known.now)) (sym same) c.requires.buildable in
+    (omega (arith, ap weight same), (c.requires.ready, (c.requires.placed, (holds.0, holds.1))))
+
+pub term-added_up-requires : goal.term-added_up-requires
+term-added_up-requires s c = record { there = subst (AreThere c.behind.new.work) (sym c.as_slice-in-Sum.ensures.value) (are_there _ _ _ _ _ c.in_ok-ids-in-Sum.ensures.made) }
+
+pub term-returns-in_ok-ids-in-Sum : goal.term-returns-in_ok-ids-in-Sum
+term-returns-in_ok-ids-in-Sum s c =
+    let same : Node c.e.inside.at (shape.Sum (binders c.in-Sum.over) c.deref-in-Sum.result.now) ≡ c.args.e.now = search rules in
+    record {
+      made = subst (λ e. MakesTerm c.args.scene.now.setting.now c.args.work.now c.added_up.new.work (instance (place_of c.args.scene.now (known_in c.args.known.now)) e).term c.added_up.result) same
+          (c.added_up.ensures.made c.args.scene.now.setting.now c.args.work.now (map (λ here. (instance here c.deref-in-Sum.result.now).term) (places (place_of c.args.scene.now (known_in c.args.known.now)) (binders c.in-Sum.over)))
+          (same_terms _ _ _ _ _ _ c.as_slice-in-Sum.ensures.value c.in_ok-ids-in-Sum.ensures.made));
+    }
+
+pub term-add_term-requires-in-Abs : goal.term-add_term-requires-in-Abs
+term-add_term-requires-in-Abs s c = record { can = record { building = c.in_ok-id-in-Abs.ensures.made.extends.ready.building; may = (tt, c.in_ok-id-in-Abs.ensures.made.stands.exists) } }
+
+pub term-extreme-requires : goal.term-extreme-requires
+term-extreme-requires s c = (record { ready = c.in_ok-ids-in-Least.ensures.made.extends.ready; there = subst (AreThere c.terms.new.work) (sym c.as_slice-in-Least-2.ensures.value) (are_there _ _ _ _ _ c.in_ok-ids-in-Least.ensures.made) })
+
+pub term-extreme-requires-in-Greatest : goal.term-extreme-requires-in-Greatest
+term-extreme-requires-in-Greatest s c = (record { ready = c.in_ok-ids-in-Greatest.ensures.made.extends.ready; there = subst (AreThere c.terms-in-Greatest.new.work) (sym c.as_slice-in-Greatest-2.ensures.value) (are_there _ _ _ _ _ c.in_ok-ids-in-Greatest.ensures.made) })
+
+pub term-add_term-requires-in-Cmp : goal.term-add_term-requires-in-Cmp
+term-add_term-requires-in-Cmp s c = record { can = record { building = c.in_ok-id-in-Cmp.ensures.made.extends.ready.building; may = c.in_ok-id-in-Cmp.ensures.made.stands.exists } }
+
+pub term-add_term-requires-in-Neg : goal.term-add_term-requires-in-Neg
+term-add_term-requires-in-Neg s c = record { can = record { building = c.in_ok-id-in-Neg.ensures.made.extends.ready.building; may = (c.in_ok-id-in-Neg.ensures.made.stands.exists, tt) } }
+
+pub term-add_term-requires-in-Add : goal.term-add_term-requires-in-Add
+term-add_term-requires-in-Add s c =
+    let made = c.in_ok-ids-in-Add.ensures.made in
+    record {
+      can = record {
+        building = made.extends.ready.building;
+        may = subst (λ l. PartsBelow (length (things_of c.chain.new.work)) (signed_of l)) (sym c.as_slice-in-Add-2.ensures.value) made.exist;
+      };
+    }
+
+pub condition-add_cond-requires : goal.condition-add_cond-requires
+condition-add_cond-requires s c = record { can = record { building = c.in_ok-id-in-Not.ensures.made.extends.ready.building; may = c.in_ok-id-in-Not.ensures.made.stands.exists } }
+
+pub condition-add_cond-requires-in-And : goal.condition-add_cond-requires-in-And
+condition-add_cond-requires-in-And s c =
+    let made = c.in_ok-ids-in-And.ensures.made in
+    record {
+      can = record {
+        building = made.extends.ready.building;
+        may = subst (λ l. AllBelow (length (things_of c.conditions.new.work)) (cond_ids l)) (sym c.as_slice-in-And.ensures.value) made.exist;
+      };
+    }
+
+pub condition-add_cond-requires-in-Or : goal.condition-add_cond-requires-in-Or
+condition-add_cond-requires-in-Or s c =
+    let made = c.in_ok-ids-in-Or.ensures.made in
+    record {
+      can = record {
+        building = made.extends.ready.building;
+        may = subst (λ l. AllBelow (length (things_of c.conditions-in-Or.new.work)) (cond_ids l)) (sym c.as_slice-in-Or-2.ensures.value) made.exist;
+      };
+    }
+
+pub condition-add_cond-requires-in-AllDifferent : goal.condition-add_cond-requires-in-AllDifferent
+condition-add_cond-requires-in-AllDifferent s c =
+    let made = c.in_ok-ids-in-AllDifferent.ensures.made in
+    record {
+      can = record {
+        building = made.extends.ready.building;
+        may = subst (λ l. AllBelow (length (things_of c.behind.new.work)) (term_ids l)) (sym c.as_slice-in-AllDifferent.ensures.value) made.exist;
+      };
+    }
+
+pub condition-returns-in_ok-ids-in-AllDifferent : goal.condition-returns-in_ok-ids-in-AllDifferent
+condition-returns-in_ok-ids-in-AllDifferent s c =
+    let same : Node c.e.inside.at (shape.AllDifferent (binders c.in-AllDifferent.over) c.deref-in-AllDifferent.result.now) ≡ c.args.e.now = search rules in
+    record {
+      made = subst (λ e. MakesCond c.args.scene.now.setting.now c.args.work.now c.add_cond-in-AllDifferent.new.work (instance (place_of c.args.scene.now (known_in c.args.known.now)) e).cond c.add_cond-in-AllDifferent.result) same
+          (c.add_cond-in-AllDifferent.ensures.made c.args.scene.now.setting.now c.args.work.now _ (record {
+            extends = c.in_ok-ids-in-AllDifferent.ensures.made.extends;
+            is = ap (λ l. rule.AllDifferent (terms_at (things_of c.behind.new.work) (term_ids l))) c.as_slice-in-AllDifferent.ensures.value
+                ∙ ap (λ x. rule.AllDifferent x) c.in_ok-ids-in-AllDifferent.ensures.made.are;
+            small = c.in_ok-ids-in-AllDifferent.ensures.made.small;
+          }));
+    }
+
+pub condition-returns-in-Lit : goal.condition-returns-in-Lit
+condition-returns-in-Lit s c =
+    let same : rule.Any rule.no_cond ≡ (instance (place_of c.args.scene.now (known_in c.args.known.now)) c.args.e.now).cond = search rules in
+    record {
+      made = subst (λ x. MakesCond c.args.scene.now.setting.now c.args.work.now c.add_cond-in-Lit.new.work x c.add_cond-in-Lit.result) same
+          (c.add_cond-in-Lit.ensures.made c.args.scene.now.setting.now c.args.work.now _
+          (record { extends = extends_not c.args.scene.now.setting.now c.args.work.now c.requires.ready; is = refl; small = refl }));
+    }
+
+pub indexed-returns-in_err-ids : goal.indexed-returns-in_err-ids
+indexed-returns-in_err-ids s c =
+    let some : 0 < length c.args.at.now = search rules in
+    let index = index_is (place_of c.args.scene.now (known_in c.args.known.now)) c.args.name.now c.args.at.now some in
+    record {
+      made = subst (λ x. MakesTerm c.args.scene.now.setting.now c.args.work.now c.terms.new.work x c.from_residual.result) (sym index)
+          (term_fails c.args.scene.now.setting.now c.args.work.now c.terms.new.work (rule.Element (table_of (elements (place_of c.args.scene.now (known_in c.args.known.now)) c.args.name.now)) (instances (place_of c.args.scene.now (known_in c.args.known.now)) (trees c.args.at.now))) c.in_err-ids.field-0.0 c.from_residual.result (search rules) c.in_err-ids.ensures.made);
+    }
+
+pub indexed-element-requires : goal.indexed-element-requires
+indexed-element-requires s c = record {
+  placed = c.requires.placed;
+  ready = c.in_ok-ids.ensures.made.extends.ready;
+  there = subst (AreThere c.terms.new.work) (sym c.as_slice.ensures.value) (are_there _ _ _ _ _ c.in_ok-ids.ensures.made);
+}
+
+pub indexed-returns : goal.indexed-returns
+indexed-returns s c =
+    let some : 0 < length c.args.at.now = search rules in
+    let index = index_is (place_of c.args.scene.now (known_in c.args.known.now)) c.args.name.now c.args.at.now some in
+    record {
+      made = subst (λ x. MakesTerm c.args.scene.now.setting.now c.args.work.now c.element.new.work x c.element.result) (sym index)
+          (c.element.ensures.made c.args.work.now (instances (place_of c.args.scene.now (known_in c.args.known.now)) (trees c.args.at.now)) (same_terms _ _ _ _ _ _ c.as_slice.ensures.value c.in_ok-ids.ensures.made));
+    }
+
+pub factor-returns-in_err-second-in-Times : goal.factor-returns-in_err-second-in-Times
+factor-returns-in_err-second-in-Times s c =
+    let b = (instance (place_of c.args.scene.now (known_in c.args.known.now)) c.args.part.now.1).term in
+    record {
+      made = subst (λ op. MakesTerm c.args.scene.now.setting.now c.args.work.now c.term.new.work (product_instance (place_of c.args.scene.now (known_in c.args.known.now)) (term_at (things_of c.args.work.now) c.args.before.0) (factor op c.args.part.now.1 no_factor)) c.from_residual.result) (sym c.in-Times.is)
+          (term_fails c.args.scene.now.setting.now c.args.work.now c.term.new.work (rule.Product (term_at (things_of c.args.work.now) c.args.before.0) b) c.in_err-second-in-Times.field-0.0 c.from_residual.result (search rules)
+          (faults_in_turn (root_in c.args.scene.now.setting.now) (subterms (term_at (things_of c.args.work.now) c.args.before.0)) (subterms b) c.in_err-second-in-Times.field-0.0 c.requires.operand.small c.in_err-second-in-Times.ensures.made));
+    }
+
+pub factor-add_term-requires : goal.factor-add_term-requires
+factor-add_term-requires s c =
+    let second = c.in_ok-second-in-Times.ensures.made in
+    record { can = record { building = second.extends.ready.building; may = (omega (arith, c.requires.operand.stands.exists, second.extends.grows.more), second.stands.exists) } }
+
+pub factor-returns-in_ok-second-in-Times : goal.factor-returns-in_ok-second-in-Times
+factor-returns-in_ok-second-in-Times s c =
+    let second = c.in_ok-second-in-Times.ensures.made in
+    record {
+      made = subst (λ op. MakesTerm c.args.scene.now.setting.now c.args.work.now c.add_term.new.work (product_instance (place_of c.args.scene.now (known_in c.args.known.now)) (term_at (things_of c.args.work.now) c.args.before.0) (factor op c.args.part.now.1 no_factor)) c.add_term.result) (sym c.in-Times.is)
+          (c.add_term.ensures.made c.args.scene.now.setting.now c.args.work.now (rule.Product (term_at (things_of c.args.work.now) c.args.before.0) (instance (place_of c.args.scene.now (known_in c.args.known.now)) c.args.part.now.1).term) (two_operands _ _ _ c.args.before.0 c.in_ok-second-in-Times.second.0 _ _ _ c.requires.operand second
+          (ap₂ (λ x y. rule.Product x y) (later_is _ _ c.args.before.0 _ second.extends.grows c.requires.operand.stands) (term_is _ _ _ second.stands)) refl));
+    }
+
+pub factor-add_term-requires-in-Div : goal.factor-add_term-requires-in-Div
+factor-add_term-requires-in-Div s c =
+    let fits : SFits w64 c.in_ok-number-in-Div.number = search rules in
+    record {
+      can = record {
+        building = c.requires.ready.building;
+        may = (
+          subst (λ (z : ℤ). IsDivisor z) (sym (to_z-of_z w64 c.in_ok-number-in-Div.number fits)) (record { nonzero = c.in_ok-number-in-Div.ensures.nonzero; small = c.in_ok-number-in-Div.ensures.small }),
+          c.requires.operand.stands.exists,
+        );
+      };
+    }
+
+pub factor-returns-in_ok-number-in-Div : goal.factor-returns-in_ok-number-in-Div
+factor-returns-in_ok-number-in-Div s c =
+    let fits : SFits w64 c.in_ok-number-in-Div.number = search rules in
+    record {
+      made = subst (λ op. MakesTerm c.args.scene.now.setting.now c.args.work.now c.add_term-in-Div.new.work (product_instance (place_of c.args.scene.now (known_in c.args.known.now)) (term_at (things_of c.args.work.now) c.args.before.0) (factor op c.args.part.now.1 no_factor)) c.add_term-in-Div.result) (sym c.in-Div.is)
+          (subst (λ x. MakesTerm c.args.scene.now.setting.now c.args.work.now c.add_term-in-Div.new.work x c.add_term-in-Div.result)
+          (sym (divided_by (λ x z. rule.Quotient x z) (term_at (things_of c.args.work.now) c.args.before.0) _ c.in_ok-number-in-Div.number c.in_ok-number-in-Div.ensures.value c.in_ok-number-in-Div.ensures.nonzero))
+          (c.add_term-in-Div.ensures.made c.args.scene.now.setting.now c.args.work.now (rule.Quotient (term_at (things_of c.args.work.now) c.args.before.0) c.in_ok-number-in-Div.number)
+          (operated c.args.scene.now.setting.now c.args.work.now c.args.before.0 _ _ c.requires.ready c.requires.operand (ap (λ z. rule.Quotient (term_at (things_of c.args.work.now) c.args.before.0) z) (to_z-of_z w64 c.in_ok-number-in-Div.number fits)) refl)));
+    }
+
+pub factor-add_term-requires-in-Mod : goal.factor-add_term-requires-in-Mod
+factor-add_term-requires-in-Mod s c =
+    let fits : SFits w64 c.in_ok-number-in-Mod.number = search rules in
+    record {
+      can = record {
+        building = c.requires.ready.building;
+        may = (
+          subst (λ (z : ℤ). IsDivisor z) (sym (to_z-of_z w64 c.in_ok-number-in-Mod.number fits)) (record { nonzero = c.in_ok-number-in-Mod.ensures.nonzero; small = c.in_ok-number-in-Mod.ensures.small }),
+          c.requires.operand.stands.exists,
+        );
+      };
+    }
+
+pub factor-returns-in_ok-number-in-Mod : goal.factor-returns-in_ok-number-in-Mod
+factor-returns-in_ok-number-in-Mod s c =
+    let fits : SFits w64 c.in_ok-number-in-Mod.number = search rules in
+    record {
+      made = subst (λ op. MakesTerm c.args.scene.now.setting.now c.args.work.now c.add_term-in-Mod.new.work (product_instance (place_of c.args.scene.now (known_in c.args.known.now)) (term_at (things_of c.args.work.now) c.args.before.0) (factor op c.args.part.now.1 no_factor)) c.add_term-in-Mod.result) (sym c.in-Mod.is)
+          (subst (λ x. MakesTerm c.args.scene.now.setting.now c.args.work.now c.add_term-in-Mod.new.work x c.add_term-in-Mod.result)
+          (sym (divided_by (λ x z. rule.Remainder x z) (term_at (things_of c.args.work.now) c.args.before.0) _ c.in_ok-number-in-Mod.number c.in_ok-number-in-Mod.ensures.value c.in_ok-number-in-Mod.ensures.nonzero))
+          (c.add_term-in-Mod.ensures.made c.args.scene.now.setting.now c.args.work.now (rule.Remainder (term_at (things_of c.args.work.now) c.args.before.0) c.in_ok-number-in-Mod.number)
+          (operated c.args.scene.now.setting.now c.args.work.now c.args.before.0 _ _ c.requires.ready c.requires.operand (ap (λ z. rule.Remainder (term_at (things_of c.args.work.now) c.args.before.0) z) (to_z-of_z w64 c.in_ok-number-in-Mod.number fits)) refl)));
+    }
+
+pub condition-returns-in_err-ids-in-AllDifferent : goal.condition-returns-in_err-ids-in-AllDifferent
+condition-returns-in_err-ids-in-AllDifferent s c =
+    let same : Node c.e.inside.at (shape.AllDifferent (binders c.in-AllDifferent.over) c.deref-in-AllDifferent.result.now) ≡ c.args.e.now = search rules in
+    let failed : c.from_residual-in_err-ids-in-AllDifferent.result ≡ Err c.in_err-ids-in-AllDifferent.field-0.0 = search rules in
+    record {
+      made = subst (λ e. MakesCond c.args.scene.now.setting.now c.args.work.now c.behind.new.work (instance (place_of c.args.scene.now (known_in c.args.known.now)) e).cond
+          c.from_residual-in_err-ids-in-AllDifferent.result) same
+          (subst (λ r. MakesCond c.args.scene.now.setting.now c.args.work.now c.behind.new.work
+          (instance (place_of c.args.scene.now (known_in c.args.known.now)) (Node c.e.inside.at (shape.AllDifferent (binders c.in-AllDifferent.over) c.deref-in-AllDifferent.result.now))).cond r)
+          (sym failed) c.in_err-ids-in-AllDifferent.ensures.made);
+    }
+
+pub condition-scheduled-requires : goal.condition-scheduled-requires
+condition-scheduled-requires s c =
+    let same : Node c.e.inside.at (shape.Cumulative (binders c.in-Cumulative.over) c.deref-in-Cumulative.result.now c.deref-in-Cumulative-2.result.now c.deref-in-Cumulative-3.result.now
+    c.deref-in-Cumulative-4.result.now) ≡ c.args.e.now = search rules in
+    let holds = subst (IsBuildable (known_in c.args.known.now)) (sym same) c.requires.buildable in
+    (omega (arith, ap weight same), (c.requires.ready, (c.requires.placed, (holds.0, (holds.1, holds.2)))))

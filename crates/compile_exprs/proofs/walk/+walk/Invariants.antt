@@ -20,9 +20,6 @@ decreases-term l = 4 * weight l.e.now + 1
 abbrev pub decreases-condition : goal.decreases-condition
 decreases-condition l = 4 * weight l.e.now
 
-abbrev pub decreases-negation : goal.decreases-negation
-decreases-negation l = 4 * weight l.part.now + 1
-
 abbrev pub decreases-comparison : goal.decreases-comparison
 decreases-comparison l = 4 * weight l.a.now + 4 * weight l.b.now + 2
 

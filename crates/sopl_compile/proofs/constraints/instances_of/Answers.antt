@@ -9,7 +9,7 @@ use Rattle.compile_scene.specs.Works.{things_of}
 use Rattle.sopl_compile.specs.Listed.{AreListed}
 use Rattle.sopl_term.specs.Built.{cond_ids}
 use Rattle.term_nodes.specs.Things.{cond_in}
-use Rattle.term_program.specs.declared.ids.CondId.{CondId}
+use Rattle.term_store.specs.declared.ids.CondId.{CondId}
 use Rattle.unfold_constants.specs.Here.{known_in}
 use Rattle.sopl_compile.proofs.Places.{conditions_are}
 use Rattle.sopl_compile.proofs.constraints.instances_of.Goals as goal

@@ -13,7 +13,7 @@ use Rattle.sopl_compile.specs.Listed.{AreListed}
 use Rattle.sopl_compile.specs.Posed.{terms_asked}
 use Rattle.sopl_term.specs.Built.{term_ids}
 use Rattle.term_nodes.specs.Things.{term_in}
-use Rattle.term_program.specs.declared.ids.TermId.{TermId}
+use Rattle.term_store.specs.declared.ids.TermId.{TermId}
 use Rattle.unfold_tables.specs.Tables.{table_known}
 use Rattle.sopl_compile.proofs.Listing.{none_listed}
 use Rattle.sopl_compile.proofs.Objectives.{goal_listed, goal_passes, no_terms}

@@ -6,7 +6,7 @@ use Rattle.sopl_scen.specs.Layout.{count_in}
 use Rattle.sopl_compile.specs.Listed.{condition_at}
 use Rattle.sopl_term.specs.Built.{cond_ids}
 use Rattle.term_nodes.specs.Things.{a_cond, cond_in}
-use Rattle.term_program.specs.declared.ids.CondId.{CondId}
+use Rattle.term_store.specs.declared.ids.CondId.{CondId}
 use Rattle.unfold_constants.specs.Here.{known_in}
 use Rattle.sopl_compile.proofs.Repeating.{condition_already, few_needed, last_is, last_later}
 use Rattle.sopl_compile.proofs.Listing.{scene_fault, scene_more, scene_none, scene_small}

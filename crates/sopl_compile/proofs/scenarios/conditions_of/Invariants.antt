@@ -7,7 +7,7 @@ use Rattle.sopl_compile.specs.Listed.{condition_at, conditions_in}
 use Rattle.sopl_compile.specs.Repeats.{IsLast}
 use Rattle.sopl_term.specs.Built.{cond_ids}
 use Rattle.term_nodes.specs.Things.{a_cond, cond_in}
-use Rattle.term_program.specs.declared.ids.CondId.{CondId}
+use Rattle.term_store.specs.declared.ids.CondId.{CondId}
 use Rattle.unfold_constants.specs.Here.{known_in}
 use Rattle.sopl_compile.proofs.Listing.{AreLeft}
 use Rattle.sopl_compile.proofs.scenarios.conditions_of.Given as goal

@@ -6,7 +6,7 @@ use Rattle.sopl_scen.specs.Layout.{count_in}
 use Rattle.sopl_compile.specs.Listed.{expression_at}
 use Rattle.sopl_term.specs.Built.{term_ids}
 use Rattle.term_nodes.specs.Things.{a_term, term_in}
-use Rattle.term_program.specs.declared.ids.TermId.{TermId}
+use Rattle.term_store.specs.declared.ids.TermId.{TermId}
 use Rattle.unfold_constants.specs.Here.{known_in}
 use Rattle.sopl_compile.proofs.Repeating.{few_needed, last_is, last_later, term_already}
 use Rattle.sopl_compile.proofs.Listing.{scene_fault, scene_more, scene_none, scene_small}

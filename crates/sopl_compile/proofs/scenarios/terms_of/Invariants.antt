@@ -7,7 +7,7 @@ use Rattle.sopl_compile.specs.Listed.{expression_at, terms_in}
 use Rattle.sopl_compile.specs.Repeats.{IsLast}
 use Rattle.sopl_term.specs.Built.{term_ids}
 use Rattle.term_nodes.specs.Things.{a_term, term_in}
-use Rattle.term_program.specs.declared.ids.TermId.{TermId}
+use Rattle.term_store.specs.declared.ids.TermId.{TermId}
 use Rattle.unfold_constants.specs.Here.{known_in}
 use Rattle.sopl_compile.proofs.Listing.{AreLeft}
 use Rattle.sopl_compile.proofs.scenarios.terms_of.Given as goal

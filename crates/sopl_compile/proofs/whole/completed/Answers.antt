@@ -8,7 +8,7 @@ use Rattle.sopl_compile.specs.Listed.{AreListed}
 use Rattle.sopl_compile.specs.Posed.{terms_asked}
 use Rattle.sopl_term.specs.Built.{term_ids}
 use Rattle.term_nodes.specs.Things.{term_in}
-use Rattle.term_program.specs.declared.ids.TermId.{TermId}
+use Rattle.term_store.specs.declared.ids.TermId.{TermId}
 use Rattle.sopl_compile.proofs.Ending.{IsReadyToEnd, end_allowed, end_ready, end_refused, fits, problem_ended}
 use Rattle.sopl_compile.proofs.whole.completed.Goals as goal
 

@@ -6,7 +6,7 @@ pub loop-cell-preserved : goal.loop-cell-preserved
 loop-cell-preserved c =
     next_cell c.args.store.now c.loop-cell.store c.cell_node.new.store c.loop-cell.nodes.items c.push.new.self.items c.loop-cell.cell c.in_ok-id.id c.loop-cell.invariant c.cell_node.ensures.sound
     c.cell_node.ensures.root
-    c.in_ok-id.ensures.added c.in_ok-push.ensures.items
+    c.in_ok-id.ensures.adds c.in_ok-push.ensures.items
 
 pub returns-clause-cells : goal.returns-clause-cells
 returns-clause-cells c =

@@ -1,7 +1,7 @@
 use Rattle.std.proofs.Common.{◌≡◌, ◌++◌, map, drop}
 use Rattle.term_math.specs.Kept.{items_of}
 use Rattle.term_nodes.specs.Things.{thing_at}
-use Rattle.term_program.specs.declared.ids.TermId.{TermId}
+use Rattle.term_store.specs.declared.ids.TermId.{TermId}
 use Rattle.sopl_term.specs.Built.{built, item_of}
 use Rattle.sopl_term.proofs.builder.Builder.elements_of.Given as goal
 

@@ -10,7 +10,7 @@ use Rattle.std.proofs.lemmas.Int.{ints}
 use Rattle.term_math.specs.Shown.{box_in, ends_of}
 use Rattle.term_nodes.specs.declared.nodes.Signed.{Signed}
 use Rattle.term_nodes.specs.Built.{AllBelow}
-use Rattle.term_nodes.specs.Seen.{sight_of}
+use Rattle.term_nodes.specs.Seen.{reading_of, sight_of}
 use Rattle.term_nodes.specs.Things.{table_at, term_at, terms_at, things}
 use Rattle.term_nodes.proofs.Steps.{cond_back, cond_below, part_back, all_parts}
 use Rattle.term_nodes.proofs.Plain.{plain_seen}
@@ -22,7 +22,6 @@ use Rattle.term_language.specs.Arrays.{is_covered}
 use Rattle.term_language.specs.Ends.{Ends}
 use Rattle.term_math.specs.Kept.{table_of}
 use Rattle.term_math.specs.Within.{has_one, ranges_of}
-use Rattle.term_language.specs.Rules.{Near}
 use Rattle.term_nodes.proofs.evaluation.Evaluator.+seen.Goals as goal
 
 pub all-truth-here-requires : goal.all-truth-here-requires
@@ -58,7 +57,7 @@ sum-with_part-sum-requires-clause-plus t c =
 
 pub sum-returns : goal.sum-returns
 sum-returns t c =
-    all_parts (box_in c.args.self.now.root) (box_in c.args.self.now.view) (things c.args.self.now.items.now) c.args.parts.now c.loop-i.i (sight_of c.loop-i.sum) c.loop-i-test.false c.loop-i.invariant
+    all_parts (reading_of c.args.self.now) (box_in c.args.self.now.root) (box_in c.args.self.now.view) (things c.args.self.now.items.now) c.args.parts.now c.loop-i.i (sight_of c.loop-i.sum) c.loop-i-test.false c.loop-i.invariant
 
 pub seen-returns-then-is_plain : goal.seen-returns-then-is_plain
 seen-returns-then-is_plain t c =
@@ -68,13 +67,13 @@ seen-returns-then-is_plain t c =
 
 pub extreme-returns-then-plain : goal.extreme-returns-then-plain
 extreme-returns-then-plain t c =
-    extreme_folded (box_in c.args.self.now.root) (box_in c.args.self.now.view) c.args.extreme (term_at (things c.args.self.now.items.now) c.args.first)
+    extreme_folded (reading_of c.args.self.now) (box_in c.args.self.now.root) (box_in c.args.self.now.view) c.args.extreme (term_at (things c.args.self.now.items.now) c.args.first)
     (terms_at (things c.args.self.now.items.now) c.args.later.now) c.args.plain (ends_of c.zero.result) (sight_of c.extreme_range-range.result)
     c.requires.plain c.if-plain.true c.zero.ensures c.extreme_range-range.ensures
 
 pub extreme-returns : goal.extreme-returns
 extreme-returns t c =
-    extreme_alone (box_in c.args.self.now.root) (box_in c.args.self.now.view) c.args.extreme (term_at (things c.args.self.now.items.now) c.args.first)
+    extreme_alone (reading_of c.args.self.now) (box_in c.args.self.now.root) (box_in c.args.self.now.view) c.args.extreme (term_at (things c.args.self.now.items.now) c.args.first)
     (terms_at (things c.args.self.now.items.now) c.args.later.now) c.args.plain (sight_of c.extreme_range-range.result)
     c.requires.plain c.if-plain.false c.extreme_range-range.ensures
 
@@ -100,7 +99,7 @@ indexed-loop-last-preserved t c =
     let numbers : List ℤ = c.in-Some-split_last.set.now.items in
     let one : length numbers ≡ 1 = first_of (search rules, grind arith) in
     let below = below_last c.args.limit c.in-Some.before.now c.in-Some.last.now (subst (AllBelow c.args.limit) c.in-Some.ensures.cases.0 c.loop-last.invariant.1.0) in (
-      next_narrow Near (box_in here.root) (box_in here.view) (things here.items.now) (table_of c.args.found.now) c.loop-last.left.now c.in-Some.before.now c.in-Some.last.now
+      next_narrow (reading_of here) (box_in here.root) (box_in here.view) (things here.items.now) (table_of c.args.found.now) c.loop-last.left.now c.in-Some.before.now c.in-Some.last.now
           c.loop-last.dimensions.now c.in-Some-split_last.others.now c.in-Some-split_last.set.now c.loop-last.known c.with-more.result (ranges_of c.args.behind.now) r c.range-range.result.mark
           c.in-Some.ensures.cases.0 c.in-Some-split_last.ensures.cases.0 c.range-range.ensures.interval c.range-range.ensures.mark c.with-more.ensures.mark
           (c.with-more.ensures.covered ∙ ap (λ (xs : List ℤ). is_covered r xs && c.loop-last.known.covered) c.as_slice.ensures.value)
@@ -119,7 +118,7 @@ element_range-returns-then-is_empty t c =
 pub element_range-returns : goal.element_range-returns
 element_range-returns t c =
     let here = c.args.self.now in
-    indexed_whole Near (box_in here.root) (box_in here.view) (things here.items.now) c.in-Some.found.now (table_at (things here.items.now) c.args.table) c.args.at.now c.as_slice.result.now
+    indexed_whole (reading_of here) (box_in here.root) (box_in here.view) (things here.items.now) c.in-Some.found.now (table_at (things here.items.now) c.args.table) c.args.at.now c.as_slice.result.now
     c.none.result _ (c.in-Some.ensures.some (box_in here.root) c.requires.ready.built) (complete_table here c.args.table c.in-Some.found.now c.requires.ready c.in-Some.ensures.some)
     c.as_slice.ensures.value c.none.ensures.mark c.none.ensures.known c.indexed.ensures
 
@@ -130,15 +129,15 @@ indexed-range-range-requires t c =
 
 pub element-returns-then-plain : goal.element-returns-then-plain
 element-returns-then-plain t c =
-    element_plain (box_in c.args.self.now.root) (box_in c.args.self.now.view) (things c.args.self.now.items.now) c.args.at.now (table_at (things c.args.self.now.items.now) c.args.table)
-    c.args.plain (ends_of c.zero.result) (sight_of c.element_range-range.result)
-    c.requires.plain c.if-plain.true c.zero.ensures c.element_range-range.ensures
+    element_plain (reading_of c.args.self.now) (box_in c.args.self.now.root) (box_in c.args.self.now.view) (things c.args.self.now.items.now) c.args.at.now
+    (table_at (things c.args.self.now.items.now) c.args.table) c.args.plain (sight_of c.element_range-range.result) c.requires.near c.requires.plain (ends_of c.zero.result) c.if-plain.true
+    c.zero.ensures c.element_range-range.ensures
 
 pub element-returns : goal.element-returns
 element-returns t c =
-    element_alone (box_in c.args.self.now.root) (box_in c.args.self.now.view) (things c.args.self.now.items.now) c.args.at.now (table_at (things c.args.self.now.items.now) c.args.table)
-    c.args.plain (sight_of c.element_range-range.result)
-    c.requires.plain c.if-plain.false c.element_range-range.ensures
+    element_alone (reading_of c.args.self.now) (box_in c.args.self.now.root) (box_in c.args.self.now.view) (things c.args.self.now.items.now) c.args.at.now
+    (table_at (things c.args.self.now.items.now) c.args.table) c.args.plain (sight_of c.element_range-range.result) c.requires.near c.requires.plain c.if-plain.false
+    c.element_range-range.ensures
 
 pub extreme_range-range-other-requires : goal.extreme_range-range-other-requires
 extreme_range-range-other-requires t c =
@@ -184,7 +183,7 @@ never_differ-terms-preserved t c =
     let root = box_in c.args.self.now.root in
     let b = box_in c.args.self.now.view in
     let all = things c.args.self.now.items.now in
-    sym (next_uncrowded root b all (spans root b all c.args.terms.now) c.args.terms.now c.terms.id-index id (ends_of c.range-range.result.ends) c.crowded_from.result
+    sym (next_uncrowded (reading_of c.args.self.now) root b all (spans (reading_of c.args.self.now) root b all c.args.terms.now) c.args.terms.now c.terms.id-index id (ends_of c.range-range.result.ends) c.crowded_from.result
     c.terms-test.true (get_or_default c.args.terms.now c.terms.id-index 0 id c.terms-test.true) c.range-range.ensures.interval c.crowded_from.ensures c.if-crowded_from.false)
     ∙ c.terms.invariant
 
@@ -239,7 +238,7 @@ overfull_at-tasks-preserved t c =
     let b = box_in c.args.self.now.view in
     let all = things c.args.self.now.items.now in
     let e = task_ends_of c.task-range.result in
-    next_room (least_asked c.args.time.now.number) root b all c.args.capacity.now.high c.tasks.room.number c.without-room.result.number c.least_asked-asked.result.number
+    next_room (least_asked c.args.time.now.number) (reading_of c.args.self.now) root b all c.args.capacity.now.high c.tasks.room.number c.without-room.result.number c.least_asked-asked.result.number
     c.args.tasks.now c.tasks.task-index x e
     c.tasks-test.true is c.task-range.ensures.task c.least_asked-asked.ensures (omega (arith, ints, c.if-asked-room.false)) c.without-room.ensures c.tasks.invariant
 
@@ -252,7 +251,7 @@ enough_at-tasks-preserved t c =
     let b = box_in c.args.self.now.view in
     let all = things c.args.self.now.items.now in
     let e = task_ends_of c.task-range.result in
-    next_room (most_asked c.args.time.now.number) root b all c.args.capacity.now.low c.tasks.room.number c.without-room.result.number c.most_asked-asked.result.number
+    next_room (most_asked c.args.time.now.number) (reading_of c.args.self.now) root b all c.args.capacity.now.low c.tasks.room.number c.without-room.result.number c.most_asked-asked.result.number
     c.args.tasks.now c.tasks.task-index x e
     c.tasks-test.true is c.task-range.ensures.task c.most_asked-asked.ensures (omega (arith, ints, c.if-asked-room.false)) c.without-room.ensures c.tasks.invariant
 
@@ -265,7 +264,7 @@ overfull_at-returns-then-asked-room t c =
     let b = box_in c.args.self.now.view in
     let all = things c.args.self.now.items.now in
     let e = task_ends_of c.task-range.result in
-    sym (no_room root b all (ends_of c.args.capacity.now) c.args.time.now.number c.tasks.room.number c.least_asked-asked.result.number c.args.tasks.now c.tasks.task-index x e
+    sym (no_room (reading_of c.args.self.now) root b all (ends_of c.args.capacity.now) c.args.time.now.number c.tasks.room.number c.least_asked-asked.result.number c.args.tasks.now c.tasks.task-index x e
     c.tasks-test.true is c.task-range.ensures.task c.least_asked-asked.ensures (omega (arith, ints, c.if-asked-room.true)) c.tasks.invariant)
 
 pub overfull_at-without-room-requires-clause-some : goal.overfull_at-without-room-requires-clause-some
@@ -305,5 +304,5 @@ task_marks-task-here-requires t c =
 pub task_marks-loop-i-preserved : goal.task_marks-loop-i-preserved
 task_marks-loop-i-preserved t c =
     let none : Task = record { start = 0; duration = 0; demand = 0 } in
-    mark_back (box_in c.args.self.now.root) (box_in c.args.self.now.view) (things c.args.self.now.items.now) c.args.tasks.now c.loop-i.i none c.task-here.result.mark c.loop-i.mark c.both-mark.result
+    mark_back (reading_of c.args.self.now) (box_in c.args.self.now.root) (box_in c.args.self.now.view) (things c.args.self.now.items.now) c.args.tasks.now c.loop-i.i none c.task-here.result.mark c.loop-i.mark c.both-mark.result
     c.loop-i-test.true c.loop-i.auto.i c.task-here.ensures.mark c.both-mark.ensures c.loop-i.invariant

@@ -2,7 +2,7 @@ use Rattle.std.proofs.Common.{◌≡◌, ℕ, ◌+◌, ◌*◌, ◌^◌, ◌≤�
 use Rattle.term_language.specs.Rules as rule
 use Rattle.term_math.specs.Shown.{box_in, ends_of}
 use Rattle.term_nodes.specs.Things.{conds_at, parts_at, term_at, terms_at, things}
-use Rattle.term_nodes.specs.Seen.{indexed_sight, sight_of, sum_sight}
+use Rattle.term_nodes.specs.Seen.{indexed_sight, reading_of, sight_of, sum_sight}
 use Rattle.term_math.specs.Kept.{sets_of, table_of}
 use Rattle.term_math.specs.Within.{known_of, ranges_of}
 use Rattle.term_language.specs.Globals.{always_differ, are_apart}
@@ -54,9 +54,9 @@ decreases-indexed-loop-last l = length l.left
 
 abbrev pub invariant-indexed-loop-last : goal.invariant-indexed-loop-last
 invariant-indexed-loop-last l =
-    (indexed_sight rule.Near (box_in l.self.root) (box_in l.self.view) (table_of l.found) (terms_at (things l.self.items.now) l.left) (sets_of l.dimensions) l.known.mark
+    (indexed_sight (reading_of l.self) (box_in l.self.root) (box_in l.self.view) (table_of l.found) (terms_at (things l.self.items.now) l.left) (sets_of l.dimensions) l.known.mark
     (known_of l.known (ranges_of l.behind))
-    ≡ indexed_sight rule.Near (box_in l.self.root) (box_in l.self.view) (table_of l.found) (terms_at (things l.self.items.now) l.at) (sets_of l.sets) l.indices.mark
+    ≡ indexed_sight (reading_of l.self) (box_in l.self.root) (box_in l.self.view) (table_of l.found) (terms_at (things l.self.items.now) l.at) (sets_of l.sets) l.indices.mark
     (known_of l.indices (ranges_of l.behind)))
     × (AllBelow l.limit l.left × (length l.left ≤ length l.at))
 
@@ -90,26 +90,29 @@ decreases-segment l = wide * l.top + 1 + l.steps
 abbrev pub decreases-sum : goal.decreases-sum
 decreases-sum l = wide * l.limit
 
+abbrev pub decreases-node_truth : goal.decreases-node_truth
+decreases-node_truth l = wide * l.limit + most
+
 abbrev pub decreases-truth : goal.decreases-truth
 decreases-truth l = wide * l.id + 2 * most
 
 abbrev pub invariant-all-loop-i : goal.invariant-all-loop-i
 invariant-all-loop-i l =
-    l.truth ≡ rule.all_truth rule.Near (box_in l.self.root) (box_in l.self.view) (conds_at (things l.self.items.now) (drop l.i l.conds))
+    l.truth ≡ rule.all_truth (reading_of l.self) (box_in l.self.root) (box_in l.self.view) (conds_at (things l.self.items.now) (drop l.i l.conds))
 
 abbrev pub invariant-any-loop-i : goal.invariant-any-loop-i
 invariant-any-loop-i l =
-    l.truth ≡ rule.any_truth rule.Near (box_in l.self.root) (box_in l.self.view) (conds_at (things l.self.items.now) (drop l.i l.conds))
+    l.truth ≡ rule.any_truth (reading_of l.self) (box_in l.self.root) (box_in l.self.view) (conds_at (things l.self.items.now) (drop l.i l.conds))
 
 abbrev pub invariant-extreme_range-loop-id : goal.invariant-extreme_range-loop-id
 invariant-extreme_range-loop-id l =
-    taken rule.Near (box_in l.self.root) (box_in l.self.view) l.extreme (ends_of l.taken.ends) l.taken.mark (terms_at (things l.self.items.now) (drop l.id-index l.later))
-    ≡ taken rule.Near (box_in l.self.root) (box_in l.self.view) l.extreme (rule.interval rule.Near (box_in l.self.root) (box_in l.self.view) (term_at (things l.self.items.now) l.first))
-    (rule.mark rule.Near (box_in l.self.root) (box_in l.self.view) (term_at (things l.self.items.now) l.first)) (terms_at (things l.self.items.now) l.later)
+    taken (reading_of l.self) (box_in l.self.root) (box_in l.self.view) l.extreme (ends_of l.taken.ends) l.taken.mark (terms_at (things l.self.items.now) (drop l.id-index l.later))
+    ≡ taken (reading_of l.self) (box_in l.self.root) (box_in l.self.view) l.extreme (rule.interval (reading_of l.self) (box_in l.self.root) (box_in l.self.view) (term_at (things l.self.items.now) l.first))
+    (rule.mark (reading_of l.self) (box_in l.self.root) (box_in l.self.view) (term_at (things l.self.items.now) l.first)) (terms_at (things l.self.items.now) l.later)
 
 abbrev pub invariant-sum-loop-i : goal.invariant-sum-loop-i
 invariant-sum-loop-i l =
-    sight_of l.sum ≡ sum_sight (box_in l.self.root) (box_in l.self.view) (parts_at (things l.self.items.now) (drop l.i l.parts))
+    sight_of l.sum ≡ sum_sight (reading_of l.self) (box_in l.self.root) (box_in l.self.view) (parts_at (things l.self.items.now) (drop l.i l.parts))
 
 abbrev pub decreases-marks : goal.decreases-marks
 decreases-marks l = wide * l.limit
@@ -146,32 +149,32 @@ decreases-all_different l = wide * l.limit + 5
 
 abbrev pub invariant-marks-loop-i : goal.invariant-marks-loop-i
 invariant-marks-loop-i l =
-    l.mark ≡ all_marks (rule.marks rule.Near (box_in l.self.root) (box_in l.self.view) (terms_at (things l.self.items.now) (drop l.i l.terms)))
+    l.mark ≡ all_marks (rule.marks (reading_of l.self) (box_in l.self.root) (box_in l.self.view) (terms_at (things l.self.items.now) (drop l.i l.terms)))
 
 abbrev pub invariant-inside-terms : goal.invariant-inside-terms
 invariant-inside-terms l =
     (l.count ≤ l.id-index)
-    × (l.count + inside_in l.window (spans (box_in l.self.root) (box_in l.self.view) (things l.self.items.now) (drop l.id-index l.terms))
-    ≡ inside_in l.window (spans (box_in l.self.root) (box_in l.self.view) (things l.self.items.now) l.terms))
+    × (l.count + inside_in l.window (spans (reading_of l.self) (box_in l.self.root) (box_in l.self.view) (things l.self.items.now) (drop l.id-index l.terms))
+    ≡ inside_in l.window (spans (reading_of l.self) (box_in l.self.root) (box_in l.self.view) (things l.self.items.now) l.terms))
 
 abbrev pub invariant-crowded_from-windows : goal.invariant-crowded_from-windows
-invariant-crowded_from-windows l = IsSearched (spans (box_in l.self.root) (box_in l.self.view) (things l.self.items.now) l.terms) l.from.low l.window
+invariant-crowded_from-windows l = IsSearched (spans (reading_of l.self) (box_in l.self.root) (box_in l.self.view) (things l.self.items.now) l.terms) l.from.low l.window
 
 abbrev pub invariant-never_differ-terms : goal.invariant-never_differ-terms
 invariant-never_differ-terms l =
-    crowd_of (spans (box_in l.self.root) (box_in l.self.view) (things l.self.items.now) l.terms) (spans (box_in l.self.root) (box_in l.self.view) (things l.self.items.now) (drop l.id-index l.terms))
-    ≡ crowd_of (spans (box_in l.self.root) (box_in l.self.view) (things l.self.items.now) l.terms) (spans (box_in l.self.root) (box_in l.self.view) (things l.self.items.now) l.terms)
+    crowd_of (spans (reading_of l.self) (box_in l.self.root) (box_in l.self.view) (things l.self.items.now) l.terms) (spans (reading_of l.self) (box_in l.self.root) (box_in l.self.view) (things l.self.items.now) (drop l.id-index l.terms))
+    ≡ crowd_of (spans (reading_of l.self) (box_in l.self.root) (box_in l.self.view) (things l.self.items.now) l.terms) (spans (reading_of l.self) (box_in l.self.root) (box_in l.self.view) (things l.self.items.now) l.terms)
 
 abbrev pub invariant-apart_from-terms : goal.invariant-apart_from-terms
 invariant-apart_from-terms l =
-    list_all (are_apart (ends_of l.from)) (spans (box_in l.self.root) (box_in l.self.view) (things l.self.items.now) (drop l.id-index l.terms))
-    ≡ list_all (are_apart (ends_of l.from)) (spans (box_in l.self.root) (box_in l.self.view) (things l.self.items.now) l.terms)
+    list_all (are_apart (ends_of l.from)) (spans (reading_of l.self) (box_in l.self.root) (box_in l.self.view) (things l.self.items.now) (drop l.id-index l.terms))
+    ≡ list_all (are_apart (ends_of l.from)) (spans (reading_of l.self) (box_in l.self.root) (box_in l.self.view) (things l.self.items.now) l.terms)
 
 abbrev pub invariant-always_differ-terms : goal.invariant-always_differ-terms
 invariant-always_differ-terms l =
     AllBelow l.limit l.left
-    × (always_differ (spans (box_in l.self.root) (box_in l.self.view) (things l.self.items.now) l.left) ≡ always_differ
-    (spans (box_in l.self.root) (box_in l.self.view) (things l.self.items.now) l.terms))
+    × (always_differ (spans (reading_of l.self) (box_in l.self.root) (box_in l.self.view) (things l.self.items.now) l.left) ≡ always_differ
+    (spans (reading_of l.self) (box_in l.self.root) (box_in l.self.view) (things l.self.items.now) l.terms))
 
 abbrev pub decreases-task : goal.decreases-task
 decreases-task l = wide * l.limit + 0
@@ -214,34 +217,34 @@ decreases-cumulative l = wide * l.limit + 5
 
 abbrev pub invariant-task_marks-loop-i : goal.invariant-task_marks-loop-i
 invariant-task_marks-loop-i l =
-    l.mark ≡ rule.task_mark rule.Near (box_in l.self.root) (box_in l.self.view) (tasks_at (things l.self.items.now) (drop l.i l.tasks))
+    l.mark ≡ rule.task_mark (reading_of l.self) (box_in l.self.root) (box_in l.self.view) (tasks_at (things l.self.items.now) (drop l.i l.tasks))
 
 abbrev pub invariant-some_negative-tasks : goal.invariant-some_negative-tasks
-invariant-some_negative-tasks l = some_negative (rows (box_in l.self.root) (box_in l.self.view) (things l.self.items.now) (drop l.task-index l.tasks)) ≡ some_negative
-    (rows (box_in l.self.root) (box_in l.self.view) (things l.self.items.now) l.tasks)
+invariant-some_negative-tasks l = some_negative (rows (reading_of l.self) (box_in l.self.root) (box_in l.self.view) (things l.self.items.now) (drop l.task-index l.tasks)) ≡ some_negative
+    (rows (reading_of l.self) (box_in l.self.root) (box_in l.self.view) (things l.self.items.now) l.tasks)
 
 abbrev pub invariant-overfull_at-tasks : goal.invariant-overfull_at-tasks
 invariant-overfull_at-tasks l = HasRoom (least_asked l.time.number) l.capacity.high l.room.number
-    (rows (box_in l.self.root) (box_in l.self.view) (things l.self.items.now) (drop l.task-index l.tasks)) (rows (box_in l.self.root) (box_in l.self.view) (things l.self.items.now) l.tasks)
+    (rows (reading_of l.self) (box_in l.self.root) (box_in l.self.view) (things l.self.items.now) (drop l.task-index l.tasks)) (rows (reading_of l.self) (box_in l.self.root) (box_in l.self.view) (things l.self.items.now) l.tasks)
 
 abbrev pub invariant-some_overfull-tasks : goal.invariant-some_overfull-tasks
 invariant-some_overfull-tasks l =
-    some_overfull (rows (box_in l.self.root) (box_in l.self.view) (things l.self.items.now) l.tasks) (ends_of l.capacity)
-    (rows (box_in l.self.root) (box_in l.self.view) (things l.self.items.now) (drop l.task-index l.tasks))
-    ≡ some_overfull (rows (box_in l.self.root) (box_in l.self.view) (things l.self.items.now) l.tasks) (ends_of l.capacity)
-    (rows (box_in l.self.root) (box_in l.self.view) (things l.self.items.now) l.tasks)
+    some_overfull (rows (reading_of l.self) (box_in l.self.root) (box_in l.self.view) (things l.self.items.now) l.tasks) (ends_of l.capacity)
+    (rows (reading_of l.self) (box_in l.self.root) (box_in l.self.view) (things l.self.items.now) (drop l.task-index l.tasks))
+    ≡ some_overfull (rows (reading_of l.self) (box_in l.self.root) (box_in l.self.view) (things l.self.items.now) l.tasks) (ends_of l.capacity)
+    (rows (reading_of l.self) (box_in l.self.root) (box_in l.self.view) (things l.self.items.now) l.tasks)
 
 abbrev pub invariant-all_sound-tasks : goal.invariant-all_sound-tasks
-invariant-all_sound-tasks l = all_sound (rows (box_in l.self.root) (box_in l.self.view) (things l.self.items.now) (drop l.task-index l.tasks)) ≡ all_sound
-    (rows (box_in l.self.root) (box_in l.self.view) (things l.self.items.now) l.tasks)
+invariant-all_sound-tasks l = all_sound (rows (reading_of l.self) (box_in l.self.root) (box_in l.self.view) (things l.self.items.now) (drop l.task-index l.tasks)) ≡ all_sound
+    (rows (reading_of l.self) (box_in l.self.root) (box_in l.self.view) (things l.self.items.now) l.tasks)
 
 abbrev pub invariant-enough_at-tasks : goal.invariant-enough_at-tasks
 invariant-enough_at-tasks l = HasRoom (most_asked l.time.number) l.capacity.low l.room.number
-    (rows (box_in l.self.root) (box_in l.self.view) (things l.self.items.now) (drop l.task-index l.tasks)) (rows (box_in l.self.root) (box_in l.self.view) (things l.self.items.now) l.tasks)
+    (rows (reading_of l.self) (box_in l.self.root) (box_in l.self.view) (things l.self.items.now) (drop l.task-index l.tasks)) (rows (reading_of l.self) (box_in l.self.root) (box_in l.self.view) (things l.self.items.now) l.tasks)
 
 abbrev pub invariant-all_enough-tasks : goal.invariant-all_enough-tasks
 invariant-all_enough-tasks l =
-    all_enough (rows (box_in l.self.root) (box_in l.self.view) (things l.self.items.now) l.tasks) (ends_of l.capacity)
-    (rows (box_in l.self.root) (box_in l.self.view) (things l.self.items.now) (drop l.task-index l.tasks))
-    ≡ all_enough (rows (box_in l.self.root) (box_in l.self.view) (things l.self.items.now) l.tasks) (ends_of l.capacity)
-    (rows (box_in l.self.root) (box_in l.self.view) (things l.self.items.now) l.tasks)
+    all_enough (rows (reading_of l.self) (box_in l.self.root) (box_in l.self.view) (things l.self.items.now) l.tasks) (ends_of l.capacity)
+    (rows (reading_of l.self) (box_in l.self.root) (box_in l.self.view) (things l.self.items.now) (drop l.task-index l.tasks))
+    ≡ all_enough (rows (reading_of l.self) (box_in l.self.root) (box_in l.self.view) (things l.self.items.now) l.tasks) (ends_of l.capacity)
+    (rows (reading_of l.self) (box_in l.self.root) (box_in l.self.view) (things l.self.items.now) l.tasks)

@@ -1,6 +1,7 @@
 use Rattle.std.proofs.Common.{ap, ◌∙◌}
 use Rattle.term_math.specs.Made.{made}
 use Rattle.term_math.specs.Shown.{box_in, ends_of}
+use Rattle.term_nodes.specs.Seen.{reading_of}
 use Rattle.term_nodes.specs.Things.{term_at, things}
 use Rattle.term_nodes.proofs.Ranges.{operation_small, operation_folded, operation_alone}
 use Rattle.term_nodes.proofs.evaluation.Evaluator.operation.Goals as goal
@@ -10,12 +11,12 @@ made-requires-clause-small c = operation_small c.args.self.now c.args.a (ends_of
 
 pub returns-then-plain : goal.returns-then-plain
 returns-then-plain c =
-    operation_folded (box_in c.args.self.now.root) (box_in c.args.self.now.view) c.args.operation.now (term_at (things c.args.self.now.items.now) c.args.a) c.args.plain (ends_of c.zero.result)
+    operation_folded (reading_of c.args.self.now) (box_in c.args.self.now.root) (box_in c.args.self.now.view) c.args.operation.now (term_at (things c.args.self.now.items.now) c.args.a) c.args.plain (ends_of c.zero.result)
     c.whole-range.result.mark
     c.requires.plain c.if-plain.true c.zero.ensures c.whole-range.ensures.mark
 
 pub returns : goal.returns
 returns c =
-    operation_alone (box_in c.args.self.now.root) (box_in c.args.self.now.view) c.args.operation.now (term_at (things c.args.self.now.items.now) c.args.a) c.args.plain (ends_of c.made.result)
+    operation_alone (reading_of c.args.self.now) (box_in c.args.self.now.root) (box_in c.args.self.now.view) c.args.operation.now (term_at (things c.args.self.now.items.now) c.args.a) c.args.plain (ends_of c.made.result)
     c.whole-range.result.mark
     c.requires.plain c.if-plain.false (c.made.ensures ∙ ap (made c.args.operation.now) c.whole-range.ensures.interval) c.whole-range.ensures.mark

@@ -1,24 +1,20 @@
-use Rattle.std.proofs.Common.{◌≡◌, length, subst, sym}
-use Rattle.term_language.specs.Arrays.{indices}
-use Rattle.term_language.specs.Terms.{Table}
-use Rattle.term_math.specs.Kept.{table_of}
-use Rattle.term_nodes.specs.Seen.{sight_of}
-use Rattle.term_nodes.specs.Things.{table_at}
-use Rattle.term_nodes.proofs.Ready.{table_proper}
-use Rattle.term_store.specs.Stores.{all, root_of}
-use Rattle.term_store.proofs.Indexing.{seen_table, whole_wide}
+use Rattle.std.proofs.Common.{◌∙◌, ℕ, arith, ap, length, subst, sym}
+use Rattle.term_language.specs.Rules.{mark}
+use Rattle.term_language.specs.Terms.{Element}
+use Rattle.term_nodes.specs.Built.{AllBelow}
+use Rattle.term_nodes.specs.Seen.{Sight}
+use Rattle.term_nodes.specs.Things.{table_at, terms_at, things}
+use Rattle.term_store.specs.Stores.{root_of}
+use Rattle.term_store.proofs.WideReading.{read_as}
 use Rattle.term_store.proofs.store.TermStore.element_wide_mark.Goals as goal
 
-pub wide_indexed-requires-clause-complete : goal.wide_indexed-requires-clause-complete
-wide_indexed-requires-clause-complete c =
-    let store = c.args.self.now in
-    let found = seen_table (root_of store) store.items.items c.as_slice.result.now c.args.table (table_of c.in-Some.found.now) c.as_slice.ensures.value c.requires.sound.built c.in-Some.ensures.some in
-    subst (λ (t : Table). length t.items ≡ length (indices t.sets)) (sym found) (table_proper (root_of store) store.items.items c.args.table c.requires.sound.built).complete
+pub element_range-requires-clause-exists : goal.element_range-requires-clause-exists
+element_range-requires-clause-exists c = omega (arith, c.nodes.ensures, ap length c.wide.ensures.items)
+
+pub element_range-requires-clause-below : goal.element_range-requires-clause-below
+element_range-requires-clause-below c = subst (λ (n : ℕ). AllBelow n c.args.at.now) (sym c.nodes.ensures) c.requires.exist
 
 pub returns : goal.returns
 returns c =
-    let store = c.args.self.now in
-    let found = seen_table (root_of store) store.items.items c.as_slice.result.now c.args.table (table_of c.in-Some.found.now) c.as_slice.ensures.value c.requires.sound.built c.in-Some.ensures.some in
-    whole_wide (root_of store) (all store) c.in-Some.found.now (table_at (all store) c.args.table) c.args.at.now c.as_slice-2.result.now c.none.result (sight_of c.wide_indexed.result) found
-    (subst (λ (t : Table). length t.items ≡ length (indices t.sets)) (sym found) (table_proper (root_of store) store.items.items c.args.table c.requires.sound.built).complete)
-    c.as_slice-2.ensures.value c.none.ensures.mark c.none.ensures.known c.wide_indexed.ensures
+    ap (λ (s : Sight). s.mark) c.element_range.ensures
+    ∙ read_as (λ r root b items. mark r root b (Element (table_at (things items) c.args.table) (terms_at (things items) c.args.at.now))) c.wide.result (root_of c.args.self.now) c.args.self.now.items.items c.wide.ensures.reading c.wide.ensures.root c.wide.ensures.view c.wide.ensures.items

@@ -1,23 +1,23 @@
-use Rattle.std.proofs.Common.{◌-◌, false, length, get_or}
-use Rattle.term_nodes.specs.declared.nodes.Signed.{Signed}
+use Rattle.std.proofs.Common.{◌∙◌, ℕ, List, ap, subst, sym}
+use Rattle.box_problem.specs.Box.{Box}
+use Rattle.term_language.specs.Terms.{Sum}
+use Rattle.term_nodes.specs.Built.{IsSoundTerm, PartsBelow}
+use Rattle.term_nodes.specs.Seen.{sum_sight}
+use Rattle.term_nodes.specs.Things.{parts_at, things}
+use Rattle.term_nodes.specs.declared.items.Item.{Item}
+use Rattle.term_store.proofs.Summing.{parts_proper}
 use Rattle.term_store.specs.Stores.{root_of}
-use Rattle.term_nodes.proofs.Steps.{part_back}
-use Rattle.term_store.proofs.Summing.{wide_times_fit, wide_sum_fit}
+use Rattle.term_store.proofs.WideReading.{read_as}
 use Rattle.term_store.proofs.store.TermStore.sum_wide.Goals as goal
 
-pub wide_known-wide-requires-clause-exists : goal.wide_known-wide-requires-clause-exists
-wide_known-wide-requires-clause-exists c =
-    let none : Signed = record { subtracted = false; term = 0 } in
-    part_back (length c.args.self.now.items.items) c.args.parts.now c.loop-i.i none c.requires.exist c.loop-i-test.true c.loop-i.auto.i
+pub sum-requires-clause-below : goal.sum-requires-clause-below
+sum-requires-clause-below c = subst (λ (n : ℕ). PartsBelow n c.args.parts.now) (sym c.nodes.ensures) c.requires.exist
 
-pub with_part-sum-requires-clause-times : goal.with_part-sum-requires-clause-times
-with_part-sum-requires-clause-times c =
-    let none : Signed = record { subtracted = false; term = 0 } in
-    let part : Signed = get_or c.args.parts.now (c.loop-i.i - 1) none in
-    wide_times_fit (root_of c.args.self.now) c.args.self.now.items.items part.subtracted part.term c.wide_known-wide.result c.requires.sound.built c.wide_known-wide.ensures
+pub sum-requires-clause-sound : goal.sum-requires-clause-sound
+sum-requires-clause-sound c =
+    subst (λ (root : Box). IsSoundTerm root (Sum (parts_at (things c.wide.result.items.now) c.args.parts.now))) (sym c.wide.ensures.root)
+    (subst (λ (items : List Item). IsSoundTerm (root_of c.args.self.now) (Sum (parts_at (things items) c.args.parts.now))) (sym c.wide.ensures.items)
+    (record { proper = parts_proper (root_of c.args.self.now) c.args.self.now.items.items c.args.parts.now c.requires.sound.built; small = c.requires.small }))
 
-pub with_part-sum-requires-clause-plus : goal.with_part-sum-requires-clause-plus
-with_part-sum-requires-clause-plus c =
-    let none : Signed = record { subtracted = false; term = 0 } in
-    wide_sum_fit (root_of c.args.self.now) c.args.self.now.items.items c.args.parts.now c.loop-i.i none c.wide_known-wide.result c.loop-i.sum c.requires.sound.built c.requires.small
-    c.loop-i-test.true c.loop-i.auto.i c.wide_known-wide.ensures c.loop-i.invariant
+pub returns : goal.returns
+returns c = c.sum.ensures ∙ read_as (λ r root b items. sum_sight r root b (parts_at (things items) c.args.parts.now)) c.wide.result (root_of c.args.self.now) c.args.self.now.items.items c.wide.ensures.reading c.wide.ensures.root c.wide.ensures.view c.wide.ensures.items

@@ -1,9 +1,17 @@
-use Rattle.std.proofs.Common.{ℕ, length, get_or}
-use Rattle.std.proofs.lemmas.List.{get_or_default}
-use Rattle.term_nodes.proofs.Steps.{cond_below}
+use Rattle.std.proofs.Common.{◌∙◌, ℕ, arith, ap, length, subst, sym}
+use Rattle.term_language.specs.Marks.{all_marks}
+use Rattle.term_language.specs.Rules.{marks}
+use Rattle.term_nodes.specs.Built.{AllBelow}
+use Rattle.term_nodes.specs.Things.{terms_at, things}
+use Rattle.term_store.specs.Stores.{root_of}
+use Rattle.term_store.proofs.WideReading.{read_as}
 use Rattle.term_store.proofs.store.TermStore.wide_marks.Goals as goal
 
-pub wide_known-here-requires-clause-exists : goal.wide_known-here-requires-clause-exists
-wide_known-here-requires-clause-exists c =
-    let id : ℕ = get_or c.args.at.now c.loop-id.id-index 0 in
-    cond_below (length c.args.self.now.items.items) c.args.at.now c.loop-id.id-index id c.requires.exist c.loop-id-test.true (get_or_default c.args.at.now c.loop-id.id-index 0 id c.loop-id-test.true)
+pub marks-requires-clause-exists : goal.marks-requires-clause-exists
+marks-requires-clause-exists c = omega (arith, c.nodes.ensures, ap length c.wide.ensures.items)
+
+pub marks-requires-clause-below : goal.marks-requires-clause-below
+marks-requires-clause-below c = subst (λ (n : ℕ). AllBelow n c.args.at.now) (sym c.nodes.ensures) c.requires.exist
+
+pub returns : goal.returns
+returns c = c.marks.ensures ∙ read_as (λ r root b items. all_marks (marks r root b (terms_at (things items) c.args.at.now))) c.wide.result (root_of c.args.self.now) c.args.self.now.items.items c.wide.ensures.reading c.wide.ensures.root c.wide.ensures.view c.wide.ensures.items

@@ -1,5 +1,0 @@
-use Rattle.sopl_term.proofs.Keeping.{kept_added}
-use Rattle.sopl_term.proofs.builder.Builder.remainder.Goals as goal
-
-pub returns-clause-kept : goal.returns-clause-kept
-returns-clause-kept c = kept_added c.args.self.now c.remainder.new.self c.in_ok-id.id _ c.requires.building c.remainder.ensures.sound c.remainder.ensures.root c.in_ok-id.ensures.added
