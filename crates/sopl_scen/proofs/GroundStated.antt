@@ -14,7 +14,7 @@ use Rattle.unfold_laws.proofs.Outcomes.{stochastics_have_outcomes}
 use Rattle.unfold_laws.proofs.Counts.{instances_are_counted}
 use Rattle.scen_laws.specs.Laws.{HasOutcome}
 use Rattle.scen_laws.proofs.Stages.{stochastics_ascend}
-use Rattle.sopl_scen.specs.Layout.{AreStated, IsProblemOf}
+use Rattle.sopl_scen.specs.Layout.{AreStated}
 use Rattle.sopl_scen.proofs.Stated.{constraints_in}
 
 -- that each variable has outcomes is a proposition, so it may be known of a model whose tokens are not
