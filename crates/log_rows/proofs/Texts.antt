@@ -70,7 +70,7 @@ steps_all first now k j steps i all before = subst (λ (xs : List Step). Gathers
 abbrev rows_text : ℕ → List Row → List ℕ
 rows_text number rows = text_of (rows_lines number rows)
 
-rows_append : (number : ℕ) (xs ys : List Row) → rows_text number (xs ++ ys) ≡ rows_text number xs ++ rows_text (length xs + number) ys
+pub rows_append : (number : ℕ) (xs ys : List Row) → rows_text number (xs ++ ys) ≡ rows_text number xs ++ rows_text (length xs + number) ys
 rows_append number [] ys = ap (λ (n : ℕ). rows_text n ys) (omega arith)
 rows_append number (x ∷ xs) ys =
     text_append (row_lines number x) (rows_lines (suc number) (xs ++ ys))

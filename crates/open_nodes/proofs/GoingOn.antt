@@ -12,7 +12,7 @@ use Rattle.open_nodes.specs.declared.halving.Halving.{Halving}
 use Rattle.open_nodes.specs.declared.split.SplitNode.TheViews.{roll-SplitNode}
 use Rattle.open_nodes.specs.declared.split.SplitNode.{SplitNode, SplitNode', Held-SplitNode-above, None', Some'}
 use Rattle.open_nodes.specs.Ways.{AreRows, IsRow, given_row, held_ups, node_number, parent_of, ups}
-use Rattle.open_nodes.specs.Remade.{Descends, split_numbers}
+use Rattle.open_nodes.specs.Remade.{AreBelow, Descends, split_numbers}
 use Rattle.open_nodes.proofs.Remaking.{less_than}
 
 mutual
@@ -36,6 +36,15 @@ mutual
   held_descends rows side (Some' p n) node hang are hangs =
       let falls = way_descends rows n hang are in
       ((hangs.earlier, less_than (node_number n) node (omega (arith, hangs.earlier)) (split_numbers (ups n)) falls.0), falls)
+
+-- the numbers along a way are those of rows
+mutual
+  pub way_below : (rows : List Row) (split : SplitNode) → IsRow rows split → AreBelow (length rows) (split_numbers (split ∷ ups split))
+  way_below rows (SplitNode' above side node depth steps cut) is = (is.0, held_below rows above is.2)
+
+  held_below : (rows : List Row) (above : Held-SplitNode-above) → AreRows rows above → AreBelow (length rows) (split_numbers (held_ups above))
+  held_below rows None' are = tt
+  held_below rows (Some' p n) are = way_below rows n are
 
 -- a node that is made is the next row
 pub made_row : (above : Option (Rc SplitNode Global)) (side : Side) (node depth : ℕ) (steps : List Step) (cut : Halving) (made : SplitNode)

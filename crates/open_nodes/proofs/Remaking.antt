@@ -6,7 +6,7 @@ use Rattle.std.specs.List.{AllByRecursion}
 use Rattle.sopl_base.proofs.Lists.{all_append}
 use Rattle.open_nodes.specs.declared.split.SplitNode.{SplitNode, SplitNode', out-SplitNode}
 use Rattle.open_nodes.specs.Ways.{node_number, split_cut, ups}
-use Rattle.open_nodes.specs.Remade.{BeginsAtMost, Descends, FirstStands, GoesBack, HasLeft, MakesAgain, StandApart, cells_along, cells_made, split_numbers}
+use Rattle.open_nodes.specs.Remade.{AreBelow, BeginsAtMost, Descends, FirstStands, GoesBack, HasLeft, MakesAgain, StandApart, cells_along, cells_made, split_numbers}
 use Rattle.open_nodes.specs.Walks.{BeginsWith, Meets, Tops, with_ups}
 use Rattle.open_nodes.proofs.Arriving.{pointed, pointed_last}
 use Rattle.open_nodes.proofs.Walking.{reverse_last}
@@ -250,3 +250,28 @@ pub all_descend : {T E : Type 0} (old_here here settled after : List ℕ) (downs
 all_descend old_here here settled after downs split (Ok value) left meets same is old_falls way_falls =
     descends_on old_here here after downs split left meets (is ∙ ap (λ (l : List ℕ). split_numbers downs ++ reverse l) same) old_falls way_falls
 all_descend old_here here settled after downs split (Err error) left meets same is old_falls way_falls = tt
+
+-- All numbers are below one.
+
+below_behind : (most : ℕ) (xs ys : List ℕ) → AreBelow most (xs ++ ys) → AreBelow most ys
+below_behind most [] ys all = all
+below_behind most (x ∷ xs) ys all = below_behind most xs ys all.1
+
+front_below : (most : ℕ) (downs rest : List SplitNode) → AreBelow most (split_numbers (downs ++ rest)) → AreBelow most (split_numbers downs)
+front_below most [] rest all = tt
+front_below most (d ∷ downs) rest all = (all.0, front_below most downs rest all.1)
+
+below_on : (most : ℕ) (old_here here after : List ℕ) (downs : List SplitNode) (split : SplitNode) → HasLeft old_here (reverse here) → Meets here downs split
+    → reverse after ≡ split_numbers downs ++ reverse here → AreBelow most old_here → AreBelow most (split_numbers (split ∷ ups split)) → AreBelow most (reverse after)
+below_on most old_here here after downs split left meets is old_below way_below =
+    subst (AreBelow most) (sym is)
+    (all_append (λ n. n < most) (split_numbers downs) (reverse here)
+    (front_below most downs meets.rest (subst (λ (l : List SplitNode). AreBelow most (split_numbers l)) meets.chain way_below))
+    (below_behind most left.gone (reverse here) (subst (AreBelow most) left.whole old_below)))
+
+pub all_below : {T E : Type 0} (most : ℕ) (old_here here settled after : List ℕ) (downs : List SplitNode) (split : SplitNode) (result : Result T E) → HasLeft old_here (reverse here)
+    → Meets here downs split → settled ≡ here → reverse after ≡ split_numbers downs ++ reverse settled → AreBelow most old_here → AreBelow most (split_numbers (split ∷ ups split))
+    → OnOk result (AreBelow most (reverse after))
+all_below most old_here here settled after downs split (Ok value) left meets same is old_below way_below =
+    below_on most old_here here after downs split left meets (is ∙ ap (λ (l : List ℕ). split_numbers downs ++ reverse l) same) old_below way_below
+all_below most old_here here settled after downs split (Err error) left meets same is old_below way_below = tt

@@ -32,6 +32,10 @@ abbrev pub Descends : List ℕ → Type 0
 Descends [] = Unit {0}
 Descends (n ∷ ns) = AllByRecursion (λ m. m < n) ns × Descends ns
 
+-- each number is less than this one
+abbrev pub AreBelow : ℕ → List ℕ → Type 0
+AreBelow most ns = AllByRecursion (λ n. n < most) ns
+
 -- none of these splits has one of these numbers
 abbrev pub StandApart : List ℕ → List SplitNode → Type 0
 StandApart here splits = AllByRecursion (λ (split : SplitNode). AllByRecursion (λ n. ¬ n ≡ node_number split) here) splits

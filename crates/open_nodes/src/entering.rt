@@ -2,9 +2,9 @@
 
 ghost use Rattle.std.specs.Prelude.{◌≡◌, ◌++◌, ◌∷◌, ℕ, [], map, reverse, OnOk};
 ghost use Rattle.box_problem.specs.Box.{Box};
-ghost use Rattle.open_nodes.specs.Remade.{Descends, MakesAgain, cells_along, split_numbers};
+ghost use Rattle.open_nodes.specs.Remade.{AreBelow, Descends, MakesAgain, cells_along, split_numbers};
 ghost use Rattle.open_nodes.specs.Ways.{ups};
-ghost use Rattle.open_nodes.specs.Walks.{IsEntered, IsGoing, IsKnownWay};
+ghost use Rattle.open_nodes.specs.Walks.{IsEntered, IsGoing, IsKnownWay, StandsAt};
 
 use crate::descending::take_side;
 use crate::split::SplitNode;
@@ -33,6 +33,17 @@ impl BoxWalk {
         Ok(())
     }
 
+    /// Goes to the root.
+    pub fn enter_root(&mut self) -> Result<(), AllocError>
+        requires known { (root : Box) × (f : ℕ → Box) × StandsAt root f self.old }
+        ensures entered { (root : Box) (f : ℕ → Box) → StandsAt root f self.old
+            → OnOk result (StandsAt root f self.new × (self.new.store.box ≡ root)) }
+        ensures none { OnOk result (self.new.here.items ≡ []) }
+    {
+        self.back_to_root();
+        self.settle()
+    }
+
     /// Goes to the box with which a side of a split begins, and lists the cells of the ends that are made again on the way.
     #[tactic(auto, using(crate::proofs::Arriving::as_many, crate::proofs::Arriving::met_above, crate::proofs::Arriving::there))]
     pub fn enter(
@@ -47,6 +58,8 @@ impl BoxWalk {
         ensures remade { OnOk result (MakesAgain (reverse self.old.here.items) split.now remade.old.items remade.new.items) }
         ensures descends { Descends (reverse self.old.here.items) → Descends (split_numbers (split.now ∷ ups split.now))
             → OnOk result (Descends (reverse self.new.here.items)) }
+        ensures below { (most : ℕ) → AreBelow most (reverse self.old.here.items) → AreBelow most (split_numbers (split.now ∷ ups split.now))
+            → OnOk result (AreBelow most (reverse self.new.here.items)) }
     {
         let mut downs = Vec::new(alloc);
         self.meet(split, &mut downs)?;

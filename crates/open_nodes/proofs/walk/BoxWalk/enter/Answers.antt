@@ -1,6 +1,6 @@
 use Rattle.std.proofs.Common.{refl, ap}
 use Rattle.open_nodes.proofs.Arriving.{arrived, begun, cut_there, pointed}
-use Rattle.open_nodes.proofs.Remaking.{all_descend, all_made_again}
+use Rattle.open_nodes.proofs.Remaking.{all_below, all_descend, all_made_again}
 use Rattle.open_nodes.proofs.walk.BoxWalk.enter.Goals as goal
 
 pub take_side-requires : goal.take_side-requires
@@ -20,4 +20,6 @@ returns c = record {
       c.take_side.result c.meet.ensures.left c.in_ok-meet.ensures.met c.in_ok-meet.ensures.apart c.in_ok-go_down.ensures.listed c.in_ok-push.ensures.items;
   descends = λ falls way_falls. all_descend _ c.meet.new.self.here.items c.settle.new.self.here.items c.go_down.new.self.here.items (pointed c.meet.new.down.items) c.args.split.now
       c.take_side.result c.meet.ensures.left c.in_ok-meet.ensures.met (ap (λ here. here.items) c.settle.ensures.here) c.in_ok-go_down.ensures.here falls way_falls;
+  below = λ most old_below way_below. all_below most _ c.meet.new.self.here.items c.settle.new.self.here.items c.go_down.new.self.here.items (pointed c.meet.new.down.items) c.args.split.now
+      c.take_side.result c.meet.ensures.left c.in_ok-meet.ensures.met (ap (λ here. here.items) c.settle.ensures.here) c.in_ok-go_down.ensures.here old_below way_below;
 }
