@@ -1,5 +1,5 @@
 -- The repair of a choice.
-use Rattle.std.proofs.Common.{◌≡◌, ℕ, ◌<◌, ◌≤◌, ℤ, List, length, Option, None, Some, arith, refl, subst, sym}
+use Rattle.std.proofs.Common.{◌≡◌, ℕ, ◌<◌, ◌≤◌, ℤ, List, length, Option, None, Some, IfSome, arith, refl, subst, sym}
 use Rattle.std.proofs.lemmas.Int.{ints}
 use Rattle.brancher.specs.declared.choice.Choice.{Choice}
 use Rattle.brancher.specs.Rules.{Rule, lower, widest, free}
@@ -42,6 +42,24 @@ by_rule : (rule : Rule) (lows highs : List ℤ) (answer result : Option Choice) 
 by_rule lower lows highs answer result chosen kept = subst (λ x. ChoosesBy lower lows highs x) (sym (kept (lower_proper lows highs answer chosen))) chosen
 by_rule widest lows highs answer result chosen kept = subst (λ x. ChoosesBy widest lows highs x) (sym (kept (widest_proper lows highs answer chosen))) chosen
 by_rule free lows highs answer result chosen kept = tt
+
+-- where no cell has more than one value
+none_by : (rule : Rule) (lows highs : List ℤ) → AreFixed lows highs (length lows) → ChoosesBy rule lows highs None
+none_by lower lows highs fixed = fixed
+none_by widest lows highs fixed = fixed
+none_by free lows highs fixed = tt
+
+none_asked : (asked : Option Rule) (lows highs : List ℤ) → AreFixed lows highs (length lows) → IfSome asked (λ rule. ChoosesBy rule lows highs None)
+none_asked None lows highs fixed = tt
+none_asked (Some rule) lows highs fixed = none_by rule lows highs fixed
+
+pub picked_none : (asked : Option Rule) (depth : ℕ) (lows highs : List ℤ) → AreFixed lows highs (length lows) → IsPicked asked depth lows highs None
+picked_none asked depth lows highs fixed = record {
+  proper = fixed;
+  without = λ none. fixed;
+  deep = λ deep. fixed;
+  by_rule = λ less. none_asked asked lows highs fixed;
+}
 
 pub picked_deep : (asked : Option Rule) (depth : ℕ) (lows highs : List ℤ) (answer : Option Choice) → 512 ≤ depth
     → Chooses (IsFirstHalved lows highs) lows highs answer → IsPicked asked depth lows highs answer

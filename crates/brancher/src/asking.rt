@@ -55,8 +55,8 @@ fn repaired(answer: Option<Choice>, lows: &[i64], highs: &[i64]) -> Option<Choic
 
 /// Where the box of a node at this depth is cut, the cells of which have these lower and upper ends: as the brancher chooses, if one is
 /// there, the node is not deeper than 511, and its answer cuts a cell into two halves that are not empty; else the first cell that has
-/// more than one value is halved, the low half first. None where each cell has one value.
-#[tactic(auto, using(crate::proofs::Repairs::picked_deep, crate::proofs::Repairs::picked_without, crate::proofs::Repairs::picked_by))]
+/// more than one value is halved, the low half first. None where each cell has one value; then no one is asked.
+#[tactic(auto, using(crate::proofs::Repairs::picked_none, crate::proofs::Repairs::picked_deep, crate::proofs::Repairs::picked_without, crate::proofs::Repairs::picked_by))]
 pub fn pick(
     brancher: &mut Option<Box<dyn Brancher>>,
     lows: &[i64],
@@ -67,6 +67,7 @@ pub fn pick(
     ensures picked { IsPicked (option_map rule brancher.old) depth lows.now highs.now result }
     ensures same { option_map rule brancher.new ≡ option_map rule brancher.old }
 {
+    let _open = first_unfixed(lows, highs)?;
     if depth >= FIRST_UNASKED {
         return first_halved(lows, highs);
     }
