@@ -216,7 +216,7 @@ explain() {
             show_line "$@"
             ;;
         2)
-            echo "sopl: the words are $(forms MODEL), where MODEL is the file of a model and N is 1 to 4294967295," \
+            echo "sopl: the words are $(forms MODEL), where MODEL is the file of a model," \
                 "or $(forms LOG), where LOG is the file of a log of the model," \
                 "or $(forms POLICY), where POLICY is the file of a policy of it"
             echo 'sopl: before them may stand --table, --page FILE or --why, which tell more of an answer (docs/FORMATS.md)'

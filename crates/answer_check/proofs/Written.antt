@@ -20,7 +20,7 @@ use Rattle.log_rows.specs.Made.{Logs, Pending, open_row, pending_at, with_open}
 use Rattle.log_rows.specs.Rows.{Hangs}
 use Rattle.log_tree.specs.Reads.{IsReading, read}
 use Rattle.log_tree.specs.ReadingLaws.{ReadingsAreUnique, TextsAreRead}
-use Rattle.sopl_search.specs.Logged.{IsTree, footer_of}
+use Rattle.sopl_search.specs.Logged.{IsTree, SearchPlan, footer_of}
 use Rattle.sopl_search.specs.declared.outcome.Outcome.{Outcome}
 use Rattle.answer_lines.specs.AnswerData.{Valued}
 use Rattle.answer_texts.specs.Logs.{IsLogOf, searched_problem}
@@ -109,15 +109,15 @@ module _ (problem : BoxProblem) (rows : List Row) (opens : List Pending) (best :
       (omega (arith, few_open, within, small))
 
 module _ (readings_are_unique : ReadingsAreUnique) (texts_are_read : TextsAreRead) where
-  log_read : (problem : BoxProblem) (budget : ℕ) (outcome : Outcome) (rows : List Row) (log : List ℕ) → IsTree problem budget outcome rows
-      → IsLogText rows (footer_of outcome) log → budget < 2 ^ 32 → IsReading log (read rows (footer_of outcome))
-  log_read problem budget outcome rows log tree is_text small =
+  log_read : (problem : BoxProblem) (plan : SearchPlan) (outcome : Outcome) (rows : List Row) (log : List ℕ) → IsTree problem plan outcome rows
+      → IsLogText rows (footer_of outcome) log → plan.budget < 2 ^ 32 → IsReading log (read rows (footer_of outcome))
+  log_read problem plan outcome rows log tree is_text small =
       texts_are_read rows (footer_of outcome) log is_text (λ i exists. omega (arith, tree.shallow i exists))
-      (subst (λ all. length all ≤ 2 ^ 64) (sym tree.rows_are) (few_rows problem tree.finished tree.opens tree.best tree.logs budget tree.within small))
+      (subst (λ all. length all ≤ 2 ^ 64) (sym tree.rows_are) (few_rows problem tree.state.rows tree.opens tree.state.best tree.logs plan.budget tree.planned.within small))
 
   pub written_logs_are_accepted : WrittenLogsAreAccepted
-  written_logs_are_accepted text log problem budget claim found solved small is =
+  written_logs_are_accepted text log problem plan claim found solved small is =
       subst (IsAnsweredAccepted text log problem) is.claimed
       (accepted_logs_are_answered readings_are_unique text log problem is.is_log.rows (footer_of is.outcome) solved
-      (log_read (searched_problem problem) budget is.outcome is.is_log.rows log is.is_log.tree is.is_log.is_text small)
+      (log_read (searched_problem problem) plan is.outcome is.is_log.rows log is.is_log.tree is.is_log.is_text small)
       is.is_log.tree.accepted)

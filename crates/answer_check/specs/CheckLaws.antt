@@ -6,6 +6,7 @@ use Rattle.log_rows.specs.declared.rows.Row.{Row}
 use Rattle.log_rows.specs.declared.rows.Footer.{Footer}
 use Rattle.log_rows.specs.Accepted.{Accepted}
 use Rattle.log_tree.specs.Reads.{IsReading, read}
+use Rattle.sopl_search.specs.Logged.{SearchPlan}
 use Rattle.answer_lines.specs.AnswerData.{Valued, line_of}
 use Rattle.answer_texts.specs.Logs.{IsLogOf, searched_problem}
 use Rattle.answer_texts.specs.Solved.{SolvedText}
@@ -40,5 +41,5 @@ AcceptedLogsAreAnswered =
 -- and of each log that goes with an answer of `solve`
 abbrev pub WrittenLogsAreAccepted : Type 0
 WrittenLogsAreAccepted =
-    (text log : List ℕ) (problem : Problem) (budget : ℕ) (claim : Footer) (found : Option Valued) → SolvedText text problem → budget < 2 ^ 32
-    → IsLogOf problem budget claim found log → IsAnsweredAccepted text log problem claim
+    (text log : List ℕ) (problem : Problem) (plan : SearchPlan) (claim : Footer) (found : Option Valued) → SolvedText text problem → plan.budget < 2 ^ 32
+    → IsLogOf problem plan claim found log → IsAnsweredAccepted text log problem claim

@@ -6,6 +6,7 @@ use Rattle.sopl_io.proofs.Calling.{calls_last, calls_more}
 use Rattle.sopl_base.specs.declared.stop.SearchStop.{SearchStop}
 use Rattle.sopl_base.specs.declared.stop.SearchStop.TheVariants.{Write}
 use Rattle.sopl_base.specs.declared.stop.SearchStop.TheVariants as search
+use Rattle.sopl_search.specs.Logged.{SearchPlan}
 use Rattle.answer_texts.specs.Logs.{SinkState}
 use Rattle.answer_texts.specs.Replies.{Replies}
 use Rattle.answer_texts.specs.declared.command.Command.{Command}
@@ -42,14 +43,14 @@ module _ (source_before source_now log_before log_now : Outcomes) where
   calls_behind source_later result all (log_fails source last is) = log_fails (calls_more source_before source_later source_now all source) last is
 
   -- one to a text
-  pub text_calls : (text : List ℕ) (budget : ℕ) (command : Command) (name : List ℕ) (old new : SinkState) (result : Result Reply SearchStop) → AllSucceeded source_before source_now
-      → StopsWhere (result ≡ Err Write) log_before log_now → IfOk result (λ reply. Replies text budget command name old new reply.status (string_bytes reply.line))
+  pub text_calls : (text : List ℕ) (plan : SearchPlan) (command : Command) (name : List ℕ) (old new : SinkState) (result : Result Reply SearchStop) → AllSucceeded source_before source_now
+      → StopsWhere (result ≡ Err Write) log_before log_now → IfOk result (λ reply. Replies text plan command name old new reply.status (string_bytes reply.line))
       → ReplyCalls source_before source_now log_before log_now result
-  text_calls text budget command name old new (Ok reply) all stops is =
+  text_calls text plan command name old new (Ok reply) all stops is =
       calls_succeed all (stops.all (λ e. cc)) (λ e. cc)
-      (end_status text budget command reply.status (reply_ends text budget command is.log reply.status (string_bytes reply.line) is.reply)).no_read
-  text_calls text budget command name old new (Err Write) all stops is = log_fails all (stops.last refl) refl
-  text_calls text budget command name old new (Err search.NoMemory) all stops is = calls_succeed all (stops.all (λ e. cc)) (λ e. cc) tt
+      (end_status text plan.budget command reply.status (reply_ends text plan command is.log reply.status (string_bytes reply.line) is.reply)).no_read
+  text_calls text plan command name old new (Err Write) all stops is = log_fails all (stops.last refl) refl
+  text_calls text plan command name old new (Err search.NoMemory) all stops is = calls_succeed all (stops.all (λ e. cc)) (λ e. cc) tt
 
   module _ (answer_before answer_now : Outcomes) (old new : Option (List ℕ)) where
     -- a run whose reply was written, or a prefix of it

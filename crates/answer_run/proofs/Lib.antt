@@ -1,5 +1,6 @@
 mod FoundRows
 mod Parts
+mod Asked
 mod Numbers
 pub mod WholeText
 pub mod Statuses

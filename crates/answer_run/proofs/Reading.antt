@@ -14,20 +14,20 @@ use Rattle.answer_texts.specs.declared.status.Status.TheVariants.{ReadFault, Wri
 use Rattle.answer_texts.specs.Away.{IsTurnedAway}
 use Rattle.answer_run.specs.declared.commands.Job.TheVariants.{Text, Pair}
 use Rattle.answer_run.specs.declared.commands.PairCommand.{PairCommand}
-use Rattle.answer_run.specs.Words.{Request, request_of}
+use Rattle.answer_run.specs.Words.{Request}
 use Rattle.answer_run.specs.Replies.{asked_by, asked_in, IsAnswered, IsTaken, BeginsFiles, no_file, model_alone, model_and_second}
 use Rattle.answer_run.specs.Runs.{IsWritten, all, part, LeavesSecond, BeginsSecond, second_not_begun, second_begun, meant_status, stop_status}
 use Rattle.answer_run.specs.Reads.{TakesAtMost}
 use Rattle.answer_run.proofs.Statuses.{early_no_answer}
 use Rattle.answer_run.proofs.WholeText.{taken_whole}
 
-module _ (words : List (List ℕ)) (stock : Option Stock) (most before now : ℕ) (left : Option (List ℕ)) where
+module _ (wanted : Option Request) (stock : Option Stock) (most before now : ℕ) (left : Option (List ℕ)) where
   abbrev taken_by : Option Request → Type 0
   taken_by request = TakesAtMost most (option_and_then (λ (r : Request). option_map (asked_by r) stock) request) before now left
 
   -- what was taken of the file that the words name
-  pub model_taken : (request : Request) → request_of words ≡ Some request
-      → IfSome stock (λ s. LeavesRest (Some most) (text_of s request.model) before now left) → TakesAtMost most (asked_in stock words) before now left
+  pub model_taken : (request : Request) → wanted ≡ Some request
+      → IfSome stock (λ s. LeavesRest (Some most) (text_of s request.model) before now left) → TakesAtMost most (asked_in stock wanted) before now left
   model_taken request asked rest = subst taken_by (sym asked) (by_stock stock rest)
     where
       by_stock : (o : Option Stock) → IfSome o (λ s. LeavesRest (Some most) (text_of s request.model) before now left)
@@ -36,7 +36,7 @@ module _ (words : List (List ℕ)) (stock : Option Stock) (most before now : ℕ
       by_stock (Some s) rest = inl rest
 
   -- where the words name none
-  pub none_taken : request_of words ≡ None → TakesAtMost most (asked_in stock words) before now left
+  pub none_taken : wanted ≡ None → TakesAtMost most (asked_in stock wanted) before now left
   none_taken none = subst taken_by (sym none) tt
 
 rest_earlier : (most : Option ℕ) (text : List ℕ) (before later now : ℕ) (left : Option (List ℕ)) → before ≤ later → LeavesRest most text later now left
@@ -45,11 +45,11 @@ rest_earlier most text before later now left up (behind count within is) = behin
 rest_earlier most text before later now left up (closed rose end) = closed (rose_later before later now up rose) end
 
 -- where there is a second file
-pub second_taken : (words : List (List ℕ)) (stock mid : Option Stock) (most before later now : ℕ) (left_later left : Option (List ℕ)) (request : Request) (command : PairCommand)
-    → request_of words ≡ Some request → request.job ≡ Pair command → mid ≡ option_map begun_stock stock → before ≤ later
+pub second_taken : (wanted : Option Request) (stock mid : Option Stock) (most before later now : ℕ) (left_later left : Option (List ℕ)) (request : Request) (command : PairCommand)
+    → wanted ≡ Some request → request.job ≡ Pair command → mid ≡ option_map begun_stock stock → before ≤ later
     → IfSome stock (λ s. LeavesRest (Some most) (text_of s request.model) before later left_later)
-    → LeavesSecond request.second mid later now left_later left → TakesAtMost most (asked_in stock words) before now left
-second_taken words stock mid most before later now left_later left request command asked job begun up rest leaves =
+    → LeavesSecond request.second mid later now left_later left → TakesAtMost most (asked_in stock wanted) before now left
+second_taken wanted stock mid most before later now left_later left request command asked job begun up rest leaves =
     subst (λ o. TakesAtMost most (option_and_then (λ (r : Request). option_map (asked_by r) stock) o) before now left) (sym asked)
     (by_stock stock rest (subst (λ m. LeavesSecond request.second m later now left_later left) begun leaves))
   where
@@ -63,33 +63,33 @@ second_taken words stock mid most before later now left_later left request comma
 
 -- The names with which the source is begun.
 
-module _ (words : List (List ℕ)) (stock : Option Stock) (old : Option (List (List ℕ))) where
-  pub none_begun : request_of words ≡ None → (status : Status) → BeginsFiles stock old old (request_of words) status
+module _ (wanted : Option Request) (stock : Option Stock) (old : Option (List (List ℕ))) where
+  pub none_begun : wanted ≡ None → (status : Status) → BeginsFiles stock old old wanted status
   none_begun none status = subst (λ r. BeginsFiles stock old old r status) (sym none) (no_file status refl)
 
-  model_begun : (new : Option (List (List ℕ))) (request : Request) → request_of words ≡ Some request → new ≡ with_name old request.model → (status : Status)
-      → ((command : PairCommand) → request.job ≡ Pair command → ¬ IsAnswered status) → BeginsFiles stock old new (request_of words) status
+  model_begun : (new : Option (List (List ℕ))) (request : Request) → wanted ≡ Some request → new ≡ with_name old request.model → (status : Status)
+      → ((command : PairCommand) → request.job ≡ Pair command → ¬ IsAnswered status) → BeginsFiles stock old new wanted status
   model_begun new request asked is status none = subst (λ r. BeginsFiles stock old new r status) (sym asked) (model_alone request status is none)
 
   -- where the command has no second file
-  pub text_begun : (new : Option (List (List ℕ))) (request : Request) (command : Command) → request_of words ≡ Some request → request.job ≡ Text command
-      → new ≡ with_name old request.model → (status : Status) → BeginsFiles stock old new (request_of words) status
+  pub text_begun : (new : Option (List (List ℕ))) (request : Request) (command : Command) → wanted ≡ Some request → request.job ≡ Text command
+      → new ≡ with_name old request.model → (status : Status) → BeginsFiles stock old new wanted status
   text_begun new request command asked job is status = model_begun new request asked is status (λ other pair answered. cc)
 
   -- where the model was not read
-  pub unread_begun : (new : Option (List (List ℕ))) (request : Request) → request_of words ≡ Some request → new ≡ with_name old request.model
+  pub unread_begun : (new : Option (List (List ℕ))) (request : Request) → wanted ≡ Some request → new ≡ with_name old request.model
       → (result : Result Reply SearchStop) → IfOk result (λ reply. reply.status ≡ ReadFault) → IfErr result (λ stop. stop ≡ search.NoMemory)
-      → BeginsFiles stock old new (request_of words) (meant_status result)
+      → BeginsFiles stock old new wanted (meant_status result)
   unread_begun new request asked is (Ok reply) status memory =
       model_begun new request asked is reply.status (λ command pair answered. early_no_answer reply.status (inl status) answered)
   unread_begun new request asked is (Err stop) status memory =
       model_begun new request asked is (stop_status stop) (λ command pair answered. early_no_answer (stop_status stop) (inr (inr (ap stop_status memory))) answered)
 
   -- where the command has a second file
-  pub both_begun : (later new : Option (List (List ℕ))) (request : Request) (command : PairCommand) (bytes slice : List ℕ) (most : ℕ) → request_of words ≡ Some request
+  pub both_begun : (later new : Option (List (List ℕ))) (request : Request) (command : PairCommand) (bytes slice : List ℕ) (most : ℕ) → wanted ≡ Some request
       → request.job ≡ Pair command → 1048576 < most → slice ≡ bytes → IfSome stock (λ s. bytes ≡ cut_at (Some most) (text_of s request.model))
       → later ≡ with_name old request.model → (status : Status) → BeginsSecond command slice request.second later new status
-      → BeginsFiles stock old new (request_of words) status
+      → BeginsFiles stock old new wanted status
   both_begun later new request command bytes slice most asked job more same read first status (second_not_begun is not_answered) =
       model_begun new request asked (is ∙ first) status (λ other pair answered. not_answered answered)
   both_begun later new request command bytes slice most asked job more same read first status (second_begun taken is not_away) =

@@ -25,7 +25,7 @@ use Rattle.answer_run.specs.declared.commands.Job.{Job}
 use Rattle.answer_run.specs.declared.commands.Job.TheVariants.{Text, Pair}
 use Rattle.answer_run.specs.declared.commands.PairCommand.{PairCommand}
 use Rattle.answer_run.specs.declared.commands.PairCommand.TheVariants.{Check, Eval}
-use Rattle.answer_run.specs.Words.{Request, request_of}
+use Rattle.answer_run.specs.Words.{Request}
 use Rattle.answer_run.specs.Replies.{Asked, asked_by, asked_in, IsModelText, AreSecondBytes, IsPairReply, IsReply, replied, replied_on_both, usage, read_fault, IsAnswered, Answers, whole, prefix, log_prefix, nothing}
 use Rattle.answer_run.specs.Replies.{EndedEarly, EndsJob, taking, EndsSoundly, EndsCompletely, SettlesInBudget, RefusedOnce, LimitedOnce}
 use Rattle.answer_run.specs.Runs.{IsWritten, all, part, Replied, StopsWith, stop_status}
@@ -145,7 +145,7 @@ second_is_given request None = tt
 second_is_given request (Some s) = refl
 
 abbrev pub asked_with : Request → List ℕ → List ℕ → Asked
-asked_with request text second = record { job = request.job; text = text; second = second; budget = request.budget }
+asked_with request text second = record { job = request.job; text = text; second = second; budget = request.plan.budget }
 
 -- a search whose budget is enough is done
 solve_done : (text second : List ℕ) (budget : ℕ) (job : Job) (status : Status) → job ≡ Text Solve → (problem : Problem) → SolvedText text problem → most_nodes problem ≤ budget
@@ -155,18 +155,18 @@ solve_done text second budget job status solve problem a enough end =
     settled_done status (ends_alike text budget Solve status Done ends (solved problem a)) (ends_settled text budget problem a enough Solve status ends)
 
 -- what a status says of the words, the source and the text
-pub record Tells (words : List (List ℕ)) (stock : Option Stock) (before now : ℕ) (status : Status) : Type 0 where
-  pub usage : status ≡ Usage → request_of words ≡ None
-  pub usage_when : request_of words ≡ None → (status ≡ Usage) ⊎ (status ≡ WriteFault) ⊎ (status ≡ NoMemory)
+pub record Tells (wanted : Option Request) (stock : Option Stock) (before now : ℕ) (status : Status) : Type 0 where
+  pub usage : status ≡ Usage → wanted ≡ None
+  pub usage_when : wanted ≡ None → (status ≡ Usage) ⊎ (status ≡ WriteFault) ⊎ (status ≡ NoMemory)
   pub read : status ≡ ReadFault → Rose before now
-  pub ends : EndsSoundly (asked_in stock words) status
-  pub ends_when : EndsCompletely (asked_in stock words) status
-  pub enough : SettlesInBudget (asked_in stock words) status
+  pub ends : EndsSoundly (asked_in stock wanted) status
+  pub ends_when : EndsCompletely (asked_in stock wanted) status
+  pub enough : SettlesInBudget (asked_in stock wanted) status
 
-module _ (words : List (List ℕ)) (stock : Option Stock) (before now : ℕ) where
+module _ (wanted : Option Request) (stock : Option Stock) (before now : ℕ) where
   -- what is told of the text is told of what is asked for
-  told_of : (request : Request) (text second : List ℕ) → IsModelText request words stock text → AreSecondBytes request stock second → (P : Asked → Type 0)
-      → P (asked_with request text second) → IfSome (asked_in stock words) P
+  told_of : (request : Request) (text second : List ℕ) → IsModelText request wanted stock text → AreSecondBytes request stock second → (P : Asked → Type 0)
+      → P (asked_with request text second) → IfSome (asked_in stock wanted) P
   told_of request text second is are P p =
       subst (λ o. IfSome (option_and_then (λ (r : Request). option_map (asked_by r) stock) o) P) (sym is.asked) (by_stock stock is.given are)
     where
@@ -175,46 +175,46 @@ module _ (words : List (List ℕ)) (stock : Option Stock) (before now : ℕ) whe
       by_stock (Some s) given given_second =
           subst (λ b. P (asked_with request (text_of s request.model) b)) given_second (subst (λ t. P (asked_with request t second)) given p)
 
-  none_asked : request_of words ≡ None → asked_in stock words ≡ None
+  none_asked : wanted ≡ None → asked_in stock wanted ≡ None
   none_asked none = ap (λ o. option_and_then (λ (r : Request). option_map (asked_by r) stock) o) none
 
   -- a run that ended early
   early_tells : (status : Status) → EndedEarly status → ¬ (status ≡ Usage) → (status ≡ ReadFault → Rose before now)
-      → (request_of words ≡ None → (status ≡ Usage) ⊎ (status ≡ WriteFault) ⊎ (status ≡ NoMemory)) → Tells words stock before now status
+      → (wanted ≡ None → (status ≡ Usage) ⊎ (status ≡ WriteFault) ⊎ (status ≡ NoMemory)) → Tells wanted stock before now status
   early_tells status early no_usage read when =
       record {
         usage = λ e. absurd (no_usage e);
         usage_when = when;
         read = read;
-        ends = early_so (asked_in stock words) status early;
-        ends_when = early_when (asked_in stock words) status early;
-        enough = early_settled (asked_in stock words) status early;
+        ends = early_so (asked_in stock wanted) status early;
+        ends_when = early_when (asked_in stock wanted) status early;
+        enough = early_settled (asked_in stock wanted) status early;
       }
 
-  pub write_tells : Tells words stock before now WriteFault
+  pub write_tells : Tells wanted stock before now WriteFault
   write_tells = early_tells WriteFault (inr (inl refl)) (λ e. cc) (λ e. cc) (λ none. inr (inl refl))
 
-  pub memory_tells : Tells words stock before now NoMemory
+  pub memory_tells : Tells wanted stock before now NoMemory
   memory_tells = early_tells NoMemory (inr (inr refl)) (λ e. cc) (λ e. cc) (λ none. inr (inr refl))
 
-  text_tells : PairsEndOnce → (request : Request) (text second : List ℕ) (status : Status) → IsModelText request words stock text → AreSecondBytes request stock second
-      → EndsJob text second request.budget request.job status → Tells words stock before now status
+  text_tells : PairsEndOnce → (request : Request) (text second : List ℕ) (status : Status) → IsModelText request wanted stock text → AreSecondBytes request stock second
+      → EndsJob text second request.plan.budget request.job status → Tells wanted stock before now status
   text_tells once request text second status is are end =
-      let no = job_status text second request.budget request.job status end in
+      let no = job_status text second request.plan.budget request.job status end in
       record {
         usage = λ e. absurd (no.no_usage e);
-        usage_when = λ none. absurd (one_request request (request_of words) is.asked none);
+        usage_when = λ none. absurd (one_request request wanted is.asked none);
         read = λ e. absurd (no.no_read e);
         ends = told_of request text second is are (λ a. EndedEarly status ⊎ EndsJob a.text a.second a.budget a.job status) (inr end);
         ends_when = told_of request text second is are
             (λ a. (other : Status) → EndsJob a.text a.second a.budget a.job other → (settled status ≡ settled other) ⊎ EndedEarly status)
-            (λ other ends. inl (job_alike once text second request.budget request.job status other end ends));
+            (λ other ends. inl (job_alike once text second request.plan.budget request.job status other end ends));
         enough = told_of request text second is are
             (λ a. a.job ≡ Text Solve → (problem : Problem) → SolvedText a.text problem → most_nodes problem ≤ a.budget → (status ≡ Done) ⊎ EndedEarly status)
-            (λ solve problem a enough. inl (solve_done text second request.budget request.job status solve problem a enough end));
+            (λ solve problem a enough. inl (solve_done text second request.plan.budget request.job status solve problem a enough end));
       }
 
-  usage_tells : request_of words ≡ None → Tells words stock before now Usage
+  usage_tells : wanted ≡ None → Tells wanted stock before now Usage
   usage_tells none =
       record {
         usage = λ e. none;
@@ -225,36 +225,36 @@ module _ (words : List (List ℕ)) (stock : Option Stock) (before now : ℕ) whe
         enough = subst (λ a. SettlesInBudget a Usage) (sym (none_asked none)) tt;
       }
 
-  fault_tells : IsSome (request_of words) → Rose before now → Tells words stock before now ReadFault
-  fault_tells named rose = early_tells ReadFault (inl refl) (λ e. cc) (λ e. rose) (λ none. absurd (some_request (request_of words) named none))
+  fault_tells : IsSome wanted → Rose before now → Tells wanted stock before now ReadFault
+  fault_tells named rose = early_tells ReadFault (inl refl) (λ e. cc) (λ e. rose) (λ none. absurd (some_request wanted named none))
 
   -- each reply tells
-  reply_tells : PairsEndOnce → (log : Option (List ℕ)) (status : Status) (line : List ℕ) → IsReply words stock before now log status line → Tells words stock before now status
+  reply_tells : PairsEndOnce → (log : Option (List ℕ)) (status : Status) (line : List ℕ) → IsReply wanted stock before now log status line → Tells wanted stock before now status
   reply_tells once log status line (replied request command text l s m job is reply) =
       text_tells once request text (second_given request stock) s is (second_is_given request stock)
-      (subst (λ (j : Job). EndsJob text (second_given request stock) request.budget j s) (sym job) (text_reply_ends text request.budget command l s m reply))
+      (subst (λ (j : Job). EndsJob text (second_given request stock) request.plan.budget j s) (sym job) (text_reply_ends text request.plan command l s m reply))
   reply_tells once log status line (replied_on_both request command text bytes s m job is are reply) =
-      text_tells once request text bytes s is are (subst (λ (j : Job). EndsJob text bytes request.budget j s) (sym job) (m, reply))
+      text_tells once request text bytes s is are (subst (λ (j : Job). EndsJob text bytes request.plan.budget j s) (sym job) (m, reply))
   reply_tells once log status line (usage none) = usage_tells none
   reply_tells once log status line (read_fault named rose) = fault_tells named rose
 
   -- and no reply is that a sink failed
-  pub not_written : (log : Option (List ℕ)) (status : Status) (line : List ℕ) → IsReply words stock before now log status line → ¬ (status ≡ WriteFault)
+  pub not_written : (log : Option (List ℕ)) (status : Status) (line : List ℕ) → IsReply wanted stock before now log status line → ¬ (status ≡ WriteFault)
   not_written log status line (replied request command text l s m job is reply) =
-      (end_status text request.budget command s (text_reply_ends text request.budget command l s m reply)).no_write
+      (end_status text request.plan.budget command s (text_reply_ends text request.plan command l s m reply)).no_write
   not_written log status line (replied_on_both request command text bytes s m job is are reply) = (pair_status command text bytes s m reply).no_write
   not_written log status line (usage none) = λ e. cc
   not_written log status line (read_fault named rose) = λ e. cc
 
   module _ (old new : Option (List ℕ)) (answer_before answer_now : ℕ) (log_old log_new : SinkState) where
     -- a reply that was written, or a prefix of it
-    pub run_written : (log_before log_now : ℕ) (reply : Reply) (status : Status) → Replied words stock before now log_old log_new reply
+    pub run_written : (log_before log_now : ℕ) (reply : Reply) (status : Status) → Replied wanted stock before now log_old log_new reply
         → IsWritten old new answer_before answer_now reply status
-        → Answers words stock before now old new answer_before answer_now log_old log_new log_before log_now status
+        → Answers wanted stock before now old new answer_before answer_now log_old log_new log_before log_now status
     run_written log_before log_now reply status is (all taken) = whole is.log reply.status (string_bytes reply.line) is.is taken is.logged
     run_written log_before log_now reply status is (part rose taken) = prefix is.log reply.status (string_bytes reply.line) rose is.is taken is.logged
 
-    pub written_tells : PairsEndOnce → (reply : Reply) (status : Status) → Replied words stock before now log_old log_new reply → IsWritten old new answer_before answer_now reply status → Tells words stock before now status
+    pub written_tells : PairsEndOnce → (reply : Reply) (status : Status) → Replied wanted stock before now log_old log_new reply → IsWritten old new answer_before answer_now reply status → Tells wanted stock before now status
     written_tells once reply status is (all taken) = reply_tells once is.log reply.status (string_bytes reply.line) is.is
     written_tells once reply status is (part rose taken) = write_tells
 
@@ -262,7 +262,7 @@ module _ (words : List (List ℕ)) (stock : Option Stock) (before now : ℕ) whe
     written_ends reply status left (all taken) ended = ended
     written_ends reply status left (part rose taken) ended = λ answered. absurd (early_no_answer WriteFault (inr (inl refl)) answered)
 
-    pub written_cause : (reply : Reply) (status : Status) (one two : ℕ) → Replied words stock before now log_old log_new reply
+    pub written_cause : (reply : Reply) (status : Status) (one two : ℕ) → Replied wanted stock before now log_old log_new reply
         → (status ≡ WriteFault → (reply.status ≡ WriteFault) ⊎ Rose one two) → status ≡ WriteFault → Rose one two
     written_cause reply status one two is cause failed = by_cause (cause failed)
       where
@@ -272,16 +272,16 @@ module _ (words : List (List ℕ)) (stock : Option Stock) (before now : ℕ) whe
 
   -- where there is no reply
   pub stop_answers : (taken : Option (List ℕ)) (faults : ℕ) (log_old log_new : SinkState) (log_before log_now : ℕ) (stop : SearchStop) (status : Status)
-      → status ≡ stop_status stop → (stop ≡ Write → Rose log_before log_now) → StopsWith words stock log_old log_new stop
-      → Answers words stock before now taken taken faults faults log_old log_new log_before log_now status
+      → status ≡ stop_status stop → (stop ≡ Write → Rose log_before log_now) → StopsWith wanted stock log_old log_new stop
+      → Answers wanted stock before now taken taken faults faults log_old log_new log_before log_now status
   stop_answers taken faults log_old log_new log_before log_now Write status is rose cut =
-      subst (Answers words stock before now taken taken faults faults log_old log_new log_before log_now) (sym is) (log_prefix (rose refl) (Keeps-refl taken) cut)
+      subst (Answers wanted stock before now taken taken faults faults log_old log_new log_before log_now) (sym is) (log_prefix (rose refl) (Keeps-refl taken) cut)
   stop_answers taken faults log_old log_new log_before log_now search.NoMemory status is rose stops =
-      subst (Answers words stock before now taken taken faults faults log_old log_new log_before log_now) (sym is) (nothing (Keeps-refl taken) stops)
+      subst (Answers wanted stock before now taken taken faults faults log_old log_new log_before log_now) (sym is) (nothing (Keeps-refl taken) stops)
 
-  pub stop_tells : (stop : SearchStop) (status : Status) → status ≡ stop_status stop → Tells words stock before now status
-  stop_tells Write status is = subst (Tells words stock before now) (sym is) write_tells
-  stop_tells search.NoMemory status is = subst (Tells words stock before now) (sym is) memory_tells
+  pub stop_tells : (stop : SearchStop) (status : Status) → status ≡ stop_status stop → Tells wanted stock before now status
+  stop_tells Write status is = subst (Tells wanted stock before now) (sym is) write_tells
+  stop_tells search.NoMemory status is = subst (Tells wanted stock before now) (sym is) memory_tells
 
 pub stop_cause : (stop : SearchStop) (status : Status) (result : Result Reply SearchStop) (one two : ℕ) → result ≡ Err stop → (result ≡ Err Write → Rose one two)
     → status ≡ stop_status stop → status ≡ WriteFault → Rose one two

@@ -15,6 +15,7 @@ use Rattle.sopl_ast.specs.Limits.{usual_limits}
 use Rattle.sopl_base.specs.declared.stop.SearchStop.{SearchStop}
 use Rattle.sopl_base.specs.declared.stop.SearchStop.TheVariants.{Write, NoMemory}
 use Rattle.log_rows.proofs.Written.{rose_later}
+use Rattle.sopl_search.specs.Logged.{SearchPlan}
 use Rattle.answer_lines.specs.AnswerData.{word_data, limit_data, line_of}
 use Rattle.answer_texts.specs.Logs.{IsUnused, SinkState}
 use Rattle.answer_texts.specs.Solved.{SolvedText}
@@ -31,7 +32,7 @@ use Rattle.answer_eval.specs.EvalReplies.{IsEvalReply, evaluated, text_refused, 
 use Rattle.answer_run.specs.declared.commands.Job.TheVariants.{Text, Pair}
 use Rattle.answer_run.specs.declared.commands.PairCommand.{PairCommand}
 use Rattle.answer_run.specs.declared.commands.PairCommand.TheVariants.{Check, Eval}
-use Rattle.answer_run.specs.Words.{Request, request_of}
+use Rattle.answer_run.specs.Words.{Request}
 use Rattle.answer_run.specs.Replies.{IsAnswered, IsCutOff, cut_off, IsPairReply, IsReply, IsTaken, replied, replied_on_both, usage, read_fault, log_name}
 use Rattle.answer_run.specs.Runs.{Replied, StopsWith, AnswersBoth, second_read, second_unread}
 
@@ -67,79 +68,89 @@ refused_on : (most : ℕ) → 1048576 < most → (text : List ℕ) (refusal : Re
 refused_on most more text refusal _ (by_rule command reason) = by_rule command (refused_whole most more text refusal reason)
 
 -- a reply to what was read of a text, where that is no longer than a text may be
-reply_moved : (most : ℕ) → 1048576 < most → (text : List ℕ) (budget : ℕ) (command : Command) (log : Option (List ℕ)) (status : Status) (line : List ℕ)
-    → length (take most text) ≤ 1048576 → IsTextReply (take most text) budget command log status line → IsTextReply text budget command log status line
-reply_moved most more text budget command log status line short r =
-    subst (λ t. IsTextReply t budget command log status line) (prefix_is_whole most more text short) r
+reply_moved : (most : ℕ) → 1048576 < most → (text : List ℕ) (plan : SearchPlan) (command : Command) (log : Option (List ℕ)) (status : Status) (line : List ℕ)
+    → length (take most text) ≤ 1048576 → IsTextReply (take most text) plan command log status line → IsTextReply text plan command log status line
+reply_moved most more text plan command log status line short r =
+    subst (λ t. IsTextReply t plan command log status line) (prefix_is_whole most more text short) r
 
 -- a reply to what was read of a text is a reply to the text
-reply_whole : (most : ℕ) → 1048576 < most → (text : List ℕ) (budget : ℕ) (command : Command) (log : Option (List ℕ)) (status : Status) (line : List ℕ)
-    → IsTextReply (take most text) budget command log status line → IsTextReply text budget command log status line
-reply_whole most more text budget _ _ _ _ (optimal problem policy value log is best logged) =
-    reply_moved most more text budget _ _ _ _ is.spelled.read.0 (optimal problem policy value log is best logged)
-reply_whole most more text budget _ _ _ _ (infeasible problem log is none logged) =
-    reply_moved most more text budget _ _ _ _ is.spelled.read.0 (infeasible problem log is none logged)
-reply_whole most more text budget _ _ _ _ (bounded problem found bound log is known less logged) =
-    reply_moved most more text budget _ _ _ _ is.spelled.read.0 (bounded problem found bound log is known less logged)
-reply_whole most more text budget _ _ _ _ (scenes problem accepted) =
-    reply_moved most more text budget _ _ _ _ accepted.spelled.read.0 (scenes problem accepted)
-reply_whole most more text budget _ _ _ _ (refused command refusal why) = refused command refusal (refused_on most more text refusal command why)
-reply_whole most more text budget _ _ _ _ (limited command excess over) =
-    reply_moved most more text budget _ _ _ _ (limited_short (take most text) excess command over) (limited command excess over)
+reply_whole : (most : ℕ) → 1048576 < most → (text : List ℕ) (plan : SearchPlan) (command : Command) (log : Option (List ℕ)) (status : Status) (line : List ℕ)
+    → IsTextReply (take most text) plan command log status line → IsTextReply text plan command log status line
+reply_whole most more text plan _ _ _ _ (optimal problem policy value log is best logged) =
+    reply_moved most more text plan _ _ _ _ is.spelled.read.0 (optimal problem policy value log is best logged)
+reply_whole most more text plan _ _ _ _ (infeasible problem log is none logged) =
+    reply_moved most more text plan _ _ _ _ is.spelled.read.0 (infeasible problem log is none logged)
+reply_whole most more text plan _ _ _ _ (bounded problem found bound log is known less logged) =
+    reply_moved most more text plan _ _ _ _ is.spelled.read.0 (bounded problem found bound log is known less logged)
+reply_whole most more text plan _ _ _ _ (scenes problem accepted) =
+    reply_moved most more text plan _ _ _ _ accepted.spelled.read.0 (scenes problem accepted)
+reply_whole most more text plan _ _ _ _ (refused command refusal why) = refused command refusal (refused_on most more text refusal command why)
+reply_whole most more text plan _ _ _ _ (limited command excess over) =
+    reply_moved most more text plan _ _ _ _ (limited_short (take most text) excess command over) (limited command excess over)
 
 -- so it is of a log that was cut off
-cut_whole : (most : ℕ) → 1048576 < most → (text : List ℕ) (budget : ℕ) (command : Command) (name : List ℕ) (old new : SinkState)
-    → IsCut (take most text) budget command name old new → IsCut text budget command name old new
-cut_whole most more text budget command name old new cut =
-    subst (λ t. IsCut t budget command name old new) (prefix_is_whole most more text cut.is_solved.spelled.read.0) cut
+cut_whole : (most : ℕ) → 1048576 < most → (text : List ℕ) (plan : SearchPlan) (command : Command) (name : List ℕ) (old new : SinkState)
+    → IsCut (take most text) plan command name old new → IsCut text plan command name old new
+cut_whole most more text plan command name old new cut =
+    subst (λ t. IsCut t plan command name old new) (prefix_is_whole most more text cut.is_solved.spelled.read.0) cut
 
-module _ (words : List (List ℕ)) (stock : Option Stock) (before now : ℕ) (old new : SinkState) where
-  name_is : (request : Request) → request_of words ≡ Some request → log_name words ≡ request.log
+module _ (wanted : Option Request) (stock : Option Stock) (before now : ℕ) (old new : SinkState) where
+  name_is : (request : Request) → wanted ≡ Some request → log_name wanted ≡ request.log
   name_is request asked = ap (λ (o : Option Request). option_map_or (λ (r : Request). r.log) o []) asked
 
-  module _ (bytes : List ℕ) (request : Request) (command : Command) (job : request.job ≡ Text command) (most : ℕ) (asked : request_of words ≡ Some request)
+  module _ (bytes : List ℕ) (request : Request) (command : Command) (job : request.job ≡ Text command) (most : ℕ) (asked : wanted ≡ Some request)
       (more : 1048576 < most) where
     -- what is answered of the bytes that were read is a reply to the words
     read_reply : (o : Option Stock) → IfSome o (λ s. bytes ≡ cut_at (Some most) (text_of s request.model)) → (log : Option (List ℕ)) (status : Status) (line : List ℕ)
-        → IsTextReply bytes request.budget command log status line → IsReply words o before now log status line
+        → IsTextReply bytes request.plan command log status line → IsReply wanted o before now log status line
     read_reply None read log status line reply = replied request command bytes log status line job (record { asked = asked; given = tt }) reply
     read_reply (Some s) read log status line reply =
         replied request command (text_of s request.model) log status line job (record { asked = asked; given = refl })
-        (reply_whole most more (text_of s request.model) request.budget command log status line
-        (subst (λ b. IsTextReply b request.budget command log status line) read reply))
+        (reply_whole most more (text_of s request.model) request.plan command log status line
+        (subst (λ b. IsTextReply b request.plan command log status line) read reply))
 
     read_cut : (o : Option Stock) → IfSome o (λ s. bytes ≡ cut_at (Some most) (text_of s request.model))
-        → IsCut bytes request.budget command request.log old new → IsCutOff words o old new
+        → IsCut bytes request.plan command request.log old new → IsCutOff wanted o old new
     read_cut None read cut = cut_off request command bytes job (record { asked = asked; given = tt }) cut
     read_cut (Some s) read cut =
         cut_off request command (text_of s request.model) job (record { asked = asked; given = refl })
-        (cut_whole most more (text_of s request.model) request.budget command request.log old new
-        (subst (λ b. IsCut b request.budget command request.log old new) read cut))
+        (cut_whole most more (text_of s request.model) request.plan command request.log old new
+        (subst (λ b. IsCut b request.plan command request.log old new) read cut))
 
     module _ (slice : List ℕ) (same : slice ≡ bytes) (read : IfSome stock (λ s. bytes ≡ cut_at (Some most) (text_of s request.model))) where
       -- the same of a reply that was made of so many bytes
-      pub reply_made : (result : Result Reply SearchStop)
-          → IfOk result (λ reply. Replies slice request.budget command request.log old new reply.status (string_bytes reply.line))
-          → IfOk result (Replied words stock before now old new)
-      reply_made (Err stop) replies = tt
-      reply_made (Ok reply) replies =
+      replied_by : (result : Result Reply SearchStop)
+          → IfOk result (λ reply. Replies slice request.plan command request.log old new reply.status (string_bytes reply.line))
+          → IfOk result (Replied wanted stock before now old new)
+      replied_by (Err stop) replies = tt
+      replied_by (Ok reply) replies =
           record {
             log = replies.log;
             is = read_reply stock read replies.log reply.status (string_bytes reply.line)
-                (subst (λ b. IsTextReply b request.budget command replies.log reply.status (string_bytes reply.line)) same replies.reply);
+                (subst (λ b. IsTextReply b request.plan command replies.log reply.status (string_bytes reply.line)) same replies.reply);
             logged = subst (λ n. Logged n replies.log old new) (sym (name_is request asked)) replies.logged;
           }
 
-      stop_made : (stop : SearchStop) → StopsByCause slice request.budget command request.log old new stop → StopsWith words stock old new stop
-      stop_made Write cut = read_cut stock read (subst (λ b. IsCut b request.budget command request.log old new) same cut)
+      pub reply_made : (plan : SearchPlan) → plan ≡ request.plan → (result : Result Reply SearchStop)
+          → IfOk result (λ reply. Replies slice plan command request.log old new reply.status (string_bytes reply.line))
+          → IfOk result (Replied wanted stock before now old new)
+      reply_made plan is result replies =
+          replied_by result (subst (λ p. IfOk result (λ reply. Replies slice p command request.log old new reply.status (string_bytes reply.line))) is replies)
+
+      stop_made : (stop : SearchStop) → StopsByCause slice request.plan command request.log old new stop → StopsWith wanted stock old new stop
+      stop_made Write cut = read_cut stock read (subst (λ b. IsCut b request.plan command request.log old new) same cut)
       stop_made NoMemory (inl unused) = inl unused
-      stop_made NoMemory (inr cut) = inr (read_cut stock read (subst (λ b. IsCut b request.budget command request.log old new) same cut))
+      stop_made NoMemory (inr cut) = inr (read_cut stock read (subst (λ b. IsCut b request.plan command request.log old new) same cut))
 
       -- and of why there is none
-      pub stops_made : (result : Result Reply SearchStop) → IfErr result (StopsByCause slice request.budget command request.log old new)
-          → IfErr result (StopsWith words stock old new)
-      stops_made (Ok reply) stops = tt
-      stops_made (Err stop) stops = stop_made stop stops
+      stopped_by : (result : Result Reply SearchStop) → IfErr result (StopsByCause slice request.plan command request.log old new)
+          → IfErr result (StopsWith wanted stock old new)
+      stopped_by (Ok reply) stops = tt
+      stopped_by (Err stop) stops = stop_made stop stops
+
+      pub stops_made : (plan : SearchPlan) → plan ≡ request.plan → (result : Result Reply SearchStop)
+          → IfErr result (StopsByCause slice plan command request.log old new) → IfErr result (StopsWith wanted stock old new)
+      stops_made plan is result stops = stopped_by result (subst (λ p. IfErr result (StopsByCause slice p command request.log old new)) is stops)
 
 -- a text that is turned away is not answered
 pub away_no_answer : (status : Status) → IsTurnedAway status → IsAnswered status → ⊥
@@ -153,14 +164,14 @@ away_no_answer status (inr away) (inr (inr (inl done))) = cc
 away_no_answer status (inr away) (inr (inr (inr done))) = cc
 
 -- a text that is answered is no longer than a text may be
-answered_short : (text : List ℕ) (budget : ℕ) (command : Command) (log : Option (List ℕ)) (status : Status) (line : List ℕ)
-    → IsTextReply text budget command log status line → IsAnswered status → length text ≤ 1048576
-answered_short text budget _ _ _ _ (optimal problem policy value log is best logged) done = is.spelled.read.0
-answered_short text budget _ _ _ _ (infeasible problem log is none logged) done = is.spelled.read.0
-answered_short text budget _ _ _ _ (bounded problem found bound log is known less logged) done = is.spelled.read.0
-answered_short text budget _ _ _ _ (scenes problem accepted) done = accepted.spelled.read.0
-answered_short text budget _ _ _ _ (refused command refusal why) done = absurd (away_no_answer Refused (inl refl) done)
-answered_short text budget _ _ _ _ (limited command excess over) done = absurd (away_no_answer Limit (inr refl) done)
+answered_short : (text : List ℕ) (plan : SearchPlan) (command : Command) (log : Option (List ℕ)) (status : Status) (line : List ℕ)
+    → IsTextReply text plan command log status line → IsAnswered status → length text ≤ 1048576
+answered_short text plan _ _ _ _ (optimal problem policy value log is best logged) done = is.spelled.read.0
+answered_short text plan _ _ _ _ (infeasible problem log is none logged) done = is.spelled.read.0
+answered_short text plan _ _ _ _ (bounded problem found bound log is known less logged) done = is.spelled.read.0
+answered_short text plan _ _ _ _ (scenes problem accepted) done = accepted.spelled.read.0
+answered_short text plan _ _ _ _ (refused command refusal why) done = absurd (away_no_answer Refused (inl refl) done)
+answered_short text plan _ _ _ _ (limited command excess over) done = absurd (away_no_answer Limit (inr refl) done)
 
 not_full : (most size : ℕ) → Some most ≡ Some size → size < most → ⊥
 not_full most size same below = absurd (omega (arith, below, one most size same))
@@ -169,15 +180,15 @@ not_full most size same below = absurd (omega (arith, below, one most size same)
     one a b e = cc
 
 -- so it was read to its end
-pub ended_made : (bytes : List ℕ) (budget : ℕ) (command : Command) (name : List ℕ) (old new : SinkState) (most size : ℕ) (left : Option (List ℕ)) (result : Result Reply SearchStop)
+pub ended_made : (bytes : List ℕ) (plan : SearchPlan) (command : Command) (name : List ℕ) (old new : SinkState) (most size : ℕ) (left : Option (List ℕ)) (result : Result Reply SearchStop)
     → length bytes ≡ size → IsAtEnd left ⊎ (Some most ≡ Some size) → 1048576 < most
-    → IfOk result (λ reply. Replies bytes budget command name old new reply.status (string_bytes reply.line))
+    → IfOk result (λ reply. Replies bytes plan command name old new reply.status (string_bytes reply.line))
     → IfOk result (λ reply. IsAnswered reply.status → IsAtEnd left)
-ended_made bytes budget command name old new most size left (Err stop) same end more replies = tt
-ended_made bytes budget command name old new most size left (Ok reply) same (inl at_end) more replies = λ done. at_end
-ended_made bytes budget command name old new most size left (Ok reply) same (inr full) more replies =
+ended_made bytes plan command name old new most size left (Err stop) same end more replies = tt
+ended_made bytes plan command name old new most size left (Ok reply) same (inl at_end) more replies = λ done. at_end
+ended_made bytes plan command name old new most size left (Ok reply) same (inr full) more replies =
     λ done.
-    let short : length bytes ≤ 1048576 = answered_short bytes budget command replies.log reply.status (string_bytes reply.line) replies.reply done in
+    let short : length bytes ≤ 1048576 = answered_short bytes plan command replies.log reply.status (string_bytes reply.line) replies.reply done in
     absurd (not_full most size full (omega (arith, more, short, same)))
 
 -- The lines that speak of no text.
@@ -185,36 +196,36 @@ ended_made bytes budget command name old new most size left (Ok reply) same (inr
 is_asked : (r : Request) (o : Option Request) → o ≡ Some r → IsSome o
 is_asked r o some = subst (λ m. IsSome m) (sym some) refl
 
-module _ (words : List (List ℕ)) (stock : Option Stock) (before now : ℕ) (at : SinkState) where
+module _ (wanted : Option Request) (stock : Option Stock) (before now : ℕ) (at : SinkState) where
   unused : IsUnused at at
   unused = record { taken = refl; names = refl }
 
-  word_replied : (status : Status) (word : List ℕ) → IsReply words stock before now None status (line_of (word_data word)) → (result : Result Reply SearchStop)
+  word_replied : (status : Status) (word : List ℕ) → IsReply wanted stock before now None status (line_of (word_data word)) → (result : Result Reply SearchStop)
       → IfOk result (λ reply. reply.status ≡ status) → IfOk result (λ reply. string_bytes reply.line ≡ line_of (word_data word))
-      → IfOk result (Replied words stock before now at at)
+      → IfOk result (Replied wanted stock before now at at)
   word_replied status word why (Err stop) ends is = tt
   word_replied status word why (Ok reply) ends is =
       record {
         log = None;
-        is = subst (λ s. IsReply words stock before now None s (string_bytes reply.line)) (sym ends) (subst (λ l. IsReply words stock before now None status l) (sym is) why);
+        is = subst (λ s. IsReply wanted stock before now None s (string_bytes reply.line)) (sym ends) (subst (λ l. IsReply wanted stock before now None status l) (sym is) why);
         logged = unused;
       }
 
-  pub usage_replied : request_of words ≡ None → (result : Result Reply SearchStop) → IfOk result (λ reply. reply.status ≡ Usage)
-      → IfOk result (λ reply. string_bytes reply.line ≡ line_of (word_data (codes "usage"))) → IfOk result (Replied words stock before now at at)
+  pub usage_replied : wanted ≡ None → (result : Result Reply SearchStop) → IfOk result (λ reply. reply.status ≡ Usage)
+      → IfOk result (λ reply. string_bytes reply.line ≡ line_of (word_data (codes "usage"))) → IfOk result (Replied wanted stock before now at at)
   usage_replied none result ends is = word_replied Usage (codes "usage") (usage none) result ends is
 
-  pub fault_replied : (request : Request) → request_of words ≡ Some request → Rose before now → (result : Result Reply SearchStop)
+  pub fault_replied : (request : Request) → wanted ≡ Some request → Rose before now → (result : Result Reply SearchStop)
       → IfOk result (λ reply. reply.status ≡ ReadFault) → IfOk result (λ reply. string_bytes reply.line ≡ line_of (word_data (codes "read fault")))
-      → IfOk result (Replied words stock before now at at)
-  fault_replied request asked rose result ends is = word_replied ReadFault (codes "read fault") (read_fault (is_asked request (request_of words) asked) rose) result ends is
+      → IfOk result (Replied wanted stock before now at at)
+  fault_replied request asked rose result ends is = word_replied ReadFault (codes "read fault") (read_fault (is_asked request wanted asked) rose) result ends is
 
   -- where memory ran out before any log
-  pub memory_stops : (result : Result Reply SearchStop) → IfErr result (λ stop. stop ≡ NoMemory) → IfErr result (StopsWith words stock at at)
+  pub memory_stops : (result : Result Reply SearchStop) → IfErr result (λ stop. stop ≡ NoMemory) → IfErr result (StopsWith wanted stock at at)
   memory_stops (Ok reply) memory = tt
-  memory_stops (Err stop) memory = subst (StopsWith words stock at at) (sym memory) (inl unused)
+  memory_stops (Err stop) memory = subst (StopsWith wanted stock at at) (sym memory) (inl unused)
 
-  pub want_stops : StopsWith words stock at at NoMemory
+  pub want_stops : StopsWith wanted stock at at NoMemory
   want_stops = inl unused
 
 -- A command on the text and a second file.
@@ -243,12 +254,12 @@ pair_whole : (command : PairCommand) (most : ℕ) → 1048576 < most → (text b
 pair_whole Check most more text bytes status line is = check_whole most more text bytes status line is
 pair_whole Eval most more text bytes status line is = eval_whole most more text bytes status line is
 
-module _ (words : List (List ℕ)) (before later now : ℕ) (up : before ≤ later) (at : SinkState) (bytes : List ℕ) (request : Request) (command : PairCommand)
-    (job : request.job ≡ Pair command) (most : ℕ) (asked : request_of words ≡ Some request) (more : 1048576 < most) where
+module _ (wanted : Option Request) (before later now : ℕ) (up : before ≤ later) (at : SinkState) (bytes : List ℕ) (request : Request) (command : PairCommand)
+    (job : request.job ≡ Pair command) (most : ℕ) (asked : wanted ≡ Some request) (more : 1048576 < most) where
   -- what is answered of both files is a reply to the words
   both_reply : (o : Option Stock) → IfSome o (λ s. bytes ≡ cut_at (Some most) (text_of s request.model)) → (status : Status) (line : List ℕ)
-      → AnswersBoth command bytes request.second (option_map begun_stock o) later now status line → IsReply words o before now None status line
-  both_reply o read status line (second_unread rose) = read_fault (is_asked request (request_of words) asked) (rose_later before later now up rose)
+      → AnswersBoth command bytes request.second (option_map begun_stock o) later now status line → IsReply wanted o before now None status line
+  both_reply o read status line (second_unread rose) = read_fault (is_asked request wanted asked) (rose_later before later now up rose)
   both_reply None read status line (second_read second s l given reply) =
       replied_on_both request command bytes second s l job (record { asked = asked; given = tt }) tt reply
   both_reply (Some t) read status line (second_read second s l given reply) =
@@ -258,7 +269,7 @@ module _ (words : List (List ℕ)) (before later now : ℕ) (up : before ≤ lat
   pub both_made : (stock mid : Option Stock) → mid ≡ option_map begun_stock stock → (slice : List ℕ) → slice ≡ bytes
       → IfSome stock (λ s. bytes ≡ cut_at (Some most) (text_of s request.model)) → (result : Result Reply SearchStop)
       → IfOk result (λ reply. AnswersBoth command slice request.second mid later now reply.status (string_bytes reply.line))
-      → IfOk result (Replied words stock before now at at)
+      → IfOk result (Replied wanted stock before now at at)
   both_made stock mid begun slice same read (Err stop) replies = tt
   both_made stock mid begun slice same read (Ok reply) replies =
       record {

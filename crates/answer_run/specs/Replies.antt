@@ -23,11 +23,11 @@ use Rattle.answer_run.specs.declared.commands.Job.{Job}
 use Rattle.answer_run.specs.declared.commands.Job.TheVariants.{Text, Pair}
 use Rattle.answer_run.specs.declared.commands.PairCommand.{PairCommand}
 use Rattle.answer_run.specs.declared.commands.PairCommand.TheVariants.{Check, Eval}
-use Rattle.answer_run.specs.Words.{Request, request_of}
+use Rattle.answer_run.specs.Words.{Request}
 
--- the words ask for this, and this is the text of the model's file: the one that the source's stock gives for it, where the stock is told
-pub record IsModelText (request : Request) (words : List (List ℕ)) (stock : Option Stock) (text : List ℕ) : Type 0 where
-  pub asked : request_of words ≡ Some request
+-- this is asked for, and this is the text of the model's file: the one that the source's stock gives for it, where the stock is told
+pub record IsModelText (request : Request) (wanted : Option Request) (stock : Option Stock) (text : List ℕ) : Type 0 where
+  pub asked : wanted ≡ Some request
   pub given : IfSome stock (λ s. text ≡ text_of s request.model)
 
 -- and these are the bytes of the second file: those that the stock gives for it behind the model's, where the stock is told
@@ -39,47 +39,47 @@ abbrev pub IsPairReply : PairCommand → List ℕ → List ℕ → Status → Li
 IsPairReply Check text bytes status line = IsCheckReply text bytes status line
 IsPairReply Eval text bytes status line = IsEvalReply text bytes status line
 
--- a reply to the words: the log that goes with it, the status that it ends with, its line, and why it comes; the stock is the source's, and the counts
+-- a reply to what is asked for, if anything is: the log that goes with it, the status that it ends with, its line, and why it comes; the stock is the source's, and the counts
 -- are those of its faults
-pub data IsReply (words : List (List ℕ)) (stock : Option Stock) (before now : ℕ) : Option (List ℕ) → Status → List ℕ → Type 0 where
-  -- a reply to the command on the text of the file that the words name
+pub data IsReply (wanted : Option Request) (stock : Option Stock) (before now : ℕ) : Option (List ℕ) → Status → List ℕ → Type 0 where
+  -- a reply to the command on the text of the file that is asked for
   replied : (request : Request) (command : Command) (text : List ℕ) (log : Option (List ℕ)) (status : Status) (line : List ℕ) → request.job ≡ Text command
-      → IsModelText request words stock text → IsTextReply text request.budget command log status line → IsReply words stock before now log status line
+      → IsModelText request wanted stock text → IsTextReply text request.plan command log status line → IsReply wanted stock before now log status line
   -- a reply to the command on the text of the model's file and the bytes of the second file; no log goes with it
   replied_on_both : (request : Request) (command : PairCommand) (text bytes : List ℕ) (status : Status) (line : List ℕ) → request.job ≡ Pair command
-      → IsModelText request words stock text → AreSecondBytes request stock bytes → IsPairReply command text bytes status line
-      → IsReply words stock before now None status line
-  -- the words are not of the form
-  usage : request_of words ≡ None → IsReply words stock before now None Usage (line_of (word_data (codes "usage")))
-  -- the words name a file, and the source failed
-  read_fault : IsSome (request_of words) → Rose before now → IsReply words stock before now None ReadFault (line_of (word_data (codes "read fault")))
+      → IsModelText request wanted stock text → AreSecondBytes request stock bytes → IsPairReply command text bytes status line
+      → IsReply wanted stock before now None status line
+  -- nothing is asked for: the words are not of the form
+  usage : wanted ≡ None → IsReply wanted stock before now None Usage (line_of (word_data (codes "usage")))
+  -- a file is asked for, and the source failed
+  read_fault : IsSome wanted → Rose before now → IsReply wanted stock before now None ReadFault (line_of (word_data (codes "read fault")))
 
--- the name of the log that the words give
-abbrev pub log_name : List (List ℕ) → List ℕ
-log_name words = option_map_or (λ (r : Request). r.log) (request_of words) []
+-- the name of the log that is asked for
+abbrev pub log_name : Option Request → List ℕ
+log_name wanted = option_map_or (λ (r : Request). r.log) wanted []
 
--- the words ask for a search of a text that is solved, and the log's sink was begun with the log's name and took a prefix of a log
-pub data IsCutOff (words : List (List ℕ)) (stock : Option Stock) (old new : SinkState) : Type 0 where
-  cut_off : (request : Request) (command : Command) (text : List ℕ) → request.job ≡ Text command → IsModelText request words stock text
-      → IsCut text request.budget command request.log old new → IsCutOff words stock old new
+-- a search of a text that is solved is asked for, and the log's sink was begun with the log's name and took a prefix of a log
+pub data IsCutOff (wanted : Option Request) (stock : Option Stock) (old new : SinkState) : Type 0 where
+  cut_off : (request : Request) (command : Command) (text : List ℕ) → request.job ≡ Text command → IsModelText request wanted stock text
+      → IsCut text request.plan command request.log old new → IsCutOff wanted stock old new
 
 -- what the answer's sink took, what the log's sink took and was begun with, and the status after it; the counts of faults are the source's, the answer's sink's
 -- and the log's sink's
-pub data Answers (words : List (List ℕ)) (stock : Option Stock) (before now : ℕ) (old new : Option (List ℕ)) (answer_before answer_now : ℕ)
+pub data Answers (wanted : Option Request) (stock : Option Stock) (before now : ℕ) (old new : Option (List ℕ)) (answer_before answer_now : ℕ)
     (log_old log_new : SinkState) (log_before log_now : ℕ) : Status → Type 0 where
   -- the whole line of a reply with this status, and the log that goes with it
-  whole : (log : Option (List ℕ)) (status : Status) (line : List ℕ) → IsReply words stock before now log status line → Appends old new line
-      → Logged (log_name words) log log_old log_new → Answers words stock before now old new answer_before answer_now log_old log_new log_before log_now status
+  whole : (log : Option (List ℕ)) (status : Status) (line : List ℕ) → IsReply wanted stock before now log status line → Appends old new line
+      → Logged (log_name wanted) log log_old log_new → Answers wanted stock before now old new answer_before answer_now log_old log_new log_before log_now status
   -- a prefix of the line of some reply, where the answer's sink failed, and the log that goes with it
-  prefix : (log : Option (List ℕ)) (meant : Status) (line : List ℕ) → Rose answer_before answer_now → IsReply words stock before now log meant line
-      → AppendsPrefix old new line → Logged (log_name words) log log_old log_new
-      → Answers words stock before now old new answer_before answer_now log_old log_new log_before log_now WriteFault
+  prefix : (log : Option (List ℕ)) (meant : Status) (line : List ℕ) → Rose answer_before answer_now → IsReply wanted stock before now log meant line
+      → AppendsPrefix old new line → Logged (log_name wanted) log log_old log_new
+      → Answers wanted stock before now old new answer_before answer_now log_old log_new log_before log_now WriteFault
   -- no answer, and a prefix of a log, where the log's sink failed
-  log_prefix : Rose log_before log_now → Keeps old new → IsCutOff words stock log_old log_new
-      → Answers words stock before now old new answer_before answer_now log_old log_new log_before log_now WriteFault
+  log_prefix : Rose log_before log_now → Keeps old new → IsCutOff wanted stock log_old log_new
+      → Answers wanted stock before now old new answer_before answer_now log_old log_new log_before log_now WriteFault
   -- no answer, and no log or a prefix of one, where memory ran out
-  nothing : Keeps old new → IsUnused log_old log_new ⊎ IsCutOff words stock log_old log_new
-      → Answers words stock before now old new answer_before answer_now log_old log_new log_before log_now NoMemory
+  nothing : Keeps old new → IsUnused log_old log_new ⊎ IsCutOff wanted stock log_old log_new
+      → Answers wanted stock before now old new answer_before answer_now log_old log_new log_before log_now NoMemory
 
 -- what is done on what, the text of the model, the bytes of the second file, and how many nodes a search may finish
 pub record Asked : Type 0 where
@@ -88,13 +88,13 @@ pub record Asked : Type 0 where
   pub second : List ℕ
   pub budget : ℕ
 
--- what is asked for, where the words are of the form and the source tells its stock: the text is what the stock gives for the model's file,
+-- what is asked for, where anything is and the source tells its stock: the text is what the stock gives for the model's file,
 -- and the bytes of the second file are what it gives for that behind the model's
 abbrev pub asked_by : Request → Stock → Asked
-asked_by r s = record { job = r.job; text = text_of s r.model; second = text_of (begun_stock s) r.second; budget = r.budget }
+asked_by r s = record { job = r.job; text = text_of s r.model; second = text_of (begun_stock s) r.second; budget = r.plan.budget }
 
-abbrev pub asked_in : Option Stock → List (List ℕ) → Option Asked
-asked_in stock words = option_and_then (λ (r : Request). option_map (asked_by r) stock) (request_of words)
+abbrev pub asked_in : Option Stock → Option Request → Option Asked
+asked_in stock wanted = option_and_then (λ (r : Request). option_map (asked_by r) stock) wanted
 
 -- the run ended early: the source failed, a sink failed, or memory ran out
 abbrev pub EndedEarly : Status → Type 0

@@ -15,18 +15,19 @@ use Rattle.answer_texts.specs.declared.status.Status.{Status}
 use Rattle.answer_texts.specs.declared.status.Status.TheVariants as status
 use Rattle.answer_texts.specs.Away.{IsTurnedAway}
 use Rattle.answer_run.specs.declared.commands.PairCommand.{PairCommand}
+use Rattle.answer_run.specs.Words.{Request}
 use Rattle.answer_run.specs.Replies.{IsAnswered, IsCutOff, IsPairReply, IsReply, IsTaken, log_name}
 
--- a reply to the words, and what the log's sink took
-pub record Replied (words : List (List ℕ)) (stock : Option Stock) (before now : ℕ) (old new : SinkState) (reply : Reply) : Type 0 where
+-- a reply to what is asked for, and what the log's sink took
+pub record Replied (wanted : Option Request) (stock : Option Stock) (before now : ℕ) (old new : SinkState) (reply : Reply) : Type 0 where
   pub log : Option (List ℕ)
-  pub is : IsReply words stock before now log reply.status (string_bytes reply.line)
-  pub logged : Logged (log_name words) log old new
+  pub is : IsReply wanted stock before now log reply.status (string_bytes reply.line)
+  pub logged : Logged (log_name wanted) log old new
 
--- why there is no reply to the words
-abbrev pub StopsWith : List (List ℕ) → Option Stock → SinkState → SinkState → SearchStop → Type 0
-StopsWith words stock old new Write = IsCutOff words stock old new
-StopsWith words stock old new NoMemory = IsUnused old new ⊎ IsCutOff words stock old new
+-- why there is no reply to it
+abbrev pub StopsWith : Option Request → Option Stock → SinkState → SinkState → SearchStop → Type 0
+StopsWith wanted stock old new Write = IsCutOff wanted stock old new
+StopsWith wanted stock old new NoMemory = IsUnused old new ⊎ IsCutOff wanted stock old new
 
 -- the line of a reply was written, or a prefix of it where the sink failed; the counts are those of its faults
 pub data IsWritten (old new : Option (List ℕ)) (before now : ℕ) (reply : Reply) : Status → Type 0 where

@@ -5,12 +5,15 @@ use Rattle.std.specs.List.{list_all, list_any, before_first, after_first}
 use Rattle.std.specs.Option.{option_and_then, option_map_or}
 use Rattle.std.specs.Str.{bytes_eq}
 use Rattle.sopl_ast.specs.Pieces.{decimal}
+use Rattle.brancher.specs.Picks.{chosen_rule}
+use Rattle.brancher.specs.Rules.{Rule}
+use Rattle.sopl_search.specs.Logged.{SearchPlan}
 use Rattle.answer_texts.specs.declared.command.Command.TheVariants.{Solve, Tree}
 use Rattle.answer_run.specs.declared.commands.Job.{Job}
 use Rattle.answer_run.specs.declared.commands.Job.TheVariants.{Text, Pair}
 use Rattle.answer_run.specs.declared.commands.PairCommand.TheVariants.{Check, Eval}
 use Rattle.answer_run.specs.declared.options.Kind.{Kind}
-use Rattle.answer_run.specs.declared.options.Kind.TheVariants.{Budget, Log, Plain}
+use Rattle.answer_run.specs.declared.options.Kind.TheVariants.{Budget, Branch, Seats, Order, Log, Plain}
 
 -- a row of the table of commands: what is done on what, the command's name, the options that may stand behind it, and how many positional words do
 pub record CommandRow : Type 0 where
@@ -22,7 +25,7 @@ pub record CommandRow : Type 0 where
 -- the table of commands
 abbrev pub commands : List CommandRow
 commands =
-    record { job = Text Solve; name = codes "solve"; options = Budget ∷ Log ∷ []; positional = 1 }
+    record { job = Text Solve; name = codes "solve"; options = Budget ∷ Branch ∷ Seats ∷ Order ∷ Log ∷ []; positional = 1 }
     ∷ record { job = Text Tree; name = codes "tree"; options = []; positional = 1 }
     ∷ record { job = Pair Check; name = codes "check"; options = []; positional = 2 }
     ∷ record { job = Pair Eval; name = codes "eval"; options = []; positional = 2 }
@@ -44,13 +47,22 @@ is_value (first ∷ later) = not (first == 45)
 
 abbrev pub same_kind : Kind → Kind → Bool
 same_kind Budget Budget = true
+same_kind Branch Branch = true
+same_kind Seats Seats = true
+same_kind Order Order = true
 same_kind Log Log = true
 same_kind (Plain place) (Plain other) = place == other
 same_kind kind other = false
 
 -- the option of this name
 abbrev pub option_of : List ℕ → Option Kind
-option_of word = if bytes_eq word (codes "--budget") then Some Budget else if bytes_eq word (codes "--log") then Some Log else None
+option_of word =
+    if bytes_eq word (codes "--budget") then Some Budget
+    else if bytes_eq word (codes "--branch") then Some Branch
+    else if bytes_eq word (codes "--seats") then Some Seats
+    else if bytes_eq word (codes "--order") then Some Order
+    else if bytes_eq word (codes "--log") then Some Log
+    else None
 
 -- the command's option of this name
 abbrev pub has_option : CommandRow → Kind → Bool
@@ -119,10 +131,20 @@ in_range least most number = if nat_le least number && nat_le number most then S
 abbrev pub number_of : ℕ → ℕ → List ℕ → Option ℕ
 number_of least most word = if is_digits word then in_range least most (decimal word) else None
 
--- the budget, which is 1000000 where none is given; the name that a part of a kind gives, which is empty where there is none; and a positional word behind
--- so many others
+-- the budget, which is 1000000 where none is given; the seats, which are 1; the order, if one is given; the name that a part of a kind gives, which is empty
+-- where there is none; and a positional word behind so many others
 abbrev pub budget_in : CommandRow → List (List ℕ) → Option ℕ
 budget_in row words = option_and_then (λ value. option_map_or (number_of 1 4294967295) value (Some 1000000)) (given row Budget words)
+
+abbrev pub seats_in : CommandRow → List (List ℕ) → Option ℕ
+seats_in row words = option_and_then (λ value. option_map_or (number_of 1 64) value (Some 1)) (given row Seats words)
+
+abbrev pub order_number : Option (List ℕ) → Option (Option ℕ)
+order_number None = Some None
+order_number (Some word) = option_map (λ order. Some order) (number_of 0 2147483647 word)
+
+abbrev pub order_in : CommandRow → List (List ℕ) → Option (Option ℕ)
+order_in row words = option_and_then order_number (given row Order words)
 
 abbrev pub named_in : CommandRow → Kind → List (List ℕ) → Option (List ℕ)
 named_in row kind words = option_map (λ value. unwrap_or value []) (given row kind words)
@@ -130,29 +152,68 @@ named_in row kind words = option_map (λ value. unwrap_or value []) (given row k
 abbrev pub positional_in : CommandRow → ℕ → List (List ℕ) → Option (List ℕ)
 positional_in row place words = option_and_then (λ value. value) (given row (Plain place) words)
 
--- what is done on what, the file of the model, the second file, which is empty where the command has none, the nodes that a search may finish, and the name
--- of the log that it writes
-pub record Request : Type 0 where
+-- what words say: what is done on what, the file of the model, the second file, which is empty where the command has none, the nodes that a search may finish,
+-- the name of the brancher that it asks, if one is given, its seats, their order, if one is given, and the name of the log that it writes
+pub record WordRequest : Type 0 where
   pub job : Job
   pub model : List ℕ
   pub second : List ℕ
   pub budget : ℕ
+  pub branch : Option (List ℕ)
+  pub seats : ℕ
+  pub order : Option ℕ
   pub log : List ℕ
 
--- what is asked for by a command and the words behind it
-abbrev pub requested : CommandRow → List (List ℕ) → Option Request
+-- what a command and the words behind it say
+abbrev pub requested : CommandRow → List (List ℕ) → Option WordRequest
 requested row words =
     option_and_then (λ budget.
+    option_and_then (λ branch.
+    option_and_then (λ seats.
+    option_and_then (λ order.
     option_and_then (λ log.
     option_and_then (λ second.
-    option_map (λ model. record { job = row.job; model = model; second = second; budget = budget; log = log }) (positional_in row 0 words))
-    (named_in row (Plain 1) words)) (named_in row Log words)) (budget_in row words)
+    option_map (λ model.
+    record { job = row.job; model = model; second = second; budget = budget; branch = branch; seats = seats; order = order; log = log }) (positional_in row 0 words))
+    (named_in row (Plain 1) words)) (named_in row Log words)) (order_in row words)) (seats_in row words)) (given row Branch words)) (budget_in row words)
 
--- what the words ask for: the name of a command, and behind it its options and its files
-abbrev pub request_of : List (List ℕ) → Option Request
+-- what words say: the name of a command, and behind it its options and its files
+abbrev pub request_of : List (List ℕ) → Option WordRequest
 request_of [] = None
 request_of (name ∷ words) = option_and_then (λ row. requested row words) (row_named name)
 
--- the file of the model, where the words ask for something
+-- what is asked for: the same, with the plan of a search
+pub record Request : Type 0 where
+  pub job : Job
+  pub model : List ℕ
+  pub second : List ℕ
+  pub plan : SearchPlan
+  pub log : List ℕ
+
+abbrev pub request_with : WordRequest → Option Rule → Request
+request_with r asked =
+    record {
+      job = r.job;
+      model = r.model;
+      second = r.second;
+      plan = record { seats = r.seats; order = r.order; asked = asked; budget = r.budget };
+      log = r.log;
+    }
+
+-- a name is given, and no brancher is found by it
+abbrev pub no_one_has : Option (List ℕ) → Option Rule → Bool
+no_one_has None found = false
+no_one_has (Some name) None = true
+no_one_has (Some name) (Some rule) = false
+
+-- what words ask for, where branchers of these names and rules are there: by their brancher, which is the first of the name that is given, or the first of all where
+-- none is; nothing, where no one has the name
+abbrev pub asked_with : Option Rule → WordRequest → Option Request
+asked_with found r = if no_one_has r.branch found then None else Some (request_with r found)
+
+abbrev pub asked_of : List (List ℕ × Rule) → List (List ℕ) → Option Request
+asked_of kinds words = option_and_then (λ r. asked_with (chosen_rule kinds r.branch) r) (request_of words)
+
+-- the file of the model, where words name one
 abbrev pub model_of : List (List ℕ) → Option (List ℕ)
-model_of words = option_map (λ (r : Request). r.model) (request_of words)
+model_of words = option_map (λ (r : WordRequest). r.model) (request_of words)

@@ -39,7 +39,13 @@ const COMMANDS: [CommandRow; 4] = [
     CommandRow {
         job: Job::Text(Command::Solve),
         name: "solve",
-        options: &[Kind::Budget, Kind::Log],
+        options: &[
+            Kind::Budget,
+            Kind::Branch,
+            Kind::Seats,
+            Kind::Order,
+            Kind::Log,
+        ],
         positional: 1,
     },
     CommandRow {

@@ -17,4 +17,6 @@ mod worked;
 pub use answer_texts::Status;
 pub use top::run;
 pub use words::{Word, Words};
-pub use worked::{worked_numbers, worked_positional_words, worked_requests};
+pub use worked::{
+    worked_branchers, worked_numbers, worked_positional_words, worked_requests, worked_seats,
+};

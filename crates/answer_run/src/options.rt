@@ -14,6 +14,12 @@ use crate::words::Word;
 pub enum Kind {
     /// The value of `--budget`.
     Budget,
+    /// The value of `--branch`.
+    Branch,
+    /// The value of `--seats`.
+    Seats,
+    /// The value of `--order`.
+    Order,
     /// The value of `--log`.
     Log,
     /// A positional word, behind so many others.
@@ -51,7 +57,7 @@ fn same_place(place: usize, kind: Kind) -> bool
 {
     match kind {
         Kind::Plain(other) => place == other,
-        Kind::Budget | Kind::Log => false,
+        _ => false,
     }
 }
 
@@ -61,6 +67,9 @@ fn same_kind(one: Kind, other: Kind) -> bool
 {
     match one {
         Kind::Budget => matches!(other, Kind::Budget),
+        Kind::Branch => matches!(other, Kind::Branch),
+        Kind::Seats => matches!(other, Kind::Seats),
+        Kind::Order => matches!(other, Kind::Order),
         Kind::Log => matches!(other, Kind::Log),
         Kind::Plain(place) => same_place(place, other),
     }
@@ -72,6 +81,15 @@ fn option_of(word: &str) -> Option<Kind>
 {
     if word == "--budget" {
         return Some(Kind::Budget);
+    }
+    if word == "--branch" {
+        return Some(Kind::Branch);
+    }
+    if word == "--seats" {
+        return Some(Kind::Seats);
+    }
+    if word == "--order" {
+        return Some(Kind::Order);
     }
     if word == "--log" {
         return Some(Kind::Log);

@@ -1,8 +1,9 @@
-//! What the words of the command line ask for.
+//! What the words of the command line say.
 
 ghost use Rattle.std.specs.Prelude.{◌≡◌, ◌≤◌, IfSome, option_map};
 ghost use Rattle.std.specs.Char.{is_ascii_digit};
 ghost use Rattle.std.specs.List.{list_all};
+ghost use Rattle.sopl_search.specs.Schedules.{AreSeats, IsOrder};
 ghost use Rattle.answer_run.specs.Words as spec;
 ghost use Rattle.answer_run.specs.Shown.{request_shown, row_shown, text_shown};
 
@@ -16,14 +17,18 @@ const USUAL_BUDGET: u32 = 1_000_000;
 /// The digits that a number may have.
 const MOST_DIGITS: usize = 10;
 
-/// What the words ask for: what is done on what, the file of the model, the second file, which is empty where the command has
-/// none, how many nodes a search may finish, and the name of the log that it writes, which is empty where none is given.
+/// What words say: what is done on what, the file of the model, the second file, which is empty where the command has none, how many
+/// nodes a search may finish, the name of the brancher that it asks, if one is given, how many seats it has, the order in which they
+/// take steps, if one is given, and the name of the log that it writes, which is empty where none is given.
 #[derive(Clone, Copy, Drop)]
-pub struct Request<'a> {
+pub struct WordRequest<'a> {
     pub job: Job,
     pub model: &'a str,
     pub second: &'a str,
     pub budget: u32,
+    pub branch: Option<&'a str>,
+    pub seats: u32,
+    pub order: Option<u32>,
     pub log: &'a str,
 }
 
@@ -49,6 +54,7 @@ fn is_digits(word: &[u8]) -> bool
 fn between(least: u32, number: u32, most: u32) -> Option<u32>
     ensures number { result ≡ spec.in_range least most number }
     ensures from { IfSome result (λ n. least ≤ n) }
+    ensures to { IfSome result (λ n. n ≤ most) }
 {
     if number < least || number > most {
         return None;
@@ -60,6 +66,7 @@ fn between(least: u32, number: u32, most: u32) -> Option<u32>
 fn number_of(word: &str, least: u32, most: u32) -> Option<u32>
     ensures number { result ≡ spec.number_of least most word.now }
     ensures from { IfSome result (λ number. least ≤ number) }
+    ensures to { IfSome result (λ number. number ≤ most) }
 {
     if !is_digits(word.as_bytes()) {
         return None;
@@ -81,6 +88,31 @@ fn budget_in(row: CommandRow, words: &[Word]) -> Option<u32>
     }
 }
 
+/// How many seats there are, which is one where no number is given.
+fn seats_in(row: CommandRow, words: &[Word]) -> Option<u32>
+    ensures seats { result ≡ spec.seats_in (row_shown row) words.now }
+    ensures few { IfSome result AreSeats }
+{
+    match given(row, Kind::Seats, words)? {
+        Some(value) => number_of(value, 1, 64),
+        None => Some(1),
+    }
+}
+
+/// The order in which seats take steps, if one is given.
+fn order_in(row: CommandRow, words: &[Word]) -> Option<Option<u32>>
+    ensures order { result ≡ spec.order_in (row_shown row) words.now }
+    ensures below { IfSome result IsOrder }
+{
+    match given(row, Kind::Order, words)? {
+        Some(value) => {
+            let order = number_of(value, 0, 2_147_483_647)?;
+            Some(Some(order))
+        }
+        None => Some(None),
+    }
+}
+
 /// The name that a part of this kind gives, which is empty where there is none.
 fn named_in<'a>(row: CommandRow, kind: Kind, words: &'a [Word]) -> Option<&'a str>
     ensures { option_map text_shown result ≡ spec.named_in (row_shown row) kind words.now }
@@ -98,28 +130,38 @@ fn positional_in<'a>(row: CommandRow, place: usize, words: &'a [Word]) -> Option
     given(row, Kind::Plain(place), words)?
 }
 
-/// What is asked for by a command and the words behind it.
-fn requested<'a>(row: CommandRow, words: &'a [Word]) -> Option<Request<'a>>
+/// What a command and the words behind it say.
+fn requested<'a>(row: CommandRow, words: &'a [Word]) -> Option<WordRequest<'a>>
     ensures request { option_map request_shown result ≡ spec.requested (row_shown row) words.now }
     ensures least { IfSome result (λ request. 1 ≤ request.budget) }
+    ensures seats { IfSome result (λ request. AreSeats request.seats) }
+    ensures order { IfSome result (λ request. IsOrder request.order) }
 {
     let budget = budget_in(row, words)?;
+    let branch = given(row, Kind::Branch, words)?;
+    let seats = seats_in(row, words)?;
+    let order = order_in(row, words)?;
     let log = named_in(row, Kind::Log, words)?;
     let second = named_in(row, Kind::Plain(1), words)?;
     let model = positional_in(row, 0, words)?;
-    Some(Request {
+    Some(WordRequest {
         job: row.job,
         model,
         second,
         budget,
+        branch,
+        seats,
+        order,
         log,
     })
 }
 
-/// What the words ask for: the name of a command, and behind it its options and its files.
-pub fn asked(words: &Words) -> Option<Request<'_>>
+/// What words say: the name of a command, and behind it its options and its files.
+pub fn request_in(words: &Words) -> Option<WordRequest<'_>>
     ensures request { option_map request_shown result ≡ spec.request_of words.now }
     ensures least { IfSome result (λ request. 1 ≤ request.budget) }
+    ensures seats { IfSome result (λ request. AreSeats request.seats) }
+    ensures order { IfSome result (λ request. IsOrder request.order) }
 {
     let [name, later @ ..] = words.as_slice() else {
         return None;

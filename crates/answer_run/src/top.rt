@@ -1,26 +1,29 @@
 //! The top call: words, a source and two sinks in, a status out.
 
-ghost use Rattle.std.specs.Prelude.{◌≡◌, ◌⊎◌, ◌≤◌, None, Err, IfOk, IfErr};
+ghost use Rattle.std.specs.Prelude.{◌≡◌, ◌⊎◌, ◌≤◌, map, option_map, None, Err, IfOk, IfErr};
 ghost use Rattle.std.specs.Io.KnownBytes.{IsAtEnd};
 ghost use Rattle.sopl_io.specs.Causes.{Rose};
 ghost use Rattle.sopl_base.specs.declared.stop.SearchStop.TheVariants as search;
 ghost use Rattle.answer_texts.specs.Logs.{state_of};
 ghost use Rattle.answer_run.specs.Calls.{calls_of, EndsAtFailure, LineCalls, ReplyCalls};
-ghost use Rattle.answer_run.specs.Words.{request_of};
+ghost use Rattle.answer_run.specs.Words.{asked_of, no_one_has};
 ghost use Rattle.answer_run.specs.Replies.{asked_in, Answers, SettlesInBudget, EndsSoundly, EndsCompletely, IsAnswered, LimitedOnce, RefusedOnce, BeginsFiles, IsUntouched};
 ghost use Rattle.answer_run.specs.Reads.{TakesAtMost};
+ghost use Rattle.answer_run.specs.Shown.{text_shown};
 ghost use Rattle.answer_run.specs.Runs.{IsWritten, Replied, StopsWith, meant_status, stop_status};
 
 use crate::commands::Job;
 use crate::pair::pair_reply;
 use crate::reply::word_reply;
-use crate::request::asked;
+use crate::request::request_in;
 use crate::words::Words;
 use answer_check::checks_end_once;
 use answer_eval::evals_end_once;
 use answer_texts::{Reply, Status, reply_to};
+use brancher::{Brancher, chosen};
 use sopl_base::{SearchStop, limits};
 use sopl_io::{ReadStop, Sink, Source, read_all, write_all};
+use sopl_search::Schedule;
 use std::alloc::Global;
 
 /// The bytes of a model text that are read at most: one more than a text may have.
@@ -35,32 +38,40 @@ pub fn run<S: Source, K: Sink>(
     source: &mut S,
     answer: &mut K,
     log: &mut K,
+    branchers: Vec<Box<dyn Brancher>>,
 ) -> Status
-    ensures answered { Answers words.now (S.stock source.old) (S.faults source.old) (S.faults source.new)
+    ensures answered { Answers (asked_of (map (λ b. (label b, rule b)) branchers.items) words.now)
+        (S.stock source.old) (S.faults source.old) (S.faults source.new)
         (K.taken answer.old) (K.taken answer.new) (K.faults answer.old) (K.faults answer.new)
         (state_of K.taken K.names log.old) (state_of K.taken K.names log.new) (K.faults log.old) (K.faults log.new) result }
 
     // Words that are not of the form, and no others, are answered so.
-    ensures usage { result ≡ Status.Usage → request_of words.now ≡ None }
-    ensures usage_when { request_of words.now ≡ None
+    ensures usage { result ≡ Status.Usage → asked_of (map (λ b. (label b, rule b)) branchers.items) words.now ≡ None }
+    ensures usage_when { asked_of (map (λ b. (label b, rule b)) branchers.items) words.now ≡ None
         → (result ≡ Status.Usage) ⊎ (result ≡ Status.WriteFault) ⊎ (result ≡ Status.NoMemory) }
 
     // A run ends as its command ends on its text, or on its text and its second file. A text that breaks a rule is refused; a text
     // that passes a limit, itself or in its terms, ends so; each other one is answered: by `check` and `eval` as the second file
     // deserves, and by `solve` with a bound where the search ends with as many nodes as the budget allows before it is done.
-    ensures ends { EndsSoundly (asked_in (S.stock source.old) words.now) result }
-    ensures ends_when { EndsCompletely (asked_in (S.stock source.old) words.now) result }
-    ensures enough { SettlesInBudget (asked_in (S.stock source.old) words.now) result }
+    ensures ends { EndsSoundly (asked_in (S.stock source.old)
+        (asked_of (map (λ b. (label b, rule b)) branchers.items) words.now)) result }
+    ensures ends_when { EndsCompletely (asked_in (S.stock source.old)
+        (asked_of (map (λ b. (label b, rule b)) branchers.items) words.now)) result }
+    ensures enough { SettlesInBudget (asked_in (S.stock source.old)
+        (asked_of (map (λ b. (label b, rule b)) branchers.items) words.now)) result }
 
     // A text is refused by one code at one place, and passes one limit.
-    ensures refused_once { RefusedOnce (asked_in (S.stock source.old) words.now) }
-    ensures limited_once { LimitedOnce (asked_in (S.stock source.old) words.now) }
+    ensures refused_once { RefusedOnce (asked_in (S.stock source.old)
+        (asked_of (map (λ b. (label b, rule b)) branchers.items) words.now)) }
+    ensures limited_once { LimitedOnce (asked_in (S.stock source.old)
+        (asked_of (map (λ b. (label b, rule b)) branchers.items) words.now)) }
 
     // A text that is answered was read to its end, and so was a second file.
     ensures ended { IsAnswered result → IsAtEnd (S.left source.new) }
 
     // Of the model's text one byte more is taken than a text may have, at most; a second file has no limit.
-    ensures taken_at_most { TakesAtMost 1048577 (asked_in (S.stock source.old) words.now) (S.faults source.old) (S.faults source.new) (S.left source.new) }
+    ensures taken_at_most { TakesAtMost 1048577 (asked_in (S.stock source.old)
+        (asked_of (map (λ b. (label b, rule b)) branchers.items) words.now)) (S.faults source.old) (S.faults source.new) (S.left source.new) }
 
     // Faults have their causes.
     ensures read { result ≡ Status.ReadFault → Rose (S.faults source.old) (S.faults source.new) }
@@ -74,17 +85,19 @@ pub fn run<S: Source, K: Sink>(
         (calls_of (S.outcomes source.new) (K.outcomes log.new) (K.outcomes answer.new)) (K.taken answer.old) (K.taken answer.new) result }
 
     // Where the words are not of the form the source stays as it was.
-    ensures untouched { request_of words.now ≡ None → IsUntouched (S.left source.old) (S.stock source.old) (S.faults source.old)
+    ensures untouched { asked_of (map (λ b. (label b, rule b)) branchers.items) words.now ≡ None
+        → IsUntouched (S.left source.old) (S.stock source.old) (S.faults source.old)
         (S.left source.new) (S.stock source.new) (S.faults source.new) }
 
     // The source is begun once with the file of the model; and, where the command has a second file and takes the text, once with
     // that behind it, in each run that tells of that file. The answer's sink is not begun.
-    ensures names { BeginsFiles (S.stock source.old) (S.names source.old) (S.names source.new) (request_of words.now) result }
+    ensures names { BeginsFiles (S.stock source.old) (S.names source.old) (S.names source.new)
+        (asked_of (map (λ b. (label b, rule b)) branchers.items) words.now) result }
     ensures answer_names { K.names answer.new ≡ K.names answer.old }
 {
     checks_end_once();
     evals_end_once();
-    match reply_for(alloc, words, source, log) {
+    match reply_for(alloc, words, source, log, branchers) {
         Ok(reply) => written(answer, &reply),
         Err(stop) => status_of(stop),
     }
@@ -114,30 +127,46 @@ fn written<K: Sink>(answer: &mut K, reply: &Reply) -> Status
     }
 }
 
+/// Whether a name was given, and no brancher has it.
+fn is_missing(name: Option<&str>, brancher: &Option<Box<dyn Brancher>>) -> bool
+    ensures missing { result ≡ no_one_has (option_map text_shown name.entry) (option_map rule brancher.now) }
+{
+    name.is_some() && brancher.is_none()
+}
+
 /// The reply to the words, made whole in memory; of a search the log is written first.
 fn reply_for<S: Source, K: Sink>(
     alloc: Global,
     words: &Words,
     source: &mut S,
     log: &mut K,
+    branchers: Vec<Box<dyn Brancher>>,
 ) -> Result<Reply, SearchStop>
-    ensures reply { IfOk result (Replied words.now (S.stock source.old) (S.faults source.old) (S.faults source.new)
+    ensures reply { IfOk result (Replied
+        (asked_of (map (λ b. (label b, rule b)) branchers.items) words.now) (S.stock source.old) (S.faults source.old) (S.faults source.new)
         (state_of K.taken K.names log.old) (state_of K.taken K.names log.new)) }
-    ensures stopped { IfErr result (StopsWith words.now (S.stock source.old)
+    ensures stopped { IfErr result (StopsWith (asked_of (map (λ b. (label b, rule b)) branchers.items) words.now) (S.stock source.old)
         (state_of K.taken K.names log.old) (state_of K.taken K.names log.new)) }
     ensures ended { IfOk result (λ reply. IsAnswered reply.status → IsAtEnd (S.left source.new)) }
-    ensures taken_at_most { TakesAtMost 1048577 (asked_in (S.stock source.old) words.now) (S.faults source.old) (S.faults source.new) (S.left source.new) }
+    ensures taken_at_most { TakesAtMost 1048577 (asked_in (S.stock source.old)
+        (asked_of (map (λ b. (label b, rule b)) branchers.items) words.now)) (S.faults source.old) (S.faults source.new) (S.left source.new) }
     ensures faults_grow { S.faults source.old ≤ S.faults source.new }
     ensures log_later { K.faults log.old ≤ K.faults log.new }
     ensures write { result ≡ Err search.Write → Rose (K.faults log.old) (K.faults log.new) }
     ensures outcomes { ReplyCalls (S.outcomes source.old) (S.outcomes source.new) (K.outcomes log.old) (K.outcomes log.new) result }
-    ensures untouched { request_of words.now ≡ None → IsUntouched (S.left source.old) (S.stock source.old) (S.faults source.old)
+    ensures untouched { asked_of (map (λ b. (label b, rule b)) branchers.items) words.now ≡ None
+        → IsUntouched (S.left source.old) (S.stock source.old) (S.faults source.old)
         (S.left source.new) (S.stock source.new) (S.faults source.new) }
-    ensures names { BeginsFiles (S.stock source.old) (S.names source.old) (S.names source.new) (request_of words.now) (meant_status result) }
+    ensures names { BeginsFiles (S.stock source.old) (S.names source.old) (S.names source.new)
+        (asked_of (map (λ b. (label b, rule b)) branchers.items) words.now) (meant_status result) }
 {
-    let Some(request) = asked(words) else {
+    let Some(request) = request_in(words) else {
         return word_reply(alloc, Status::Usage, "usage");
     };
+    let brancher = chosen(branchers, request.branch);
+    if is_missing(request.branch, &brancher) {
+        return word_reply(alloc, Status::Usage, "usage");
+    }
     match read_all(alloc, source, request.model, Some(MOST_READ)) {
         Ok(text) => match request.job {
             Job::Text(command) => reply_to(
@@ -145,6 +174,8 @@ fn reply_for<S: Source, K: Sink>(
                 command,
                 text.as_slice(),
                 request.budget,
+                Schedule::new(request.seats, request.order),
+                brancher,
                 request.log,
                 log,
             ),

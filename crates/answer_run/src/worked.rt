@@ -1,11 +1,12 @@
 //! Words whose meaning is known.
 
-ghost use Rattle.std.specs.Prelude.{◌≡◌, Some, None, [], ◌∷◌, codes, map};
+ghost use Rattle.std.specs.Prelude.{◌≡◌, Some, None, [], ◌∷◌, codes, map, option_map};
+ghost use Rattle.brancher.specs.Rules.{lower, widest};
 ghost use Rattle.answer_texts.specs.declared.command.Command.TheVariants.{Solve, Tree as ShowTree};
 ghost use Rattle.answer_run.specs.declared.commands.PairCommand.TheVariants.{Check, Eval};
 ghost use Rattle.answer_run.specs.declared.options.Kind.TheVariants.{Budget};
-ghost use Rattle.answer_run.specs.Words.{given, model_of, number_of, parts_of, positional_in, request_of};
-ghost use Rattle.answer_run.specs.WorkedWords.{asks, asks_both, two_or_budget, two_words};
+ghost use Rattle.answer_run.specs.Words.{asked_of, given, model_of, number_of, parts_of, positional_in, request_of};
+ghost use Rattle.answer_run.specs.WorkedWords.{asks, asks_both, asks_seats, rule_asked, three_kinds, two_or_budget, two_words};
 
 /// Two positional words, which a row of the table may ask for: each by its place, with an option before, between and behind them; one too few and
 /// one too many; a word that is empty or is no option of the row.
@@ -63,5 +64,27 @@ pub fn worked_requests()
     ensures no_budget { map request_of (map codes ("solve" ∷ "--budget" ∷ "0" ∷ "m" ∷ []) ∷ map codes ("solve" ∷ "m" ∷ "--budget=4294967296" ∷ []) ∷ map codes ("solve" ∷ "--budget=+3" ∷ "m" ∷ []) ∷ [])
         ≡ None ∷ None ∷ None ∷ [] }
     ensures twice { request_of (map codes ("solve" ∷ "--budget=3" ∷ "m" ∷ "--budget" ∷ "4" ∷ [])) ≡ None }
-    ensures option_of_another { map request_of (map codes ("tree" ∷ "--budget" ∷ "3" ∷ "m" ∷ []) ∷ map codes ("solve" ∷ "--branch" ∷ "lower" ∷ "m" ∷ []) ∷ []) ≡ None ∷ None ∷ [] }
+    ensures option_of_another { map request_of (map codes ("tree" ∷ "--budget" ∷ "3" ∷ "m" ∷ []) ∷ map codes ("check" ∷ "--seats" ∷ "2" ∷ "m" ∷ "l" ∷ []) ∷ []) ≡ None ∷ None ∷ [] }
+{}
+
+/// How words say the seats of a search and their order.
+pub fn worked_seats()
+    ensures seats { request_of (map codes ("solve" ∷ "m" ∷ "--seats" ∷ "64" ∷ [])) ≡ Some (asks_seats 64 None None) }
+    ensures order { request_of (map codes ("solve" ∷ "--order=0" ∷ "--seats=2" ∷ "m" ∷ [])) ≡ Some (asks_seats 2 (Some 0) None) }
+    ensures branch { request_of (map codes ("solve" ∷ "--branch" ∷ "b" ∷ "--order" ∷ "2147483647" ∷ "m" ∷ [])) ≡ Some (asks_seats 1 (Some 2147483647) (Some (codes "b"))) }
+    ensures no_seats { map request_of (map codes ("solve" ∷ "--seats" ∷ "0" ∷ "m" ∷ []) ∷ map codes ("solve" ∷ "--seats=65" ∷ "m" ∷ []) ∷ map codes ("solve" ∷ "--seats" ∷ "2x" ∷ "m" ∷ []) ∷ [])
+        ≡ None ∷ None ∷ None ∷ [] }
+    ensures no_order { map request_of (map codes ("solve" ∷ "--order" ∷ "2147483648" ∷ "m" ∷ []) ∷ map codes ("solve" ∷ "--order=" ∷ "m" ∷ []) ∷ map codes ("solve" ∷ "m" ∷ "--order" ∷ []) ∷ [])
+        ≡ None ∷ None ∷ None ∷ [] }
+    ensures twice { map request_of (map codes ("solve" ∷ "--seats=2" ∷ "m" ∷ "--seats=2" ∷ []) ∷ map codes ("solve" ∷ "--branch=a" ∷ "--branch=a" ∷ "m" ∷ []) ∷ []) ≡ None ∷ None ∷ [] }
+{}
+
+/// Which brancher is asked: of two with one name the first one, the first of all where no name is given, and none where there is none. A name
+/// that no one has is not of the form.
+pub fn worked_branchers()
+    ensures named { option_map rule_asked (asked_of three_kinds (map codes ("solve" ∷ "--branch" ∷ "twice" ∷ "m" ∷ []))) ≡ Some (Some lower) }
+    ensures first { option_map rule_asked (asked_of three_kinds (map codes ("solve" ∷ "m" ∷ []))) ≡ Some (Some widest) }
+    ensures none { option_map rule_asked (asked_of [] (map codes ("solve" ∷ "m" ∷ []))) ≡ Some None }
+    ensures nobody { asked_of three_kinds (map codes ("solve" ∷ "--branch=third" ∷ "m" ∷ [])) ≡ None }
+    ensures of_none { asked_of [] (map codes ("solve" ∷ "--branch=first" ∷ "m" ∷ [])) ≡ None }
 {}

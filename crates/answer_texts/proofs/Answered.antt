@@ -6,6 +6,7 @@ use Rattle.sopl_base.specs.declared.fault.Excess.{Excess}
 use Rattle.sopl_base.specs.declared.fault.Fault.{Fault}
 use Rattle.sopl_base.specs.declared.fault.Fault.TheVariants as fault
 use Rattle.sopl_base.specs.declared.fault.Refusal.{Refusal}
+use Rattle.sopl_search.specs.Logged.{SearchPlan}
 use Rattle.answer_lines.specs.Answer.{tree_data}
 use Rattle.scen_accept.specs.Faults.{IsTextFault}
 use Rattle.scen_accept.specs.Stated.{States, model_in, problem_in}
@@ -68,59 +69,59 @@ solved_text text stated states is =
     record { model = model_in stated; spelled = states.spelled; accepted = states.accepted; solvable = is }
 
 -- and shown
-pub tree_so : (text : List ℕ) (budget : ℕ) (stated : AcceptedProblem) (line : List ℕ) → States text stated → IsSolvable (model_in stated) → line ≡ line_of (tree_data (problem_in stated).decisions (problem_in stated).stochastics)
-    → IsTextReply text budget Tree None Done line
-tree_so text budget stated line states solvable is =
-    subst (λ l. IsTextReply text budget Tree None Done l) (sym is) (scenes (problem_in stated) (solved_text text stated states solvable))
+pub tree_so : (text : List ℕ) (plan : SearchPlan) (stated : AcceptedProblem) (line : List ℕ) → States text stated → IsSolvable (model_in stated) → line ≡ line_of (tree_data (problem_in stated).decisions (problem_in stated).stochastics)
+    → IsTextReply text plan Tree None Done line
+tree_so text plan stated line states solvable is =
+    subst (λ l. IsTextReply text plan Tree None Done l) (sym is) (scenes (problem_in stated) (solved_text text stated states solvable))
 
 -- or answered
-settled_reply : (text : List ℕ) (budget : ℕ) (stated : AcceptedProblem) (log line : List ℕ) → SolvedText text (problem_in stated)
-    → IsSettledBy (problem_in stated) budget log line → IsTextReply text budget Solve (Some log) Done line
-settled_reply text budget stated log _ is (optimal_line policy value best logged) = optimal (problem_in stated) policy value log is best logged
-settled_reply text budget stated log _ is (infeasible_line none logged) = infeasible (problem_in stated) log is none logged
+settled_reply : (text : List ℕ) (plan : SearchPlan) (stated : AcceptedProblem) (log line : List ℕ) → SolvedText text (problem_in stated)
+    → IsSettledBy (problem_in stated) plan log line → IsTextReply text plan Solve (Some log) Done line
+settled_reply text plan stated log _ is (optimal_line policy value best logged) = optimal (problem_in stated) policy value log is best logged
+settled_reply text plan stated log _ is (infeasible_line none logged) = infeasible (problem_in stated) log is none logged
 
-bounded_reply : (text : List ℕ) (budget : ℕ) (stated : AcceptedProblem) (log line : List ℕ) → SolvedText text (problem_in stated)
-    → IsBoundedBy (problem_in stated) budget log line → IsTextReply text budget Solve (Some log) Bounded line
-bounded_reply text budget stated log _ is (bounded_line found bound known within logged) = bounded (problem_in stated) found bound log is known within logged
+bounded_reply : (text : List ℕ) (plan : SearchPlan) (stated : AcceptedProblem) (log line : List ℕ) → SolvedText text (problem_in stated)
+    → IsBoundedBy (problem_in stated) plan log line → IsTextReply text plan Solve (Some log) Bounded line
+bounded_reply text plan stated log _ is (bounded_line found bound known within logged) = bounded (problem_in stated) found bound log is known within logged
 
-module _ (text : List ℕ) (budget : ℕ) (stated : AcceptedProblem) (states : States text stated) (name : List ℕ) (old new : SinkState) where
+module _ (text : List ℕ) (plan : SearchPlan) (stated : AcceptedProblem) (states : States text stated) (name : List ℕ) (old new : SinkState) where
   -- the reply of an answer
-  pub answer_replies : (answer : Answer) → IsSolvable (model_in stated) → Answers (problem_in stated) budget name old new answer
-      → Replies text budget Solve name old new (reply_of answer).status (string_bytes (reply_of answer).line)
+  pub answer_replies : (answer : Answer) → IsSolvable (model_in stated) → Answers (problem_in stated) plan name old new answer
+      → Replies text plan Solve name old new (reply_of answer).status (string_bytes (reply_of answer).line)
   answer_replies (Settled line) is answers =
       record {
         log = Some answers.log;
-        reply = settled_reply text budget stated answers.log (string_bytes line) (solved_text text stated states is) answers.answered;
+        reply = settled_reply text plan stated answers.log (string_bytes line) (solved_text text stated states is) answers.answered;
         logged = answers.wrote;
       }
   answer_replies (Cut line) is answers =
       record {
         log = Some answers.log;
-        reply = bounded_reply text budget stated answers.log (string_bytes line) (solved_text text stated states is) answers.answered;
+        reply = bounded_reply text plan stated answers.log (string_bytes line) (solved_text text stated states is) answers.answered;
         logged = answers.wrote;
       }
 
   -- where the log's sink failed, or memory ran out behind its begin
-  pub cut_so : IsCutOff stated budget name old new → IsCut text budget Solve name old new
+  pub cut_so : IsCutOff stated plan name old new → IsCut text plan Solve name old new
   cut_so cut = record { commanded = refl; problem = problem_in stated; is_solved = solved_text text stated states cut.solvable; wrote = cut.wrote }
 
-  pub cut_stops : (result : Result Reply SearchStop) → IsCutOff stated budget name old new → IfErr result (StopsByCause text budget Solve name old new)
+  pub cut_stops : (result : Result Reply SearchStop) → IsCutOff stated plan name old new → IfErr result (StopsByCause text plan Solve name old new)
   cut_stops (Ok reply) cut = tt
   cut_stops (Err stop.Write) cut = cut_so cut
   cut_stops (Err stop.NoMemory) cut = inr (cut_so cut)
 
   -- the answer that was found
   pub solved_replies : (solved : Result Answer Fault) (answer : Answer) → solved ≡ Ok answer → IfOk solved (λ a. IsSolvable (model_in stated))
-      → IfOk solved (Answers (problem_in stated) budget name old new) → Replies text budget Solve name old new (reply_of answer).status (string_bytes (reply_of answer).line)
+      → IfOk solved (Answers (problem_in stated) plan name old new) → Replies text plan Solve name old new (reply_of answer).status (string_bytes (reply_of answer).line)
   solved_replies solved answer is solvable answers =
-      answer_replies answer (IfOk-at_ok (λ a. IsSolvable (model_in stated)) is solvable) (IfOk-at_ok (Answers (problem_in stated) budget name old new) is answers)
+      answer_replies answer (IfOk-at_ok (λ a. IsSolvable (model_in stated)) is solvable) (IfOk-at_ok (Answers (problem_in stated) plan name old new) is answers)
 
 -- where the log's sink is not used
-module _ (text : List ℕ) (budget : ℕ) (command : Command) (name : List ℕ) (old new : SinkState) (unused : IsUnused old new) where
-  pub unlogged_replies : (status : Status) (line : List ℕ) → IsTextReply text budget command None status line → Replies text budget command name old new status line
+module _ (text : List ℕ) (plan : SearchPlan) (command : Command) (name : List ℕ) (old new : SinkState) (unused : IsUnused old new) where
+  pub unlogged_replies : (status : Status) (line : List ℕ) → IsTextReply text plan command None status line → Replies text plan command name old new status line
   unlogged_replies status line is = record { log = None; reply = is; logged = unused }
 
-  pub unlogged_stops : (result : Result Reply SearchStop) → ¬ (result ≡ Err stop.Write) → IfErr result (StopsByCause text budget command name old new)
+  pub unlogged_stops : (result : Result Reply SearchStop) → ¬ (result ≡ Err stop.Write) → IfErr result (StopsByCause text plan command name old new)
   unlogged_stops (Ok reply) memory = tt
   unlogged_stops (Err stop.Write) memory = absurd (memory refl)
   unlogged_stops (Err stop.NoMemory) memory = inl unused

@@ -10,6 +10,7 @@ use Rattle.sopl_ast.specs.Limits.{size_excess, usual_limits}
 use Rattle.sopl_ast.specs.UnfoldEvents.{first_failure}
 use Rattle.sopl_ast.specs.Unfolding.{problem_of, text_events}
 use Rattle.scen_accept.proofs.Rejected.{one_model, texts_end_once}
+use Rattle.sopl_search.specs.Logged.{SearchPlan}
 use Rattle.answer_texts.specs.Solved.{SolvedText, IsLimitedInTerms}
 use Rattle.answer_texts.proofs.Ended.{accepted_end_once}
 use Rattle.answer_texts.specs.Logs.{most_nodes}
@@ -138,11 +139,11 @@ end_status text budget _ _ (refused_text c r why) = record { no_usage = λ e. cc
 end_status text budget _ _ (limited_text c e over) = record { no_usage = λ e. cc; no_read = λ e. cc; no_write = λ e. cc }
 
 -- a reply has the status with which the command ends on the text
-pub reply_ends : (text : List ℕ) (budget : ℕ) (c : Command) (log : Option (List ℕ)) (s : Status) (line : List ℕ) → IsTextReply text budget c log s line
-    → Ends text budget c s
-reply_ends text budget _ _ _ _ (optimal problem policy value log is best logged) = solved problem is
-reply_ends text budget _ _ _ _ (infeasible problem log is none logged) = solved problem is
-reply_ends text budget _ _ _ _ (bounded problem found bound log is known less logged) = bounded_text problem is less
-reply_ends text budget _ _ _ _ (scenes problem accepted) = shown problem accepted
-reply_ends text budget _ _ _ _ (refused c refusal why) = refused_text c refusal why
-reply_ends text budget _ _ _ _ (limited c excess over) = limited_text c excess over
+pub reply_ends : (text : List ℕ) (plan : SearchPlan) (c : Command) (log : Option (List ℕ)) (s : Status) (line : List ℕ) → IsTextReply text plan c log s line
+    → Ends text plan.budget c s
+reply_ends text plan _ _ _ _ (optimal problem policy value log is best logged) = solved problem is
+reply_ends text plan _ _ _ _ (infeasible problem log is none logged) = solved problem is
+reply_ends text plan _ _ _ _ (bounded problem found bound log is known less logged) = bounded_text problem is less
+reply_ends text plan _ _ _ _ (scenes problem accepted) = shown problem accepted
+reply_ends text plan _ _ _ _ (refused c refusal why) = refused_text c refusal why
+reply_ends text plan _ _ _ _ (limited c excess over) = limited_text c excess over

@@ -10,3 +10,4 @@ pub mod Grounds
 pub mod Ends
 pub mod Calls
 pub mod Shared
+pub mod Alike

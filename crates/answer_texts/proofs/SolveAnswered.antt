@@ -1,9 +1,10 @@
 -- From an outcome that is true of a program, and its log, to the answer.
-use Rattle.std.proofs.Common.{◌≡◌, ◌∙◌, ℕ, ◌≤◌, ◌<◌, ℤ, true, false, List, [], Result, Err, Option, Some, None, IfSome, option_map, string_bytes}
+use Rattle.std.proofs.Common.{◌≡◌, ◌∙◌, ℕ, ◌≤◌, ◌<◌, ℤ, true, false, List, map, Option, Some, None, IfSome, option_map, string_bytes}
 use Rattle.std.proofs.Common.{length, Any, refl, sym, ap, subst, arith}
 use Rattle.std.proofs.lemmas.Int.{ints, by_lt_z}
 use Rattle.std.proofs.lemmas.List.{take_all}
-use Rattle.std.specs.Io.KnownBytes.{Keeps, Appends}
+use Rattle.std.specs.Io.KnownBytes.{Appends}
+use Rattle.sopl_io.specs.Transfer.{AppendsPrefix}
 use Rattle.sopl_base.specs.Better.{IsBetter}
 use Rattle.sopl_base.specs.declared.direction.Direction.{Direction}
 use Rattle.sopl_base.specs.declared.direction.Direction.TheVariants.{Minimize, Maximize, Nothing}
@@ -16,15 +17,15 @@ use Rattle.box_problem.specs.Covers.{nodes_for}
 use Rattle.box_problem.specs.Reached.{IsReached}
 use Rattle.box_problem.specs.Opens.{IsUnsettled}
 use Rattle.box_problem.proofs.Bounds.{unsettled_within}
-use Rattle.log_rows.specs.declared.rows.Footer.{Footer}
 use Rattle.log_rows.specs.declared.rows.Footer.TheVariants as claim
-use Rattle.sopl_search.specs.Logged.{IsPrefixLogged, IsLogged, IsSearchLog, footer_of, told_point}
+use Rattle.log_rows.specs.Lines.{log_lines, text_of}
+use Rattle.log_rows.specs.LogText.{IsLogText}
+use Rattle.log_rows.specs.Made.{open_row, with_open}
+use Rattle.sopl_search.specs.Logged.{IsPrefixLogged, IsLogged, IsSearchLog, SearchPlan, footer_of}
 use Rattle.sopl_search.specs.Outcomes.{HasCause, IsTrueOf, value_of}
 use Rattle.sopl_search.specs.declared.outcome.Found.{Found}
 use Rattle.sopl_search.specs.declared.outcome.Outcome.{Outcome}
 use Rattle.sopl_search.specs.declared.outcome.Outcome.TheVariants as outcome
-use Rattle.sopl_base.specs.declared.stop.SearchStop.{SearchStop}
-use Rattle.sopl_base.specs.declared.stop.SearchStop.TheVariants as search
 use Rattle.term_problem.specs.Search.{problem_over}
 use Rattle.term_program.specs.Stated.{box_problem_of}
 use Rattle.compile_laws.specs.Root.{root_box}
@@ -39,7 +40,7 @@ use Rattle.scen_accept.specs.Stated.{States, model_in, problem_in}
 use Rattle.scen_accept.specs.declared.accepted.AcceptedProblem.{AcceptedProblem}
 use Rattle.answer_texts.specs.Bounds.{IsBounded}
 use Rattle.answer_texts.specs.Solving.{IsProgramOf}
-use Rattle.answer_texts.specs.Logs.{IsLogOf, most_nodes, searched_problem, valued_at, TookPrefix, nothing, prefix}
+use Rattle.answer_texts.specs.Logs.{IsLogOf, most_nodes, searched_problem, valued_at, TookPrefix, prefix}
 use Rattle.answer_texts.specs.Answering.{FindsPoint, IsAnswerOf, IsAnsweredBy, IsBoundedBy, IsSettledBy, Searched, bounded, found_value, infeasible, is_settled, optimal, outcome_data}
 use Rattle.answer_texts.specs.declared.solve_answer.Answer.{Answer}
 use Rattle.answer_texts.specs.declared.solve_answer.Answer.TheVariants.{Settled, Cut}
@@ -114,6 +115,24 @@ same_claim : (problem : Problem) (found : Option Found) (bound : ℤ)
 same_claim problem None bound = refl
 same_claim problem (Some f) bound = refl
 
+-- The log.
+
+-- the whole log of a search is a prefix of one
+whole_prefix : (problem : BoxProblem) (plan : SearchPlan) (o : Outcome) (old new : Option (List ℕ)) → IsLogged problem plan o old new → IsPrefixLogged problem plan old new
+whole_prefix problem plan o old new log =
+    let tree = log.is_log.tree in
+    let text : List ℕ = text_of (log_lines (with_open tree.state.rows tree.opens) (footer_of o)) in
+    let is : log.bytes ≡ text = log.is_log.text ∙ ap (λ rows. text_of (log_lines rows (footer_of o))) tree.rows_are in
+    record {
+      state = tree.state;
+      more = map open_row tree.opens;
+      footer = footer_of o;
+      planned = tree.planned;
+      is_text = subst (IsLogText (with_open tree.state.rows tree.opens) (footer_of o)) is (subst (λ rows. IsLogText rows (footer_of o) log.bytes) tree.rows_are log.is_log.is_text);
+      took = subst (λ b. AppendsPrefix old new b) is
+          (length log.bytes, subst (λ b. Appends old new b) (sym (take_all (length log.bytes) log.bytes (omega arith))) log.took);
+    }
+
 -- The answer.
 
 module _ (text : List ℕ) (stated : AcceptedProblem) (states : States text stated) where
@@ -141,59 +160,53 @@ module _ (text : List ℕ) (stated : AcceptedProblem) (states : States text stat
         hopeful = found_hopeful own found budget bound cause;
       }
 
-  settled : (budget : ℕ) (o : Outcome) (log line : List ℕ) → IsTrueOf (searched_problem own) o → IsSearchLog (searched_problem own) budget o log
-      → is_settled o ≡ true → line ≡ line_of (outcome_data own o) → IsSettledBy own budget log line
-  settled budget (outcome.Optimal value point) log line true_of is_log is_one is =
+  settled : (plan : SearchPlan) (o : Outcome) (log line : List ℕ) → IsTrueOf (searched_problem own) o → IsSearchLog (searched_problem own) plan o log
+      → is_settled o ≡ true → line ≡ line_of (outcome_data own o) → IsSettledBy own plan log line
+  settled plan (outcome.Optimal value point) log line true_of is_log is_one is =
       let all = moved (outcome.Optimal value point) true_of in
-      subst (IsSettledBy own budget log) (sym is)
+      subst (IsSettledBy own plan log) (sym is)
       (optimal (policy_at (cells own) point) value (unbeaten_is_best (model_in stated) value point unfolded all.0 all.1)
       (record { outcome = outcome.Optimal value point; claimed = refl; found_is = refl; is_log = is_log }))
-  settled budget outcome.Infeasible log line true_of is_log is_one is =
-      subst (IsSettledBy own budget log) (sym is)
+  settled plan outcome.Infeasible log line true_of is_log is_one is =
+      subst (IsSettledBy own plan log) (sym is)
       (infeasible (unreached_is_none (model_in stated) unfolded (moved outcome.Infeasible true_of))
       (record { outcome = outcome.Infeasible; claimed = refl; found_is = refl; is_log = is_log }))
-  settled budget (outcome.Bounded found bound) log line true_of is_log is_one is = cc
+  settled plan (outcome.Bounded found bound) log line true_of is_log is_one is = cc
 
-  cut : (budget : ℕ) (o : Outcome) (log line : List ℕ) → IsTrueOf (searched_problem own) o → HasCause (searched_problem own) budget o
-      → IsSearchLog (searched_problem own) budget o log → is_settled o ≡ false → line ≡ line_of (outcome_data own o) → IsBoundedBy own budget log line
-  cut budget (outcome.Optimal value point) log line true_of cause is_log is_none is = cc
-  cut budget outcome.Infeasible log line true_of cause is_log is_none is = cc
-  cut budget (outcome.Bounded found bound) log line true_of cause is_log is_none is =
-      subst (IsBoundedBy own budget log) (sym is)
-      (bounded (option_map (valued_at own) found) bound (bound_is found budget bound true_of cause) (within_most own (value_of found) budget bound cause)
+  cut : (plan : SearchPlan) (o : Outcome) (log line : List ℕ) → IsTrueOf (searched_problem own) o → HasCause (searched_problem own) plan.budget o
+      → IsSearchLog (searched_problem own) plan o log → is_settled o ≡ false → line ≡ line_of (outcome_data own o) → IsBoundedBy own plan log line
+  cut plan (outcome.Optimal value point) log line true_of cause is_log is_none is = cc
+  cut plan outcome.Infeasible log line true_of cause is_log is_none is = cc
+  cut plan (outcome.Bounded found bound) log line true_of cause is_log is_none is =
+      subst (IsBoundedBy own plan log) (sym is)
+      (bounded (option_map (valued_at own) found) bound (bound_is found plan.budget bound true_of cause) (within_most own (value_of found) plan.budget bound cause)
       (record { outcome = outcome.Bounded found bound; claimed = same_claim own found bound; found_is = refl; is_log = is_log }))
 
-  answered : (budget : ℕ) (o : Outcome) (log : List ℕ) (answer : Answer) → IsTrueOf (searched_problem own) o → HasCause (searched_problem own) budget o
-      → IsSearchLog (searched_problem own) budget o log → IsAnswerOf own o answer → IsAnsweredBy own budget log answer
-  answered budget o log (Settled line) true_of cause is_log is = settled budget o log (string_bytes line) true_of is_log is.0 is.1
-  answered budget o log (Cut line) true_of cause is_log is = cut budget o log (string_bytes line) true_of cause is_log is.0 is.1
+  answered : (plan : SearchPlan) (o : Outcome) (log : List ℕ) (answer : Answer) → IsTrueOf (searched_problem own) o → HasCause (searched_problem own) plan.budget o
+      → IsSearchLog (searched_problem own) plan o log → IsAnswerOf own o answer → IsAnsweredBy own plan log answer
+  answered plan o log (Settled line) true_of cause is_log is = settled plan o log (string_bytes line) true_of is_log is.0 is.1
+  answered plan o log (Cut line) true_of cause is_log is = cut plan o log (string_bytes line) true_of cause is_log is.0 is.1
 
-  module _ (program : Program) (is : IsProgramOf own program) (budget : ℕ) (old new : Option (List ℕ)) where
+  module _ (program : Program) (is : IsProgramOf own program) (plan : SearchPlan) (old new : Option (List ℕ)) where
     -- the answer of an outcome that is true, and whose log was taken
-    pub answer_made : (o : Outcome) (answer : Answer) → IsTrueOf (box_problem_of program) o → HasCause (box_problem_of program) budget o
-        → IsLogged (box_problem_of program) budget o old new → IsAnswerOf own o answer → Searched own budget old new answer
+    pub answer_made : (o : Outcome) (answer : Answer) → IsTrueOf (box_problem_of program) o → HasCause (box_problem_of program) plan.budget o
+        → IsLogged (box_problem_of program) plan o old new → IsAnswerOf own o answer → Searched own plan old new answer
     answer_made o answer true_of cause logged made =
         let at = searched_is own program is in
-        let log : IsLogged (searched_problem own) budget o old new = subst (λ (p : BoxProblem). IsLogged p budget o old new) at logged in
+        let log : IsLogged (searched_problem own) plan o old new = subst (λ (p : BoxProblem). IsLogged p plan o old new) at logged in
         record {
           log = log.bytes;
-          answered = answered budget o log.bytes answer (subst (λ (p : BoxProblem). IsTrueOf p o) at true_of)
-              (subst (λ (p : BoxProblem). HasCause p budget o) at cause) log.is_log made;
+          answered = answered plan o log.bytes answer (subst (λ (p : BoxProblem). IsTrueOf p o) at true_of)
+              (subst (λ (p : BoxProblem). HasCause p plan.budget o) at cause) log.is_log made;
           took = log.took;
         }
 
     -- where memory runs out behind the search, the whole log was taken
-    pub log_taken : (o : Outcome) → IsLogged (box_problem_of program) budget o old new → TookPrefix own budget old new
+    pub log_taken : (o : Outcome) → IsLogged (box_problem_of program) plan o old new → TookPrefix own plan old new
     log_taken o logged =
-        let log : IsLogged (searched_problem own) budget o old new = subst (λ (p : BoxProblem). IsLogged p budget o old new) (searched_is own program is) logged in
-        prefix (footer_of o) (option_map (valued_at own) (told_point o)) log.bytes (record { outcome = o; claimed = refl; found_is = refl; is_log = log.is_log })
-        (length log.bytes, subst (λ b. Appends old new b) (sym (take_all (length log.bytes) log.bytes (omega arith))) log.took)
+        let log : IsLogged (searched_problem own) plan o old new = subst (λ (p : BoxProblem). IsLogged p plan o old new) (searched_is own program is) logged in
+        prefix (whole_prefix (searched_problem own) plan o old new log)
 
     -- a search that stopped
-    pub search_stopped : (r : Result Outcome SearchStop) (stop : SearchStop) → r ≡ Err stop
-        → (r ≡ Err search.Write → IsPrefixLogged (box_problem_of program) budget old new) → (r ≡ Err search.NoMemory → Keeps old new) → TookPrefix own budget old new
-    search_stopped r search.Write stops wrote kept =
-        let log : IsPrefixLogged (searched_problem own) budget old new = subst (λ (p : BoxProblem). IsPrefixLogged p budget old new) (searched_is own program is) (wrote stops) in
-        prefix (footer_of log.outcome) (option_map (valued_at own) (told_point log.outcome)) log.bytes
-        (record { outcome = log.outcome; claimed = refl; found_is = refl; is_log = log.is_log }) log.took
-    search_stopped r search.NoMemory stops wrote kept = nothing (kept stops)
+    pub search_stopped : IsPrefixLogged (box_problem_of program) plan old new → TookPrefix own plan old new
+    search_stopped logged = prefix (subst (λ (p : BoxProblem). IsPrefixLogged p plan old new) (searched_is own program is) logged)

@@ -7,6 +7,7 @@ use Rattle.sopl_ast.specs.Instances.{Problem}
 use Rattle.sopl_ast.specs.Optimal.{IsOptimal, IsInfeasible}
 use Rattle.sopl_ast.specs.Policies.{Policy}
 use Rattle.log_rows.specs.declared.rows.Footer.TheVariants as claim
+use Rattle.sopl_search.specs.Logged.{SearchPlan}
 use Rattle.sopl_search.specs.declared.outcome.Found.{Found}
 use Rattle.sopl_search.specs.declared.outcome.Outcome.{Outcome}
 use Rattle.sopl_search.specs.declared.outcome.Outcome.TheVariants as outcome
@@ -20,44 +21,44 @@ use Rattle.answer_texts.specs.declared.solve_answer.Answer.{Answer}
 use Rattle.answer_texts.specs.declared.solve_answer.Answer.TheVariants.{Settled, Cut}
 
 -- a line settles a problem, and this is the log of the search
-pub data IsSettledBy (problem : Problem) (budget : ℕ) (log : List ℕ) : List ℕ → Type 0 where
+pub data IsSettledBy (problem : Problem) (plan : SearchPlan) (log : List ℕ) : List ℕ → Type 0 where
   -- this policy of it is optimal and has this value
-  optimal : (policy : Policy) (value : ℤ) → IsOptimal problem policy value → IsLogOf problem budget (claim.Optimal value) (Some (with_value policy value)) log
-      → IsSettledBy problem budget log (line_of (optimal_data problem policy value))
+  optimal : (policy : Policy) (value : ℤ) → IsOptimal problem policy value → IsLogOf problem plan (claim.Optimal value) (Some (with_value policy value)) log
+      → IsSettledBy problem plan log (line_of (optimal_data problem policy value))
   -- no policy of it satisfies
-  infeasible : IsInfeasible problem → IsLogOf problem budget claim.Infeasible None log
-      → IsSettledBy problem budget log (line_of (word_data (codes "infeasible")))
+  infeasible : IsInfeasible problem → IsLogOf problem plan claim.Infeasible None log
+      → IsSettledBy problem plan log (line_of (word_data (codes "infeasible")))
 
 -- the value of what was found, if anything was
 abbrev pub found_value : Option Valued → Option ℤ
 found_value found = option_map (λ (f : Valued). f.value) found
 
 -- a line tells a bound, and this is the log of the search, which ended with as many nodes as the budget allows, and fewer than it may have
-pub data IsBoundedBy (problem : Problem) (budget : ℕ) (log : List ℕ) : List ℕ → Type 0 where
-  bounded : (found : Option Valued) (bound : ℤ) → IsBounded problem found bound → budget < most_nodes problem
-      → IsLogOf problem budget (claim.Bounded (found_value found) bound) found log
-      → IsBoundedBy problem budget log (line_of (bounded_data problem found bound))
+pub data IsBoundedBy (problem : Problem) (plan : SearchPlan) (log : List ℕ) : List ℕ → Type 0 where
+  bounded : (found : Option Valued) (bound : ℤ) → IsBounded problem found bound → plan.budget < most_nodes problem
+      → IsLogOf problem plan (claim.Bounded (found_value found) bound) found log
+      → IsBoundedBy problem plan log (line_of (bounded_data problem found bound))
 
-abbrev pub IsAnsweredBy : Problem → ℕ → List ℕ → Answer → Type 0
-IsAnsweredBy problem budget log (Settled line) = IsSettledBy problem budget log (string_bytes line)
-IsAnsweredBy problem budget log (Cut line) = IsBoundedBy problem budget log (string_bytes line)
+abbrev pub IsAnsweredBy : Problem → SearchPlan → List ℕ → Answer → Type 0
+IsAnsweredBy problem plan log (Settled line) = IsSettledBy problem plan log (string_bytes line)
+IsAnsweredBy problem plan log (Cut line) = IsBoundedBy problem plan log (string_bytes line)
 
 -- an answer, and the sink was begun with a name and took the log that goes with it
-pub record Answers (problem : Problem) (budget : ℕ) (name : List ℕ) (old new : SinkState) (answer : Answer) : Type 0 where
+pub record Answers (problem : Problem) (plan : SearchPlan) (name : List ℕ) (old new : SinkState) (answer : Answer) : Type 0 where
   pub log : List ℕ
-  pub answered : IsAnsweredBy problem budget log answer
+  pub answered : IsAnsweredBy problem plan log answer
   pub wrote : Wrote name log old new
 
 -- an answer, and a sink took the log that goes with it
-pub record Searched (problem : Problem) (budget : ℕ) (old new : Option (List ℕ)) (answer : Answer) : Type 0 where
+pub record Searched (problem : Problem) (plan : SearchPlan) (old new : Option (List ℕ)) (answer : Answer) : Type 0 where
   pub log : List ℕ
-  pub answered : IsAnsweredBy problem budget log answer
+  pub answered : IsAnsweredBy problem plan log answer
   pub took : Appends old new log
 
 -- the text is solved, and the sink was begun with a name and took a prefix of the log
-pub record IsCutOff (stated : AcceptedProblem) (budget : ℕ) (name : List ℕ) (old new : SinkState) : Type 0 where
+pub record IsCutOff (stated : AcceptedProblem) (plan : SearchPlan) (name : List ℕ) (old new : SinkState) : Type 0 where
   pub solvable : IsSolvable (model_in stated)
-  pub wrote : WrotePrefix (problem_in stated) budget name old new
+  pub wrote : WrotePrefix (problem_in stated) plan name old new
 
 -- The answer of an outcome.
 

@@ -2,7 +2,6 @@
 use Rattle.std.specs.Prelude.{◌≡◌, ℕ, ℤ, List, [], Option, option_map}
 use Rattle.std.specs.Io.KnownBytes.{Keeps, Appends}
 use Rattle.sopl_io.specs.Stock.{with_name}
-use Rattle.sopl_io.specs.Transfer.{AppendsPrefix}
 use Rattle.sopl_ast.specs.Cells.{cells, policy_at}
 use Rattle.sopl_ast.specs.Instances.{Problem}
 use Rattle.sopl_ast.specs.Policies.{Policy}
@@ -10,7 +9,7 @@ use Rattle.box_problem.specs.Box.{points}
 use Rattle.box_problem.specs.BoxProblem.{BoxProblem}
 use Rattle.box_problem.specs.Covers.{nodes_for}
 use Rattle.log_rows.specs.declared.rows.Footer.{Footer}
-use Rattle.sopl_search.specs.Logged.{IsSearchLog, footer_of, told_point}
+use Rattle.sopl_search.specs.Logged.{IsPrefixLogged, IsSearchLog, SearchPlan, footer_of, told_point}
 use Rattle.sopl_search.specs.declared.outcome.Found.{Found}
 use Rattle.sopl_search.specs.declared.outcome.Outcome.{Outcome}
 use Rattle.term_problem.specs.Search.{problem_over}
@@ -33,13 +32,13 @@ with_value policy value = record { policy = policy; value = value }
 abbrev pub valued_at : Problem → Found → Valued
 valued_at problem found = with_value (policy_at (cells problem) found.cells) found.value
 
--- these bytes are the log of a search of the problem within a budget of nodes, which ends with this claim; and this policy with its value, if any, is
+-- these bytes are the log of a search of the problem by a plan, which ends with this claim; and this policy with its value, if any, is
 -- that of the point which the search tells, by its tree the point of a row
-pub record IsLogOf (problem : Problem) (budget : ℕ) (claim : Footer) (found : Option Valued) (log : List ℕ) : Type 0 where
+pub record IsLogOf (problem : Problem) (plan : SearchPlan) (claim : Footer) (found : Option Valued) (log : List ℕ) : Type 0 where
   pub outcome : Outcome
   pub claimed : footer_of outcome ≡ claim
   pub found_is : option_map (valued_at problem) (told_point outcome) ≡ found
-  pub is_log : IsSearchLog (searched_problem problem) budget outcome log
+  pub is_log : IsSearchLog (searched_problem problem) plan outcome log
 
 -- what a sink tells: the bytes that it took since it was begun last, and the names with which it was begun
 pub record SinkState : Type 0 where
@@ -66,11 +65,12 @@ pub record Wrote (name log : List ℕ) (old new : SinkState) : Type 0 where
   pub names : new.names ≡ with_name old.names name
   pub took : Appends (emptied old.taken) new.taken log
 
--- a sink was begun with a name, and then took nothing, or a prefix of a log of a search of the problem
-pub data TookPrefix (problem : Problem) (budget : ℕ) (old : Option (List ℕ)) (new : Option (List ℕ)) : Type 0 where
-  nothing : Keeps old new → TookPrefix problem budget old new
-  prefix : (claim : Footer) (found : Option Valued) (log : List ℕ) → IsLogOf problem budget claim found log → AppendsPrefix old new log → TookPrefix problem budget old new
+-- a sink took nothing, or a prefix of a log whose first rows are those of a search of the problem by a plan
+pub data TookPrefix (problem : Problem) (plan : SearchPlan) (old : Option (List ℕ)) (new : Option (List ℕ)) : Type 0 where
+  nothing : Keeps old new → TookPrefix problem plan old new
+  prefix : IsPrefixLogged (searched_problem problem) plan old new → TookPrefix problem plan old new
 
-pub record WrotePrefix (problem : Problem) (budget : ℕ) (name : List ℕ) (old new : SinkState) : Type 0 where
+-- a sink was begun with a name, and then took such a prefix
+pub record WrotePrefix (problem : Problem) (plan : SearchPlan) (name : List ℕ) (old new : SinkState) : Type 0 where
   pub names : new.names ≡ with_name old.names name
-  pub took : TookPrefix problem budget (emptied old.taken) new.taken
+  pub took : TookPrefix problem plan (emptied old.taken) new.taken

@@ -12,6 +12,7 @@ use Rattle.sopl_ast.specs.Optimal.{IsOptimal, IsInfeasible}
 use Rattle.log_rows.specs.declared.rows.Footer.TheVariants as claim
 use Rattle.sopl_base.specs.declared.stop.SearchStop.{SearchStop}
 use Rattle.sopl_base.specs.declared.stop.SearchStop.TheVariants as stop
+use Rattle.sopl_search.specs.Logged.{SearchPlan}
 use Rattle.answer_lines.specs.Answer.{tree_data}
 use Rattle.answer_texts.specs.Solved.{SolvedText, IsLimitedInTerms}
 use Rattle.answer_lines.specs.AnswerData.{Valued, word_data, refused_data, limit_data, optimal_data, bounded_data, line_of}
@@ -67,30 +68,30 @@ settled WriteFault = WriteFault
 settled NoMemory = NoMemory
 settled Unreadable = Unreadable
 
--- a reply to a command on a text, where a search may finish so many nodes: the log that goes with it, the status that it ends with, its line, and
+-- a reply to a command on a text, where a search is done by this plan: the log that goes with it, the status that it ends with, its line, and
 -- why it comes
-pub data IsTextReply (text : List ℕ) (budget : ℕ) : Command → Option (List ℕ) → Status → List ℕ → Type 0 where
+pub data IsTextReply (text : List ℕ) (plan : SearchPlan) : Command → Option (List ℕ) → Status → List ℕ → Type 0 where
   -- the text states a problem, and this policy of it is optimal and has this value; it is that of the point of a row of the log
   optimal : (problem : Problem) (policy : Policy) (value : ℤ) (log : List ℕ) → SolvedText text problem → IsOptimal problem policy value
-      → IsLogOf problem budget (claim.Optimal value) (Some (with_value policy value)) log
-      → IsTextReply text budget Solve (Some log) Done (line_of (optimal_data problem policy value))
+      → IsLogOf problem plan (claim.Optimal value) (Some (with_value policy value)) log
+      → IsTextReply text plan Solve (Some log) Done (line_of (optimal_data problem policy value))
   -- the text states a problem, and no policy of it satisfies
-  infeasible : (problem : Problem) (log : List ℕ) → SolvedText text problem → IsInfeasible problem → IsLogOf problem budget claim.Infeasible None log
-      → IsTextReply text budget Solve (Some log) Done (line_of (word_data (codes "infeasible")))
+  infeasible : (problem : Problem) (log : List ℕ) → SolvedText text problem → IsInfeasible problem → IsLogOf problem plan claim.Infeasible None log
+      → IsTextReply text plan Solve (Some log) Done (line_of (word_data (codes "infeasible")))
   -- the text states a problem, no policy of it is better than this bound, and this one satisfies where one was found, that of the point of a row of the
   -- log; the log has as many finished nodes as the budget allows, and the bound is the better end of a box that is open
   bounded : (problem : Problem) (found : Option Valued) (bound : ℤ) (log : List ℕ) → SolvedText text problem → IsBounded problem found bound
-      → budget < most_nodes problem → IsLogOf problem budget (claim.Bounded (found_value found) bound) found log
-      → IsTextReply text budget Solve (Some log) Bounded (line_of (bounded_data problem found bound))
+      → plan.budget < most_nodes problem → IsLogOf problem plan (claim.Bounded (found_value found) bound) found log
+      → IsTextReply text plan Solve (Some log) Bounded (line_of (bounded_data problem found bound))
   -- the text states a problem with these scenarios
   scenes : (problem : Problem) → SolvedText text problem
-      → IsTextReply text budget Tree None Done (line_of (tree_data problem.decisions problem.stochastics))
+      → IsTextReply text plan Tree None Done (line_of (tree_data problem.decisions problem.stochastics))
   -- the text is refused by this code at this place
   refused : (command : Command) (refusal : Refusal) → IsRefusedOn text refusal command
-      → IsTextReply text budget command None Refused (line_of (refused_data (pos refusal.at) (pos refusal.code)))
+      → IsTextReply text plan command None Refused (line_of (refused_data (pos refusal.at) (pos refusal.code)))
   -- the text passes this limit
   limited : (command : Command) (excess : Excess) → IsLimitedOn text excess command
-      → IsTextReply text budget command None Limit (line_of (limit_data excess))
+      → IsTextReply text plan command None Limit (line_of (limit_data excess))
 
 -- a sink was begun with a name and took the log, where there is one; else it was not used
 abbrev pub Logged : List ℕ → Option (List ℕ) → SinkState → SinkState → Type 0
@@ -98,19 +99,19 @@ Logged name None old new = IsUnused old new
 Logged name (Some log) old new = Wrote name log old new
 
 -- a reply, and what the log's sink took
-pub record Replies (text : List ℕ) (budget : ℕ) (command : Command) (name : List ℕ) (old new : SinkState) (status : Status) (line : List ℕ) : Type 0 where
+pub record Replies (text : List ℕ) (plan : SearchPlan) (command : Command) (name : List ℕ) (old new : SinkState) (status : Status) (line : List ℕ) : Type 0 where
   pub log : Option (List ℕ)
-  pub reply : IsTextReply text budget command log status line
+  pub reply : IsTextReply text plan command log status line
   pub logged : Logged name log old new
 
 -- the text is solved, and the log's sink was begun with a name and took a prefix of a log
-pub record IsCut (text : List ℕ) (budget : ℕ) (command : Command) (name : List ℕ) (old new : SinkState) : Type 0 where
+pub record IsCut (text : List ℕ) (plan : SearchPlan) (command : Command) (name : List ℕ) (old new : SinkState) : Type 0 where
   pub commanded : command ≡ Solve
   pub problem : Problem
   pub is_solved : SolvedText text problem
-  pub wrote : WrotePrefix problem budget name old new
+  pub wrote : WrotePrefix problem plan name old new
 
 -- why there is no reply: the log's sink failed, or memory ran out
-abbrev pub StopsByCause : List ℕ → ℕ → Command → List ℕ → SinkState → SinkState → SearchStop → Type 0
-StopsByCause text budget command name old new stop.Write = IsCut text budget command name old new
-StopsByCause text budget command name old new stop.NoMemory = IsUnused old new ⊎ IsCut text budget command name old new
+abbrev pub StopsByCause : List ℕ → SearchPlan → Command → List ℕ → SinkState → SinkState → SearchStop → Type 0
+StopsByCause text plan command name old new stop.Write = IsCut text plan command name old new
+StopsByCause text plan command name old new stop.NoMemory = IsUnused old new ⊎ IsCut text plan command name old new

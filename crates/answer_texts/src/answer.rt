@@ -1,12 +1,13 @@
 //! From a command and the text of a model to the reply.
 
-ghost use Rattle.std.specs.Prelude.{◌≡◌, ◌≤◌, ℕ, List, None, Err, string_bytes, pos, IfOk, IfErr};
+ghost use Rattle.std.specs.Prelude.{◌≡◌, ◌≤◌, ℕ, List, None, Err, option_map, string_bytes, pos, IfOk, IfErr};
 ghost use Rattle.sopl_io.specs.Calls.{StopsWhere};
 ghost use Rattle.sopl_io.specs.Causes.{Rose};
 ghost use Rattle.scen_accept.specs.Stated.{IsLaid, States, model_in, problem_in};
 ghost use Rattle.answer_lines.specs.Answer.{tree_data};
 ghost use Rattle.answer_lines.specs.AnswerData.{limit_data, line_of, refused_data};
 ghost use Rattle.sopl_base.specs.declared.stop.SearchStop.TheVariants as search;
+ghost use Rattle.sopl_search.specs.Logged.{SearchPlan, plan_of};
 ghost use Rattle.answer_texts.specs.AnswerReplies.{reply_of as replied};
 ghost use Rattle.answer_texts.specs.Away.{IsTurnedAway, TellsFault};
 ghost use Rattle.answer_texts.specs.Logs.{state_of};
@@ -21,9 +22,11 @@ use crate::solve_answer::Answer;
 use crate::solved::solved_answer;
 use crate::status::Status;
 use answer_lines::{limit_line, refused_line, tree_text};
+use brancher::Brancher;
 use scen_accept::{AcceptedProblem, stated_in};
 use sopl_base::{Excess, Fault, Refusal, SearchStop};
 use sopl_io::Sink;
+use sopl_search::Schedule;
 use std::alloc::{AllocError, Global};
 
 /// The reply to a text that is refused so.
@@ -54,8 +57,8 @@ fn limit_reply(alloc: Global, excess: &Excess) -> Result<Reply, AllocError>
 pub fn away_reply(alloc: Global, fault: Fault) -> Result<Reply, AllocError>
     ensures told { IfOk result (λ reply. TellsFault fault reply.status (string_bytes reply.line)) }
     ensures turned_away { IfOk result (λ reply. IsTurnedAway reply.status) }
-    ensures reply { (command : Command) (text : List ℕ) (budget : ℕ) → IsFaultOn text command fault
-        → IfOk result (λ reply. IsTextReply text budget command None reply.status (string_bytes reply.line)) }
+    ensures reply { (command : Command) (text : List ℕ) (plan : SearchPlan) → IsFaultOn text command fault
+        → IfOk result (λ reply. IsTextReply text plan command None reply.status (string_bytes reply.line)) }
 {
     match fault {
         Fault::Text(refusal) => refused_reply(alloc, refusal),
@@ -81,8 +84,8 @@ fn tree_line(alloc: Global, stated: &AcceptedProblem) -> Result<String, AllocErr
 fn shown_reply(alloc: Global, stated: &AcceptedProblem) -> Result<Reply, AllocError>
     requires laid_out { IsLaid stated.now }
     requires solvable { IsSolvable (model_in stated.now) }
-    ensures reply { (text : List ℕ) (budget : ℕ) → States text stated.now
-        → IfOk result (λ reply. IsTextReply text budget ShowTree None reply.status (string_bytes reply.line)) }
+    ensures reply { (text : List ℕ) (plan : SearchPlan) → States text stated.now
+        → IfOk result (λ reply. IsTextReply text plan ShowTree None reply.status (string_bytes reply.line)) }
 {
     let line = tree_line(alloc, stated)?;
     Ok(Reply {
@@ -95,8 +98,8 @@ fn shown_reply(alloc: Global, stated: &AcceptedProblem) -> Result<Reply, AllocEr
 fn tree_reply(alloc: Global, stated: &AcceptedProblem) -> Result<Reply, AllocError>
     requires stated { (text : List ℕ) × States text stated.now }
     requires laid_out { IsLaid stated.now }
-    ensures reply { (text : List ℕ) (budget : ℕ) → States text stated.now
-        → IfOk result (λ reply. IsTextReply text budget ShowTree None reply.status (string_bytes reply.line)) }
+    ensures reply { (text : List ℕ) (plan : SearchPlan) → States text stated.now
+        → IfOk result (λ reply. IsTextReply text plan ShowTree None reply.status (string_bytes reply.line)) }
 {
     match terms_allowed(alloc, stated) {
         Ok(()) => shown_reply(alloc, stated),
@@ -125,21 +128,26 @@ fn solved_reply<K: Sink>(
     alloc: Global,
     stated: &AcceptedProblem,
     budget: u32,
+    schedule: Schedule,
+    brancher: Option<Box<dyn Brancher>>,
     name: &str,
     sink: &mut K,
 ) -> Result<Reply, SearchStop>
     requires stated { (text : List ℕ) × States text stated.now }
     requires laid_out { IsLaid stated.now }
     requires budget { 1 ≤ budget }
-    ensures reply { (text : List ℕ) → States text stated.now → IfOk result (λ reply. Replies text budget Solve name.now
+    requires turn { schedule.turn ≡ 0 }
+    ensures reply { (text : List ℕ) → States text stated.now → IfOk result (λ reply. Replies text
+        (plan_of schedule (option_map rule brancher) budget) Solve name.now
         (state_of K.taken K.names sink.old) (state_of K.taken K.names sink.new) reply.status (string_bytes reply.line)) }
-    ensures stopped { (text : List ℕ) → States text stated.now → IfErr result (StopsByCause text budget Solve name.now
+    ensures stopped { (text : List ℕ) → States text stated.now → IfErr result (StopsByCause text
+        (plan_of schedule (option_map rule brancher) budget) Solve name.now
         (state_of K.taken K.names sink.old) (state_of K.taken K.names sink.new)) }
     ensures faults_grow { K.faults sink.old ≤ K.faults sink.new }
     ensures write { result ≡ Err search.Write → Rose (K.faults sink.old) (K.faults sink.new) }
     ensures outcomes { StopsWhere (result ≡ Err search.Write) (K.outcomes sink.old) (K.outcomes sink.new) }
 {
-    match solved_answer(alloc, stated, budget, name, sink)? {
+    match solved_answer(alloc, stated, budget, schedule, brancher, name, sink)? {
         Ok(answer) => Ok(reply_of(answer)),
         Err(fault) => {
             let reply = away_reply(alloc, fault)?;
@@ -154,22 +162,27 @@ fn stated_reply<K: Sink>(
     command: Command,
     stated: &AcceptedProblem,
     budget: u32,
+    schedule: Schedule,
+    brancher: Option<Box<dyn Brancher>>,
     name: &str,
     sink: &mut K,
 ) -> Result<Reply, SearchStop>
     requires stated { (text : List ℕ) × States text stated.now }
     requires laid_out { IsLaid stated.now }
     requires budget { 1 ≤ budget }
-    ensures reply { (text : List ℕ) → States text stated.now → IfOk result (λ reply. Replies text budget command name.now
+    requires turn { schedule.turn ≡ 0 }
+    ensures reply { (text : List ℕ) → States text stated.now → IfOk result (λ reply. Replies text
+        (plan_of schedule (option_map rule brancher) budget) command name.now
         (state_of K.taken K.names sink.old) (state_of K.taken K.names sink.new) reply.status (string_bytes reply.line)) }
-    ensures stopped { (text : List ℕ) → States text stated.now → IfErr result (StopsByCause text budget command name.now
+    ensures stopped { (text : List ℕ) → States text stated.now → IfErr result (StopsByCause text
+        (plan_of schedule (option_map rule brancher) budget) command name.now
         (state_of K.taken K.names sink.old) (state_of K.taken K.names sink.new)) }
     ensures faults_grow { K.faults sink.old ≤ K.faults sink.new }
     ensures write { result ≡ Err search.Write → Rose (K.faults sink.old) (K.faults sink.new) }
     ensures outcomes { StopsWhere (result ≡ Err search.Write) (K.outcomes sink.old) (K.outcomes sink.new) }
 {
     match command {
-        Command::Solve => solved_reply(alloc, stated, budget, name, sink),
+        Command::Solve => solved_reply(alloc, stated, budget, schedule, brancher, name, sink),
         Command::Tree => {
             let reply = tree_reply(alloc, stated)?;
             Ok(reply)
@@ -186,20 +199,27 @@ pub fn reply_to<K: Sink>(
     command: Command,
     text: &[u8],
     budget: u32,
+    schedule: Schedule,
+    brancher: Option<Box<dyn Brancher>>,
     name: &str,
     sink: &mut K,
 ) -> Result<Reply, SearchStop>
     requires budget { 1 ≤ budget }
-    ensures reply { IfOk result (λ reply. Replies text.now budget command name.now
+    requires turn { schedule.turn ≡ 0 }
+    ensures reply { IfOk result (λ reply. Replies text.now
+        (plan_of schedule (option_map rule brancher) budget) command name.now
         (state_of K.taken K.names sink.old) (state_of K.taken K.names sink.new) reply.status (string_bytes reply.line)) }
-    ensures stopped { IfErr result (StopsByCause text.now budget command name.now
+    ensures stopped { IfErr result (StopsByCause text.now
+        (plan_of schedule (option_map rule brancher) budget) command name.now
         (state_of K.taken K.names sink.old) (state_of K.taken K.names sink.new)) }
     ensures faults_grow { K.faults sink.old ≤ K.faults sink.new }
     ensures write { result ≡ Err search.Write → Rose (K.faults sink.old) (K.faults sink.new) }
     ensures outcomes { StopsWhere (result ≡ Err search.Write) (K.outcomes sink.old) (K.outcomes sink.new) }
 {
     match stated_in(alloc, text) {
-        Ok(stated) => stated_reply(alloc, command, &stated, budget, name, sink),
+        Ok(stated) => stated_reply(
+            alloc, command, &stated, budget, schedule, brancher, name, sink,
+        ),
         Err(fault) => {
             let reply = away_reply(alloc, fault)?;
             Ok(reply)

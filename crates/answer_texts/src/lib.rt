@@ -20,5 +20,5 @@ pub use program::{program_of, terms_allowed};
 pub use reply::Reply;
 pub use solve_answer::Answer;
 pub use solved::solved_answer;
-pub use solved_laws::accepted_end_once;
+pub use solved_laws::{accepted_end_once, settled_answer_alike};
 pub use status::Status;

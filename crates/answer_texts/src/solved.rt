@@ -1,9 +1,10 @@
 //! From what an accepted text states to the line that answers it, and the log of the search.
 
-ghost use Rattle.std.specs.Prelude.{◌≡◌, ◌≤◌, ℕ, List, Err, IfOk, IfErr};
+ghost use Rattle.std.specs.Prelude.{◌≡◌, ◌≤◌, ℕ, List, option_map, Err, IfOk, IfErr};
 ghost use Rattle.sopl_io.specs.Calls.{StopsWhere};
 ghost use Rattle.sopl_io.specs.Causes.{Rose};
 ghost use Rattle.scen_accept.specs.Stated.{IsLaid, States, model_in, problem_in};
+ghost use Rattle.sopl_search.specs.Logged.{plan_of};
 ghost use Rattle.answer_texts.specs.Models.{IsSolvable};
 ghost use Rattle.sopl_base.specs.declared.stop.SearchStop.TheVariants as search;
 ghost use Rattle.answer_texts.specs.Solving.{IsProgramOf, IsSolveFault};
@@ -13,10 +14,12 @@ ghost use Rattle.answer_texts.specs.Answering.{Answers, IsCutOff, Searched};
 use crate::lines::answer_of;
 use crate::program::program_of;
 use crate::solve_answer::Answer;
+use brancher::Brancher;
 use prop_set::search_program;
 use scen_accept::AcceptedProblem;
 use sopl_base::{Fault, SearchStop};
 use sopl_io::Sink;
+use sopl_search::Schedule;
 use sopl_term::Program;
 use std::alloc::Global;
 
@@ -26,20 +29,25 @@ fn searched_answer<K: Sink>(
     stated: &AcceptedProblem,
     program: &Program,
     budget: u32,
+    schedule: Schedule,
+    brancher: Option<Box<dyn Brancher>>,
     sink: &mut K,
 ) -> Result<Answer, SearchStop>
     requires stated { (text : List ℕ) × States text stated.now }
     requires laid_out { IsLaid stated.now }
     requires program { IsProgramOf (problem_in stated.now) program.now }
     requires budget { 1 ≤ budget }
-    ensures answer { IfOk result (Searched (problem_in stated.now) budget (K.taken sink.old) (K.taken sink.new)) }
-    ensures stopped { IfErr result (λ stop. TookPrefix (problem_in stated.now) budget (K.taken sink.old) (K.taken sink.new)) }
+    requires turn { schedule.turn ≡ 0 }
+    ensures answer { IfOk result (Searched (problem_in stated.now)
+        (plan_of schedule (option_map rule brancher) budget) (K.taken sink.old) (K.taken sink.new)) }
+    ensures stopped { IfErr result (λ stop. TookPrefix (problem_in stated.now)
+        (plan_of schedule (option_map rule brancher) budget) (K.taken sink.old) (K.taken sink.new)) }
     ensures names { K.names sink.new ≡ K.names sink.old }
     ensures faults_grow { K.faults sink.old ≤ K.faults sink.new }
     ensures write { result ≡ Err search.Write → Rose (K.faults sink.old) (K.faults sink.new) }
     ensures outcomes { StopsWhere (result ≡ Err search.Write) (K.outcomes sink.old) (K.outcomes sink.new) }
 {
-    let outcome = search_program(alloc, program, budget, sink)?;
+    let outcome = search_program(alloc, program, budget, schedule, brancher, sink)?;
     let answer = answer_of(alloc, stated, program, &outcome)?;
     Ok(answer)
 }
@@ -50,6 +58,8 @@ fn logged_answer<K: Sink>(
     stated: &AcceptedProblem,
     program: &Program,
     budget: u32,
+    schedule: Schedule,
+    brancher: Option<Box<dyn Brancher>>,
     name: &str,
     sink: &mut K,
 ) -> Result<Answer, SearchStop>
@@ -57,9 +67,12 @@ fn logged_answer<K: Sink>(
     requires laid_out { IsLaid stated.now }
     requires program { IsProgramOf (problem_in stated.now) program.now }
     requires budget { 1 ≤ budget }
-    ensures answer { IfOk result (Answers (problem_in stated.now) budget name.now
+    requires turn { schedule.turn ≡ 0 }
+    ensures answer { IfOk result (Answers (problem_in stated.now)
+        (plan_of schedule (option_map rule brancher) budget) name.now
         (state_of K.taken K.names sink.old) (state_of K.taken K.names sink.new)) }
-    ensures stopped { IfErr result (λ stop. WrotePrefix (problem_in stated.now) budget name.now
+    ensures stopped { IfErr result (λ stop. WrotePrefix (problem_in stated.now)
+        (plan_of schedule (option_map rule brancher) budget) name.now
         (state_of K.taken K.names sink.old) (state_of K.taken K.names sink.new)) }
     ensures faults_grow { K.faults sink.old ≤ K.faults sink.new }
     ensures write { result ≡ Err search.Write → Rose (K.faults sink.old) (K.faults sink.new) }
@@ -68,7 +81,7 @@ fn logged_answer<K: Sink>(
     if sink.begin(name).is_err() {
         return Err(SearchStop::Write);
     }
-    searched_answer(alloc, stated, program, budget, sink)
+    searched_answer(alloc, stated, program, budget, schedule, brancher, sink)
 }
 
 /// The answer to what an accepted text states: its optimal policy with the value, `infeasible` where no policy satisfies, or a bound
@@ -79,18 +92,23 @@ pub fn solved_answer<K: Sink>(
     alloc: Global,
     stated: &AcceptedProblem,
     budget: u32,
+    schedule: Schedule,
+    brancher: Option<Box<dyn Brancher>>,
     name: &str,
     sink: &mut K,
 ) -> Result<Result<Answer, Fault>, SearchStop>
     requires stated { (text : List ℕ) × States text stated.now }
     requires laid_out { IsLaid stated.now }
     requires budget { 1 ≤ budget }
-    ensures answer { IfOk result (λ solved. IfOk solved (Answers (problem_in stated.now) budget name.now
+    requires turn { schedule.turn ≡ 0 }
+    ensures answer { IfOk result (λ solved. IfOk solved (Answers (problem_in stated.now)
+        (plan_of schedule (option_map rule brancher) budget) name.now
         (state_of K.taken K.names sink.old) (state_of K.taken K.names sink.new))) }
     ensures solvable { IfOk result (λ solved. IfOk solved (λ answer. IsSolvable (model_in stated.now))) }
     ensures refused { IfOk result (λ solved. IfErr solved (IsSolveFault (model_in stated.now))) }
     ensures unused { IfOk result (λ solved. IfErr solved (λ fault. IsUnused (state_of K.taken K.names sink.old) (state_of K.taken K.names sink.new))) }
-    ensures stopped { IfErr result (λ stop. IsCutOff stated.now budget name.now
+    ensures stopped { IfErr result (λ stop. IsCutOff stated.now
+        (plan_of schedule (option_map rule brancher) budget) name.now
         (state_of K.taken K.names sink.old) (state_of K.taken K.names sink.new)) }
     ensures faults_grow { K.faults sink.old ≤ K.faults sink.new }
     ensures write { result ≡ Err search.Write → Rose (K.faults sink.old) (K.faults sink.new) }
@@ -98,7 +116,9 @@ pub fn solved_answer<K: Sink>(
 {
     match program_of(alloc, stated) {
         Ok(program) => {
-            let answer = logged_answer(alloc, stated, &program, budget, name, sink)?;
+            let answer = logged_answer(
+                alloc, stated, &program, budget, schedule, brancher, name, sink,
+            )?;
             Ok(Ok(answer))
         }
         Err(fault) => Ok(Err(fault)),

@@ -37,7 +37,8 @@ fn run_over<'a, R: Files + Print>(
     requires answer { answer.old.destination ≡ standard_output }
     requires log { log.old.destination ≡ not_begun }
 {
-    run(alloc, words, source, answer, log)
+    let branchers = Vec::new(alloc);
+    run(alloc, words, source, answer, log, branchers)
 }
 
 /// Runs the command that the words of the command line name, over files and standard output.

@@ -21,7 +21,7 @@ use Rattle.box_problem.proofs.Boxes.{intervals_make_a_box}
 use Rattle.box_problem.proofs.Lists.{at_set}
 use Rattle.prop_core.specs.Findings.{Closes, Narrows}
 use Rattle.sopl_search.specs.Climbing.{both_reasons, climbing, is_closed, pair_of, reached}
-use Rattle.sopl_search.specs.Ends.{AreAll}
+use Rattle.sopl_search.specs.Ends.{AreAll, IsPosed}
 use Rattle.box_problem.specs.Near.{IsNear, IsNearBox}
 
 beyond : (x y : ℤ) → int_le x y ≡ false → y <ℤ x
@@ -234,3 +234,7 @@ few_digits n =
 
 pub pair_bits : (first second : Interval) → bits_in (pair_of first second) ≤ 1024
 pair_bits first second = omega (arith, few_digits (int_gap first.lo first.hi), few_digits (int_gap second.lo second.hi))
+
+-- a search may be asked for over it
+pub climbing_posed : (first second : Interval) → IsNearBox (pair_of first second) → IsPosed (climbing (pair_of first second))
+climbing_posed first second near = record { lawful = climbing_lawful first second; near = near; few_bits = pair_bits first second }

@@ -1,6 +1,6 @@
--- Of two sides of a split the low one stands first.
-use Rattle.std.proofs.Common.{◌≡◌, ◌⊎◌, inl, inr, ℕ, suc, ◌+◌, ◌-◌, ◌<◌, ◌≤◌, ℤ, List, [], ◌∷◌, ◌++◌, length, get_or, map, reverse, Option, Some, None, Contains, arith, refl, sym, ap, subst, ◌∙◌}
-use Rattle.std.proofs.lemmas.Bool.{cases_eq, cases_order, cases_lt}
+-- Of two sides of a split the low one stands first, also among the rows of open nodes.
+use Rattle.std.proofs.Common.{◌≡◌, ◌⊎◌, inl, inr, ℕ, ◌+◌, ◌-◌, ◌<◌, ◌≤◌, ℤ, List, ◌++◌, length, get_or, map, Option, AllPairs, Contains, arith, refl, sym, ap, subst, ◌∙◌}
+use Rattle.std.proofs.lemmas.Bool.{cases_order, cases_lt}
 use Rattle.std.proofs.lemmas.List.{get_or-append-add, get_or-map, length-append, length-map}
 use Rattle.std.proofs.lemmas.List.Elements.{Contains-get_or}
 use Rattle.sopl_base.specs.declared.reason.Side.TheVariants.{Le, Ge}
@@ -10,12 +10,12 @@ use Rattle.log_rows.specs.declared.rows.Row.{Row}
 use Rattle.log_rows.specs.Made.{Logs, Pending, open_row, pending_at, with_open}
 use Rattle.log_rows.specs.Rows.{Hangs, no_row, row_at}
 use Rattle.log_rows.proofs.Growing.{not_both_sides, side_in, side_of, some_side, taken_or_free}
-use Rattle.log_rows.proofs.Lists.{first_or_later, middle_is}
-use Rattle.log_rows.proofs.Places.{row_last, row_stays}
-use Rattle.sopl_search.specs.Frontiers.{AreStacked, IsOlder}
+use Rattle.log_rows.proofs.Places.{row_stays}
 use Rattle.sopl_search.specs.Logged.{HasLowBefore, LowStandsFirst, StandsBefore}
-use Rattle.sopl_search.proofs.InOrder.{AreInOrder}
-use Rattle.sopl_search.proofs.Reversed.{from_reversed, has_reversed, of_all}
+
+-- open nodes by their parents
+abbrev AreInOrder : List Pending → Type 0
+AreInOrder nodes = AllPairs (λ (x y : Pending). StandsBefore x.parent y.parent) nodes
 
 -- a low side that stands among the first rows
 low_stays : (xs ys : List Row) (m i n : ℕ) → m ≤ length xs → m ≤ i → HasLowBefore xs m n → HasLowBefore (xs ++ ys) i n
@@ -36,47 +36,6 @@ beside problem rows opens best n logs hangs =
     elim (taken_or_free rows (length rows) (side_of n Le)) [
       | inl taken ↦ inl (record { row = taken.row; before = taken.before; parent = taken.is })
       | inr free ↦ inr (logs.listed (some_side n Le) (low_hangs rows (length rows) n hangs free))
-    ]
-
--- no low side waits
-never_older : (p : Option Parent) (n : ℕ) → ¬ IsOlder p (some_side n Le)
-never_older None n older = older
-never_older (Some p) n older = not_both_sides (sym older.0)
-
-not_open : (problem : BoxProblem) (rows : List Row) (x : Pending) (later : List Pending) (n : ℕ) → AreStacked (x ∷ later) → x.parent ≡ some_side n Ge
-    → ¬ Contains (reverse (x ∷ later)) (pending_at problem.root rows (some_side n Le))
-not_open problem rows x later n stacked is has =
-    let low = pending_at problem.root rows (some_side n Le) in
-    elim (first_or_later x later low (from_reversed (x ∷ later) low has)) [
-      | inl same ↦ not_both_sides (ap side_in (sym is ∙ ap (λ (z : Pending). z.parent) same))
-      | inr behind ↦ never_older x.parent n (of_all (λ (z : Pending). IsOlder x.parent z.parent) later low stacked.0 behind)
-    ]
-
--- so the low side of the split of a node at hand that is its high side is a row
-low_is_row : (problem : BoxProblem) (rows : List Row) (x : Pending) (later : List Pending) (best : Option ℤ) (n : ℕ) → Logs problem rows (reverse (x ∷ later)) best → AreStacked (x ∷ later)
-    → x.parent ≡ some_side n Ge → HasLowBefore rows (length rows) n
-low_is_row problem rows x later best n logs stacked is =
-    let there = logs.placed x (has_reversed (x ∷ later) x (middle_is [] later x)) in
-    elim (beside problem rows (reverse (x ∷ later)) best n logs (subst (λ (p : Option Parent). Hangs rows (length rows) p) is there.0)) [
-      | inl low ↦ low
-      | inr waits ↦ absurd (not_open problem rows x later n stacked is waits)
-    ]
-
--- one row more
-pub still_low_first : (problem : BoxProblem) (rows : List Row) (x : Pending) (later : List Pending) (best : Option ℤ) (row : Row) → row.parent ≡ x.parent
-    → Logs problem rows (reverse (x ∷ later)) best → AreStacked (x ∷ later) → LowStandsFirst rows → LowStandsFirst (rows ++ row ∷ [])
-still_low_first problem rows x later best row same logs stacked first i n exists is =
-    let all = rows ++ row ∷ [] in
-    let longer : length all ≡ suc (length rows) = omega (arith, length-append rows (row ∷ [])) in
-    elim (cases_eq i (length rows)) [
-      | inl last ↦
-          let here : (row_at all (length rows)).parent ≡ some_side n Ge = subst (λ (k : ℕ). (row_at all k).parent ≡ some_side n Ge) last is in
-          low_stays rows (row ∷ []) (length rows) i n (omega arith) (omega (arith, last))
-          (low_is_row problem rows x later best n logs stacked (sym same ∙ (sym (ap (λ (r : Row). r.parent) (row_last rows row [])) ∙ here)))
-      | inr other ↦
-          let old : i < length rows = omega (arith, longer, exists, other) in
-          low_stays rows (row ∷ []) i i n (omega (arith, old)) (omega arith)
-          (first i n old (sym (ap (λ (r : Row). r.parent) (row_stays rows (row ∷ []) i old)) ∙ is))
     ]
 
 -- the rows of open nodes

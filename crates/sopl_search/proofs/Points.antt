@@ -1,7 +1,6 @@
 -- The row of the point that was found.
-use Rattle.std.proofs.Common.{◌≡◌, ℤ, List, [], ◌∷◌, ◌++◌, length, Option, Some, None, IfSome, arith, sym, ap, subst, ◌∙◌}
+use Rattle.std.proofs.Common.{◌≡◌, List, [], ◌∷◌, ◌++◌, length, Option, Some, None, IfSome, arith, sym, ap, subst, ◌∙◌}
 use Rattle.std.proofs.lemmas.List.{length-append}
-use Rattle.sopl_base.specs.declared.direction.Direction.{Direction}
 use Rattle.box_problem.specs.Box.{Box}
 use Rattle.box_problem.specs.Steps.{after_steps}
 use Rattle.box_problem.specs.BoxProblem.{BoxProblem}
@@ -13,7 +12,8 @@ use Rattle.sopl_search.specs.declared.outcome.Found.{Found}
 use Rattle.sopl_search.specs.declared.outcome.Outcome.{Outcome}
 use Rattle.sopl_search.specs.declared.outcome.Outcome.TheVariants.{Optimal, Infeasible, Bounded}
 use Rattle.sopl_search.specs.Logged.{IsPointRow, told_point}
-use Rattle.sopl_search.specs.Outcomes.{Closes, Settles, found_at}
+use Rattle.sopl_search.specs.Closes.{EndsBy}
+use Rattle.sopl_search.specs.Outcomes.{found_at}
 
 -- it stays where rows follow
 point_stays : (problem : BoxProblem) (xs ys : List Row) (found : Found) → IsPointRow problem xs found → IsPointRow problem (xs ++ ys) found
@@ -41,13 +41,8 @@ new_point problem rows row b ends is worth = record {
 }
 
 -- what an outcome tells is what was found
-pub closed_tells : (P : Found → Type 0) (best : Option Found) (outcome : Outcome) → Closes best outcome → IfSome best P → IfSome (told_point outcome) P
-closed_tells P best (Optimal value cells) is holds = subst (λ (found : Option Found). IfSome found P) is holds
-closed_tells P best Infeasible is holds = tt
-closed_tells P best (Bounded found bound) is holds = absurd is
-
-pub settled_tells : (P : Found → Type 0) (direction : Direction) (best : Option Found) (bound : ℤ) (outcome : Outcome) → Settles direction best bound outcome → IfSome best P
+pub ends_tell : (P : Found → Type 0) (problem : BoxProblem) (best : Option Found) (bs : List Box) (outcome : Outcome) → EndsBy problem best bs outcome → IfSome best P
     → IfSome (told_point outcome) P
-settled_tells P direction best bound (Optimal value cells) settles holds = subst (λ (found : Option Found). IfSome found P) settles.0 holds
-settled_tells P direction best bound Infeasible settles holds = absurd settles
-settled_tells P direction best bound (Bounded found x) settles holds = subst (λ (f : Option Found). IfSome f P) (sym settles.0) holds
+ends_tell P problem best bs (Optimal value cells) ends holds = subst (λ (found : Option Found). IfSome found P) ends.0 holds
+ends_tell P problem best bs Infeasible ends holds = tt
+ends_tell P problem best bs (Bounded found bound) ends holds = subst (λ (f : Option Found). IfSome f P) (sym ends.0) holds

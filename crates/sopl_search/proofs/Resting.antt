@@ -1,8 +1,8 @@
 -- How a node ends at whose box propagators rest.
-use Rattle.std.proofs.Common.{◌≡◌, ℕ, ◌<◌, ℤ, List, Option, length, arith, sym, subst}
+use Rattle.std.proofs.Common.{◌≡◌, ℕ, ℤ, List, Option, arith, sym, subst}
 use Rattle.std.proofs.lemmas.Int.{ints}
 use Rattle.sopl_base.specs.declared.reason.Reason.{Reason}
-use Rattle.box_problem.specs.Box.{Box, Inside, low, high}
+use Rattle.box_problem.specs.Box.{Box, Inside}
 use Rattle.box_problem.specs.BoxProblem.{BoxProblem}
 use Rattle.sopl_base.specs.declared.reason.Step.{Step}
 use Rattle.box_problem.specs.Steps.{after_steps}
@@ -12,10 +12,10 @@ use Rattle.box_problem.proofs.Steps.{steps_lead_inside}
 use Rattle.prop_core.specs.Rests.{Rests}
 use Rattle.prop_core.specs.declared.finding.Calm.{Calm}
 use Rattle.prop_core.specs.declared.finding.Calm.TheVariants.{Quiet}
-use Rattle.sopl_search.specs.declared.cut.Cut.{Cut}
+use Rattle.brancher.specs.Rules.{Rule}
 use Rattle.sopl_search.specs.declared.ending.NodeEnd.{NodeEnd}
 use Rattle.sopl_search.specs.declared.ending.NodeEnd.TheVariants.{Refuted, Split, Point}
-use Rattle.sopl_search.specs.Ends.{AreAll, Ends, EndsFirst, IsFirstCut, IsMiddle, IsPosed}
+use Rattle.sopl_search.specs.Ends.{AreAll, Ends, EndsPicked, IsPosed}
 use Rattle.box_problem.specs.Near.{IsNearBox}
 
 pub near_part : (whole part : Box) → IsNearBox whole → Inside part whole → IsNearBox part
@@ -49,31 +49,20 @@ consistent problem reasons v b all rests = record {
   at_high = λ reason cell own exists. rests.at_high reason cell (all.among reason own) exists;
 }
 
-pub ends_at_rest : (problem : BoxProblem) (reasons : List Reason) (v : Option ℤ) (b : Box) (end : NodeEnd) → IsPosed problem → AreAll problem reasons → Inside b problem.root
-    → Quiets problem reasons v b → EndsFirst b end → Ends problem v b end
-ends_at_rest problem reasons v b (Refuted reason) posed all inside rests ends = absurd ends
-ends_at_rest problem reasons v b (Split cut) posed all inside rests ends = record {
+pub ends_at_rest : (problem : BoxProblem) (reasons : List Reason) (v : Option ℤ) (b : Box) (asked : Option Rule) (depth : ℕ) (end : NodeEnd) → IsPosed problem → AreAll problem reasons
+    → Inside b problem.root → Quiets problem reasons v b → EndsPicked asked depth b end → Ends problem v asked depth b end
+ends_at_rest problem reasons v b asked depth (Refuted reason) posed all inside rests ends = absurd ends
+ends_at_rest problem reasons v b asked depth (Split cut low_first) posed all inside rests ends = record {
   consistent = consistent problem reasons v b all rests;
-  first = ends;
+  picked = ends;
 }
-ends_at_rest problem reasons v b Point posed all inside rests ends = record {
+ends_at_rest problem reasons v b asked depth Point posed all inside rests ends = record {
   one = ends;
   beats = posed.lawful.exact b v inside ends (consistent problem reasons v b all rests).whole;
 }
 
 -- so it is where they came to rest
-pub ends_where_calm : (problem : BoxProblem) (reasons : List Reason) (v : Option ℤ) (b : Box) (calm : Calm) (end : NodeEnd) → IsPosed problem → AreAll problem reasons → Inside b problem.root
-    → calm ≡ Quiet → Rests problem reasons v b calm → EndsFirst b end → Ends problem v b end
-ends_where_calm problem reasons v b calm end posed all inside quiet rests ends =
-    ends_at_rest problem reasons v b end posed all inside (subst (λ (c : Calm). Rests problem reasons v b c) quiet rests) ends
-
--- the first cell that has more than one value
-pub first_cut_at : (b : Box) (cut : Cut) (cell : ℕ) (lo hi : ℤ) → cell < length b.lows → ((k : ℕ) → k < cell → low b k ≡ high b k) → lo ≡ low b cell → hi ≡ high b cell → cut.cell ≡ cell
-    → IsMiddle lo cut.k hi → IsFirstCut b cut.cell cut.k
-first_cut_at b cut cell lo hi exists fixed lo_is hi_is is middle = record {
-  exists = omega (arith, exists, is);
-  first = λ k before. fixed k (omega (arith, before, is));
-  middle = subst (λ (n : ℕ). IsMiddle (low b n) cut.k (high b n)) (sym is)
-      (subst (λ (x : ℤ). IsMiddle x cut.k (high b cell)) lo_is
-      (subst (λ (y : ℤ). IsMiddle lo cut.k y) hi_is middle));
-}
+pub ends_where_calm : (problem : BoxProblem) (reasons : List Reason) (v : Option ℤ) (b : Box) (calm : Calm) (asked : Option Rule) (depth : ℕ) (end : NodeEnd) → IsPosed problem
+    → AreAll problem reasons → Inside b problem.root → calm ≡ Quiet → Rests problem reasons v b calm → EndsPicked asked depth b end → Ends problem v asked depth b end
+ends_where_calm problem reasons v b calm asked depth end posed all inside quiet rests ends =
+    ends_at_rest problem reasons v b asked depth end posed all inside (subst (λ (c : Calm). Rests problem reasons v b c) quiet rests) ends

@@ -1,140 +1,208 @@
--- The tree of a search in the end.
-use Rattle.std.proofs.Common.{◌≡◌, ℕ, ◌^◌, ◌<◌, ◌≤◌, ℤ, List, [], ◌∷◌, ◌++◌, length, map, reverse, Option, IfSome, All, Contains, arith, sym, subst}
-use Rattle.std.proofs.lemmas.List.{append-nil}
+-- The tree of a search in the end, and its log.
+use Rattle.std.proofs.Common.{◌≡◌, ℕ, ◌+◌, ◌^◌, ◌<◌, ◌≤◌, List, [], ◌∷◌, ◌++◌, length, map, Option, Some, None, Result, Ok, Err, IfOk, OnErr, All, Contains, IsPermutation, arith, refl, sym, ap, subst, ◌∙◌, append_assoc}
+use Rattle.std.proofs.lemmas.List.{append-nil, length-append, length-map}
 use Rattle.std.proofs.lemmas.List.Elements.{All-append, All-cons, All-nil}
-use Rattle.sopl_base.specs.declared.direction.Direction.{Direction}
+use Rattle.std.proofs.lemmas.List.Sorted.{Contains-permutation, IsPermutation-map, IsPermutation-sym}
+use Rattle.std.specs.Io.KnownBytes.{Appends, Keeps as KeepsBytes}
+use Rattle.sopl_io.specs.Transfer.{AppendsPrefix}
+use Rattle.sopl_io.specs.Gathered.{GathersAll}
+use Rattle.std.proofs.KnownBytes.{Appends-trans}
 use Rattle.box_problem.specs.Bits.{bits_in}
 use Rattle.box_problem.specs.BoxProblem.{BoxProblem}
-use Rattle.box_store.specs.Store.{Mark}
-use Rattle.log_rows.specs.declared.rows.Row.{Row}
+use Rattle.log_rows.specs.declared.rows.Footer.{Footer}
+use Rattle.log_rows.specs.declared.rows.Footer.TheVariants as claims
+use Rattle.log_rows.specs.declared.rows.Parent.{Parent}
 use Rattle.log_rows.specs.Accepted.{Accepted, greatest_depth}
+use Rattle.log_rows.specs.Lines.{footer_line, head_line, log_lines, rows_lines, text_of}
 use Rattle.log_rows.specs.Made.{AreShallow, Logs, Pending, open_row, with_open}
-use Rattle.log_rows.specs.Rows.{depth_of}
+use Rattle.log_rows.specs.Ranges.{ParentFits, RowFits, StepFits}
+use Rattle.log_rows.specs.Rows.{AreOrdered, depth_of}
 use Rattle.log_rows.proofs.Closing.{logs_are_accepted}
 use Rattle.log_rows.proofs.Lists.{middle_is, others_have}
-use Rattle.log_rows.proofs.Logging.{depths_with_open}
+use Rattle.log_rows.proofs.Logging.{depths_in_any_order, depths_with_open, logs_in_any_order, logs_with_open}
+use Rattle.log_rows.proofs.LogTexts.{texts_are_logs}
 use Rattle.log_rows.proofs.Places.{IsWithin, hangs_within}
-use Rattle.log_rows.specs.Ranges.{RowFits, StepFits}
-use Rattle.box_problem.specs.Opens.{IsBound}
-use Rattle.sopl_search.specs.declared.high.PendingHalf.{PendingHalf}
-use Rattle.sopl_search.specs.declared.outcome.Found.{Found}
+use Rattle.sopl_base.specs.declared.stop.SearchStop.{SearchStop}
+use Rattle.sopl_base.specs.declared.stop.SearchStop.TheVariants.{NoMemory, Write}
+use Rattle.sopl_search.specs.declared.frontier.Frontier.{Frontier}
 use Rattle.sopl_search.specs.declared.outcome.Outcome.{Outcome}
 use Rattle.sopl_search.specs.declared.outcome.Outcome.TheVariants.{Optimal, Infeasible, Bounded}
-use Rattle.sopl_search.specs.Frontiers.{AreCuts, AreKept, boxes, high_halves}
+use Rattle.sopl_search.specs.Closes.{AreListed, EndsBy, IsBrokenClose, IsClosed, rest_text}
 use Rattle.sopl_search.specs.Ends.{IsPosed}
-use Rattle.sopl_search.specs.Lines.{last_first, open_line}
-use Rattle.sopl_search.specs.Logged.{IsPointRow, IsTree, LowStandsFirst, SpendsAll, footer_of}
-use Rattle.sopl_search.specs.Outcomes.{Closes, Settles, value_of}
-use Rattle.sopl_search.proofs.Footers.{closed_footer, settled_footer}
-use Rattle.sopl_search.proofs.Keeping.{parent_fits}
-use Rattle.sopl_search.proofs.LowFirst.{low_first_with_open}
-use Rattle.sopl_search.proofs.OpenNodes.{nodes_listed}
-use Rattle.sopl_search.proofs.Points.{best_stays, closed_tells, settled_tells}
-use Rattle.sopl_search.proofs.Reversed.{from_reversed, has_reversed}
+use Rattle.sopl_search.specs.Frontiers.{IsRunning, boxes, nodes_of, opens, state_of}
+use Rattle.sopl_search.specs.Lines.{pending_of}
+use Rattle.sopl_search.specs.Logged.{IsLogged, IsPointRow, IsPrefixLogged, IsTree, SearchPlan, SpendsAll, footer_of}
+use Rattle.sopl_search.specs.Outcomes.{HasCause, value_of}
+use Rattle.sopl_search.proofs.Answered.{ends_shuffled}
+use Rattle.sopl_search.proofs.Footers.{claims_so}
+use Rattle.sopl_search.proofs.InOrder.{apart_shuffled}
+use Rattle.sopl_search.proofs.Points.{best_stays, ends_tell}
+use Rattle.sopl_search.proofs.Running.{all_open, breaks_off, is_planned, whole_text}
 
 -- the rows of open nodes fit
-open_fit : (n : ℕ) (opens : List Pending) → n < 2 ^ 32 → ((y : Pending) → Contains opens y → IsWithin n y.parent) → All RowFits (map open_row opens)
+parent_fits : (n : ℕ) (parent : Option Parent) → n < 2 ^ 64 → IsWithin n parent → ParentFits parent
+parent_fits n None small within = tt
+parent_fits n (Some parent) small within = omega (arith, small, within)
+
+open_fit : (n : ℕ) (nodes : List Pending) → n < 2 ^ 64 → ((y : Pending) → Contains nodes y → IsWithin n y.parent) → All RowFits (map open_row nodes)
 open_fit n [] small within = All-nil RowFits
-open_fit n (x ∷ opens) small within =
-    All-cons RowFits (open_row x) (map open_row opens)
-    (record { parent_fits = parent_fits n x.parent small (within x (middle_is [] opens x)); steps_fit = All-nil StepFits; end_fits = tt })
-    (open_fit n opens small (λ y has. within y (others_have [] opens x y has)))
+open_fit n (x ∷ nodes) small within =
+    All-cons RowFits (open_row x) (map open_row nodes)
+    (record { parent_fits = parent_fits n x.parent small (within x (middle_is [] nodes x)); steps_fit = All-nil StepFits; end_fits = tt })
+    (open_fit n nodes small (λ y has. within y (others_have [] nodes x y has)))
 
--- what is not deep is not too deep for a log
-not_too_deep : (problem : BoxProblem) (rows : List Row) (opens : List Pending) → IsPosed problem → AreShallow bits_in (bits_in problem.root) rows opens
-    → AreShallow bits_in greatest_depth rows opens
-not_too_deep problem rows opens posed shallow = record {
-  rows_are = λ i exists. omega (arith, posed.few_bits, shallow.rows_are i exists);
-  opens_are = λ x has. omega (arith, posed.few_bits, shallow.opens_are x has);
-}
+-- a search with its open nodes by their parents
+module _ (problem : BoxProblem) (plan : SearchPlan) (frontier : Frontier) (before now : Option (List ℕ)) (nodes : List Pending)
+    (is : IsRunning problem plan frontier before now) (listed : AreListed problem.root frontier nodes) (small : frontier.finished < 2 ^ 64) where
+  listed_back : IsPermutation nodes (opens problem.root frontier)
+  listed_back = IsPermutation-sym (opens problem.root frontier) nodes listed.same
 
--- nor are the rows of the open nodes
-by_bits_with_open : (problem : BoxProblem) (rows : List Row) (opens : List Pending) (best : Option ℤ) → Logs problem rows opens best → AreShallow bits_in (bits_in problem.root) rows opens
-    → (i : ℕ) → i < length (with_open rows opens) → depth_of (with_open rows opens) i ≤ bits_in problem.root
-by_bits_with_open problem rows opens best logs shallow = (depths_with_open problem bits_in (bits_in problem.root) rows opens best logs shallow).rows_are
+  pub listed_logs : Logs problem is.rows nodes (value_of frontier.best)
+  listed_logs =
+      logs_in_any_order problem is.rows (opens problem.root frontier) nodes (value_of frontier.best) is.keeps.kept.logs
+      (λ x. (
+        λ has. Contains-permutation (opens problem.root frontier) nodes x listed.same has,
+        λ has. Contains-permutation nodes (opens problem.root frontier) x listed_back has,
+      ))
+      (apart_shuffled (opens problem.root frontier) nodes listed.same is.keeps.kept.logs.distinct)
 
-spends : (outcome : Outcome) (nodes budget : ℕ) → nodes ≡ budget → SpendsAll outcome nodes budget
-spends (Optimal value cells) nodes budget is = tt
-spends Infeasible nodes budget is = tt
-spends (Bounded found bound) nodes budget is = is
+  listed_shallow : (most : ℕ) → AreShallow bits_in most is.rows (opens problem.root frontier) → AreShallow bits_in most is.rows nodes
+  listed_shallow most shallow =
+      depths_in_any_order bits_in most is.rows (opens problem.root frontier) nodes shallow (λ x has. Contains-permutation nodes (opens problem.root frontier) x listed_back has)
 
--- with nodes open
-pub partial_tree : (problem : BoxProblem) (rows all : List Row) (finished : ℕ) (x : Pending) (highs : List PendingHalf) (marks : List Mark) (best : Option Found) (bound : ℤ) (outcome : Outcome)
-    → IsPosed problem → 0 < finished → finished < 2 ^ 32 → AreCuts highs marks → AreKept problem rows finished (x ∷ high_halves highs marks) best
-    → all ≡ rows ++ map open_line (reverse (last_first x.parent highs))
-    → IsBound problem (value_of best) (boxes (x ∷ high_halves highs marks)) bound → Settles problem.direction best bound outcome → IsTree problem finished outcome all
-partial_tree problem rows all finished x highs marks best bound outcome posed some small cuts kept added is settles =
-    let nodes = x ∷ high_halves highs marks in
-    let listed = nodes_listed problem rows all finished x highs marks best cuts kept added in
-    let l = listed.listing in
-    let deep = by_bits_with_open problem rows listed.opens (value_of best) l.logs l.shallow in
-    let closes = settled_footer problem best nodes listed.opens bound outcome (λ y has. (l.same y).0 (has_reversed nodes y has)) (λ y has. from_reversed nodes y ((l.same y).1 has)) is settles in
+  rows_shallow : (most : ℕ) → AreShallow bits_in most is.rows (opens problem.root frontier) → (i : ℕ) → i < length (with_open is.rows nodes) → depth_of (with_open is.rows nodes) i ≤ most
+  rows_shallow most shallow = (depths_with_open problem bits_in most is.rows nodes (value_of frontier.best) listed_logs (listed_shallow most shallow)).rows_are
+
+  pub listed_fit : All RowFits (map open_row nodes)
+  listed_fit =
+      open_fit (length is.rows) nodes (omega (arith, is.keeps.kept.counted, small)) (λ y has. hangs_within is.rows (length is.rows) y.parent (listed_logs.placed y has).0)
+
+  pub listed_ordered : AreOrdered (is.rows ++ map open_row nodes)
+  listed_ordered = (logs_with_open problem is.rows nodes (value_of frontier.best) listed_logs).hangs
+
+  -- the box that is answered of
+  ends_listed : (outcome : Outcome) → EndsBy problem frontier.best (boxes (opens problem.root frontier)) outcome → EndsBy problem frontier.best (boxes nodes) outcome
+  ends_listed outcome ends =
+      ends_shuffled problem frontier.best (boxes (opens problem.root frontier)) (boxes nodes) outcome
+      (IsPermutation-map (λ (x : Pending). x.at) (opens problem.root frontier) nodes listed.same) ends
+
+  not_too_deep : AreShallow bits_in greatest_depth is.rows nodes
+  not_too_deep =
+      let shallow = listed_shallow 1536 is.keeps.kept.shallow in
+      record { rows_are = λ i exists. omega (arith, shallow.rows_are i exists); opens_are = λ x has. omega (arith, shallow.opens_are x has) }
+
+  listed_accepted : (outcome : Outcome) → IsPosed problem → 0 < frontier.finished → EndsBy problem frontier.best (boxes (opens problem.root frontier)) outcome
+      → Accepted problem (with_open is.rows nodes) (footer_of outcome)
+  listed_accepted outcome posed some ends =
+      logs_are_accepted problem bits_in is.rows nodes (value_of frontier.best) (footer_of outcome) posed.lawful listed_logs is.keeps.kept.are_finished (omega (arith, some, is.keeps.kept.counted))
+      not_too_deep (claims_so problem frontier.best nodes outcome (ends_listed outcome ends))
+
+  pub is_tree : (outcome : Outcome) → IsPosed problem → 0 < frontier.finished → EndsBy problem frontier.best (boxes (opens problem.root frontier)) outcome
+      → SpendsAll outcome (length is.rows) plan.budget → IsTree problem plan outcome (with_open is.rows nodes)
+  is_tree outcome posed some ends spent = record {
+    state = state_of problem.root is.rows frontier;
+    opens = nodes;
+    planned = is_planned problem plan frontier before now is;
+    are_open = subst (λ (xs : List Pending). IsPermutation xs nodes) (sym (all_open problem is.rows frontier)) listed.same;
+    logs = listed_logs;
+    rows_are = refl;
+    spent = spent;
+    in_order = listed.in_order;
+    fit = All-append RowFits is.rows (map open_row nodes) is.keeps.kept.fit listed_fit;
+    accepted = listed_accepted outcome posed some ends;
+    by_bits = λ none. rows_shallow (bits_in problem.root) (is.keeps.kept.by_bits none);
+    shallow = rows_shallow 1536 is.keeps.kept.shallow;
+    found = ends_tell (IsPointRow problem (with_open is.rows nodes)) problem frontier.best (boxes (opens problem.root frontier)) outcome ends
+        (best_stays problem is.rows (map open_row nodes) frontier.best is.keeps.kept.found);
+  }
+
+-- a search that gives up has spent its budget
+pub spends : (problem : BoxProblem) (plan : SearchPlan) (frontier : Frontier) (before now : Option (List ℕ)) (outcome : Outcome) (is : IsRunning problem plan frontier before now)
+    → (0 < frontier.open_count → frontier.finished ≡ plan.budget) → EndsBy problem frontier.best (boxes (opens problem.root frontier)) outcome → SpendsAll outcome (length is.rows) plan.budget
+spends problem plan frontier before now (Optimal value cells) is done ends = tt
+spends problem plan frontier before now Infeasible is done ends = tt
+spends problem plan frontier before now (Bounded found bound) is done ends =
+    is.keeps.kept.counted
+    ∙ done (omega (arith, ends.2, length-map (opens problem.root frontier) (λ (x : Pending). x.at), length-map (nodes_of frontier) (pending_of problem.root), is.keeps.counted))
+
+pub caused : (problem : BoxProblem) (finished budget nodes : ℕ) (outcome : Outcome) → nodes ≡ finished → SpendsAll outcome nodes budget → HasCause problem finished outcome → HasCause problem budget outcome
+caused problem finished budget nodes (Optimal value cells) counted spent cause = tt
+caused problem finished budget nodes Infeasible counted spent cause = tt
+caused problem finished budget nodes (Bounded found bound) counted spent cause = subst (λ (n : ℕ). HasCause problem n (Bounded found bound)) (sym counted ∙ spent) cause
+
+-- its log
+rest_from : (problem : BoxProblem) (plan : SearchPlan) (frontier : Frontier) (before now : Option (List ℕ)) (nodes : List Pending) (footer : Footer) (is : IsRunning problem plan frontier before now)
+    → rest_text frontier.finished nodes footer ≡ text_of (rows_lines (length is.rows) (map open_row nodes) ++ footer_line footer ∷ [])
+rest_from problem plan frontier before now nodes footer is = ap (λ (n : ℕ). rest_text n nodes footer) (sym is.keeps.kept.counted)
+
+log_took : (before mid now : Option (List ℕ)) (kept text rest whole : List ℕ) → GathersAll before [] mid kept text → Appends mid now (kept ++ rest) → whole ≡ text ++ rest → Appends before now whole
+log_took before mid now kept text rest whole so_far took is =
+    subst (Appends before now)
+    (sym (append_assoc so_far.written kept rest) ∙ (ap (λ (l : List ℕ). l ++ rest) so_far.rest ∙ sym is))
+    (Appends-trans before mid now so_far.written (kept ++ rest) so_far.took took)
+
+pub is_logged : (problem : BoxProblem) (plan : SearchPlan) (frontier : Frontier) (before mid now : Option (List ℕ)) (outcome : Outcome) (is : IsRunning problem plan frontier before mid)
+    → IsPosed problem → 0 < frontier.finished → frontier.finished < 2 ^ 64 → (0 < frontier.open_count → frontier.finished ≡ plan.budget)
+    → IsClosed problem frontier mid now outcome → IsLogged problem plan outcome before now
+is_logged problem plan frontier before mid now outcome is posed some small done closed =
+    let rows = with_open is.rows closed.nodes in
+    let tree = is_tree problem plan frontier before mid closed.nodes is closed.listed small outcome posed some closed.ends
+    (spends problem plan frontier before mid outcome is done closed.ends) in
     record {
-      finished = rows;
-      opens = listed.opens;
-      best = value_of best;
-      rows_are = l.rows_are;
-      logs = l.logs;
-      are_finished = kept.are_finished;
-      within = omega (arith, kept.counted);
-      spent = spends outcome (length rows) finished kept.counted;
-      splits = kept.splits;
-      in_order = l.in_order;
-      fit = subst (All RowFits) (sym l.rows_are)
-          (All-append RowFits rows (map open_row listed.opens) kept.fit
-          (open_fit (length rows) listed.opens (omega (arith, kept.counted, small)) (λ y has. hangs_within rows (length rows) y.parent (l.logs.placed y has).0)));
-      accepted = subst (λ (xs : List Row). Accepted problem xs (footer_of outcome)) (sym l.rows_are)
-          (logs_are_accepted problem bits_in rows listed.opens (value_of best) (footer_of outcome) posed.lawful l.logs kept.are_finished (omega (arith, kept.counted, some))
-          (not_too_deep problem rows listed.opens posed l.shallow) closes);
-      low_first = subst LowStandsFirst (sym l.rows_are) (low_first_with_open problem rows listed.opens (value_of best) l.logs l.in_order kept.low_first);
-      by_bits = subst (λ (xs : List Row). (i : ℕ) → i < length xs → depth_of xs i ≤ bits_in problem.root) (sym l.rows_are) deep;
-      shallow = subst (λ (xs : List Row). (i : ℕ) → i < length xs → depth_of xs i ≤ 1536) (sym l.rows_are) (λ i exists. omega (arith, posed.few_bits, deep i exists));
-      found = settled_tells (IsPointRow problem all) problem.direction best bound outcome settles
-          (subst (λ (xs : List Row). IfSome best (IsPointRow problem xs)) (sym l.rows_are) (best_stays problem rows (map open_row listed.opens) best kept.found));
+      bytes = text_of (log_lines rows (footer_of outcome));
+      is_log = record {
+        rows = rows;
+        tree = tree;
+        text = refl;
+        is_text = texts_are_logs rows (footer_of outcome) tree.accepted.ordered tree.accepted.some tree.fit closed.fits;
+      };
+      took = log_took before mid now frontier.gather.kept (text_of (head_line ∷ rows_lines 0 is.rows)) (rest_text frontier.finished closed.nodes (footer_of outcome))
+          (text_of (log_lines rows (footer_of outcome))) is.lines closed.took
+          (whole_text is.rows (map open_row closed.nodes) (footer_of outcome)
+          ∙ ap (λ (l : List ℕ). text_of (head_line ∷ rows_lines 0 is.rows) ++ l) (sym (rest_from problem plan frontier before mid closed.nodes (footer_of outcome) is)));
     }
 
--- with no node open
-never_spends : (best : Option Found) (outcome : Outcome) (nodes budget : ℕ) → Closes best outcome → SpendsAll outcome nodes budget
-never_spends best (Optimal value cells) nodes budget is = tt
-never_spends best Infeasible nodes budget is = tt
-never_spends best (Bounded found bound) nodes budget is = absurd is
+-- or where it breaks off at the end
+pub close_breaks_off : (problem : BoxProblem) (plan : SearchPlan) (frontier : Frontier) (before mid now : Option (List ℕ)) → IsRunning problem plan frontier before mid
+    → 0 < frontier.finished → frontier.finished < 2 ^ 64 → IsBrokenClose problem frontier mid now → IsPrefixLogged problem plan before now
+close_breaks_off problem plan frontier before mid now is some small broken =
+    breaks_off problem plan frontier before mid now (map open_row broken.nodes) broken.footer is
+    (listed_ordered problem plan frontier before mid broken.nodes is broken.listed small)
+    (omega (arith, some, is.keeps.kept.counted, length-append is.rows (map open_row broken.nodes)))
+    (listed_fit problem plan frontier before mid broken.nodes is broken.listed small)
+    broken.fits
+    (subst (λ (l : List ℕ). AppendsPrefix mid now (frontier.gather.kept ++ l)) (rest_from problem plan frontier before mid broken.nodes broken.footer is) broken.took)
 
-pub whole_tree : (problem : BoxProblem) (rows : List Row) (finished budget : ℕ) (best : Option Found) (outcome : Outcome) → IsPosed problem → 0 < finished → finished ≤ budget
-    → AreKept problem rows finished [] best → Closes best outcome → IsTree problem budget outcome rows
-whole_tree problem rows finished budget best outcome posed some within kept is = record {
-  finished = rows;
-  opens = [];
-  best = value_of best;
-  rows_are = sym (append-nil rows);
-  logs = kept.logs;
-  are_finished = kept.are_finished;
-  within = omega (arith, kept.counted, within);
-  spent = never_spends best outcome (length rows) budget is;
-  splits = kept.splits;
-  in_order = λ i j d before exists. absurd (omega arith);
-  fit = kept.fit;
-  accepted = subst (λ (xs : List Row). Accepted problem xs (footer_of outcome)) (append-nil rows)
-      (logs_are_accepted problem bits_in rows [] (value_of best) (footer_of outcome) posed.lawful kept.logs kept.are_finished (omega (arith, kept.counted, some)) (not_too_deep problem rows [] posed kept.shallow)
-      (closed_footer problem best outcome is));
-  low_first = kept.low_first;
-  by_bits = kept.shallow.rows_are;
-  shallow = λ i exists. omega (arith, posed.few_bits, kept.shallow.rows_are i exists);
-  found = closed_tells (IsPointRow problem rows) best outcome is kept.found;
-}
+kept_appends : (mid now : Option (List ℕ)) → KeepsBytes mid now → Appends mid now []
+kept_appends None now keeps = tt
+kept_appends (Some xs) None keeps = absurd keeps
+kept_appends (Some xs) (Some ys) keeps = keeps ∙ sym (append-nil xs)
 
--- the budget is what was finished
-pub tree_within : (problem : BoxProblem) (finished budget : ℕ) (outcome : Outcome) (rows : List Row) → finished ≡ budget → IsTree problem finished outcome rows → IsTree problem budget outcome rows
-tree_within problem finished budget outcome rows is tree = subst (λ (n : ℕ). IsTree problem n outcome rows) is tree
+pub close_logs_nothing : (problem : BoxProblem) (plan : SearchPlan) (frontier : Frontier) (before mid now : Option (List ℕ)) → IsRunning problem plan frontier before mid → 0 < frontier.finished
+    → KeepsBytes mid now → IsPrefixLogged problem plan before now
+close_logs_nothing problem plan frontier before mid now is some keeps =
+    breaks_off problem plan frontier before mid now [] claims.Infeasible is
+    (subst AreOrdered (sym (append-nil is.rows)) is.keeps.kept.logs.hangs)
+    (omega (arith, some, is.keeps.kept.counted, length-append is.rows []))
+    (All-nil RowFits) tt (0, kept_appends mid now keeps)
 
--- the same over what the calls of a search give
-pub settles_as : (problem : BoxProblem) (direction : Direction) (best now : Option Found) (bound : ℤ) (outcome : Outcome) → now ≡ best → direction ≡ problem.direction
-    → Settles direction now bound outcome → Settles problem.direction best bound outcome
-settles_as problem direction best now bound outcome same way settles =
-    subst (λ (d : Direction). Settles d best bound outcome) way
-    (subst (λ (found : Option Found). Settles direction found bound outcome) same settles)
+-- the same over what the last call of a search gives
+pub all_logged : (problem : BoxProblem) (plan : SearchPlan) (frontier : Frontier) (before mid now : Option (List ℕ)) (result : Result Outcome SearchStop) → IsRunning problem plan frontier before mid
+    → IsPosed problem → 0 < frontier.finished → frontier.finished < 2 ^ 64 → (0 < frontier.open_count → frontier.finished ≡ plan.budget)
+    → IfOk result (IsClosed problem frontier mid now) → IfOk result (λ outcome. IsLogged problem plan outcome before now)
+all_logged problem plan frontier before mid now (Ok outcome) is posed some small done closed = is_logged problem plan frontier before mid now outcome is posed some small done closed
+all_logged problem plan frontier before mid now (Err stop) is posed some small done closed = tt
 
-pub bound_before : (problem : BoxProblem) (best now : Option Found) (nodes others : List Pending) (bound : ℤ) → now ≡ best → others ≡ nodes → IsBound problem (value_of now) (boxes others) bound
-    → IsBound problem (value_of best) (boxes nodes) bound
-bound_before problem best now nodes others bound same_best same is =
-    subst (λ (found : Option Found). IsBound problem (value_of found) (boxes nodes) bound) same_best
-    (subst (λ (xs : List Pending). IsBound problem (value_of now) (boxes xs) bound) same is)
+pub all_caused : (problem : BoxProblem) (plan : SearchPlan) (frontier : Frontier) (before mid now : Option (List ℕ)) (result : Result Outcome SearchStop) → IsRunning problem plan frontier before mid
+    → (0 < frontier.open_count → frontier.finished ≡ plan.budget) → IfOk result (IsClosed problem frontier mid now) → IfOk result (HasCause problem frontier.finished)
+    → IfOk result (HasCause problem plan.budget)
+all_caused problem plan frontier before mid now (Ok outcome) is done closed cause =
+    caused problem frontier.finished plan.budget (length is.rows) outcome is.keeps.kept.counted (spends problem plan frontier before mid outcome is done closed.ends) cause
+all_caused problem plan frontier before mid now (Err stop) is done closed cause = tt
+
+pub prefix_logged : (problem : BoxProblem) (plan : SearchPlan) (frontier : Frontier) (before mid now : Option (List ℕ)) (result : Result Outcome SearchStop) → IsRunning problem plan frontier before mid
+    → 0 < frontier.finished → frontier.finished < 2 ^ 64 → (result ≡ Err Write → IsBrokenClose problem frontier mid now) → (result ≡ Err NoMemory → KeepsBytes mid now)
+    → OnErr result (IsPrefixLogged problem plan before now)
+prefix_logged problem plan frontier before mid now (Ok outcome) is some small refused nothing = tt
+prefix_logged problem plan frontier before mid now (Err NoMemory) is some small refused nothing = close_logs_nothing problem plan frontier before mid now is some (nothing refl)
+prefix_logged problem plan frontier before mid now (Err Write) is some small refused nothing = close_breaks_off problem plan frontier before mid now is some small (refused refl)

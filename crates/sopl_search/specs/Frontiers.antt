@@ -1,60 +1,43 @@
 -- What a search has found, and what it has left to do.
-use Rattle.std.specs.Prelude.{◌≡◌, ◌⊎◌, ℕ, ◌+◌, ◌<◌, Bool, true, false, List, [], ◌∷◌, ◌++◌, length, map, reverse, Option, None, Some, IfSome, All}
+use Rattle.std.specs.Prelude.{◌≡◌, ◌⊎◌, ℕ, ◌+◌, ◌<◌, ◌≤◌, ℤ, List, [], ◌∷◌, length, map, replicate, reverse, slice_set, Option, None, Some, IfSome, All}
 use Rattle.std.specs.List.{AllByRecursion}
 use Rattle.sopl_base.specs.declared.reason.Side.TheVariants.{Le, Ge}
-use Rattle.sopl_base.specs.declared.reason.Step.{Step}
+use Rattle.sopl_io.specs.Gathered.{GathersAll}
+use Rattle.brancher.specs.Rules.{Rule}
 use Rattle.box_problem.specs.Bits.{bits_in}
-use Rattle.box_problem.specs.Box.{Box}
-use Rattle.box_problem.specs.Steps.{IsCut}
+use Rattle.box_problem.specs.Box.{Box, Inside}
 use Rattle.box_problem.specs.BoxProblem.{BoxProblem}
-use Rattle.box_store.specs.Store.{Mark}
-use Rattle.log_rows.specs.declared.rows.EndLine.{EndLine}
-use Rattle.log_rows.specs.declared.rows.Parent.{Parent}
-use Rattle.log_rows.specs.declared.rows.Row.{Row}
-use Rattle.log_rows.specs.Made.{AreFinished, AreShallow, Logs, Pending}
-use Rattle.log_rows.specs.LogLaws.{half}
-use Rattle.log_rows.specs.Ranges.{RowFits}
 use Rattle.box_problem.specs.Opens.{AreOpen}
+use Rattle.log_rows.specs.declared.rows.Row.{Row}
+use Rattle.log_rows.specs.Lines.{head_line, rows_lines, text_of}
+use Rattle.log_rows.specs.Made.{AreFinished, AreShallow, Logs, Pending}
+use Rattle.log_rows.specs.Ranges.{RowFits}
+use Rattle.log_rows.specs.Rows.{depth_of, final_of, row_at}
+use Rattle.open_nodes.specs.declared.seats.OpenNode.{OpenNode}
+use Rattle.open_nodes.specs.declared.split.SplitNode.{SplitNode}
+use Rattle.open_nodes.specs.declared.walk.BoxWalk.{BoxWalk}
+use Rattle.open_nodes.specs.Remade.{AreBelow}
+use Rattle.open_nodes.specs.Takes.{all_nodes, lists_of}
+use Rattle.open_nodes.specs.Walks.{StandsAt, marked}
+use Rattle.open_nodes.specs.Ways.{IsRow, node_number, split_depth}
 use Rattle.sopl_search.specs.declared.frontier.Frontier.{Frontier}
-use Rattle.sopl_search.specs.declared.high.PendingHalf.{PendingHalf}
 use Rattle.sopl_search.specs.declared.outcome.Found.{Found}
-use Rattle.sopl_search.specs.Lines.{cut_of}
-use Rattle.sopl_search.specs.Logged.{AllSplitFirst, IsPointRow, LowStandsFirst}
+use Rattle.sopl_search.specs.Crews.{CrewState, IsCrewRun}
+use Rattle.sopl_search.specs.Schedules.{named_seats}
+use Rattle.sopl_search.specs.Lines.{pending_of, split_above}
+use Rattle.sopl_search.specs.Logged.{AllSplitPicked, IsLowFirst, IsPointRow, LowStandsFirst, SearchPlan}
 use Rattle.sopl_search.specs.Outcomes.{IsGood, value_of}
 
--- the high half of a box that was cut, as a node that is open
-abbrev pub high_half : PendingHalf → Mark → Pending
-high_half high mark = half high.node mark.box (cut_of high.cut) Ge
+-- all open nodes, in the order of the seats; with the boxes that they begin with; and these boxes
+abbrev pub nodes_of : Frontier → List OpenNode
+nodes_of frontier = all_nodes (lists_of frontier.seats)
 
--- those of several boxes: at each mark stands a box, the newest first, and its cut
-abbrev pub high_halves : List PendingHalf → List Mark → List Pending
-high_halves [] marks = []
-high_halves (high ∷ highs) [] = []
-high_halves (high ∷ highs) (mark ∷ marks) = high_half high mark ∷ high_halves highs marks
+abbrev pub pendings : Box → List OpenNode → List Pending
+pendings root nodes = map (pending_of root) nodes
 
--- these cuts cut the boxes at the marks
-abbrev pub AreCuts : List PendingHalf → List Mark → Type 0
-AreCuts [] marks = Unit {0}
-AreCuts (high ∷ highs) [] = ⊥
-AreCuts (high ∷ highs) (mark ∷ marks) = IsCut mark.box high.cut.cell Le high.cut.k × AreCuts highs marks
+abbrev pub opens : Box → Frontier → List Pending
+opens root frontier = pendings root (nodes_of frontier)
 
-abbrev pub CutsMarks : Frontier → Type 0
-CutsMarks frontier = AreCuts (reverse frontier.later.items) frontier.store.marks
-
--- the nodes that wait, the newest first
-abbrev pub waiting : Frontier → List Pending
-waiting frontier = high_halves (reverse frontier.later.items) frontier.store.marks
-
--- the node at hand, where its box began as this one
-abbrev pub begun_at : Box → Frontier → Pending
-begun_at start frontier = record { parent = frontier.parent; at = start }
-
--- all nodes that are open: the one at hand and those that wait, or none
-abbrev pub opens : Bool → Frontier → List Pending
-opens true frontier = begun_at frontier.store.box frontier ∷ waiting frontier
-opens false frontier = []
-
--- their boxes
 abbrev pub boxes : List Pending → List Box
 boxes nodes = map (λ (x : Pending). x.at) nodes
 
@@ -63,55 +46,115 @@ pub record IsSound (problem : BoxProblem) (best : Option Found) (finished : ℕ)
   pub are_open : AreOpen problem (value_of best) finished bs
   pub good : IfSome best (IsGood problem)
 
-abbrev pub Stands : BoxProblem → Bool → Frontier → Type 0
-Stands problem more frontier = IsSound problem frontier.best frontier.finished (boxes (opens more frontier))
+abbrev pub Stands : BoxProblem → Frontier → Type 0
+Stands problem frontier = IsSound problem frontier.best frontier.finished (boxes (opens problem.root frontier))
 
--- a node is the high side of a split before that of another one, or the high side where the other one is the low side
-abbrev pub IsOlder : Option Parent → Option Parent → Type 0
-IsOlder None None = ⊥
-IsOlder None (Some q) = ⊥
-IsOlder (Some p) None = ⊥
-IsOlder (Some p) (Some q) = (q.side ≡ Ge) × ((q.node < p.node) ⊎ ((q.node ≡ p.node) × (p.side ≡ Le)))
+-- an open node is the root, or a side of a split whose way these rows tell, and which lies as deep as it keeps
+abbrev pub IsSplitRow : List Row → Option SplitNode → Type 0
+IsSplitRow rows None = Unit {0}
+IsSplitRow rows (Some split) = IsRow rows split × (split_depth split ≡ depth_of rows (node_number split))
 
--- each node is newer than all behind it
-abbrev pub AreStacked : List Pending → Type 0
-AreStacked [] = Unit {0}
-AreStacked (x ∷ nodes) = AllByRecursion (λ (y : Pending). IsOlder x.parent y.parent) nodes × AreStacked nodes
+abbrev pub AreRowNodes : List Row → List OpenNode → Type 0
+AreRowNodes rows nodes = AllByRecursion (λ (node : OpenNode). IsSplitRow rows (split_above node)) nodes
 
--- the rows are those of a search that has finished so many nodes, leaves these open, and found this best point
-pub record AreKept (problem : BoxProblem) (rows : List Row) (finished : ℕ) (nodes : List Pending) (best : Option Found) : Type 0 where
-  pub logs : Logs problem rows (reverse nodes) (value_of best)
+-- some row is the low side of this split
+pub record HasLowRow (rows : List Row) (n : ℕ) : Type 0 where
+  pub row : ℕ
+  pub exists : row < length rows
+  pub parent : (row_at rows row).parent ≡ Some (record { node = n; side = Le })
+
+-- some open node is
+abbrev pub HasLowNode : List Pending → ℕ → Type 0
+HasLowNode [] n = ⊥
+HasLowNode (x ∷ nodes) n = (x.parent ≡ Some (record { node = n; side = Le })) ⊎ HasLowNode nodes n
+
+-- the low side of each split whose high side is open is a row, or is open and newer
+abbrev pub LowsAreNewer : List Row → List Pending → Type 0
+LowsAreNewer rows [] = Unit {0}
+LowsAreNewer rows (x ∷ nodes) =
+    ((n : ℕ) → x.parent ≡ Some (record { node = n; side = Ge }) → HasLowRow rows n ⊎ HasLowNode nodes n) × LowsAreNewer rows nodes
+
+-- a box stands on a way of rows
+pub record IsOnRows (root : Box) (rows : List Row) (walk : BoxWalk) : Type 0 where
+  pub at : StandsAt root (final_of root rows) walk
+  pub below : AreBelow (length rows) (reverse walk.here.items)
+
+-- these rows are those of a search of so many seats that has finished so many nodes, leaves these open, and found this best point
+pub record AreKept (problem : BoxProblem) (asked : Option Rule) (seats : ℕ) (rows : List Row) (finished : ℕ) (nodes : List Pending) (best : Option Found) : Type 0 where
+  pub logs : Logs problem rows nodes (value_of best)
   pub counted : length rows ≡ finished
   pub are_finished : AreFinished rows
-  pub splits : AllSplitFirst problem.root rows
+  pub splits : AllSplitPicked asked problem.root rows
   pub fit : All RowFits rows
-  pub shallow : AreShallow bits_in (bits_in problem.root) rows (reverse nodes)
-  pub stacked : AreStacked nodes
-  pub low_first : LowStandsFirst rows
+  pub by_bits : asked ≡ None → AreShallow bits_in (bits_in problem.root) rows nodes
+  pub shallow : AreShallow bits_in 1536 rows nodes
+  pub low_first : seats ≡ 1 → IsLowFirst asked → LowStandsFirst rows × LowsAreNewer rows nodes
   pub found : IfSome best (IsPointRow problem rows)
 
-abbrev pub Keeps : BoxProblem → Bool → Frontier → Type 0
-Keeps problem more frontier = AreKept problem frontier.rows.items frontier.finished (opens more frontier) frontier.best
+-- and the open nodes and the box of a search are theirs
+pub record Keeps (problem : BoxProblem) (asked : Option Rule) (rows : List Row) (frontier : Frontier) : Type 0 where
+  pub kept : AreKept problem asked (length frontier.seats.seats.items) rows frontier.finished (opens problem.root frontier) frontier.best
+  pub ways : AreRowNodes rows (nodes_of frontier)
+  pub walk : IsOnRows problem.root rows frontier.walk
+  pub counted : length (nodes_of frontier) ≡ frontier.open_count
+  pub few : frontier.open_count ≤ frontier.finished + 1
 
--- and the box of the node at hand began as this one
-abbrev pub KeepsFrom : BoxProblem → Box → Frontier → Type 0
-KeepsFrom problem start frontier =
-    AreKept problem frontier.rows.items frontier.finished (begun_at start frontier ∷ waiting frontier) frontier.best
+-- a search and rows stand for a state of a crew
+abbrev pub state_of : Box → List Row → Frontier → CrewState
+state_of root rows frontier = record { seats = map (pendings root) (lists_of frontier.seats); rows = rows; best = value_of frontier.best }
 
--- the row of a node of this parent
-abbrev pub new_row : Option Parent → List Step → EndLine → Row
-new_row parent steps end = record { parent = parent; steps = steps; end = end }
+-- a search of a problem, with the rows of some nodes
+pub record IsSearchOf (problem : BoxProblem) (asked : Option Rule) (frontier : Frontier) : Type 0 where
+  pub stands : Stands problem frontier
+  pub rows : List Row
+  pub keeps : Keeps problem asked rows frontier
 
--- a search has one row more, and one node more is finished
-pub record IsAdded (old new : Frontier) (steps : List Step) (end : EndLine) : Type 0 where
-  pub row : new.rows.items ≡ old.rows.items ++ new_row old.parent steps end ∷ []
-  pub counted : new.finished ≡ old.finished + 1
-  pub same_store : new.store ≡ old.store
-  pub same_waiting : waiting new ≡ waiting old
-  pub same_best : new.best ≡ old.best
+-- a box may go to an open node of a search with these rows
+pub record IsEnterable (problem : BoxProblem) (rows : List Row) (walk : BoxWalk) (node : OpenNode) : Type 0 where
+  pub nodes : List Pending
+  pub best : Option ℤ
+  pub logs : Logs problem rows nodes best
+  pub way : IsSplitRow rows (split_above node)
+  pub at : IsOnRows problem.root rows walk
 
--- the first of the nodes that wait is at hand, or none waits; and each turn takes one
-pub record IsNext (old new : Frontier) (more : Bool) : Type 0 where
-  pub nodes : waiting old ≡ opens more new
-  pub cuts : CutsMarks new
-  pub fewer : more ≡ true → length new.later.items < length old.later.items
+-- and to each of these, whose boxes lie in the root
+pub record AreEnterable (problem : BoxProblem) (rows : List Row) (walk : BoxWalk) (nodes : List OpenNode) : Type 0 where
+  pub best : Option ℤ
+  pub logs : Logs problem rows (pendings problem.root nodes) best
+  pub ways : AreRowNodes rows nodes
+  pub inside : AllByRecursion (λ (node : OpenNode). Inside (pending_of problem.root node).at problem.root) nodes
+  pub at : IsOnRows problem.root rows walk
+
+-- it has gone there
+pub record IsAtNode (problem : BoxProblem) (rows : List Row) (walk : BoxWalk) (node : OpenNode) : Type 0 where
+  pub at : IsOnRows problem.root rows walk
+  pub box : walk.store.box ≡ (pending_of problem.root node).at
+
+-- a search at first: the first of so many seats has the root, no node is finished and nothing is found; no byte is kept
+abbrev pub root_open : OpenNode
+root_open = record { below = None; side = Le }
+
+abbrev pub first_lists : ℕ → List (List OpenNode)
+first_lists seats = slice_set (replicate seats []) 0 (root_open ∷ [])
+
+abbrev pub StandsAtRoot : Box → BoxWalk → Type 0
+StandsAtRoot root walk = (walk.here.items ≡ []) × (marked walk.store.marks ≡ root ∷ [])
+
+pub record IsBegun (root : Box) (seats : ℕ) (frontier : Frontier) : Type 0 where
+  pub lists : lists_of frontier.seats ≡ first_lists seats
+  pub one_open : frontier.open_count ≡ 1
+  pub none_finished : frontier.finished ≡ 0
+  pub none_found : frontier.best ≡ None
+  pub none_kept : frontier.gather.kept ≡ []
+  pub walk : StandsAtRoot root frontier.walk
+
+-- the same, where the rows are those that so many steps of a plan have finished, and what a sink took since the search began, with what is kept for it, are the
+-- first line of a log and their lines
+pub record IsRunning (problem : BoxProblem) (plan : SearchPlan) (frontier : Frontier) (before now : Option (List ℕ)) : Type 0 where
+  pub stands : Stands problem frontier
+  pub rows : List Row
+  pub keeps : Keeps problem plan.asked rows frontier
+  pub run : IsCrewRun problem plan.seats (named_seats plan.seats plan.order (length rows)) (state_of problem.root rows frontier)
+  pub exist : length frontier.seats.seats.items ≡ plan.seats
+  pub within : length rows ≤ plan.budget
+  pub lines : GathersAll before [] now frontier.gather.kept (text_of (head_line ∷ rows_lines 0 rows))

@@ -1,7 +1,11 @@
 pub mod Ends
+pub mod Schedules
 pub mod Lines
 pub mod Outcomes
+pub mod Crews
 pub mod Logged
 pub mod TreeLaws
 pub mod Frontiers
+pub mod Moves
+pub mod Closes
 pub mod Climbing

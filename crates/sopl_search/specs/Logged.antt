@@ -1,8 +1,10 @@
 -- The log of a search.
-use Rattle.std.specs.Prelude.{◌≡◌, ◌⊎◌, ℕ, ◌<◌, ◌≤◌, ℤ, List, length, Option, None, Some, IfSome, All, AllPairs}
+use Rattle.std.specs.Prelude.{◌≡◌, ◌⊎◌, ℕ, ◌<◌, ◌≤◌, Bool, List, ◌++◌, length, Option, None, Some, IfSome, All, AllPairs, IsPermutation}
 use Rattle.std.specs.Io.KnownBytes.{Appends}
 use Rattle.sopl_base.specs.declared.reason.Side.TheVariants.{Le, Ge}
 use Rattle.sopl_io.specs.Transfer.{AppendsPrefix}
+use Rattle.brancher.specs.Rules.{Rule, lower, widest, free}
+use Rattle.open_nodes.specs.Takes.{all_nodes}
 use Rattle.box_problem.specs.Bits.{bits_in}
 use Rattle.box_problem.specs.Box.{Box}
 use Rattle.box_problem.specs.BoxProblem.{BoxProblem}
@@ -21,7 +23,10 @@ use Rattle.log_rows.specs.Ranges.{RowFits}
 use Rattle.sopl_search.specs.declared.outcome.Found.{Found}
 use Rattle.sopl_search.specs.declared.outcome.Outcome.{Outcome}
 use Rattle.sopl_search.specs.declared.outcome.Outcome.TheVariants.{Optimal, Infeasible, Bounded}
-use Rattle.sopl_search.specs.Ends.{IsFirstCut}
+use Rattle.sopl_search.specs.declared.schedule.Schedule.{Schedule}
+use Rattle.sopl_search.specs.Crews.{CrewState, IsCrewRun}
+use Rattle.sopl_search.specs.Ends.{IsPickedCut}
+use Rattle.sopl_search.specs.Schedules.{named_seats}
 use Rattle.sopl_search.specs.Outcomes.{found_of, value_of}
 
 -- what a log claims of an outcome
@@ -30,16 +35,23 @@ footer_of (Optimal value cells) = claims.Optimal value
 footer_of Infeasible = claims.Infeasible
 footer_of (Bounded found bound) = claims.Bounded (value_of found) bound
 
--- a box that is split is cut in the middle of the first cell that has more than one value
-abbrev pub SplitsFirst : Box → EndLine → Type 0
-SplitsFirst b (Refuted reason) = Unit {0}
-SplitsFirst b (Split cut) = IsFirstCut b cut.cell cut.k
-SplitsFirst b Point = Unit {0}
-SplitsFirst b Unfinished = Unit {0}
+-- a box that is split is cut as is picked at its depth, where a brancher of this rule is asked, or none is
+abbrev pub SplitsPicked : Option Rule → ℕ → Box → EndLine → Type 0
+SplitsPicked asked depth b (Refuted reason) = Unit {0}
+SplitsPicked asked depth b (Split cut) = (low_first : Bool) × IsPickedCut asked depth b cut.cell cut.k low_first
+SplitsPicked asked depth b Point = Unit {0}
+SplitsPicked asked depth b Unfinished = Unit {0}
 
 -- and so it is in each row
-abbrev pub AllSplitFirst : Box → List Row → Type 0
-AllSplitFirst root rows = (i : ℕ) → i < length rows → SplitsFirst (final_of root rows i) (row_at rows i).end
+abbrev pub AllSplitPicked : Option Rule → Box → List Row → Type 0
+AllSplitPicked asked root rows = (i : ℕ) → i < length rows → SplitsPicked asked (depth_of rows i) (final_of root rows i) (row_at rows i).end
+
+-- no brancher is asked, or one of a rule that has the low half searched first
+abbrev pub IsLowFirst : Option Rule → Type 0
+IsLowFirst None = Unit {0}
+IsLowFirst (Some lower) = Unit {0}
+IsLowFirst (Some widest) = Unit {0}
+IsLowFirst (Some free) = ⊥
 
 -- by the number of the parent, and of one parent the low side first
 abbrev pub StandsBefore : Option Parent → Option Parent → Type 0
@@ -78,42 +90,62 @@ SpendsAll (Optimal value cells) nodes budget = Unit {0}
 SpendsAll Infeasible nodes budget = Unit {0}
 SpendsAll (Bounded found bound) nodes budget = nodes ≡ budget
 
--- these rows are the tree of a search: the nodes in the order in which they were finished, and behind them those that are left open, by their
--- parents; each step and end is right against the best value of its moment, and the whole is a log that is accepted. Of two sides the low one stands
--- first, no node lies deeper than the bits of the root, nor deeper than 1536, and what the outcome found is the point of a row
-pub record IsTree (problem : BoxProblem) (budget : ℕ) (outcome : Outcome) (rows : List Row) : Type 0 where
-  pub finished : List Row
+-- how a search is done: how many seats there are, in which order they take steps, the rule of the brancher that is asked, if any, and how many nodes may be
+-- finished
+pub record SearchPlan : Type 0 where
+  pub seats : ℕ
+  pub order : Option ℕ
+  pub asked : Option Rule
+  pub budget : ℕ
+
+abbrev pub plan_of : Schedule → Option Rule → ℕ → SearchPlan
+plan_of schedule asked budget = record { seats = schedule.seats; order = schedule.order; asked = asked; budget = budget }
+
+-- rows that so many seats finished by this plan, with the state in which they leave the search
+pub record IsPlannedRun (problem : BoxProblem) (plan : SearchPlan) (state : CrewState) : Type 0 where
+  pub run : IsCrewRun problem plan.seats (named_seats plan.seats plan.order (length state.rows)) state
+  pub logs : Logs problem state.rows (all_nodes state.seats) state.best
+  pub are_finished : AreFinished state.rows
+  pub within : length state.rows ≤ plan.budget
+  pub splits : AllSplitPicked plan.asked problem.root state.rows
+  pub low_first : plan.seats ≡ 1 → IsLowFirst plan.asked → LowStandsFirst state.rows
+
+-- these rows are the tree of a search by a plan: the nodes in the order in which they were finished, each by the seat whose turn it was, and behind them those that
+-- are left open, by their parents; each step and end is right against the best value of its moment, and the whole is a log that is accepted. Without a
+-- brancher no node lies deeper than the bits of the root, and none ever lies deeper than 1536; what the outcome found is the point of a row
+pub record IsTree (problem : BoxProblem) (plan : SearchPlan) (outcome : Outcome) (rows : List Row) : Type 0 where
+  pub state : CrewState
   pub opens : List Pending
-  pub best : Option ℤ
-  pub rows_are : rows ≡ with_open finished opens
-  pub logs : Logs problem finished opens best
-  pub are_finished : AreFinished finished
-  pub within : length finished ≤ budget
-  pub spent : SpendsAll outcome (length finished) budget
-  pub splits : AllSplitFirst problem.root finished
+  pub planned : IsPlannedRun problem plan state
+  pub are_open : IsPermutation (all_nodes state.seats) opens
+  pub logs : Logs problem state.rows opens state.best
+  pub rows_are : rows ≡ with_open state.rows opens
+  pub spent : SpendsAll outcome (length state.rows) plan.budget
   pub in_order : AllPairs (λ (x y : Pending). StandsBefore x.parent y.parent) opens
   pub fit : All RowFits rows
   pub accepted : Accepted problem rows (footer_of outcome)
-  pub low_first : LowStandsFirst rows
-  pub by_bits : (i : ℕ) → i < length rows → depth_of rows i ≤ bits_in problem.root
+  pub by_bits : plan.asked ≡ None → (i : ℕ) → i < length rows → depth_of rows i ≤ bits_in problem.root
   pub shallow : (i : ℕ) → i < length rows → depth_of rows i ≤ 1536
   pub found : IfSome (told_point outcome) (IsPointRow problem rows)
 
 -- these bytes are the lines of such a tree, with what is claimed of the outcome behind them
-pub record IsSearchLog (problem : BoxProblem) (budget : ℕ) (outcome : Outcome) (bytes : List ℕ) : Type 0 where
+pub record IsSearchLog (problem : BoxProblem) (plan : SearchPlan) (outcome : Outcome) (bytes : List ℕ) : Type 0 where
   pub rows : List Row
-  pub tree : IsTree problem budget outcome rows
+  pub tree : IsTree problem plan outcome rows
   pub text : bytes ≡ text_of (log_lines rows (footer_of outcome))
   pub is_text : IsLogText rows (footer_of outcome) bytes
 
--- a sink took the whole log of a search with this outcome, or a prefix of the log of a search
-pub record IsLogged (problem : BoxProblem) (budget : ℕ) (outcome : Outcome) (before now : Option (List ℕ)) : Type 0 where
+-- a sink took the whole log of a search with this outcome
+pub record IsLogged (problem : BoxProblem) (plan : SearchPlan) (outcome : Outcome) (before now : Option (List ℕ)) : Type 0 where
   pub bytes : List ℕ
-  pub is_log : IsSearchLog problem budget outcome bytes
+  pub is_log : IsSearchLog problem plan outcome bytes
   pub took : Appends before now bytes
 
-pub record IsPrefixLogged (problem : BoxProblem) (budget : ℕ) (before now : Option (List ℕ)) : Type 0 where
-  pub outcome : Outcome
-  pub bytes : List ℕ
-  pub is_log : IsSearchLog problem budget outcome bytes
-  pub took : AppendsPrefix before now bytes
+-- or a prefix of a log whose first rows, none or more, are those of a search by the plan
+pub record IsPrefixLogged (problem : BoxProblem) (plan : SearchPlan) (before now : Option (List ℕ)) : Type 0 where
+  pub state : CrewState
+  pub more : List Row
+  pub footer : Footer
+  pub planned : IsPlannedRun problem plan state
+  pub is_text : IsLogText (state.rows ++ more) footer (text_of (log_lines (state.rows ++ more) footer))
+  pub took : AppendsPrefix before now (text_of (log_lines (state.rows ++ more) footer))

@@ -2,10 +2,11 @@
 use Rattle.std.specs.Prelude.{◌≡◌, ℕ, ℤ, List, Option, Some, None, IfSome}
 use Rattle.sopl_base.specs.Better.{IsBetter}
 use Rattle.sopl_base.specs.declared.direction.Direction.{Direction}
+use Rattle.sopl_base.specs.declared.direction.Direction.TheVariants.{Minimize, Maximize, Nothing}
 use Rattle.box_problem.specs.Box.{Box}
 use Rattle.box_problem.specs.BoxProblem.{BoxProblem}
 use Rattle.box_problem.specs.Reached.{IsReached, NoneBetter, NoneSatisfies}
-use Rattle.box_problem.specs.Opens.{IsUnsettled}
+use Rattle.box_problem.specs.Opens.{IsBetterOf, IsUnsettled}
 use Rattle.sopl_search.specs.declared.outcome.Found.{Found}
 use Rattle.sopl_search.specs.declared.outcome.Outcome.{Outcome}
 use Rattle.sopl_search.specs.declared.outcome.Outcome.TheVariants.{Optimal, Infeasible, Bounded}
@@ -46,6 +47,27 @@ IsSettled (Optimal value cells) = Unit {0}
 IsSettled Infeasible = Unit {0}
 IsSettled (Bounded found bound) = ⊥
 
+-- two outcomes say the same: both that no point satisfies, or both the same best value, where there is an objective
+abbrev pub IsSameValue : Direction → ℤ → ℤ → Type 0
+IsSameValue Minimize v w = v ≡ w
+IsSameValue Maximize v w = v ≡ w
+IsSameValue Nothing v w = Unit {0}
+
+abbrev pub SayTheSame : Direction → Outcome → Outcome → Type 0
+SayTheSame direction (Optimal v cells) (Optimal w others) = IsSameValue direction v w
+SayTheSame direction (Optimal v cells) Infeasible = ⊥
+SayTheSame direction (Optimal v cells) (Bounded found bound) = ⊥
+SayTheSame direction Infeasible (Optimal w others) = ⊥
+SayTheSame direction Infeasible Infeasible = Unit {0}
+SayTheSame direction Infeasible (Bounded found bound) = ⊥
+SayTheSame direction (Bounded found bound) other = ⊥
+
+-- so do any two that do not give up and are true of all points, however they were found
+abbrev pub SettledOutcomesAgree : Type 0
+SettledOutcomesAgree =
+    (problem : BoxProblem) (one other : Outcome) → IsTrueOf problem one → IsTrueOf problem other → IsSettled one → IsSettled other
+    → SayTheSame problem.direction one other
+
 -- what is answered of the best point and of a bound: the bound is told where it is better, or where nothing was found
 abbrev pub Settles : Direction → Option Found → ℤ → Outcome → Type 0
 Settles direction best bound (Optimal value cells) =
@@ -59,3 +81,13 @@ abbrev pub Closes : Option Found → Outcome → Type 0
 Closes best (Optimal value cells) = best ≡ Some (found_of value cells)
 Closes best Infeasible = best ≡ None
 Closes best (Bounded found x) = ⊥
+
+-- what is answered of the best point and of the best end over open boxes, if any is open: it is closed, or settled by the better one of the best value and that end
+pub record IsSettledBy (direction : Direction) (best : Option Found) (end : ℤ) (outcome : Outcome) : Type 0 where
+  pub bound : ℤ
+  pub better : IsBetterOf direction (value_of best) end bound
+  pub settles : Settles direction best bound outcome
+
+abbrev pub IsOutcomeBy : Direction → Option Found → Option ℤ → Outcome → Type 0
+IsOutcomeBy direction best None outcome = Closes best outcome
+IsOutcomeBy direction best (Some end) outcome = IsSettledBy direction best end outcome

@@ -9,16 +9,17 @@ use Rattle.log_rows.specs.declared.rows.Parent.{Parent}
 use Rattle.log_rows.specs.declared.rows.Row.{Row}
 use Rattle.log_rows.specs.Rows.{row_at}
 use Rattle.sopl_search.specs.declared.outcome.Outcome.{Outcome}
-use Rattle.sopl_search.specs.Logged.{IsTree}
+use Rattle.sopl_search.specs.Logged.{IsLowFirst, IsTree, SearchPlan}
 
 -- the side of a row
 abbrev pub side_below : ℕ → Side → Option Parent
 side_below n side = Some (record { node = n; side = side })
 
--- of two rows that are the sides of one split the low one stands first
+-- of two rows that are the sides of one split the low one stands first, where there is one seat and the low half is searched first
 abbrev pub SidesAreOrdered : Type 0
 SidesAreOrdered =
-    (problem : BoxProblem) (budget : ℕ) (outcome : Outcome) (rows : List Row) (n i j : ℕ) → IsTree problem budget outcome rows → i < length rows → j < length rows
+    (problem : BoxProblem) (plan : SearchPlan) (outcome : Outcome) (rows : List Row) (n i j : ℕ) → plan.seats ≡ 1 → IsLowFirst plan.asked
+    → IsTree problem plan outcome rows → i < length rows → j < length rows
     → (row_at rows i).parent ≡ side_below n Le → (row_at rows j).parent ≡ side_below n Ge → i < j
 
 -- a row without steps
@@ -35,6 +36,7 @@ high_half_alone =
     ∷ plain_row (side_below 1 Ge) Unfinished
     ∷ []
 
--- that is no tree of a search
+-- that is no tree of such a search
 abbrev pub HighHalfNeverAlone : Type 0
-HighHalfNeverAlone = (problem : BoxProblem) (budget : ℕ) (outcome : Outcome) → ¬ IsTree problem budget outcome high_half_alone
+HighHalfNeverAlone =
+    (problem : BoxProblem) (plan : SearchPlan) (outcome : Outcome) → plan.seats ≡ 1 → IsLowFirst plan.asked → ¬ IsTree problem plan outcome high_half_alone

@@ -1,62 +1,105 @@
 //! What a search has found, and what it has left to do.
 
-ghost use Rattle.std.specs.Prelude.{◌≡◌, ◌∷◌, ◌++◌, [], ◌+◌, ◌<◌, ◌≤◌, ◌^◌, true, length, map, reverse, None, Some, IfOk, OnOk, All};
-ghost use Rattle.sopl_base.specs.declared.reason.Side.TheVariants.{Le, Ge};
-ghost use Rattle.box_problem.specs.Box.{Box, Inside, box_of};
-ghost use Rattle.box_problem.specs.Steps.{IsCut};
-ghost use Rattle.box_problem.specs.Rightness.{Appended};
+ghost use Rattle.std.specs.Prelude.{◌≡◌, ◌+◌, ◌<◌, ◌≤◌, ◌^◌, ◌++◌, List, length, map, option_map, Some, Err, IfOk, OnOk, OnErr};
+ghost use Rattle.sopl_io.specs.Calls.{StopsAtFailure, StopsWhere};
+ghost use Rattle.sopl_io.specs.Causes.{HasCause, Rose};
+ghost use Rattle.sopl_io.specs.Transfer.{AppendsPrefix};
+ghost use Rattle.sopl_base.specs.declared.stop.SearchStop.TheVariants.{Write};
+ghost use Rattle.box_problem.specs.Box.{Inside, box_of};
 ghost use Rattle.prop_core.specs.Members.{AllFit, StillFit, together};
-ghost use Rattle.log_rows.specs.LogLaws.{half};
-ghost use Rattle.log_rows.specs.Ranges.{EndFits, StepFits};
-ghost use Rattle.sopl_search.specs.Frontiers.{CutsMarks, IsAdded, IsNext, Keeps, KeepsFrom, Stands, opens, waiting};
-ghost use Rattle.sopl_search.specs.Lines.{cut_of, last_first, line_of, open_line};
-ghost use Rattle.sopl_search.specs.Ends.{AreAll, Ends, IsPosed};
+ghost use Rattle.log_rows.specs.Lines.{row_lines, text_of};
+ghost use Rattle.log_rows.specs.Ranges.{RowFits};
+ghost use Rattle.log_rows.specs.declared.rows.Row.{Row};
+ghost use Rattle.open_nodes.specs.Takes.{Takes, lists_of};
+ghost use Rattle.sopl_search.specs.Ends.{AreAll, IsPosed};
+ghost use Rattle.sopl_search.specs.Frontiers.{IsBegun, Keeps, Stands, StandsAtRoot, first_lists, nodes_of};
+ghost use Rattle.sopl_search.specs.Moves.{GivesSplit, HasTaken, IsBrokenStep, IsEnded, IsPut, IsStepped, IsWorked, event_told, worked_row};
 ghost use Rattle.sopl_search.specs.Outcomes.{found_at, value_of};
+ghost use Rattle.sopl_search.specs.Schedules.{AreSeats};
 
-use crate::cut::Cut;
+use crate::bounding::enter;
 use crate::ending::{NodeEnd, finish};
 use crate::fitting::steps_fit;
-use crate::high::PendingHalf;
-use crate::listing::add_opens;
+use crate::nodes::{cell_of, depth_of, parent_of};
 use crate::outcome::{Found, value_in};
 use crate::posed::SearchProblem;
 use crate::values::Values;
 use box_store::BoxStore;
-use log_rows::{Parent, Row};
-use sopl_base::{Interval, Side, Steps};
+use brancher::{Brancher, Event, tell};
+use log_rows::{Row, put_row};
+use open_nodes::{BoxWalk, Halving, OpenNode, Seats, made, release};
+use sopl_base::{Interval, SearchStop, Side, Steps};
+use sopl_io::{Gather, Sink};
 use std::alloc::{AllocError, Global};
 
-/// The open node that is finished next, with its box; the high halves that wait for their turn; the best point that was found; and the rows
-/// of all nodes that are finished, with their number. A half that waits is kept as the cut, and a mark of the store at the box that was cut; the newest
-/// stands last.
+/// How many bytes of a log are kept before they are written.
+const GATHERED: usize = 65_536;
+
+/// The open nodes of all seats, and how many there are; the box that goes from one to another, and the cells of the ends that it made again;
+/// how many nodes are finished; the best point that was found; and the bytes of the log that no sink took yet.
 #[derive(Drop)]
-pub(crate) struct Frontier {
-    pub(crate) store: BoxStore,
-    pub(crate) parent: Option<Parent>,
-    pub(crate) later: Vec<PendingHalf>,
-    pub(crate) best: Option<Found>,
-    pub(crate) finished: u32,
-    pub(crate) rows: Vec<Row>,
+pub struct Frontier {
+    pub walk: BoxWalk,
+    pub remade: Vec<u32>,
+    pub seats: Seats,
+    pub open_count: u64,
+    pub finished: u64,
+    pub best: Option<Found>,
+    pub gather: Gather,
+}
+
+/// A node that a seat took, how deep it lies, the steps that narrowed its box, and how it ends.
+#[derive(Drop)]
+pub(crate) struct WorkedNode {
+    pub(crate) node: OpenNode,
+    pub(crate) depth: u64,
+    pub(crate) steps: Steps,
+    pub(crate) end: NodeEnd,
+}
+
+/// A box that stands at the root.
+fn rooted(alloc: Global, roots: &[Interval]) -> Result<BoxWalk, AllocError>
+    requires few { length roots.now < 2 ^ 32 }
+    ensures stands { IfOk result (λ walk. StandsAtRoot (box_of roots.now) walk) }
+{
+    let mut store = BoxStore::new(alloc, roots)?;
+    store.reserve(1)?;
+    store.mark();
+    Ok(BoxWalk {
+        store,
+        here: Vec::new(alloc),
+    })
+}
+
+/// So many seats, of which the first one has the root.
+fn seated(alloc: Global, seats: u32) -> Result<Seats, AllocError>
+    requires seats { AreSeats seats }
+    ensures seats { IfOk result (λ made. lists_of made ≡ first_lists seats) }
+{
+    let mut made = Seats::new(alloc, seats as usize)?;
+    let root = OpenNode {
+        below: None,
+        side: Side::Le,
+    };
+    made.put(0, root)?;
+    Ok(made)
 }
 
 impl Frontier {
-    /// One open node, whose box is that of all points.
-    pub(crate) fn new(alloc: Global, roots: &[Interval]) -> Result<Frontier, AllocError>
+    /// One open node, whose box is that of all points; the first of so many seats has it.
+    pub(crate) fn new(alloc: Global, roots: &[Interval], seats: u32) -> Result<Frontier, AllocError>
         requires few { length roots.now < 2 ^ 32 }
-        ensures root { IfOk result (λ frontier. frontier.store.box ≡ box_of roots.now) }
-        ensures is_root { IfOk result (λ frontier. frontier.parent ≡ None) }
-        ensures none_waits { IfOk result (λ frontier. frontier.later.items ≡ []) }
-        ensures no_rows { IfOk result (λ frontier. frontier.rows.items ≡ []) }
-        ensures nothing_found { IfOk result (λ frontier. frontier.best ≡ None) }
-        ensures none_finished { IfOk result (λ frontier. frontier.finished ≡ 0) }
+        requires seats { AreSeats seats }
+        ensures begun { IfOk result (IsBegun (box_of roots.now) seats) }
     {
         Ok(Frontier {
-            store: BoxStore::new(alloc, roots)?,
-            parent: None,
-            later: Vec::new(alloc),
-            best: None,
+            walk: rooted(alloc, roots)?,
+            remade: Vec::new(alloc),
+            seats: seated(alloc, seats)?,
+            open_count: 1,
             finished: 0,
-            rows: Vec::new(alloc),
+            best: None,
+            gather: Gather::new(alloc, GATHERED)?,
         })
     }
 
@@ -67,42 +110,63 @@ impl Frontier {
         value_in(&self.best)
     }
 
-    /// Takes the low half of a cut as the next node, and lets the high half wait; `node` is the number of the node that is split.
-    fn split(&mut self, node: u64, cut: &Cut) -> Result<(), AllocError>
-        requires cut { IsCut self.old.store.box cut.now.cell Le cut.now.k }
-        ensures nodes { OnOk result (opens true self.new ≡ half node self.old.store.box (cut_of cut.now) Le ∷ half node self.old.store.box (cut_of cut.now) Ge ∷ waiting self.old) }
-        ensures cuts { OnOk result (CutsMarks self.old → CutsMarks self.new) }
-        ensures best { self.new.best ≡ self.old.best }
-        ensures finished { self.new.finished ≡ self.old.finished }
-        ensures rows { self.new.rows ≡ self.old.rows }
+    /// Takes the node that a step of this seat finishes.
+    fn take(&mut self, seat: u32) -> OpenNode
+        requires exists { seat < length self.old.seats.seats.items }
+        requires counted { length (nodes_of self.old) ≡ self.old.open_count }
+        requires some { 0 < self.old.open_count }
+        ensures taken { HasTaken self.old self.new seat result }
     {
-        self.store.reserve(2)?;
-        self.later.push(PendingHalf { node, cut: *cut })?;
-        self.store.mark();
-        cut.take_low(&mut self.store);
-        self.parent = Some(Parent {
-            node,
-            side: Side::Le,
-        });
-        Ok(())
+        let Some(node) = self.seats.take(seat as usize) else {
+            unreachable!()
+        };
+        self.open_count -= 1;
+        node
     }
 
-    /// Takes the newest of the halves that wait as the next node; whether there is one.
-    pub(crate) fn next(&mut self) -> Result<bool, AllocError>
-        requires cuts { CutsMarks self.old }
-        ensures next { IfOk result (IsNext self.old self.new) }
-        ensures best { self.new.best ≡ self.old.best }
-        ensures finished { self.new.finished ≡ self.old.finished }
-        ensures rows { self.new.rows ≡ self.old.rows }
+    /// Takes the node that a step of this seat finishes, and narrows its box.
+    fn work<P: SearchProblem>(
+        &mut self,
+        alloc: Global,
+        program: &P::Program,
+        list: &mut [P],
+        brancher: &mut Option<Box<dyn Brancher>>,
+        seat: u32,
+    ) -> Result<WorkedNode, AllocError>
+        requires posed { IsPosed (P.problem program.now) }
+        requires fits { AllFit P.fits program.now list.old }
+        requires all { AreAll (P.problem program.now) (together (map P.reasons list.old)) }
+        requires exists { seat < length self.old.seats.seats.items }
+        requires some { 0 < self.old.open_count }
+        requires stands { Stands (P.problem program.now) self.old }
+        requires keeps { (rows : List Row) × Keeps (P.problem program.now) (option_map rule brancher.old) rows self.old }
+        ensures worked { (rows : List Row) → Keeps (P.problem program.now) (option_map rule brancher.old) rows self.old
+            → IfOk result (IsWorked (P.problem program.now) (option_map rule brancher.old) rows seat self.old self.new) }
+        ensures taken { (node : OpenNode) × (others : List (List OpenNode)) × Takes (lists_of self.old.seats) others seat node }
+        ensures same_reasons { map P.reasons list.new ≡ map P.reasons list.old }
+        ensures still_fit { StillFit P.fits list.old list.new }
+        ensures same_rule { option_map rule brancher.new ≡ option_map rule brancher.old }
     {
-        let Some(high) = self.later.pop() else {
-            return Ok(false);
-        };
-        self.store.undo();
-        self.store.reserve(1)?;
-        high.cut.take_high(&mut self.store);
-        self.parent = high.parent();
-        Ok(true)
+        let node = self.take(seat);
+        let depth = depth_of(&node);
+        enter(alloc, &mut self.walk, &node, &mut self.remade)?;
+        let best = self.value();
+        let mut steps = Steps::new(alloc);
+        let end = finish(
+            list,
+            program,
+            &mut self.walk.store,
+            best,
+            &mut steps,
+            brancher,
+            depth as u32,
+        )?;
+        Ok(WorkedNode {
+            node,
+            depth,
+            steps,
+            end,
+        })
     }
 
     /// Keeps the one point of the box in the store as the best one.
@@ -112,141 +176,181 @@ impl Frontier {
         program: &P::Program,
     ) -> Result<(), AllocError>
         requires valid { P.valid program.now }
-        requires inside { Inside self.old.store.box (P.problem program.now).root }
-        ensures best { OnOk result (self.new.best ≡ Some (found_at (P.problem program.now) self.old.store.box)) }
-        ensures store { self.new.store ≡ self.old.store }
-        ensures waiting { waiting self.new ≡ waiting self.old }
-        ensures later { self.new.later ≡ self.old.later }
+        requires inside { Inside self.old.walk.store.box (P.problem program.now).root }
+        ensures best { OnOk result (self.new.best ≡ Some (found_at (P.problem program.now) self.old.walk.store.box)) }
+        ensures walk { self.new.walk ≡ self.old.walk }
+        ensures seats { self.new.seats ≡ self.old.seats }
+        ensures open_count { self.new.open_count ≡ self.old.open_count }
         ensures finished { self.new.finished ≡ self.old.finished }
-        ensures rows { self.new.rows ≡ self.old.rows }
+        ensures gather { self.new.gather ≡ self.old.gather }
     {
-        let value = P::end(program, &self.store);
-        let cells = Values::copy_of(alloc, self.store.lows())?;
+        let value = P::end(program, &self.walk.store);
+        let cells = Values::copy_of(alloc, self.walk.store.lows())?;
         self.best = Some(Found { value, cells });
         Ok(())
     }
 
-    /// Adds the row of the node at hand.
-    fn add_row(&mut self, steps: Steps, end: &NodeEnd) -> Result<(), AllocError>
-        requires room { self.old.finished + 1 < 2 ^ 32 }
-        ensures added { OnOk result (IsAdded self.old self.new steps (line_of end.now)) }
-        ensures steps_fit { All StepFits steps }
-        ensures end_fits { EndFits (line_of end.now) }
-        ensures store { self.new.store ≡ self.old.store }
-        ensures later { self.new.later ≡ self.old.later }
+    /// Gives a seat the two sides of a node that is split; the one that is searched first becomes its newest.
+    fn give(
+        &mut self,
+        alloc: Global,
+        seat: u32,
+        worked: WorkedNode,
+        cut: Halving,
+        low_first: bool,
+    ) -> Result<(), AllocError>
+        requires exists { seat < length self.old.seats.seats.items }
+        requires room { self.old.open_count + 2 < 2 ^ 64 }
+        ensures given { OnOk result (GivesSplit self.old self.new seat worked cut low_first) }
+        ensures walk { self.new.walk ≡ self.old.walk }
+        ensures finished { self.new.finished ≡ self.old.finished }
+        ensures best { self.new.best ≡ self.old.best }
+        ensures gather { self.new.gather ≡ self.old.gather }
     {
-        steps_fit(steps.as_slice());
-        let end = end.line();
-        let parent = self.parent;
-        self.rows.push(Row { parent, steps, end })?;
+        let split = made(
+            alloc,
+            worked.node.below,
+            worked.node.side,
+            self.finished,
+            worked.depth,
+            worked.steps,
+            cut,
+        )?;
+        let low = OpenNode {
+            below: Some(split.clone()?),
+            side: Side::Le,
+        };
+        let high = OpenNode {
+            below: Some(split),
+            side: Side::Ge,
+        };
+        self.open_count += 2;
+        if low_first {
+            self.seats.give(seat as usize, high, low)
+        } else {
+            self.seats.give(seat as usize, low, high)
+        }
+    }
+
+    /// Writes the lines of a node.
+    fn put<K: Sink>(&mut self, sink: &mut K, worked: WorkedNode) -> Result<WorkedNode, SearchStop>
+        ensures same { IfOk result (λ put. put ≡ worked) }
+        ensures put { OnOk result (IsPut self.old self.new (worked_row worked) (K.taken sink.old) (K.taken sink.new)) }
+        ensures fits { RowFits (worked_row worked) }
+        ensures prefix { OnErr result (AppendsPrefix (K.taken sink.old) (K.taken sink.new)
+            (self.old.gather.kept ++ text_of (row_lines self.old.finished (worked_row worked)))) }
+        ensures stop { OnErr result (result ≡ Err Write) }
+        ensures names { K.names sink.new ≡ K.names sink.old }
+        ensures outcomes { StopsAtFailure (K.outcomes sink.old) (K.outcomes sink.new) result }
+        ensures cause { HasCause (K.faults sink.old) (K.faults sink.new) result }
+    {
+        steps_fit(worked.steps.as_slice());
+        let row = Row {
+            parent: parent_of(&worked.node),
+            steps: worked.steps,
+            end: worked.end.line(),
+        };
+        if put_row(&mut self.gather, sink, self.finished, &row).is_err() {
+            return Err(SearchStop::Write);
+        }
+        Ok(WorkedNode {
+            node: worked.node,
+            depth: worked.depth,
+            steps: row.steps,
+            end: worked.end,
+        })
+    }
+
+    /// Ends a node whose lines are written.
+    fn end<P: SearchProblem>(
+        &mut self,
+        alloc: Global,
+        program: &P::Program,
+        seat: u32,
+        worked: WorkedNode,
+    ) -> Result<(), AllocError>
+        requires valid { P.valid program.now }
+        requires inside { Inside self.old.walk.store.box (P.problem program.now).root }
+        requires exists { seat < length self.old.seats.seats.items }
+        requires room { self.old.open_count + 2 < 2 ^ 64 }
+        requires few { self.old.finished + 1 < 2 ^ 64 }
+        ensures ended { OnOk result (IsEnded (P.problem program.now) self.old self.new seat worked worked.end) }
+        ensures gather { self.new.gather ≡ self.old.gather }
+        ensures walk { self.new.walk ≡ self.old.walk }
+    {
+        let end = worked.end;
+        match end {
+            NodeEnd::Refuted(_) => let_go(worked),
+            NodeEnd::Split { cut, low_first } => self.give(alloc, seat, worked, cut, low_first)?,
+            NodeEnd::Point => {
+                let_go(worked);
+                self.keep::<P>(alloc, program)?;
+            }
+        }
         self.finished += 1;
         Ok(())
     }
 
-    /// Finishes the node at hand, whose box these steps have narrowed, by an end of it; whether another one is open.
-    fn close<P: SearchProblem>(
-        &mut self,
-        alloc: Global,
-        program: &P::Program,
-        steps: Steps,
-        end: &NodeEnd,
-    ) -> Result<bool, AllocError>
-        requires posed { IsPosed (P.problem program.now) }
-        requires valid { P.valid program.now }
-        requires cuts { CutsMarks self.old }
-        requires stands { Stands (P.problem program.now) true self.old }
-        requires ends { Ends (P.problem program.now) (value_of self.old.best) self.old.store.box end.now }
-        requires room { self.old.finished + 1 < 2 ^ 32 }
-        ensures stands { IfOk result (λ more. Stands (P.problem program.now) more self.new) }
-        ensures keeps { (start : Box) → Appended (P.problem program.now) (value_of self.old.best) start [] steps self.old.store.box
-            → KeepsFrom (P.problem program.now) start self.old
-            → IfOk result (λ more. Keeps (P.problem program.now) more self.new) }
-        ensures cuts { OnOk result (CutsMarks self.new) }
-        ensures finished { OnOk result (self.new.finished ≡ self.old.finished + 1) }
-    {
-        let node = u64::from(self.finished);
-        self.add_row(steps, end)?;
-        match end {
-            NodeEnd::Refuted(_) => self.next(),
-            NodeEnd::Split(cut) => {
-                self.split(node, cut)?;
-                Ok(true)
-            }
-            NodeEnd::Point => {
-                self.keep::<P>(alloc, program)?;
-                self.next()
-            }
-        }
-    }
-
-    /// Finishes one node; whether another one is open.
-    fn step<P: SearchProblem>(
+    /// Finishes one node: the newest one of this seat, or else the oldest one of the first seat that has one.
+    pub(crate) fn step<P: SearchProblem, K: Sink>(
         &mut self,
         alloc: Global,
         program: &P::Program,
         list: &mut [P],
-    ) -> Result<bool, AllocError>
+        brancher: &mut Option<Box<dyn Brancher>>,
+        seat: u32,
+        sink: &mut K,
+    ) -> Result<(), SearchStop>
         requires posed { IsPosed (P.problem program.now) }
         requires valid { P.valid program.now }
         requires fits { AllFit P.fits program.now list.old }
         requires all { AreAll (P.problem program.now) (together (map P.reasons list.old)) }
-        requires cuts { CutsMarks self.old }
-        requires stands { Stands (P.problem program.now) true self.old }
-        requires keeps { Keeps (P.problem program.now) true self.old }
-        requires room { self.old.finished + 1 < 2 ^ 32 }
-        ensures stands { IfOk result (λ more. Stands (P.problem program.now) more self.new) }
-        ensures keeps { IfOk result (λ more. Keeps (P.problem program.now) more self.new) }
-        ensures cuts { OnOk result (CutsMarks self.new) }
+        requires exists { seat < length self.old.seats.seats.items }
+        requires some { 0 < self.old.open_count }
+        requires room { self.old.finished < 2 ^ 62 }
+        requires stands { Stands (P.problem program.now) self.old }
+        requires keeps { (rows : List Row) × Keeps (P.problem program.now) (option_map rule brancher.old) rows self.old }
+        ensures stands { OnOk result (Stands (P.problem program.now) self.new) }
+        ensures stepped { (rows : List Row) → Keeps (P.problem program.now) (option_map rule brancher.old) rows self.old
+            → OnOk result (IsStepped (P.problem program.now) (option_map rule brancher.old) rows seat self.old self.new (K.taken sink.old) (K.taken sink.new)) }
+        ensures broken { (rows : List Row) → Keeps (P.problem program.now) (option_map rule brancher.old) rows self.old
+            → OnErr result (IsBrokenStep (P.problem program.now) rows seat self.old (K.taken sink.old) (K.taken sink.new)) }
         ensures finished { OnOk result (self.new.finished ≡ self.old.finished + 1) }
+        ensures seats { OnOk result (length self.new.seats.seats.items ≡ length self.old.seats.seats.items) }
         ensures same_reasons { map P.reasons list.new ≡ map P.reasons list.old }
         ensures still_fit { StillFit P.fits list.old list.new }
+        ensures same_rule { option_map rule brancher.new ≡ option_map rule brancher.old }
+        ensures names { K.names sink.new ≡ K.names sink.old }
+        ensures faults_grow { K.faults sink.old ≤ K.faults sink.new }
+        ensures write { result ≡ Err Write → Rose (K.faults sink.old) (K.faults sink.new) }
+        ensures outcomes { StopsWhere (result ≡ Err Write) (K.outcomes sink.old) (K.outcomes sink.new) }
     {
-        let best = self.value();
-        let mut steps = Steps::new(alloc);
-        let end = finish(list, program, &mut self.store, best, &mut steps)?;
-        self.close::<P>(alloc, program, steps, &end)
+        let worked = self.work(alloc, program, list, brancher, seat)?;
+        let worked = self.put(sink, worked)?;
+        let event = event_of(&worked);
+        self.end::<P>(alloc, program, seat, worked)?;
+        tell(brancher, event);
+        Ok(())
     }
+}
 
-    /// Finishes nodes until none is open or `budget` of them are finished; whether one is still open.
-    pub(crate) fn run<P: SearchProblem>(
-        &mut self,
-        alloc: Global,
-        program: &P::Program,
-        list: &mut [P],
-        budget: u32,
-    ) -> Result<bool, AllocError>
-        requires posed { IsPosed (P.problem program.now) }
-        requires valid { P.valid program.now }
-        requires fits { AllFit P.fits program.now list.old }
-        requires all { AreAll (P.problem program.now) (together (map P.reasons list.old)) }
-        requires cuts { CutsMarks self.old }
-        requires stands { Stands (P.problem program.now) true self.old }
-        requires keeps { Keeps (P.problem program.now) true self.old }
-        requires none_finished { self.old.finished ≡ 0 }
-        requires budget { 1 ≤ budget }
-        ensures stands { IfOk result (λ more. Stands (P.problem program.now) more self.new) }
-        ensures keeps { IfOk result (λ more. Keeps (P.problem program.now) more self.new) }
-        ensures cuts { OnOk result (CutsMarks self.new) }
-        ensures at_least_one { OnOk result (0 < self.new.finished) }
-        ensures within { OnOk result (self.new.finished ≤ budget) }
-        ensures spent { IfOk result (λ more. more ≡ true → self.new.finished ≡ budget) }
-    {
-        'nodes: while self.finished < budget {
-            if !self.step(alloc, program, list)? {
-                return Ok(false);
-            }
-        }
-        Ok(true)
-    }
+/// Lets go of a node that is not split.
+fn let_go(worked: WorkedNode) {
+    release(worked.node.below);
+}
 
-    /// Adds the rows of the nodes that are open, by parent, and of one parent the low side first.
-    pub(crate) fn list_open(&mut self, alloc: Global) -> Result<(), AllocError>
-        ensures rows { OnOk result (self.new.rows.items ≡ self.old.rows.items ++ map open_line (reverse (last_first self.old.parent (reverse self.old.later.items)))) }
-        ensures opens { opens true self.new ≡ opens true self.old }
-        ensures cuts { CutsMarks self.old → CutsMarks self.new }
-        ensures best { self.new.best ≡ self.old.best }
-        ensures finished { self.new.finished ≡ self.old.finished }
-    {
-        add_opens(alloc, &mut self.rows, self.parent, self.later.as_slice())
+/// What a brancher is told of a node.
+fn event_of(worked: &WorkedNode) -> Event
+    ensures { result ≡ event_told worked.now.node worked.now.end }
+{
+    match &worked.end {
+        NodeEnd::Refuted(_) => Event::Closed {
+            cell: cell_of(&worked.node),
+        },
+        NodeEnd::Split { cut, .. } => Event::Split {
+            cell: cut.cell,
+            cut: cut.k,
+        },
+        NodeEnd::Point => Event::Found,
     }
 }

@@ -1,22 +1,28 @@
-//! The search for the best point of a problem by branch and bound, over any propagators.
+//! The search for the best point of a problem by branch and bound, over any propagators, by one seat or several.
 #![tactic(auto)]
 
 mod bounding;
-mod cut;
+mod close;
+mod crew;
+mod crew_laws;
 mod ending;
 mod fitting;
 mod frontier;
-mod high;
 mod listing;
+mod nodes;
 mod outcome;
 mod posed;
+mod schedule;
 mod searching;
-mod tree;
 mod tree_laws;
 mod values;
 
+pub use crew::Crew;
+pub use crew_laws::{runs_are_logs, settled_outcomes_agree};
+pub use frontier::Frontier;
 pub use outcome::{Found, Outcome};
 pub use posed::SearchProblem;
+pub use schedule::Schedule;
 pub use searching::search;
 pub use sopl_base::SearchStop;
 pub use tree_laws::{high_half_never_alone, sides_are_ordered};

@@ -1,14 +1,18 @@
 ghost use Rattle.std.specs.Prelude.{◌≡◌, ◌≤◌};
 ghost use Rattle.sopl_search.specs.Climbing.{both_reasons, climbing, pair_of, reached};
+ghost use Rattle.sopl_search.specs.Schedules.{AreSeats, IsOrder};
 
 use super::*;
+use crate::tests::answering::{AnswerKind, AnsweringBrancher};
 use crate::tests::pairs::{Pair, near_pair};
 use box_store::BoxStore;
+use brancher::{Brancher, Choice};
 use prop_core::{Finding, Propagator};
 use sopl_base::{Direction, Interval, Reason, Side, Step};
 use sopl_io::MemSink;
 use std::alloc::{AllocError, Global};
 
+mod answering;
 mod pairs;
 
 /// Narrows a pair of cells so that the first one is at most the second one, and better than the best value.
@@ -98,12 +102,68 @@ fn outcome_of(
     alloc: Global,
     pair: &Pair,
     budget: u32,
+    seats: u32,
+    order: Option<u32>,
     sink: &mut MemSink,
 ) -> Result<Outcome, SearchStop>
-    requires { 1 ≤ budget }
+    requires budget { 1 ≤ budget }
+    requires seats { AreSeats seats }
+    requires order { IsOrder order }
 {
     let props = Vec::from_slice(alloc, &[Climb])?;
-    search(alloc, pair, props, budget, sink)
+    let schedule = Schedule::new(seats, order);
+    search(alloc, pair, props, budget, schedule, None, sink)
+}
+
+/// The same, where a brancher of this kind is asked.
+#[tactic(auto, using(crate::proofs::Climbing::climb_all, crate::proofs::Climbing::pair_bits))]
+fn outcome_by(
+    alloc: Global,
+    pair: &Pair,
+    budget: u32,
+    seats: u32,
+    kind: AnswerKind,
+    sink: &mut MemSink,
+) -> Result<Outcome, SearchStop>
+    requires budget { 1 ≤ budget }
+    requires seats { AreSeats seats }
+{
+    let props = Vec::from_slice(alloc, &[Climb])?;
+    let schedule = Schedule::new(seats, None);
+    let answering = AnsweringBrancher {
+        kind,
+        calls: 0,
+        events: 0,
+    };
+    let asked: Box<dyn Brancher> = match Box::new(alloc, answering) {
+        Ok(asked) => asked,
+        Err(failed) => return Err(AllocError::from(failed).into()),
+    };
+    search(alloc, pair, props, budget, schedule, Some(asked), sink)
+}
+
+/// Gives two seats these turns, as long as a node is open, and closes the search; what the last call answers. No first line is written. A
+/// brancher may be asked.
+#[tactic(auto, using(crate::proofs::Climbing::climb_all, crate::proofs::Climbing::climbing_posed))]
+fn driven(
+    alloc: Global,
+    pair: &Pair,
+    turns: &[u32],
+    brancher: Option<Box<dyn Brancher>>,
+    sink: &mut MemSink,
+) -> Result<Result<Outcome, SearchStop>, SearchStop> {
+    let props = Vec::from_slice(alloc, &[Climb])?;
+    let mut crew = Crew::new(alloc, pair, props, 2, brancher)?;
+    'steps: for seat in turns {
+        if crew.open_nodes() == 0 || *seat > 1 || crew.finished() > 1000 {
+            break;
+        }
+        crew.step(pair, *seat, sink)?;
+    }
+    if crew.finished() == 0 || crew.finished() > 1000 {
+        return Err(SearchStop::NoMemory);
+    }
+    Ok(crew.close(pair, sink))
 }
 
 /// Whether a point and its value are these.
@@ -147,7 +207,9 @@ fn outcomes(rt: HostRuntime) {
     ] {
         if let Some(pair) = near_pair(first, second) {
             let mut sink = empty_sink(rt.alloc(), &[]).expect(&rt, "memory");
-            let outcome = outcome_of(rt.alloc(), &pair, budget, &mut sink).expect(&rt, "outcome");
+            let outcome = outcome_of(rt.alloc(), &pair, budget, 1, None, &mut sink).expect(
+                &rt, "outcome",
+            );
             assert!(rt; is_told(&outcome, want, bound), "another outcome");
         }
     }
@@ -190,7 +252,7 @@ fn logs(rt: HostRuntime) {
     ] {
         if let Some(pair) = near_pair(first, second) {
             let mut sink = empty_sink(rt.alloc(), &[]).expect(&rt, "memory");
-            outcome_of(rt.alloc(), &pair, budget, &mut sink).expect(&rt, "outcome");
+            outcome_of(rt.alloc(), &pair, budget, 1, None, &mut sink).expect(&rt, "outcome");
             assert!(rt; sink.bytes() == log.as_bytes(), "another log");
         }
     }
@@ -201,9 +263,160 @@ fn faults(rt: HostRuntime) {
     for (failing, log) in [(0, ""), (2, "sopl-log 1\nn 0 r\nv")] {
         if let Some(pair) = near_pair((3, 3), (4, 4)) {
             let mut sink = empty_sink(rt.alloc(), &[failing]).expect(&rt, "memory");
-            let stopped = outcome_of(rt.alloc(), &pair, 1, &mut sink);
+            let stopped = outcome_of(rt.alloc(), &pair, 1, 1, None, &mut sink);
             assert!(rt; matches!(stopped, Err(SearchStop::Write)), "no fault");
             assert!(rt; sink.bytes() == log.as_bytes(), "another front");
         }
+    }
+}
+
+#[test]
+fn seats(rt: HostRuntime) {
+    let log =
+        "sopl-log 1\nn 0 r\nx 0 1\nn 1 0 h\nx 0 2\nn 2 0 l\nx 0 0\nn 3 1 l\nv\nn 4 2 l\nf b\nn 5 1 h\nv\nn 6 2 h\nf b\nend optimal 3\n";
+    if let Some(pair) = near_pair((0, 3), (3, 3)) {
+        let mut sink = empty_sink(rt.alloc(), &[]).expect(&rt, "memory");
+        outcome_of(rt.alloc(), &pair, 100, 2, None, &mut sink).expect(&rt, "outcome");
+        assert!(rt; sink.bytes() == log.as_bytes(), "another log of two seats");
+    }
+}
+
+#[test]
+fn turns_by_hand(rt: HostRuntime) {
+    for (turns, log) in [
+        (
+            [0, 1, 0, 1, 0, 1, 0, 1].as_slice(),
+            "n 0 r\nx 0 1\nn 1 0 h\nx 0 2\nn 2 0 l\nx 0 0\nn 3 1 l\nv\nn 4 2 l\nf b\nn 5 1 h\nv\nn 6 2 h\nf b\nend optimal 3\n",
+        ),
+        (
+            [0, 1].as_slice(),
+            "n 0 r\nx 0 1\nn 1 0 h\nx 0 2\nn 2 0 l\no\nn 3 1 l\no\nn 4 1 h\no\nend bounded none 3\n",
+        ),
+    ] {
+        if let Some(pair) = near_pair((0, 3), (3, 3)) {
+            let mut sink = empty_sink(rt.alloc(), &[]).expect(&rt, "memory");
+            let closed = driven(rt.alloc(), &pair, turns, None, &mut sink).expect(&rt, "steps");
+            assert!(rt; closed.is_ok(), "no outcome");
+            assert!(rt; sink.bytes() == log.as_bytes(), "another log of two seats");
+        }
+    }
+}
+
+#[test]
+fn fault_at_close(rt: HostRuntime) {
+    if let Some(pair) = near_pair((0, 3), (3, 3)) {
+        let none = Vec::from_slice(rt.alloc(), &[]).expect(&rt, "memory");
+        let mut sink = MemSink::new(rt.alloc(), 3, none).expect(&rt, "memory");
+        let closed = driven(rt.alloc(), &pair, &[0, 1, 0], None, &mut sink).expect(&rt, "steps");
+        assert!(rt; matches!(closed, Err(SearchStop::Write)), "no fault");
+        assert!(rt; sink.bytes() == "n 0".as_bytes(), "another front");
+    }
+}
+
+/// A choice of a cell, of the greatest value of its low half, and of the half that is searched first.
+fn choice(cell: u32, cut: i64, low_first: bool) -> Choice {
+    Choice {
+        cell,
+        cut,
+        low_first,
+    }
+}
+
+#[test]
+fn any_brancher(rt: HostRuntime) {
+    for kind in [
+        AnswerKind::Nothing,
+        AnswerKind::AtUpperEnd,
+        AnswerKind::Always(choice(1, 3, false)),
+        AnswerKind::Always(choice(4_294_967_295, i64::MIN, true)),
+        AnswerKind::Turning,
+        AnswerKind::Counting,
+    ] {
+        for seats in [1, 2] {
+            if let Some(pair) = near_pair((0, 7), (0, 5)) {
+                let mut sink = empty_sink(rt.alloc(), &[]).expect(&rt, "memory");
+                let outcome = outcome_by(rt.alloc(), &pair, 100, seats, kind, &mut sink).expect(
+                    &rt, "outcome",
+                );
+                assert!(rt;
+                    is_told(&outcome, Some((5, [5, 5])), None),
+                    "another outcome"
+                );
+            }
+        }
+    }
+}
+
+#[test]
+fn logs_by_branchers(rt: HostRuntime) {
+    for (kind, budget, log) in [
+        (
+            AnswerKind::Always(choice(0, 0, false)),
+            3,
+            "sopl-log 1\nn 0 r\nx 0 0\nn 1 0 h\nx 0 2\nn 2 1 l\nx 0 1\nn 3 0 l\no\nn 4 1 h\no\nn 5 2 l\no\nn 6 2 h\no\nend bounded none 3\n",
+        ),
+        (
+            AnswerKind::Turning,
+            100,
+            "sopl-log 1\nn 0 r\nx 0 0\nn 1 0 h\nx 0 1\nn 2 1 l\nv\nn 3 1 h\nx 0 2\nn 4 3 h\nv\nn 5 3 l\nf b\nn 6 0 l\nf b\nend optimal 3\n",
+        ),
+        (
+            AnswerKind::Counting,
+            100,
+            "sopl-log 1\nn 0 r\nx 0 0\nn 1 0 l\nv\nn 2 0 h\nx 0 1\nn 3 2 h\nx 0 2\nn 4 3 h\nv\nn 5 3 l\nf b\nn 6 2 l\nf b\nend optimal 3\n",
+        ),
+    ] {
+        if let Some(pair) = near_pair((0, 3), (3, 3)) {
+            let mut sink = empty_sink(rt.alloc(), &[]).expect(&rt, "memory");
+            outcome_by(rt.alloc(), &pair, budget, 1, kind, &mut sink).expect(&rt, "outcome");
+            assert!(rt; sink.bytes() == log.as_bytes(), "another log");
+        }
+    }
+}
+
+#[test]
+fn one_outcome(rt: HostRuntime) {
+    for (many, order) in [
+        (1, None),
+        (2, None),
+        (3, None),
+        (64, None),
+        (2, Some(1)),
+        (3, Some(0)),
+        (64, Some(2147483647)),
+    ] {
+        if let Some(pair) = near_pair((0, 7), (0, 5)) {
+            let mut sink = empty_sink(rt.alloc(), &[]).expect(&rt, "memory");
+            let outcome = outcome_of(rt.alloc(), &pair, 100, many, order, &mut sink).expect(
+                &rt, "outcome",
+            );
+            assert!(rt;
+                is_told(&outcome, Some((5, [5, 5])), None),
+                "another outcome"
+            );
+        }
+    }
+}
+
+/// The seat of the next of the first thousand steps.
+fn next_of(schedule: &mut Schedule) -> Option<u32> {
+    if schedule.turn > 1000 {
+        return None;
+    }
+    Some(schedule.next())
+}
+
+#[test]
+fn turns(rt: HostRuntime) {
+    let mut drawn = Schedule::new(2, Some(1));
+    for want in [0, 0, 1, 1, 1] {
+        assert!(rt; next_of(&mut drawn) == Some(want), "another seat is drawn");
+    }
+    let mut turn = Schedule::new(3, None);
+    for want in [0, 1, 2, 0, 1] {
+        assert!(rt;
+            next_of(&mut turn) == Some(want),
+            "another seat has its turn"
+        );
     }
 }

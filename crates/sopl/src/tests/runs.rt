@@ -1,6 +1,7 @@
 //! Runs over sources and sinks in memory, and how they must end.
 
 use answer_run::{Status, Word, Words, run};
+use brancher::Brancher;
 use sopl_io::{MemSink, MemSource};
 use std::alloc::{AllocError, Global};
 use std::process::Abort;
@@ -10,6 +11,9 @@ pub(super) const ORDER: &str =
 
 pub(super) const ORDER_ANSWER: &str =
     "{\"answer\":\"optimal\",\"policy\":{\"decide\":[[\"x\",[],1]],\"next\":[{\"seen\":[[\"d\",[],1]],\"then\":{\"decide\":[[\"y\",[],1]],\"next\":[]}},{\"seen\":[[\"d\",[],3]],\"then\":{\"decide\":[[\"y\",[],1]],\"next\":[]}}]},\"value\":\"2/2\"}\n";
+
+pub(super) const FARMER: &str =
+    "int acres = 50; dvar int w in 0..acres stage 1; dvar int c in 0..acres stage 1; dvar int b in 0..acres stage 1; stoch int y in {4:1, 5:1, 6:1} stage 1; maximize expected(min(170*(5*y*w - 200), 238*(5*y*w - 200)) + min(150*(6*y*c - 240), 210*(6*y*c - 240)) + min(36*(40*y*b), 10*(40*y*b) + 156000) - 1500*w - 2300*c - 2600*b); subject to { w + c + b <= acres; }";
 
 pub(super) fn words_of(alloc: Global, texts: &[&str]) -> Result<Words, AllocError> {
     let mut words = Words::new(alloc);
@@ -53,17 +57,28 @@ pub(super) const WIDE: Room = Room {
     failing: &[],
 };
 
-/// Runs over a source, with sinks that take so many bytes.
+/// Runs over a source, with sinks that take so many bytes, and without a brancher.
 pub(super) fn ran_over(
     alloc: Global,
     words: &Words,
     source: &mut MemSource,
     room: &Room,
 ) -> Result<Ended, AllocError> {
+    ran_with(alloc, words, source, room, Vec::new(alloc))
+}
+
+/// The same with these branchers.
+pub(super) fn ran_with(
+    alloc: Global,
+    words: &Words,
+    source: &mut MemSource,
+    room: &Room,
+    branchers: Vec<Box<dyn Brancher>>,
+) -> Result<Ended, AllocError> {
     let mut answer = MemSink::new(alloc, room.answer, Vec::new(alloc))?;
     let failing = Vec::from_slice(alloc, room.failing)?;
     let mut log = MemSink::new(alloc, room.log, failing)?;
-    let status = run(alloc, words, source, &mut answer, &mut log);
+    let status = run(alloc, words, source, &mut answer, &mut log, branchers);
     Ok(Ended {
         status,
         answer,

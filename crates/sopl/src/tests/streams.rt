@@ -91,7 +91,14 @@ fn one_byte_at_a_time(rt: HostRuntime) -> Result<(), Fail> {
         taken: Vec::new(alloc),
         faults: 0,
     };
-    let ended = run(alloc, &words, &mut source, &mut answer, &mut log);
+    let ended = run(
+        alloc,
+        &words,
+        &mut source,
+        &mut answer,
+        &mut log,
+        Vec::new(alloc),
+    );
     assert_eq!(rt; ended, Status::Done);
     assert_eq!(rt; answer.taken.as_slice(), ORDER_ANSWER.as_bytes());
     let text = std::str::from_utf8(log.taken.as_slice()).unwrap_or("");

@@ -12,8 +12,8 @@ returns-in-Text-clause-told c =
 
 pub returns-in-Text-clause-reply : goal.returns-in-Text-clause-reply
 returns-in-Text-clause-reply c =
-    λ command text budget reason.
-    fault_so (IsTextReply text budget command None) command text (refused command) (limited command) c.args.fault c.refused_reply.result reason (returns-in-Text-clause-told c)
+    λ command text plan reason.
+    fault_so (IsTextReply text plan command None) command text (refused command) (limited command) c.args.fault c.refused_reply.result reason (returns-in-Text-clause-told c)
 
 pub returns-in-Limit-clause-told : goal.returns-in-Limit-clause-told
 returns-in-Limit-clause-told c =
@@ -22,5 +22,5 @@ returns-in-Limit-clause-told c =
 
 pub returns-in-Limit-clause-reply : goal.returns-in-Limit-clause-reply
 returns-in-Limit-clause-reply c =
-    λ command text budget over.
-    fault_so (IsTextReply text budget command None) command text (refused command) (limited command) c.args.fault c.limit_reply.result over (returns-in-Limit-clause-told c)
+    λ command text plan over.
+    fault_so (IsTextReply text plan command None) command text (refused command) (limited command) c.args.fault c.limit_reply.result over (returns-in-Limit-clause-told c)

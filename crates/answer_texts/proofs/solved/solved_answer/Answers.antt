@@ -10,7 +10,7 @@ use Rattle.answer_texts.proofs.solved.solved_answer.Goals as goal
 
 pub returns-in_err-answer-in-Ok-clause-stopped : goal.returns-in_err-answer-in-Ok-clause-stopped
 returns-in_err-answer-in-Ok-clause-stopped g c =
-    let cut : IsCutOff c.args.stated.now c.args.budget c.args.name.now (state_of g.K.Sink.taken g.K.Sink.names c.args.sink.now) (state_of g.K.Sink.taken g.K.Sink.names c.logged_answer.new.sink) =
+    let cut : IsCutOff c.args.stated.now _ c.args.name.now (state_of g.K.Sink.taken g.K.Sink.names c.args.sink.now) (state_of g.K.Sink.taken g.K.Sink.names c.logged_answer.new.sink) =
     record { solvable = c.in-Ok.ensures.solvable; wrote = c.in_err-answer-in-Ok.ensures.stopped } in
     on_err _ cut
 

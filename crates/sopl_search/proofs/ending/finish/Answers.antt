@@ -1,12 +1,7 @@
-use Rattle.std.proofs.Common.{map}
-use Rattle.prop_core.specs.Members.{together}
 use Rattle.sopl_search.proofs.Resting.{appended_inside, ends_where_calm}
 use Rattle.sopl_search.proofs.ending.finish.Goals as goal
 
 pub returns-in-Quiet-clause-ends : goal.returns-in-Quiet-clause-ends
 returns-in-Quiet-clause-ends g c =
-    ends_where_calm (g.P.Propagator.problem c.args.program.now) (together (map g.P.Propagator.reasons c.args.list.now)) c.args.best c.fixpoint.new.store.box _ c.end_of.result
-    c.requires.posed c.requires.all
-    (appended_inside (g.P.Propagator.problem c.args.program.now) c.args.best c.args.store.now.box c.fixpoint.new.store.box c.args.steps.now c.fixpoint.new.steps c.requires.inside
-    c.fixpoint.ensures.steps)
-    c.in-Quiet.is c.in_ok-reason.ensures.rests c.end_of.ensures
+    ends_where_calm (g.P.Propagator.problem c.args.program.now) _ c.args.best c.fixpoint.new.store.box _ _ c.args.depth c.end_of.result c.requires.posed c.requires.all
+    (appended_inside _ _ _ _ _ _ c.requires.inside c.fixpoint.ensures.steps) c.in-Quiet.is c.in_ok-reason.ensures.rests c.end_of.ensures.ends

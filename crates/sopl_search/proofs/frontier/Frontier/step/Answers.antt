@@ -1,24 +1,62 @@
-use Rattle.std.proofs.Common.{reverse}
-use Rattle.sopl_search.specs.Frontiers.{boxes, waiting}
-use Rattle.sopl_search.specs.Outcomes.{value_of}
-use Rattle.sopl_search.proofs.Closing.{appended_from, keeps_from}
-use Rattle.sopl_search.proofs.Standing.{first_inside, stands_after_steps}
+use Rattle.std.proofs.Common.{rules}
+use Rattle.sopl_io.specs.Calls.{no_call}
+use Rattle.sopl_io.proofs.Calling.{where_all}
+use Rattle.sopl_io.proofs.Gathering.{on_err}
+use Rattle.sopl_search.proofs.BrokenSteps.{broken_at_end, broken_at_once, broken_at_put, inside_there, seat_there, seats_there, stands_there, stepped}
 use Rattle.sopl_search.proofs.frontier.Frontier.step.Goals as goal
 
-pub finish-requires-clause-inside : goal.finish-requires-clause-inside
-finish-requires-clause-inside g c =
-    first_inside (g.P.Propagator.problem c.args.program.now) c.args.self.now.best c.args.self.now.finished c.args.self.now.store.box (boxes (waiting c.args.self.now)) c.requires.stands
+pub returns-in_err-worked-clause-broken : goal.returns-in_err-worked-clause-broken
+returns-in_err-worked-clause-broken g c =
+    λ rows keeps. on_err c.from_residual.result
+    (broken_at_once (g.P.Propagator.problem c.args.program.now) _ rows c.args.seat c.args.self.now (g.K.Sink.taken c.args.sink.now) c.requires.room keeps c.work.ensures.taken)
 
-pub close-requires-clause-stands : goal.close-requires-clause-stands
-close-requires-clause-stands g c =
-    stands_after_steps (g.P.Propagator.problem c.args.program.now) c.args.self.now.best _ c.args.self.now.finished c.args.self.now.store.box c.finish.new.store.box _ _
-    (reverse c.args.self.now.later.items) c.args.self.now.store.marks c.finish.new.store.marks
-    c.requires.posed c.value-best.ensures c.finish.ensures.steps c.finish.ensures.marks c.requires.stands
+pub returns-in_err-worked-clause-outcomes : goal.returns-in_err-worked-clause-outcomes
+returns-in_err-worked-clause-outcomes g c = where_all _ _ (search rules) no_call
 
-pub returns-clause-keeps : goal.returns-clause-keeps
-returns-clause-keeps g c =
-    let problem = g.P.Propagator.problem c.args.program.now in
-    let old = c.args.self.now in
-    c.close.ensures.keeps old.store.box
-    (appended_from problem _ (value_of old.best) old.store.box c.finish.new.store.box _ c.finish.new.steps c.value-best.ensures c.new-steps.ensures.empty c.finish.ensures.steps)
-    (keeps_from problem old (reverse old.later.items) old.store.marks c.finish.new.store.marks c.finish.ensures.marks c.requires.keeps)
+pub returns-in_err-worked-2-clause-broken : goal.returns-in_err-worked-2-clause-broken
+returns-in_err-worked-2-clause-broken g c =
+    λ rows keeps. on_err c.from_residual-in_err-worked-2.result
+    (broken_at_put (g.P.Propagator.problem c.args.program.now) _ rows c.args.seat c.args.self.now c.work.new.self c.in_ok-worked.worked _ _ keeps (c.in_ok-worked.ensures.worked rows keeps)
+    c.put.ensures.fits c.in_err-worked-2.ensures.prefix)
+
+pub end-requires-clause-inside : goal.end-requires-clause-inside
+end-requires-clause-inside g c =
+    let rows = c.requires.keeps.0 in
+    let keeps = c.requires.keeps.1 in
+    inside_there (g.P.Propagator.problem c.args.program.now) _ rows c.args.seat c.args.self.now c.work.new.self c.put.new.self c.in_ok-worked.worked c.in_ok-worked-2.worked _ _
+    c.requires.posed keeps c.requires.exists (c.in_ok-worked.ensures.worked rows keeps) c.in_ok-worked-2.ensures.put
+
+pub end-requires-clause-exists : goal.end-requires-clause-exists
+end-requires-clause-exists g c =
+    let rows = c.requires.keeps.0 in
+    let keeps = c.requires.keeps.1 in
+    seat_there (g.P.Propagator.problem c.args.program.now) _ rows c.args.seat c.args.self.now c.work.new.self c.put.new.self c.in_ok-worked.worked c.in_ok-worked-2.worked _ _
+    c.requires.posed keeps c.requires.exists (c.in_ok-worked.ensures.worked rows keeps) c.in_ok-worked-2.ensures.put
+
+pub returns-in_err-end-clause-broken : goal.returns-in_err-end-clause-broken
+returns-in_err-end-clause-broken g c =
+    λ rows keeps. on_err c.from_residual-in_err-end.result
+    (broken_at_end (g.P.Propagator.problem c.args.program.now) _ rows c.args.seat c.args.self.now c.work.new.self c.put.new.self c.in_ok-worked.worked _ _ keeps
+    (c.in_ok-worked.ensures.worked rows keeps) c.put.ensures.fits c.in_ok-worked-2.ensures.put)
+
+pub returns-clause-stands : goal.returns-clause-stands
+returns-clause-stands g c =
+    let rows = c.requires.keeps.0 in
+    let keeps = c.requires.keeps.1 in
+    stands_there (g.P.Propagator.problem c.args.program.now) _ rows c.args.seat c.args.self.now c.work.new.self c.put.new.self c.in_ok-worked.worked c.in_ok-worked-2.worked _ _
+    c.requires.posed keeps c.requires.exists (c.in_ok-worked.ensures.worked rows keeps) c.in_ok-worked-2.ensures.put c.end.new.self c.in_ok-worked-2.ensures.same
+    c.in_ok-end.ensures.ended c.requires.stands
+
+pub returns-clause-stepped : goal.returns-clause-stepped
+returns-clause-stepped g c =
+    λ rows keeps. stepped (g.P.Propagator.problem c.args.program.now) _ rows c.args.seat c.args.self.now c.work.new.self c.put.new.self c.in_ok-worked.worked c.in_ok-worked-2.worked _ _
+    c.requires.posed keeps c.requires.exists (c.in_ok-worked.ensures.worked rows keeps) c.in_ok-worked-2.ensures.put c.end.new.self c.in_ok-worked-2.ensures.same
+    c.in_ok-end.ensures.ended c.put.ensures.fits c.end.ensures.gather c.end.ensures.walk
+
+pub returns-clause-seats : goal.returns-clause-seats
+returns-clause-seats g c =
+    let rows = c.requires.keeps.0 in
+    let keeps = c.requires.keeps.1 in
+    seats_there (g.P.Propagator.problem c.args.program.now) _ rows c.args.seat c.args.self.now c.work.new.self c.put.new.self c.in_ok-worked.worked c.in_ok-worked-2.worked _ _
+    c.requires.posed keeps c.requires.exists (c.in_ok-worked.ensures.worked rows keeps) c.in_ok-worked-2.ensures.put c.end.new.self c.in_ok-worked-2.ensures.same
+    c.in_ok-end.ensures.ended
