@@ -1,0 +1,12 @@
+//! Texts of models that are drawn by numbers: stages in which something is bought before it is known how much of it is asked for.
+#![tactic(auto)]
+
+mod drawn_stage;
+mod generator;
+#[cfg(test)]
+mod tests;
+mod text;
+mod worked;
+
+pub use text::{generate, generated};
+pub use worked::worked_texts;
