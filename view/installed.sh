@@ -8,6 +8,11 @@ program=$views/sopl
 formats=$top/share/doc/sopl/FORMATS.md
 [ -r "$views/answers.sh" ] || { echo "sopl: there is no file $views/answers.sh" >&2; exit 70; }
 . "$views/answers.sh"
+# A file that may not grow is one that cannot be written, and no end by a signal; and no file that is opened takes the place of an input or
+# output that is closed.
+trap '' XFSZ
+{ true 3<&0; } 2>/dev/null || exec </dev/null
+{ true 3>&1; } 2>/dev/null || exec >/dev/full
 trap drop_notes EXIT
 trap 'exit 130' INT
 trap 'exit 143' TERM HUP
