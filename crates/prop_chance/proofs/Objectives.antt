@@ -1,32 +1,39 @@
 -- The cells that the objective's terms mention, and what is found for the objective.
-use Rattle.std.proofs.Common.{◌≡◌, ℕ, ◌+◌, ◌<◌, ◌≤◌, ℤ, true, false, List, [], ◌∷◌, ◌++◌, Option, Some, None, IfSome, slice_get, length, map, Result, Ok, Err, OnOk, IfNone, arith, refl, subst, sym}
+use Rattle.std.proofs.Common.{◌≡◌, ◌∙◌, inl, inr, ap, take, get_or, ℕ, ◌+◌, ◌<◌, ◌≤◌, ℤ, Bool, true, false, List, [], ◌∷◌, ◌++◌, Option, Some, None, IfSome, slice_get, length, map, Result, Ok, Err, OnOk, IfNone, arith, refl, subst, sym}
 use Rattle.std.specs.List.{All, Contains, flat_map, range_with_len}
 use Rattle.std.specs.Option.{option_and_then, option_map_or}
+use Rattle.std.proofs.lemmas.List.{take_all, take_more}
 use Rattle.std.proofs.lemmas.List.Elements.{All-append, All-cons, All-contains, All-nil, Contains-append_left, Contains-append_right}
-use Rattle.std.proofs.lemmas.List.FromFn.{get_or-map-range_with_len, length-map-range_with_len, map-range_with_len_more}
+use Rattle.std.proofs.lemmas.List.FromFn.{get_or-map-range_with_len, length-map-range_with_len}
+use Rattle.sopl_base.specs.declared.direction.Direction.{Direction}
 use Rattle.sopl_base.specs.declared.direction.Direction.TheVariants.{Nothing}
 use Rattle.sopl_base.specs.declared.reason.Reason.{Reason}
 use Rattle.sopl_base.specs.declared.reason.Reason.TheVariants.{Bound, Undefined}
 use Rattle.sopl_base.specs.declared.reason.Step.{Step}
-use Rattle.box_problem.specs.Box.{Box}
+use Rattle.sopl_base.specs.declared.wide.Wide.{Wide}
+use Rattle.box_problem.specs.Box.{Box, high, low, with_high, with_low}
 use Rattle.box_problem.specs.BoxProblem.{BoxProblem}
 use Rattle.box_problem.specs.Rightness.{IsRight, Quiets}
 use Rattle.term_language.specs.Terms.{Term}
 use Rattle.term_language.specs.Mentions.{mentions}
 use Rattle.prop_shave.specs.declared.probes.Probe.{Probe}
 use Rattle.prop_shave.specs.Opened.{IsOpen, IsWhole}
-use Rattle.prop_shave.specs.Probes.{HasAll}
+use Rattle.prop_shave.specs.Probes.{HasAll, closes}
+use Rattle.prop_shave.proofs.Elsewhere.{has_or_not}
 use Rattle.prop_shave.proofs.Finding.{found_quiet}
 use Rattle.term_program.specs.Stated.{box_problem_of}
-use Rattle.term_problem.specs.Problems.{GoalTerms, IsProblem, ProblemTerms}
+use Rattle.term_problem.specs.Objective.{better_end, goal_ends}
+use Rattle.term_problem.specs.Problems.{GoalTerms, IsProblem, ProblemTerms, direction_in}
 use Rattle.term_problem.specs.Refuted.{refutes}
 use Rattle.prop_core.specs.Findings.{Closes, Narrows}
 use Rattle.term_problem.specs.Reasons.{reason_mentions}
 use Rattle.term_program.specs.declared.program.Program.{Program}
 use Rattle.term_program.specs.Mentions.{IsListOf}
-use Rattle.term_program.specs.Programs.{problem_in, root_in}
-use Rattle.prop_core.proofs.Rising.{itself}
-use Rattle.prop_chance.specs.Goals.{IsOpenTo, term_in}
+use Rattle.term_program.specs.Programs.{no_better, problem_in, root_in}
+use Rattle.term_program.proofs.Ending.{bound_closes}
+use Rattle.prop_core.proofs.Rising.{for_each, itself}
+use Rattle.prop_chance.specs.Goals.{IsOpenTo, KnowsEnd, RestsFor, term_in}
+use Rattle.prop_chance.specs.declared.goals.Goal.{Goal}
 use Rattle.prop_chance.proofs.Reached.{AreIn, flat_in, none_mentioned}
 
 -- the cells that the term in a scenario mentions
@@ -79,20 +86,6 @@ quiet_without q scenario is at whole =
     (nothing_undefined (root_in q.program.now) (problem_in q.program.now) scenario [] at))
     whole (All-nil (IsOpen q)))
 
--- the reasons of the first scenarios
-pub none_before : (P : Reason → Type 0) (f : ℕ → Reason) → All P (map f (range_with_len 0 0))
-none_before P f = All-nil P
-
-pub one_before : (P : Reason → Type 0) (f : ℕ → Reason) (n : ℕ) → All P (map f (range_with_len 0 n)) → P (f n) → All P (map f (range_with_len 0 (n + 1)))
-one_before P f n before here =
-    subst (All P) (sym (map-range_with_len_more f 0 n n (omega arith)))
-    (All-append P (map f (range_with_len 0 n)) (f n ∷ []) before (All-cons P (f n) [] here (All-nil P)))
-
-pub all_and_last : (P : Reason → Type 0) (f : ℕ → Reason) (n i : ℕ) (last : Reason) → n ≤ i → i ≤ n → All P (map f (range_with_len 0 i)) → P last → All P (map f (range_with_len 0 n) ++ last ∷ [])
-all_and_last P f n i last past within before here =
-    let same : i ≡ n = omega (arith, past, within) in
-    All-append P (map f (range_with_len 0 n)) (last ∷ []) (subst (λ (k : ℕ). All P (map f (range_with_len 0 k))) same before) (All-cons P last [] here (All-nil P))
-
 pub has_scenario : (f : ℕ → Reason) (n k : ℕ) (last : Reason) → k < n → Contains (map f (range_with_len 0 n) ++ last ∷ []) (f k)
 has_scenario f n k last below =
     let count = length-map-range_with_len f 0 n in
@@ -117,9 +110,6 @@ unfolding box_problem_of
 whole_for q reasons all own = All-contains (IsOpenTo (box_problem_of q.program.now) q.best q.store.now.box) reasons q.reason all own
 
 -- all reasons together
-abbrev pub RestsFor : BoxProblem → Option ℤ → Box → Reason → Type 0
-RestsFor problem v b reason = Quiets problem (reason ∷ []) v b
-
 pub rest_together : (problem : BoxProblem) (v : Option ℤ) (b : Box) (reasons : List Reason) → All (RestsFor problem v b) reasons → Quiets problem reasons v b
 rest_together problem v b reasons all = record {
   whole = λ reason own. (All-contains (RestsFor problem v b) reasons reason all own).whole reason (itself reason);
@@ -144,3 +134,75 @@ own_last reasons reason (Some step) own is = subst (Contains reasons) (sym is) o
 pub none_last : {A : Type 0} (found : Option A) (fact more : Type 0) → (fact → more) → IfNone found fact → IfNone found more
 none_last None fact more leads is = leads is
 none_last (Some x) fact more leads is = tt
+
+-- some of the scenarios, one after the other
+pub more_tried : (P : ℕ → Type 0) (xs : List ℕ) (i x : ℕ) → All P (take i xs) → i < length xs → x ≡ get_or xs i x → P x → All P (take (i + 1) xs)
+more_tried P xs i x before exists is here =
+    subst (All P) (sym (take_more xs i x exists))
+    (All-append P (take i xs) (get_or xs i x ∷ []) before (All-cons P (get_or xs i x) [] (subst P is here) (All-nil P)))
+
+pub all_tried : (P : ℕ → Type 0) (xs : List ℕ) (i : ℕ) → length xs ≤ i → All P (take i xs) → All P xs
+all_tried P xs i past before = subst (All P) (take_all i xs past) before
+
+-- the scenario at a place is one of them
+pub one_of : (xs : List ℕ) (i x : ℕ) → i < length xs → x ≡ get_or xs i x → Contains xs x
+one_of xs i x exists is = (i, exists, sym is)
+
+all_numbers : (P : Reason → Type 0) (f : ℕ → Reason) (n : ℕ) → ((k : ℕ) → k < n → P (f k)) → All P (map f (range_with_len 0 n))
+all_numbers P f n each = λ k d exists.
+    let count = length-map-range_with_len f 0 n in
+    let below : k < n = omega (arith, exists, count) in
+    subst P (sym (get_or-map-range_with_len f 0 n k k d below (omega arith))) (each k below)
+
+-- what holds of some scenarios by a trial and of the others by what they are
+pub every : (P : Reason → Type 0) (f : ℕ → Reason) (n : ℕ) (tried : List ℕ) → All (λ k. P (f k)) tried → ((k : ℕ) → k < n → ¬ Contains tried k → P (f k)) → All P (map f (range_with_len 0 n))
+every P f n tried all others =
+    all_numbers P f n
+    (λ k below.
+    elim (has_or_not tried k) [ inl there ↦ All-contains (λ i. P (f i)) tried k all there | inr nowhere ↦ others k below nowhere ])
+
+pub and_last : (P : Reason → Type 0) (reasons : List Reason) (last : Reason) → All P reasons → P last → All P (reasons ++ last ∷ [])
+and_last P reasons last all here = All-append P reasons (last ∷ []) all (All-cons P last [] here (All-nil P))
+
+pub has_lack : (f : ℕ → Reason) (n k : ℕ) → k < n → Contains (map f (range_with_len 0 n)) (f k)
+has_lack f n k below =
+    let count = length-map-range_with_len f 0 n in
+    (k, omega (arith, below, count), get_or-map-range_with_len f 0 n k k (f k) below (omega arith))
+
+-- where there is no best value, the bound closes nothing
+pub rests_alone : (q : Probe) → q.reason ≡ Bound → q.best ≡ None → Quiets (box_problem_of q.program.now) (q.reason ∷ []) q.best q.store.now.box
+unfolding box_problem_of
+rests_alone q is none =
+    let root = root_in q.program.now in
+    let terms = problem_in q.program.now in
+    let open_ : (b : Box) → refutes root terms q.reason b q.best ≡ false =
+    λ b. ap (λ (r : Reason). refutes root terms r b q.best) is ∙ ap (λ (v : Option ℤ). refutes root terms Bound b v) none
+    in
+    record {
+      whole = for_each q.reason (λ reason. refutes root terms reason q.store.now.box q.best ≡ false) (open_ q.store.now.box);
+      at_low = λ reason cell own exists.
+          for_each q.reason (λ other. refutes root terms other (with_high q.store.now.box cell (low q.store.now.box cell)) q.best ≡ false)
+          (open_ (with_high q.store.now.box cell (low q.store.now.box cell))) reason own;
+      at_high = λ reason cell own exists.
+          for_each q.reason (λ other. refutes root terms other (with_low q.store.now.box cell (high q.store.now.box cell)) q.best ≡ false)
+          (open_ (with_low q.store.now.box cell (high q.store.now.box cell))) reason own;
+    }
+
+pub closed_alone : (q : Probe) (closed : Bool) → q.reason ≡ Bound → q.best ≡ None → closed ≡ false → closed ≡ closes q q.store.now.box
+closed_alone q closed is none open_ =
+    open_
+    ∙ sym (ap (λ (r : Reason). refutes (root_in q.program.now) (problem_in q.program.now) r q.store.now.box q.best) is
+    ∙ ap (λ (v : Option ℤ). refutes (root_in q.program.now) (problem_in q.program.now) Bound q.store.now.box v) none)
+
+pub closed_against : (q : Probe) (end v : ℤ) (direction : Direction) (closed : Bool) → q.reason ≡ Bound → q.best ≡ Some v
+    → end ≡ better_end (direction_in (problem_in q.program.now)) (goal_ends (root_in q.program.now) q.store.now.box (problem_in q.program.now)) → direction
+    ≡ direction_in (problem_in q.program.now) → closed ≡ no_better direction end v → closed ≡ closes q q.store.now.box
+closed_against q end v direction closed is best same mine told =
+    bound_closes (root_in q.program.now) q.store.now.box (problem_in q.program.now) q.best direction end v closed best mine same told
+    ∙ sym (ap (λ (r : Reason). refutes (root_in q.program.now) (problem_in q.program.now) r q.store.now.box q.best) is)
+
+-- what is known of the end
+pub end_known : (p : Goal) (program : Program) (b : Box) (known : Option Wide) → IfSome known (λ end. KnowsEnd p program b end.value)
+    → IfSome known (λ end. end.value ≡ better_end (direction_in (problem_in program)) (goal_ends (root_in program) b (problem_in program)))
+end_known p program b None is = tt
+end_known p program b (Some end) is = is.end

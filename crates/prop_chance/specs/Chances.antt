@@ -19,9 +19,10 @@ abbrev pub numbers_in : TouchedScenarios → List ℕ
 numbers_in s = s.numbers.items
 
 -- the program has that constraint; the cells are all that its conditions mention, and maybe others, each with the scenarios in which the condition
--- mentions it
+-- mentions it; and there is room for the truth of the condition in each scenario
 pub record Fits (p : Chance) (program : Program) : Type 0 where
   pub made : IsMade program
   pub exists : p.instance < length (problem_in program).chances
   pub touched : map numbers_in p.touched.items ≡ map (touched_by (root_in program) (problem_in program) p.instance) p.cells.items
   pub all : HasAll p.cells.items (reason_mentions (root_in program) (problem_in program) (reason.Chance p.instance))
+  pub room : length p.truths.list.items ≡ length (problem_in program).weights

@@ -1,11 +1,12 @@
 //! The propagator of a chance constraint.
 
 ghost use Rattle.std.specs.Prelude.{◌≡◌, ◌<◌, ◌∷◌, [], get_or, length, map, IfNone, IfOk, IfSome};
+ghost use Rattle.prop_shave.specs.ChanceKnown.{AreTruths};
 ghost use Rattle.sopl_base.specs.declared.reason.Reason.TheVariants as reason;
 ghost use Rattle.box_problem.specs.Box.{Inside};
 ghost use Rattle.box_problem.specs.Rightness.{IsRight, Quiets};
 ghost use Rattle.prop_shave.specs.Opened.{IsOpen, IsWhole};
-ghost use Rattle.prop_shave.specs.Probes.{HasAll, IsAsked};
+ghost use Rattle.prop_shave.specs.Probes.{HasAll, IsAsked, closes};
 ghost use Rattle.prop_shave.specs.ChanceSums.{left_over, touched_by};
 ghost use Rattle.term_program.specs.Stated.{box_problem_of};
 ghost use Rattle.prop_core.specs.Findings.{Finds};
@@ -16,20 +17,21 @@ ghost use Rattle.prop_chance.specs.Chances.{Fits, numbers_in, reasons_of};
 use crate::cell_sets::{listed, put_all};
 use box_store::BoxStore;
 use prop_core::{Finding, Propagator};
-use prop_shave::{ChanceDelta, Probe, TouchedScenarios, scenarios_touching, weight_left};
+use prop_shave::{ChanceDelta, Probe, TouchedScenarios, Truths, is_too_little, scenarios_touching};
 use sopl_base::{Reason, Step, Wide};
 use std::alloc::{AllocError, Global};
 use std::collections::BTreeSet;
 use term_program::Program;
 
 /// Narrows a box for one chance constraint: both ends of each cell that one of its conditions mentions are tried, and as many values are removed
-/// there as doubled and then halved steps reach. The weight that is left over the box is computed once; for an end of a cell only the scenarios are
-/// weighed anew in which the condition mentions the cell.
+/// there as doubled and then halved steps reach. The truth of the condition over the box is computed once in each scenario; for an end of a cell only the
+/// scenarios are weighed anew in which the condition mentions the cell, and none where the others and those in which it is True are enough.
 #[derive(Drop)]
 pub struct Chance {
     instance: u32,
     cells: Vec<u32>,
     touched: Vec<TouchedScenarios>,
+    truths: Truths,
 }
 
 /// The cells that the conditions of a chance constraint mention, in ascending order.
@@ -79,10 +81,12 @@ impl Chance {
     {
         let cells = chance_cells(alloc, program, instance)?;
         let touched = touched_scenarios(alloc, program, instance, cells.as_slice())?;
+        let truths = Truths::new(alloc, program.scenarios() as usize)?;
         Ok(Chance {
             instance,
             cells,
             touched,
+            truths,
         })
     }
 
@@ -102,6 +106,7 @@ impl Chance {
         requires reason { probe.now.reason ≡ reason.Chance self.now.instance }
         requires whole { IsWhole probe.now }
         requires left { left.value ≡ left_over (root_in probe.now.program.now) (problem_in probe.now.program.now) self.now.instance probe.now.store.now.box }
+        requires truths { AreTruths (root_in probe.now.program.now) (problem_in probe.now.program.now) self.now.instance probe.now.store.now.box self.now.truths.list.items }
         requires exists { at < length self.now.cells.items }
         ensures right { IfSome result (IsRight (box_problem_of probe.now.program.now) probe.now.best probe.now.store.now.box) }
         ensures own_reason { IfSome result (λ step. step.reason ≡ probe.now.reason) }
@@ -112,6 +117,7 @@ impl Chance {
             instance: self.instance,
             cell,
             left,
+            truths: self.truths.list.as_slice(),
             scenarios: self.touched[at].numbers.as_slice(),
         };
         let known = Probe {
@@ -133,6 +139,7 @@ impl Chance {
         requires reason { probe.now.reason ≡ reason.Chance self.now.instance }
         requires whole { IsWhole probe.now }
         requires left { left.value ≡ left_over (root_in probe.now.program.now) (problem_in probe.now.program.now) self.now.instance probe.now.store.now.box }
+        requires truths { AreTruths (root_in probe.now.program.now) (problem_in probe.now.program.now) self.now.instance probe.now.store.now.box self.now.truths.list.items }
         ensures right { IfSome result (IsRight (box_problem_of probe.now.program.now) probe.now.best probe.now.store.now.box) }
         ensures own_reason { IfSome result (λ step. step.reason ≡ probe.now.reason) }
         ensures none { IfNone result (Quiets (box_problem_of probe.now.program.now) (probe.now.reason ∷ []) probe.now.best probe.now.store.now.box) }
@@ -145,43 +152,63 @@ impl Chance {
         None
     }
 
-    /// The same; where the weight that is left has no room, each end is tried by all scenarios.
-    fn first_step<'a>(&'a self, probe: &'a Probe<'a>) -> Option<Step>
-        requires fits { Fits self.now probe.now.program.now }
+    /// Whether the constraint closes the box, by the weight that is left over it.
+    fn is_closed_by(&self, probe: &Probe<'_>, left: Wide) -> bool
         requires asked { IsAsked probe.now }
+        requires exists { self.now.instance < length (problem_in probe.now.program.now).chances }
         requires reason { probe.now.reason ≡ reason.Chance self.now.instance }
-        requires whole { IsWhole probe.now }
-        ensures right { IfSome result (IsRight (box_problem_of probe.now.program.now) probe.now.best probe.now.store.now.box) }
-        ensures own_reason { IfSome result (λ step. step.reason ≡ probe.now.reason) }
-        ensures none { IfNone result (Quiets (box_problem_of probe.now.program.now) (probe.now.reason ∷ []) probe.now.best probe.now.store.now.box) }
+        requires left { left.value ≡ left_over (root_in probe.now.program.now) (problem_in probe.now.program.now) self.now.instance probe.now.store.now.box }
+        ensures { result ≡ closes probe.now probe.now.store.now.box }
     {
-        match weight_left(probe.program, self.instance, probe.store) {
-            Some(left) => self.step_by(probe, left),
-            None => probe.first_step(self.cells.as_slice()),
-        }
+        is_too_little(probe.program, self.instance, left)
     }
 
-    /// What is found of the box of a question for the constraint.
+    /// What is found of the box for the constraint, by the weight that is left over it.
     #[tactic(auto, using(prop_shave::proofs::Finding::found_dead, prop_shave::proofs::Finding::found_cut))]
-    fn finding<'a>(&'a self, probe: &'a Probe<'a>) -> Finding
+    fn finding_by<'a>(&'a self, probe: &'a Probe<'a>, left: Wide) -> Finding
         requires fits { Fits self.now probe.now.program.now }
         requires asked { IsAsked probe.now }
         requires reason { probe.now.reason ≡ reason.Chance self.now.instance }
+        requires left { left.value ≡ left_over (root_in probe.now.program.now) (problem_in probe.now.program.now) self.now.instance probe.now.store.now.box }
+        requires truths { AreTruths (root_in probe.now.program.now) (problem_in probe.now.program.now) self.now.instance probe.now.store.now.box self.now.truths.list.items }
         ensures finds { Finds (box_problem_of probe.now.program.now) (probe.now.reason ∷ []) probe.now.best probe.now.store.now.box result }
     {
-        if probe.is_closed() {
+        if self.is_closed_by(probe, left) {
             return Finding::Dead(probe.reason);
         }
-        match self.first_step(probe) {
+        match self.step_by(probe, left) {
             Some(step) => Finding::Cut(step),
             None => Finding::Quiet,
         }
     }
 
-    /// The same of the box of a store, against the best value where there is one.
-    fn found<'a>(&self, program: &'a Program, store: &'a BoxStore, best: Option<i128>) -> Finding
+    /// The same; where the weight that is left has no room, each end is tried by all scenarios.
+    fn finding<'a>(&'a self, probe: &'a Probe<'a>, left: Option<Wide>) -> Finding
+        requires fits { Fits self.now probe.now.program.now }
+        requires asked { IsAsked probe.now }
+        requires reason { probe.now.reason ≡ reason.Chance self.now.instance }
+        requires left { IfSome left (λ w. w.value ≡ left_over (root_in probe.now.program.now) (problem_in probe.now.program.now) self.now.instance probe.now.store.now.box) }
+        requires truths { IfSome left (λ w. AreTruths (root_in probe.now.program.now) (problem_in probe.now.program.now) self.now.instance probe.now.store.now.box self.now.truths.list.items) }
+        ensures finds { Finds (box_problem_of probe.now.program.now) (probe.now.reason ∷ []) probe.now.best probe.now.store.now.box result }
+    {
+        match left {
+            Some(left) => self.finding_by(probe, left),
+            None => probe.finding(self.cells.as_slice()),
+        }
+    }
+
+    /// The same of the box of a store, against the best value where there is one, where it is given the weight that is left.
+    fn found<'a>(
+        &self,
+        program: &'a Program,
+        store: &'a BoxStore,
+        best: Option<i128>,
+        left: Option<Wide>,
+    ) -> Finding
         requires fits { Fits self.now program.now }
         requires inside { Inside store.now.box (root_in program.now) }
+        requires left { IfSome left (λ w. w.value ≡ left_over (root_in program.now) (problem_in program.now) self.now.instance store.now.box) }
+        requires truths { IfSome left (λ w. AreTruths (root_in program.now) (problem_in program.now) self.now.instance store.now.box self.now.truths.list.items) }
         ensures finds { Finds (box_problem_of program.now) (reasons_of self.now) best store.now.box result }
     {
         let probe = Probe {
@@ -192,7 +219,7 @@ impl Chance {
             weighed: None,
             counted: None,
         };
-        self.finding(&probe)
+        self.finding(&probe, left)
     }
 }
 
@@ -206,6 +233,7 @@ impl Propagator for Chance {
     ghost fits = { Fits };
 
     fn revise(&mut self, program: &Program, store: &BoxStore, best: Option<i128>) -> Finding {
-        self.found(program, store, best)
+        let left = self.truths.look(program, self.instance, store);
+        self.found(program, store, best, left)
     }
 }

@@ -1,43 +1,49 @@
 //! The propagator of the objective.
 
-ghost use Rattle.std.specs.Prelude.{◌≡◌, ◌<◌, ◌∷◌, ◌++◌, [], false, get_or, length, map, Some, All, Contains, IfNone, IfOk, IfSome, OnOk};
+ghost use Rattle.std.specs.Prelude.{◌≡◌, ◌<◌, ◌∷◌, ◌++◌, [], false, true, if◌then◌else◌, get_or, length, map, Some, All, Contains, IfNone, IfOk, IfSome, OnOk};
 ghost use Rattle.sopl_base.specs.declared.reason.Reason.TheVariants.{Bound, Undefined};
 ghost use Rattle.box_problem.specs.Box.{Inside};
 ghost use Rattle.box_problem.specs.Rightness.{IsRight, Quiets};
 ghost use Rattle.prop_shave.specs.Opened.{IsOpen, IsWhole};
-ghost use Rattle.prop_shave.specs.Probes.{HasAll, IsAsked};
+ghost use Rattle.prop_shave.specs.Probes.{HasAll, IsAsked, closes};
+ghost use Rattle.term_language.specs.declared.answers.Defined.TheVariants.{Always};
+ghost use Rattle.term_program.specs.declared.program.Program.{Program};
 ghost use Rattle.term_program.specs.Stated.{box_problem_of};
-ghost use Rattle.prop_shave.specs.GoalSums.{touched_by};
+ghost use Rattle.prop_shave.specs.GoalSums.{AreParts, touched_by};
 ghost use Rattle.term_problem.specs.Objective.{better_end, goal_ends};
 ghost use Rattle.term_problem.specs.Problems.{direction_in};
 ghost use Rattle.term_problem.specs.Search.{numbers_to};
 ghost use Rattle.std.specs.List.{AllByRecursion};
+ghost use Rattle.std.specs.Option.{option_map_or};
 ghost use Rattle.term_program.specs.Mentions.{atom_ids};
-ghost use Rattle.prop_core.specs.Findings.{Closes};
+ghost use Rattle.prop_core.specs.Findings.{Closes, Finds};
 ghost use Rattle.term_problem.specs.Reasons.{reason_mentions};
 ghost use Rattle.term_nodes.specs.Things.{term_at};
 ghost use Rattle.term_program.specs.Programs.{IsListedTerm, IsMade, problem_in, root_in, things_in};
-ghost use Rattle.prop_chance.specs.Goals.{Fits, IsIndexed, IsOpenTo, atoms_in, reasons_of, term_in};
+ghost use Rattle.prop_chance.specs.Goals.{ArePartial, Fits, IsDefined, IsOpenTo, KnowsEnd, RestsFor, lacks_of, part_numbers, reasons_of, term_in};
 
 use crate::cell_sets::{listed, put_all};
 use box_store::BoxStore;
 use prop_core::{Finding, Propagator};
-use prop_shave::{GoalDelta, Probe, TouchedParts, parts_touching};
+use prop_shave::{GoalDelta, GoalParts, Probe, TouchedParts, parts_touching};
 use sopl_base::{Reason, Step, Wide};
 use std::alloc::{AllocError, Global};
 use std::collections::BTreeSet;
 use term_goals::Atom;
 use term_language::Defined;
-use term_program::{Program, TermId, end_over, range_of, refuted};
+use term_program::{Program, TermId, is_no_better, range_of, refuted};
 
-/// Narrows a box for the objective: what it is to be better than, and where it has to be defined. For each scenario both ends of each cell that the
-/// objective's term mentions are tried, and then those of all these cells together; for an end only the parts of an expected objective are seen anew that
-/// mention the cell.
+/// Narrows a box for the objective: what it is to be better than, and where it has to be defined. For each scenario in which the objective's term may have
+/// no value somewhere in the box of all points, both ends of each cell that it mentions are tried, and then those of all these cells together; for an end only
+/// the parts of an expected objective are seen anew that mention the cell.
 #[derive(Drop)]
 pub struct Goal {
     scenarios: u32,
+    partial: Vec<u32>,
     cells: Vec<u32>,
-    parts: Option<Vec<TouchedParts>>,
+    expected: bool,
+    parts: GoalParts,
+    touched: Vec<TouchedParts>,
 }
 
 /// Puts the cells that the objective's term mentions in a scenario into a set.
@@ -81,7 +87,7 @@ fn touched_parts(
 ) -> Result<Vec<TouchedParts>, AllocError>
     requires made { IsMade program.now }
     requires listed { AllByRecursion (IsListedTerm program.now) (atom_ids atoms.now) }
-    ensures touched { IfOk result (λ lists. map atoms_in lists.items ≡ map (touched_by (root_in program.now) (things_in program.now) atoms.now) cells.now) }
+    ensures touched { IfOk result (λ lists. map part_numbers lists.items ≡ map (touched_by (root_in program.now) (things_in program.now) atoms.now) cells.now) }
 {
     let mut lists = Vec::new(alloc);
     'cells: for cell in cells {
@@ -91,20 +97,83 @@ fn touched_parts(
     Ok(lists)
 }
 
-/// The same of an expected objective; none where the worst scenario counts.
-fn indexed_parts(
-    alloc: Global,
-    program: &Program,
-    cells: &[u32],
-) -> Result<Option<Vec<TouchedParts>>, AllocError>
+/// The parts of an expected objective; no part where the worst scenario counts.
+fn goal_parts(alloc: Global, program: &Program) -> Result<GoalParts, AllocError>
     requires made { IsMade program.now }
-    ensures parts { IfOk result (λ parts. IfSome parts (λ lists. IsIndexed program.now cells.now lists.items)) }
+    ensures are { IfOk result (λ parts. option_map_or (λ goal. goal.worst) (problem_in program.now).goal false ≡ false → AreParts program.now parts.atoms.items) }
+    ensures listed { IfOk result (λ parts. AllByRecursion (IsListedTerm program.now) (atom_ids parts.atoms.items)) }
+    ensures room { IfOk result (λ parts. length parts.ends.items ≡ length parts.atoms.items) }
 {
     if program.worst() {
-        return Ok(None);
+        return GoalParts::new(alloc, &[]);
     }
-    let lists = touched_parts(alloc, program, program.goal_atoms(), cells)?;
-    Ok(Some(lists))
+    GoalParts::new(alloc, program.goal_atoms())
+}
+
+/// Whether a mark says that there is a value everywhere.
+fn is_always(mark: Defined) -> bool
+    ensures { result ≡ true → mark ≡ Always }
+{
+    match mark {
+        Defined::Never => false,
+        Defined::Maybe => false,
+        Defined::Always => true,
+    }
+}
+
+/// Whether the objective's term has a value in a scenario all over the box of a store, which is that of all points, or there is no objective.
+#[tactic(auto, using(crate::proofs::Defined::defined_none))]
+fn is_defined(program: &Program, store: &BoxStore, scenario: u32) -> bool
+    requires made { IsMade program.now }
+    requires root { store.now.box ≡ root_in program.now }
+    requires scenario { scenario < length (problem_in program.now).weights }
+    ensures defined { result ≡ true → IsDefined (root_in program.now) (problem_in program.now) scenario }
+{
+    match program.goal(scenario) {
+        Some(term) => is_always(range_of(program, term, store).defined),
+        None => true,
+    }
+}
+
+/// Adds a scenario to a list, unless the objective has a value there all over the box of all points.
+fn put_partial(list: &mut Vec<u32>, scenario: u32, defined: bool) -> Result<(), AllocError>
+    ensures { OnOk result (list.new.items ≡ list.old.items ++ (if defined then [] else scenario ∷ [])) }
+{
+    if defined {
+        return Ok(());
+    }
+    list.push(scenario)?;
+    Ok(())
+}
+
+/// The scenarios in which the objective's term may have no value in the box of a store, which is that of all points.
+#[tactic(auto, using(crate::proofs::Defined::no_partial))]
+fn partial_scenarios(
+    alloc: Global,
+    program: &Program,
+    store: &BoxStore,
+) -> Result<Vec<u32>, AllocError>
+    requires made { IsMade program.now }
+    requires root { store.now.box ≡ root_in program.now }
+    ensures partial { IfOk result (λ list. ArePartial (root_in program.now) (problem_in program.now) (length (problem_in program.now).weights) list.items) }
+{
+    let mut list = Vec::new(alloc);
+    'scenarios: for scenario in 0..program.scenarios() {
+        let defined = is_defined(program, store, scenario);
+        put_partial(&mut list, scenario, defined)?;
+    }
+    Ok(list)
+}
+
+/// The same for the box of all points.
+fn partial_of(alloc: Global, program: &Program) -> Result<Vec<u32>, AllocError>
+    requires made { IsMade program.now }
+    ensures partial { IfOk result (λ list. ArePartial (root_in program.now) (problem_in program.now) (length (problem_in program.now).weights) list.items) }
+{
+    let roots = program.roots(alloc)?;
+    let store = BoxStore::new(alloc, roots.as_slice())?;
+    let list = partial_scenarios(alloc, program, &store)?;
+    Ok(list)
 }
 
 /// A right step at one of the ends of the cells that this term of the objective mentions, or none where its lack of a value closes the box with no cell
@@ -144,6 +213,34 @@ fn undefined_step(probe: &Probe<'_>, scenario: u32) -> Option<Step>
     }
 }
 
+/// Whether the bound closes the box, by this better end over it.
+fn closes_by_end(probe: &Probe<'_>, end: Wide) -> bool
+    requires asked { IsAsked probe.now }
+    requires reason { probe.now.reason ≡ Bound }
+    requires end { end.value ≡ better_end (direction_in (problem_in probe.now.program.now))
+        (goal_ends (root_in probe.now.program.now) probe.now.store.now.box (problem_in probe.now.program.now)) }
+    ensures { result ≡ closes probe.now probe.now.store.now.box }
+{
+    match probe.best_value() {
+        Some(best) => is_no_better(probe.program.direction(), end, best),
+        None => false,
+    }
+}
+
+/// The same; where the end is not at hand, it is computed.
+fn is_beaten(probe: &Probe<'_>, known: Option<Wide>) -> bool
+    requires asked { IsAsked probe.now }
+    requires reason { probe.now.reason ≡ Bound }
+    requires known { IfSome known (λ end. end.value ≡ better_end (direction_in (problem_in probe.now.program.now))
+        (goal_ends (root_in probe.now.program.now) probe.now.store.now.box (problem_in probe.now.program.now))) }
+    ensures { result ≡ closes probe.now probe.now.store.now.box }
+{
+    match known {
+        Some(end) => closes_by_end(probe, end),
+        None => probe.is_closed(),
+    }
+}
+
 impl Goal {
     /// The propagator of the objective, also where there is none.
     pub fn new(alloc: Global, program: &Program) -> Result<Goal, AllocError>
@@ -152,35 +249,38 @@ impl Goal {
         ensures fits { IfOk result (λ made. Fits made program.now) }
     {
         let cells = goal_cells(alloc, program)?;
-        let parts = indexed_parts(alloc, program, cells.as_slice())?;
+        let partial = partial_of(alloc, program)?;
+        let parts = goal_parts(alloc, program)?;
+        let touched = touched_parts(alloc, program, parts.atoms.as_slice(), cells.as_slice())?;
         Ok(Goal {
             scenarios: program.scenarios(),
+            partial,
             cells,
+            expected: !program.worst(),
             parts,
+            touched,
         })
     }
 
-    /// The first reason that closes the box, if one does.
-    fn closing(&self, program: &Program, store: &BoxStore, best: Option<i128>) -> Option<Reason>
-        requires made { IsMade program.now }
+    /// The first scenario in which the objective's lack of a value closes the box, if there is one.
+    fn undefined(&self, program: &Program, store: &BoxStore, best: Option<i128>) -> Option<Reason>
+        requires fits { Fits self.now program.now }
         requires inside { Inside store.now.box (root_in program.now) }
         ensures closes { IfSome result (Closes (box_problem_of program.now) (reasons_of self.now) best store.now.box) }
-        ensures none { IfNone result (All (IsOpenTo (box_problem_of program.now) best store.now.box) (reasons_of self.now)) }
+        ensures none { IfNone result (All (IsOpenTo (box_problem_of program.now) best store.now.box) (lacks_of self.now)) }
     {
-        'scenarios: for scenario in 0..self.scenarios {
+        'scenarios: for at in 0..self.partial.len() {
+            let scenario = self.partial[at];
             let reason = Reason::Undefined { scenario };
             if refuted(program, reason, store, best) {
                 return Some(reason);
             }
         }
-        if refuted(program, Reason::Bound, store, best) {
-            return Some(Reason::Bound);
-        }
         None
     }
 
-    /// A right step for the first reason that has one, or none where no reason closes the box with a cell at an end.
-    fn first_step<'a>(
+    /// A right step for the first scenario that has one, or none where no lack of a value closes the box with a cell at an end.
+    fn defining_step<'a>(
         &self,
         program: &'a Program,
         store: &'a BoxStore,
@@ -188,12 +288,13 @@ impl Goal {
     ) -> Option<Step>
         requires fits { Fits self.now program.now }
         requires inside { Inside store.now.box (root_in program.now) }
-        requires whole { All (IsOpenTo (box_problem_of program.now) best store.now.box) (reasons_of self.now) }
+        requires whole { All (IsOpenTo (box_problem_of program.now) best store.now.box) (lacks_of self.now) }
         ensures right { IfSome result (IsRight (box_problem_of program.now) best store.now.box) }
         ensures own_reason { IfSome result (λ step. Contains (reasons_of self.now) step.reason) }
-        ensures none { IfNone result (Quiets (box_problem_of program.now) (reasons_of self.now) best store.now.box) }
+        ensures none { IfNone result (All (RestsFor (box_problem_of program.now) best store.now.box) (lacks_of self.now)) }
     {
-        'scenarios: for scenario in 0..self.scenarios {
+        'scenarios: for at in 0..self.partial.len() {
+            let scenario = self.partial[at];
             let probe = Probe {
                 program,
                 store,
@@ -206,47 +307,71 @@ impl Goal {
                 return Some(step);
             }
         }
-        let probe = Probe {
-            program,
-            store,
-            reason: Reason::Bound,
-            best,
-            weighed: None,
-            counted: None,
-        };
-        self.bound_step(&probe)
+        None
     }
 
-    /// A right step for the bound, or none where it does not close the box with any cell at an end.
-    fn bound_step<'a>(&'a self, probe: &'a Probe<'a>) -> Option<Step>
+    /// The better end over the box of a store by the ends of its parts, which are seen anew; none where they are not at hand or have no room.
+    fn look(&mut self, program: &Program, store: &BoxStore) -> Option<Wide>
+        requires fits { Fits self.old program.now }
+        requires inside { Inside store.now.box (root_in program.now) }
+        ensures seen { IfSome result (λ end. KnowsEnd self.new program.now store.now.box end.value) }
+        ensures same_scenarios { self.new.scenarios ≡ self.old.scenarios }
+        ensures still_fits { (p : Program) → Fits self.old p → Fits self.new p }
+    {
+        if !self.expected {
+            return None;
+        }
+        self.parts.look(program, store)
+    }
+
+    /// The same where there is a best value; else nothing is asked.
+    fn look_for(&mut self, program: &Program, store: &BoxStore, best: Option<i128>) -> Option<Wide>
+        requires fits { Fits self.old program.now }
+        requires inside { Inside store.now.box (root_in program.now) }
+        ensures seen { IfSome result (λ end. KnowsEnd self.new program.now store.now.box end.value) }
+        ensures same_scenarios { self.new.scenarios ≡ self.old.scenarios }
+        ensures still_fits { (p : Program) → Fits self.old p → Fits self.new p }
+    {
+        match best {
+            Some(_) => self.look(program, store),
+            None => None,
+        }
+    }
+
+    /// A right step for the bound, or none where it does not close the box with any cell at an end; where there is no best value, it closes nothing.
+    #[tactic(auto, using(crate::proofs::Objectives::rests_alone))]
+    fn bound_step<'a>(&'a self, probe: &'a Probe<'a>, known: Option<Wide>) -> Option<Step>
         requires fits { Fits self.now probe.now.program.now }
         requires asked { IsAsked probe.now }
         requires reason { probe.now.reason ≡ Bound }
         requires whole { IsWhole probe.now }
+        requires known { IfSome known (λ end. KnowsEnd self.now probe.now.program.now probe.now.store.now.box end.value) }
         ensures right { IfSome result (IsRight (box_problem_of probe.now.program.now) probe.now.best probe.now.store.now.box) }
         ensures own_reason { IfSome result (λ step. step.reason ≡ probe.now.reason) }
         ensures none { IfNone result (Quiets (box_problem_of probe.now.program.now) (probe.now.reason ∷ []) probe.now.best probe.now.store.now.box) }
     {
-        match &self.parts {
-            Some(parts) => self.step_by(probe, parts.as_slice()),
+        if probe.best.is_none() {
+            return None;
+        }
+        match known {
+            Some(end) => self.step_by(probe, end),
             None => probe.first_step(self.cells.as_slice()),
         }
     }
 
     /// The same by the better end over the box and the parts that mention each cell.
-    fn step_by<'a>(&'a self, probe: &'a Probe<'a>, parts: &'a [TouchedParts]) -> Option<Step>
+    fn step_by<'a>(&'a self, probe: &'a Probe<'a>, end: Wide) -> Option<Step>
         requires fits { Fits self.now probe.now.program.now }
-        requires indexed { IsIndexed probe.now.program.now self.now.cells.items parts.now }
         requires asked { IsAsked probe.now }
         requires reason { probe.now.reason ≡ Bound }
         requires whole { IsWhole probe.now }
+        requires known { KnowsEnd self.now probe.now.program.now probe.now.store.now.box end.value }
         ensures right { IfSome result (IsRight (box_problem_of probe.now.program.now) probe.now.best probe.now.store.now.box) }
         ensures own_reason { IfSome result (λ step. step.reason ≡ probe.now.reason) }
         ensures none { IfNone result (Quiets (box_problem_of probe.now.program.now) (probe.now.reason ∷ []) probe.now.best probe.now.store.now.box) }
     {
-        let end = end_over(probe.program, probe.store);
         'cells: for at in 0..self.cells.len() {
-            if let Some(step) = self.step_for(probe, parts, end, at) {
+            if let Some(step) = self.step_for(probe, end, at) {
                 return Some(step);
             }
         }
@@ -255,20 +380,12 @@ impl Goal {
 
     /// A right step at one of the ends of a cell of the list, or none where the bound does not close the box with the cell at either end.
     #[tactic(auto, using(crate::proofs::Conditions::as_long))]
-    fn step_for<'a>(
-        &'a self,
-        probe: &'a Probe<'a>,
-        parts: &'a [TouchedParts],
-        end: Wide,
-        at: usize,
-    ) -> Option<Step>
+    fn step_for<'a>(&'a self, probe: &'a Probe<'a>, end: Wide, at: usize) -> Option<Step>
         requires fits { Fits self.now probe.now.program.now }
-        requires indexed { IsIndexed probe.now.program.now self.now.cells.items parts.now }
         requires asked { IsAsked probe.now }
         requires reason { probe.now.reason ≡ Bound }
         requires whole { IsWhole probe.now }
-        requires end { end.value ≡ better_end (direction_in (problem_in probe.now.program.now))
-            (goal_ends (root_in probe.now.program.now) probe.now.store.now.box (problem_in probe.now.program.now)) }
+        requires known { KnowsEnd self.now probe.now.program.now probe.now.store.now.box end.value }
         requires exists { at < length self.now.cells.items }
         ensures right { IfSome result (IsRight (box_problem_of probe.now.program.now) probe.now.best probe.now.store.now.box) }
         ensures own_reason { IfSome result (λ step. step.reason ≡ probe.now.reason) }
@@ -278,7 +395,9 @@ impl Goal {
         let counted = GoalDelta {
             cell,
             end,
-            parts: parts[at].atoms.as_slice(),
+            atoms: self.parts.atoms.as_slice(),
+            ends: self.parts.ends.as_slice(),
+            numbers: self.touched[at].numbers.as_slice(),
         };
         let known = Probe {
             program: probe.program,
@@ -289,6 +408,41 @@ impl Goal {
             counted: Some(counted),
         };
         known.step_at(cell)
+    }
+
+    /// What is found where no lack of a value closes the box.
+    #[tactic(auto, using(crate::proofs::Objectives::narrows_by))]
+    fn found<'a>(
+        &self,
+        program: &'a Program,
+        store: &'a BoxStore,
+        best: Option<i128>,
+        known: Option<Wide>,
+    ) -> Finding
+        requires fits { Fits self.now program.now }
+        requires inside { Inside store.now.box (root_in program.now) }
+        requires whole { All (IsOpenTo (box_problem_of program.now) best store.now.box) (lacks_of self.now) }
+        requires known { IfSome known (λ end. KnowsEnd self.now program.now store.now.box end.value) }
+        ensures finds { Finds (box_problem_of program.now) (reasons_of self.now) best store.now.box result }
+    {
+        let probe = Probe {
+            program,
+            store,
+            reason: Reason::Bound,
+            best,
+            weighed: None,
+            counted: None,
+        };
+        if is_beaten(&probe, known) {
+            return Finding::Dead(probe.reason);
+        }
+        if let Some(step) = self.defining_step(program, store, best) {
+            return Finding::Cut(step);
+        }
+        match self.bound_step(&probe, known) {
+            Some(step) => Finding::Cut(step),
+            None => Finding::Quiet,
+        }
     }
 }
 
@@ -302,12 +456,10 @@ impl Propagator for Goal {
     ghost fits = { Fits };
 
     fn revise(&mut self, program: &Program, store: &BoxStore, best: Option<i128>) -> Finding {
-        if let Some(reason) = self.closing(program, store, best) {
+        if let Some(reason) = self.undefined(program, store, best) {
             return Finding::Dead(reason);
         }
-        match self.first_step(program, store, best) {
-            Some(step) => Finding::Cut(step),
-            None => Finding::Quiet,
-        }
+        let known = self.look_for(program, store, best);
+        self.found(program, store, best, known)
     }
 }

@@ -79,6 +79,11 @@ read_by p program parts fits cells =
       },
     )
 
+-- the cells that are kept are those of the program's comparison
+pub parts_kept : (p : own.Linear) (program : Program) (parts : List Coefficient) → Fits p program → parts ≡ p.parts.items
+    → option_map (λ d. d.form.cells) (shapes.linear_in (root_in program) (condition_of p program)) ≡ Some (cells_of parts)
+parts_kept p program parts fits same = fits.parts ∙ ap (λ (cs : List Coefficient). Some (cells_of cs)) (sym same)
+
 -- where the comparison is false over a box, the reason closes it
 tells_at : (p : own.Linear) (program : Program) (d : Difference) → Fits p program → d.op ≡ p.op → d.constant ≡ p.constant
     → option_map (λ e. e.form.cells) (shapes.linear_in (root_in program) (condition_of p program)) ≡ Some (cells_of d.parts.now) → (b : Box) (v : Option ℤ) → Inside b (root_in program)

@@ -3,7 +3,7 @@ use Rattle.std.specs.Prelude.{◌≡◌, ℕ, ◌+◌, ◌<◌, ◌≤◌, ◌^�
 use Rattle.box_problem.specs.Box.{Box, IsBox, high, low}
 use Rattle.term_language.specs.Ends as rule
 use Rattle.term_language.specs.Forms.{cells_ends}
-use Rattle.term_language.specs.Marks.{none_compares}
+use Rattle.term_language.specs.Marks.{all_compare, none_compares}
 use Rattle.term_language.specs.Sizes.{cells_weight}
 use Rattle.term_program.specs.Programs.{with_interval}
 use Rattle.term_math.specs.declared.ends.Ends.{Ends}
@@ -25,6 +25,10 @@ sum_over d b = rule.plus (rule.exactly d.constant) (cells_ends b (cells_of d.par
 -- whether the comparison is false all over a box
 abbrev pub closes : Difference → Box → Bool
 closes d b = none_compares d.op (sum_over d b)
+
+-- whether it is true all over a box
+abbrev pub meets : Difference → Box → Bool
+meets d b = all_compare d.op (sum_over d b)
 
 -- the cells ascend, so each stands there once
 abbrev pub AreAbove : ℕ → List Coefficient → Type 0

@@ -6,13 +6,13 @@ ghost use Rattle.term_language.specs.Ends as rule;
 ghost use Rattle.prop_shave.specs.Removals.{IsOpenAt, Removes};
 ghost use Rattle.sopl_base.specs.declared.reason.Side.TheVariants.{Ge};
 ghost use Rattle.term_math.specs.Shown.{IsFit, ends_of};
-ghost use Rattle.prop_linear.specs.Balances.{IsLight, IsOthers, IsSummed, IsTurnIn, box_of, closes, sum_over};
+ghost use Rattle.prop_linear.specs.Balances.{IsLight, IsOthers, IsSummed, IsTurnIn, box_of, closes, meets, sum_over};
 ghost use Rattle.prop_linear.specs.Turns.{turn_closes};
 
 use crate::turns::Turn;
 use prop_shave::CellEnd;
 use sopl_base::{CmpOp, Reason, Side, Step};
-use term_math::{BoxView, Coefficient, Ends, none_compares};
+use term_math::{BoxView, Coefficient, Ends, all_compare, none_compares};
 
 /// A linear comparison over a box: a constant and multiples of several cells are compared with 0.
 #[derive(Clone, Copy)]
@@ -109,6 +109,14 @@ impl Balance<'_> {
         ensures { result ≡ closes self.now.difference (box_of self.now.difference) }
     {
         none_compares(self.difference.op, &self.whole)
+    }
+
+    /// Whether the comparison is true all over the box.
+    pub(crate) fn is_met(&self) -> bool
+        requires summed { IsSummed self.now }
+        ensures { result ≡ meets self.now.difference (box_of self.now.difference) }
+    {
+        all_compare(self.difference.op, &self.whole)
     }
 
     /// The interval of the whole sum without a part.

@@ -14,19 +14,20 @@ use crate::balances::{Balance, Difference};
 use box_store::BoxStore;
 use prop_core::{Finding, Propagator};
 use sopl_base::{CmpOp, Reason};
-use std::alloc::AllocError;
-use term_math::BoxView;
+use std::alloc::{AllocError, Global};
+use term_math::{BoxView, Coefficient};
 use term_program::{CondId, Program};
 
 /// Narrows a box for one hard constraint that is a linear comparison in one scenario: the comparison is summed up once, and by this sum both ends of each of
-/// its cells are tried. As many values are removed as a division proposes, where these were tried too.
-#[derive(Clone, Copy, Debug, PartialEq, Eq)]
+/// its cells are tried, unless it is true all over the box. As many values are removed as a division proposes, where these were tried too.
+#[derive(Drop)]
 pub struct Linear {
     instance: u32,
     scenario: u32,
     cond: CondId,
     op: CmpOp,
     constant: i64,
+    parts: Vec<Coefficient>,
 }
 
 /// The box of a store.
@@ -43,7 +44,12 @@ fn view_of(store: &BoxStore) -> BoxView<'_>
 impl Linear {
     /// The propagator of a hard constraint in a scenario in which it is a linear comparison.
     #[tactic(auto, using(crate::proofs::Finding::is_linear))]
-    pub fn new(program: &Program, instance: u32, scenario: u32) -> Result<Linear, AllocError>
+    pub fn new(
+        alloc: Global,
+        program: &Program,
+        instance: u32,
+        scenario: u32,
+    ) -> Result<Linear, AllocError>
         requires made { IsMade program.now }
         requires instance { instance < length (problem_in program.now).hards }
         requires scenario { scenario < length (problem_in program.now).weights }
@@ -58,6 +64,7 @@ impl Linear {
             cond,
             op: program.compared(cond),
             constant: program.constant(cond),
+            parts: Vec::from_slice(alloc, program.parts(cond))?,
         })
     }
 
@@ -72,23 +79,23 @@ impl Linear {
     }
 
     /// The comparison over the box of a store.
-    fn difference<'a>(&self, program: &'a Program, store: &'a BoxStore) -> Difference<'a>
-        requires fits { Fits self.now program.now }
-        requires inside { Inside store.now.box (root_in program.now) }
+    fn difference<'a>(&'a self, _program: &Program, store: &'a BoxStore) -> Difference<'a>
+        requires fits { Fits self.now _program.now }
+        requires inside { Inside store.now.box (root_in _program.now) }
         ensures light { IsLight result }
         ensures seen { box_of result ≡ store.now.box }
-        ensures tells { TellsOf program.now (Hard self.now.instance self.now.scenario) result }
+        ensures tells { TellsOf _program.now (Hard self.now.instance self.now.scenario) result }
     {
         Difference {
             op: self.op,
             constant: self.constant,
-            parts: program.parts(self.cond),
+            parts: self.parts.as_slice(),
             view: view_of(store),
         }
     }
 
     /// The comparison with its sum over the box of a store.
-    fn balance<'a>(&self, program: &'a Program, store: &'a BoxStore) -> Balance<'a>
+    fn balance<'a>(&'a self, program: &Program, store: &'a BoxStore) -> Balance<'a>
         requires fits { Fits self.now program.now }
         requires inside { Inside store.now.box (root_in program.now) }
         ensures summed { IsSummed result }
@@ -113,6 +120,9 @@ impl Propagator for Linear {
         let balance = self.balance(program, store);
         if balance.is_closed() {
             return Finding::Dead(reason);
+        }
+        if balance.is_met() {
+            return Finding::Quiet;
         }
         match balance.first_step(reason) {
             Some(step) => Finding::Cut(step),

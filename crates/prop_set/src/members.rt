@@ -29,7 +29,7 @@ fn prop_of(
     ensures fits { IfOk result (λ made. Fits made program.now) }
 {
     match program.form(program.hard(instance, scenario)) {
-        Form::Linear => Ok(AnyProp::Linear(Linear::new(program, instance, scenario)?)),
+        Form::Linear => Ok(AnyProp::Linear(Linear::new(alloc, program, instance, scenario)?)),
         Form::AllDifferent => Ok(AnyProp::AllDiff(AllDiff::new(
             alloc, program, instance, scenario,
         )?)),

@@ -5,7 +5,7 @@ use Rattle.std.proofs.lemmas.Int.{ints}
 use Rattle.std.proofs.lemmas.List.{at_drop_all, at_drop_more}
 use Rattle.sopl_base.proofs.Lists.{range_more}
 use Rattle.term_language.proofs.FormValues.{by_bool}
-use Rattle.prop_shave.specs.Sums.{sum_over}
+use Rattle.prop_shave.specs.Sums.{sum_over, turn_of}
 
 sum_append : (f : ℕ → ℤ) (xs ys : List ℕ) → sum_over f (xs ++ ys) ≡ sum_over f xs +ℤ sum_over f ys
 sum_append f [] ys = omega (arith, ints)
@@ -16,10 +16,13 @@ sum_more f n old new here so_far is put =
     let more = ap (sum_over f) (range_more n) ∙ sum_append f (range_with_len 0 n) (n ∷ []) in
     omega (arith, ints, more, so_far, is, put)
 
--- one of several parts turned, and none left
-abbrev pub turn_of : {A : Type 0} → (A → ℤ) → (A → ℤ) → A → ℤ
-turn_of f g x = g x -ℤ f x
+pub sum_more_from : (f : ℕ → ℤ) (n : ℕ) (start old new here : ℤ) → old ≡ start +ℤ sum_over f (range_with_len 0 n) → here ≡ f n → new ≡ old +ℤ here
+    → new ≡ start +ℤ sum_over f (range_with_len 0 (n + 1))
+sum_more_from f n start old new here so_far is put =
+    let more = ap (sum_over f) (range_more n) ∙ sum_append f (range_with_len 0 n) (n ∷ []) in
+    omega (arith, ints, more, so_far, is, put)
 
+-- one of several parts turned, and none left
 pub turn_more : {A : Type 0} (f g : A → ℤ) (list : List A) (i : ℕ) (d : A) (start old new before after : ℤ) → i < length list → (old +ℤ sum_over (turn_of f g) (drop i list)) ≡ start
     → before ≡ f (get_or list i d) → after ≡ g (get_or list i d) → new ≡ ((old +ℤ after) -ℤ before) → (new +ℤ sum_over (turn_of f g) (drop (i + 1) list)) ≡ start
 turn_more f g list i d start old new before after below so_far was is put =

@@ -17,9 +17,9 @@ use Rattle.term_problem.specs.Refuted.{is_false, refutes, weight_left}
 use Rattle.term_problem.specs.Search.{numbers_to}
 use Rattle.term_program.specs.Programs.{kept, with_interval}
 use Rattle.term_program.proofs.Weighing.{left_up, left_whole, left_step}
-use Rattle.prop_shave.proofs.Adding.{differs_there, turn_of}
+use Rattle.prop_shave.proofs.Adding.{differs_there}
 use Rattle.prop_shave.proofs.Mentioned.{untouched, with_agrees}
-use Rattle.prop_shave.specs.Sums.{has_cell, sum_over}
+use Rattle.prop_shave.specs.Sums.{has_cell, sum_over, turn_of}
 use Rattle.prop_shave.specs.ChanceSums.{condition_in, is_touched, left_over, touched_by, weight_at, weight_over}
 
 -- the weight that is left is that of the definitions
@@ -50,7 +50,7 @@ left_is root b terms instance chance at each =
     ∙ ap (λ (found : Option ChanceTerms). option_map_or (λ cond. kept (is_false (truth Near root b cond)) (weight_at terms i)) (option_and_then (λ (c : ChanceTerms). slice_get c.conditions i) found)
     (pos 0)) at))
 
-some_there : {A : Type 0} (xs : List A) (i : ℕ) → i < length xs → (x : A) × (slice_get xs i ≡ Some x)
+pub some_there : {A : Type 0} (xs : List A) (i : ℕ) → i < length xs → (x : A) × (slice_get xs i ≡ Some x)
 some_there [] i below = absurd (omega (arith, below))
 some_there (x ∷ xs) zero below = (x, refl)
 some_there (x ∷ xs) (suc i) below = some_there xs i (omega (arith, below))
@@ -84,7 +84,7 @@ closes_by root b terms instance left closed problem exists is told =
     ∙ sym (ap (λ (found : Option ChanceTerms). option_map_or (λ (c : ChanceTerms). int_lt (c.q *ℤ weight_left root b terms.weights c.conditions) (c.p *ℤ terms.whole)) found false) chance.1)
 
 -- where the condition does not mention the cell, the weight is the same
-same_weight : (root b : Box) (terms : ProblemTerms) (instance cell scenario : ℕ) (lo hi : ℤ) (found : Option Cond) → condition_in terms instance scenario ≡ found
+pub same_weight : (root b : Box) (terms : ProblemTerms) (instance cell scenario : ℕ) (lo hi : ℤ) (found : Option Cond) → condition_in terms instance scenario ≡ found
     → is_touched root terms instance cell scenario ≡ false → weight_over root terms instance (with_interval b cell lo hi) scenario ≡ weight_over root terms instance b scenario
 same_weight root b terms instance cell scenario lo hi None at apart =
     let over : Box → Option Cond → ℤ = λ box o. option_map_or (λ cond. kept (is_false (truth Near root box cond)) (weight_at terms scenario)) o (pos 0) in

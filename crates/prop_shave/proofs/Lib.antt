@@ -5,8 +5,10 @@ pub mod Mentioned
 pub mod Fractions
 pub mod ChanceMentioned
 pub mod Leaving
+pub mod Surely
 pub mod GoalMentioned
 pub mod Ending
+pub mod Reaching
 pub mod Opening
 pub mod Elsewhere
 pub mod Finding

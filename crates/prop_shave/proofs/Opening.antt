@@ -7,7 +7,8 @@ use Rattle.std.proofs.lemmas.Int.{ints}
 use Rattle.sopl_base.specs.declared.reason.Step.{Step}
 use Rattle.sopl_base.specs.declared.reason.Side.{Side}
 use Rattle.sopl_base.specs.declared.reason.Side.TheVariants.{Le, Ge}
-use Rattle.box_problem.specs.Box.{high, low, with_high, with_low}
+use Rattle.box_problem.specs.Box.{Box, Inside, high, low, with_high, with_low}
+use Rattle.box_problem.proofs.Cuts.{high_lowered, low_raised}
 use Rattle.box_problem.specs.Rightness.{IsRight}
 use Rattle.term_program.specs.Programs.{root_in, with_interval}
 use Rattle.prop_shave.specs.declared.shave_steps.CellEnd.{CellEnd}
@@ -17,6 +18,7 @@ use Rattle.prop_shave.specs.Ends.{highest, highest_at, left_at, lowest, lowest_a
 use Rattle.prop_shave.specs.Opened.{AreOpen, IsFixed, IsOpen, IsWhole}
 use Rattle.prop_shave.specs.Probes.{IsAsked, IsEndOf, IsRemoval, closes, closes_part}
 use Rattle.term_program.specs.Stated.{box_problem_of}
+use Rattle.prop_shave.proofs.Parts.{part_high, part_low}
 use Rattle.prop_shave.proofs.Removing as removing
 
 -- the outermost value at the lower end, and at the upper one
@@ -122,3 +124,30 @@ open_more q cells i d before exists here =
 
 pub open_all : (q : Probe) (cells : List ℕ) (i : ℕ) → length cells ≤ i → All (IsOpen q) (take i cells) → AreOpen q cells
 open_all q cells i all before = subst (All (IsOpen q)) (take_all i cells all) before
+
+-- a cell is open where no part is closed in which it alone has another interval
+pub open_by : (q : Probe) (cell : ℕ) → IsAsked q → ((lo hi : ℤ) → Inside (with_interval q.store.now.box cell lo hi) q.store.now.box → low (root_in q.program.now) cell ≤ℤ lo → lo ≤ℤ hi
+    → hi ≤ℤ high (root_in q.program.now) cell → closes q (with_interval q.store.now.box cell lo hi) ≡ false) → IsOpen q cell
+open_by q cell asked each =
+    let b = q.store.now.box in
+    let is_box = asked.inside.is_box in
+    record {
+      at_low = λ exists.
+          let k = low b cell in
+          let same = part_low b cell k k k refl refl in
+          let inside : Inside (with_interval b cell k k) b =
+          subst (λ (x : Box). Inside x b) (sym same) (high_lowered b cell k is_box exists (omega (arith, ints)) (is_box.ordered cell exists))
+          in
+          ap (closes q) (sym same)
+          ∙ each k k inside (asked.inside.from_low cell exists) (omega (arith, ints))
+          (let top = asked.inside.to_high cell exists in let order = is_box.ordered cell exists in omega (arith, ints, top, order));
+      at_high = λ exists.
+          let k = high b cell in
+          let same = part_high b cell k k k refl refl in
+          let inside : Inside (with_interval b cell k k) b =
+          subst (λ (x : Box). Inside x b) (sym same) (low_raised b cell k is_box exists (is_box.ordered cell exists) (omega (arith, ints)))
+          in
+          ap (closes q) (sym same)
+          ∙ each k k inside (let bottom = asked.inside.from_low cell exists in let order = is_box.ordered cell exists in omega (arith, ints, bottom, order)) (omega (arith, ints))
+          (asked.inside.to_high cell exists);
+    }

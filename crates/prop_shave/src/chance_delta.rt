@@ -2,7 +2,7 @@
 
 ghost use Rattle.std.specs.Prelude.{◌≡◌, ◌<◌, ◌≤ℤ◌, length, None, IfSome};
 ghost use Rattle.sopl_base.specs.declared.reason.Reason.TheVariants.{Chance};
-ghost use Rattle.box_problem.specs.Box.{Inside, high, low};
+ghost use Rattle.box_problem.specs.Box.{Box, Inside, high, low};
 ghost use Rattle.term_problem.specs.Refuted.{refutes};
 ghost use Rattle.term_program.specs.Programs.{IsMade, problem_in, root_in, with_interval};
 ghost use Rattle.prop_shave.specs.ChanceSums.{left_over, weight_over};
@@ -12,23 +12,10 @@ use crate::turning::turned;
 use crate::weights::{is_too_little, weight_unless_false};
 use box_store::BoxStore;
 use sopl_base::{Interval, Wide};
-use term_program::{Program, kleene, kleene_in};
+use term_language::Truth;
+use term_program::{Program, kleene_in};
 
-/// The weight of a scenario, unless a chance constraint's condition is False there over the box of a store.
-#[tactic(auto, using(crate::proofs::Fractions::over_is))]
-fn weight_in(program: &Program, instance: u32, scenario: u32, store: &BoxStore) -> Wide
-    requires made { IsMade program.now }
-    requires inside { Inside store.now.box (root_in program.now) }
-    requires instance { instance < length (problem_in program.now).chances }
-    requires scenario { scenario < length (problem_in program.now).weights }
-    ensures { result.value ≡ weight_over (root_in program.now) (problem_in program.now) instance store.now.box scenario }
-{
-    let cond = program.chance(instance, scenario);
-    let truth = kleene(program, cond, store);
-    weight_unless_false(program, scenario, truth)
-}
-
-/// The same with another interval for one cell.
+/// The weight of a scenario, unless a chance constraint's condition is False there over the box of a store with another interval for one cell.
 #[tactic(auto, using(crate::proofs::Fractions::over_is))]
 fn weight_with(
     program: &Program,
@@ -51,32 +38,29 @@ fn weight_with(
     weight_unless_false(program, scenario, truth)
 }
 
-/// The weight of the scenarios in which a chance constraint's condition is not False over the box of a store; none where it has no room.
-#[tactic(auto, using(crate::proofs::Adding::sum_more))]
-pub fn weight_left(program: &Program, instance: u32, store: &BoxStore) -> Option<Wide>
-    requires made { IsMade program.now }
-    requires inside { Inside store.now.box (root_in program.now) }
-    requires instance { instance < length (problem_in program.now).chances }
-    ensures left { IfSome result (λ left. left.value ≡ left_over (root_in program.now) (problem_in program.now) instance store.now.box) }
-{
-    let mut left = Wide { value: 0 };
-    'scenarios: for scenario in 0..program.scenarios() {
-        let here = weight_in(program, instance, scenario, store);
-        left = left.checked_plus(here)?;
-    }
-    Some(left)
-}
-
-/// The weight that is left to a chance constraint over a box, a cell, and the scenarios in which the condition mentions the cell.
+/// The weight that is left to a chance constraint over a box, the truth of its condition there in each scenario, a cell, and the scenarios in which the
+/// condition mentions the cell.
 #[derive(Clone, Copy)]
 pub struct ChanceDelta<'a> {
     pub instance: u32,
     pub cell: u32,
     pub left: Wide,
+    pub truths: &'a [Truth],
     pub scenarios: &'a [u32],
 }
 
 impl ChanceDelta<'_> {
+    /// The weight of a scenario over the box, unless the condition is False there.
+    fn weight_before(&self, program: &Program, scenario: u32) -> Wide
+        requires exists { scenario < length self.now.truths.now }
+        requires scenario { scenario < length (problem_in program.now).weights }
+        ensures { (b : Box) → IsWeighed (root_in program.now) (problem_in program.now) b self.now
+            → result.value ≡ weight_over (root_in program.now) (problem_in program.now) self.now.instance b scenario }
+    {
+        let truth = self.truths[scenario as usize];
+        weight_unless_false(program, scenario, truth)
+    }
+
     /// The weight that is left with another interval for the cell, or none where it has no room.
     fn left_with(&self, program: &Program, store: &BoxStore, part: Interval) -> Option<Wide>
         requires made { IsMade program.now }
@@ -88,7 +72,7 @@ impl ChanceDelta<'_> {
     {
         let mut left = self.left;
         'scenarios: for scenario in self.scenarios {
-            let before = weight_in(program, self.instance, *scenario, store);
+            let before = self.weight_before(program, *scenario);
             let after = weight_with(program, self.instance, *scenario, store, self.cell, part);
             left = turned(left, before, after)?;
         }

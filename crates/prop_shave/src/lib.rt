@@ -1,6 +1,7 @@
 //! Shaving: what is found of a program's box for one reason, by tests of both ends of the cells that the reason mentions, and as large a
-//! right step there as doubled and then halved numbers of values reach. The weight of a chance constraint and the end of an objective are
-//! computed incrementally: where one cell has another interval, only the scenarios and the parts that mention the cell are seen anew.
+//! right step there as doubled and then halved numbers of values reach. The truth of a chance constraint in each scenario and the ends of each part
+//! of an objective are seen once over a box: where one cell has another interval, only the scenarios and the parts that mention the cell are seen
+//! anew, and a cell is passed over where these cannot close the box whatever they become.
 //! Its tests stand in `search_tests`.
 #![tactic(auto)]
 
@@ -8,18 +9,24 @@ mod chance_delta;
 mod goal_bounds;
 mod goal_delta;
 mod lists;
+mod part_ends;
 mod probes;
 mod removals;
 mod shave_steps;
+mod staying;
 mod touched_parts;
 mod touched_scenarios;
+mod truths;
 mod turning;
 mod weights;
 
-pub use chance_delta::{ChanceDelta, weight_left};
+pub use chance_delta::ChanceDelta;
 pub use goal_delta::GoalDelta;
 pub use lists::{has, put_if};
+pub use part_ends::{GoalParts, PartEnds};
 pub use probes::Probe;
 pub use shave_steps::{CellEnd, Shave};
 pub use touched_parts::{TouchedParts, parts_touching};
 pub use touched_scenarios::{TouchedScenarios, scenarios_touching};
+pub use truths::Truths;
+pub use weights::is_too_little;

@@ -1,7 +1,8 @@
 //! Whether a reason closes a box or a part of it.
 
-ghost use Rattle.std.specs.Prelude.{◌≡◌, ◌∷◌, [], pos, ◌≤ℤ◌, ◌-ℤ◌, IfSome, Some};
+ghost use Rattle.std.specs.Prelude.{◌≡◌, ◌∷◌, [], pos, ◌≤ℤ◌, ◌-ℤ◌, IfNone, IfSome, None, Some};
 ghost use Rattle.box_problem.specs.Box.{high, low};
+ghost use Rattle.prop_shave.specs.Opened.{IsWhole};
 ghost use Rattle.prop_shave.specs.Probes.{HasAll, IsAsked, IsCountedOf, IsEndOf, IsWeighedOf, closes, closes_part};
 ghost use Rattle.term_program.specs.Stated.{box_problem_of};
 ghost use Rattle.prop_core.specs.Findings.{Finds};
@@ -108,8 +109,9 @@ impl Probe<'_> {
     }
 
     /// The best value, where there is one.
-    fn best_value(&self) -> Option<Wide>
-        ensures { IfSome result (λ value. self.now.best ≡ Some value.value) }
+    pub fn best_value(&self) -> Option<Wide>
+        ensures some { IfSome result (λ value. self.now.best ≡ Some value.value) }
+        ensures none { IfNone result (self.now.best ≡ None) }
     {
         match &self.best {
             Some(best) => Some(Wide { value: *best }),
@@ -137,9 +139,23 @@ impl Probe<'_> {
         counted.closes_with(self.program, self.store, best, part)
     }
 
-    /// What is found of the box for this reason alone, where these cells are all that it mentions, and maybe others: that it closes the box, a
-    /// right step for it, or that it closes the box with no cell at an end either.
-    #[tactic(auto, using(crate::proofs::Finding::found_dead, crate::proofs::Finding::found_cut))]
+    /// What is found of the box for this reason alone, where it does not close the box and these cells are all that it mentions, and maybe others: a right
+    /// step for it, or that it closes the box with no cell at an end either.
+    #[tactic(auto, using(crate::proofs::Finding::found_cut))]
+    pub fn finding_within(&self, cells: &[u32]) -> Finding
+        requires asked { IsAsked self.now }
+        requires whole { IsWhole self.now }
+        requires all { HasAll cells.now (reason_mentions (root_in self.now.program.now) (problem_in self.now.program.now) self.now.reason) }
+        ensures finds { Finds (box_problem_of self.now.program.now) (self.now.reason ∷ []) self.now.best self.now.store.now.box result }
+    {
+        match self.first_step(cells) {
+            Some(step) => Finding::Cut(step),
+            None => Finding::Quiet,
+        }
+    }
+
+    /// The same, and that the reason closes the box where it does.
+    #[tactic(auto, using(crate::proofs::Finding::found_dead))]
     pub fn finding(&self, cells: &[u32]) -> Finding
         requires asked { IsAsked self.now }
         requires all { HasAll cells.now (reason_mentions (root_in self.now.program.now) (problem_in self.now.program.now) self.now.reason) }
@@ -148,9 +164,6 @@ impl Probe<'_> {
         if self.is_closed() {
             return Finding::Dead(self.reason);
         }
-        match self.first_step(cells) {
-            Some(step) => Finding::Cut(step),
-            None => Finding::Quiet,
-        }
+        self.finding_within(cells)
     }
 }

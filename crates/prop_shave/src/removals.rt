@@ -144,6 +144,9 @@ impl Probe<'_> {
         let Some(lower) = self.lower_end(cell) else {
             return None;
         };
+        if self.stays_open(cell) {
+            return None;
+        }
         if let Some(step) = self.step_from(&lower) {
             return Some(step);
         }

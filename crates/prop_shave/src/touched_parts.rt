@@ -11,10 +11,10 @@ use std::alloc::{AllocError, Global};
 use term_goals::Atom;
 use term_program::{Program, TermId};
 
-/// Several parts of an objective's sum.
+/// The numbers of several parts of an objective's sum.
 #[derive(Drop)]
 pub struct TouchedParts {
-    pub atoms: Vec<Atom>,
+    pub numbers: Vec<usize>,
 }
 
 /// Whether a part mentions a cell.
@@ -35,12 +35,12 @@ pub fn parts_touching(
 ) -> Result<TouchedParts, AllocError>
     requires made { IsMade program.now }
     requires listed { AllByRecursion (IsListedTerm program.now) (atom_ids atoms.now) }
-    ensures touched { IfOk result (λ list. list.atoms.items ≡ touched_by (root_in program.now) (things_in program.now) atoms.now cell) }
+    ensures touched { IfOk result (λ list. list.numbers.items ≡ touched_by (root_in program.now) (things_in program.now) atoms.now cell) }
 {
-    let mut list = Vec::new(alloc);
-    'atoms: for atom in atoms {
-        let wanted = touches(program, atom, cell);
-        put_if(&mut list, *atom, wanted)?;
+    let mut numbers = Vec::new(alloc);
+    'atoms: for at in 0..atoms.len() {
+        let wanted = touches(program, &atoms[at], cell);
+        put_if(&mut numbers, at, wanted)?;
     }
-    Ok(TouchedParts { atoms: list })
+    Ok(TouchedParts { numbers })
 }

@@ -4,7 +4,7 @@ ghost use Rattle.std.specs.Prelude.{◌≡◌, ◌≤ℤ◌, ◌<◌, ◌^◌, �
 ghost use Rattle.std.specs.Option.{option_map_or};
 ghost use Rattle.term_problem.specs.Refuted.{is_false};
 ghost use Rattle.term_program.specs.Programs.{IsMade, kept, problem_in};
-ghost use Rattle.prop_shave.specs.ChanceSums.{weight_at};
+ghost use Rattle.prop_shave.specs.ChanceSums.{at_risk, weight_at};
 
 use sopl_base::{Wide, reaches};
 use term_language::Truth;
@@ -37,6 +37,18 @@ pub(crate) fn weight_unless_false(program: &Program, scenario: u32, truth: Truth
         Truth::False => Wide { value: 0 },
         Truth::Unknown => weight_of(program, scenario),
         Truth::True => weight_of(program, scenario),
+    }
+}
+
+/// The weight of a scenario, if a condition is Unknown there.
+pub(crate) fn weight_if_unknown(program: &Program, scenario: u32, truth: Truth) -> Wide
+    requires exists { scenario < length (problem_in program.now).weights }
+    ensures { result.value ≡ at_risk truth (weight_at (problem_in program.now) scenario) }
+{
+    match truth {
+        Truth::False => Wide { value: 0 },
+        Truth::Unknown => weight_of(program, scenario),
+        Truth::True => Wide { value: 0 },
     }
 }
 
@@ -76,7 +88,7 @@ fn is_less(left: Wide, whole: Wide, threshold: &Threshold) -> bool
 
 /// Whether a weight is too little for a chance constraint.
 #[tactic(auto, using(crate::proofs::Fractions::too_little))]
-pub(crate) fn is_too_little(program: &Program, instance: u32, left: Wide) -> bool
+pub fn is_too_little(program: &Program, instance: u32, left: Wide) -> bool
     requires made { IsMade program.now }
     requires exists { instance < length (problem_in program.now).chances }
     requires low { pos 0 ≤ℤ left.value }

@@ -13,10 +13,11 @@ use prop_core::{Finding, Propagator};
 use prop_shave::Probe;
 use sopl_base::Reason;
 use std::alloc::AllocError;
-use term_program::Program;
+use term_language::Truth;
+use term_program::{Program, kleene};
 
-/// Narrows a box for one hard constraint in one scenario, whatever its form: both ends of each cell that the condition mentions are tried, and as many
-/// values are removed there as doubled and then halved steps reach.
+/// Narrows a box for one hard constraint in one scenario, whatever its form: unless the condition is True all over the box, both ends of each cell that it
+/// mentions are tried, and as many values are removed there as doubled and then halved steps reach.
 #[derive(Clone, Copy, Debug, PartialEq, Eq)]
 pub struct AnyTerm {
     instance: u32,
@@ -60,7 +61,11 @@ impl AnyTerm {
             weighed: None,
             counted: None,
         };
-        probe.finding(program.cells_of(cond))
+        match kleene(program, cond, store) {
+            Truth::False => Finding::Dead(probe.reason),
+            Truth::True => Finding::Quiet,
+            Truth::Unknown => probe.finding_within(program.cells_of(cond)),
+        }
     }
 }
 

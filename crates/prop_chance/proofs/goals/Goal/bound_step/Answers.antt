@@ -1,20 +1,14 @@
-use Rattle.std.proofs.Common.{IfSome, List, subst, sym, ℕ}
+use Rattle.std.proofs.Common.{List, subst, sym, ℕ}
 use Rattle.sopl_base.specs.declared.reason.Reason.{Reason}
 use Rattle.sopl_base.specs.declared.reason.Reason.TheVariants.{Bound}
 use Rattle.prop_shave.specs.Probes.{HasAll}
 use Rattle.term_problem.specs.Reasons.{reason_mentions}
 use Rattle.term_program.specs.Programs.{problem_in, root_in}
-use Rattle.prop_chance.specs.Goals.{IsIndexed}
 use Rattle.prop_chance.proofs.goals.Goal.bound_step.Goals as goal
-
-pub step_by-requires-clause-indexed : goal.step_by-requires-clause-indexed
-step_by-requires-clause-indexed c =
-    subst (IsIndexed c.args.probe.now.program.now c.args.self.now.cells.items) (sym c.as_slice.ensures.value)
-    (subst (λ o. IfSome o (λ lists. IsIndexed c.args.probe.now.program.now c.args.self.now.cells.items lists.items)) c.in-Some.is c.requires.fits.parts)
 
 pub first_step-requires-clause-all : goal.first_step-requires-clause-all
 first_step-requires-clause-all c =
     let root = root_in c.args.probe.now.program.now in
     let terms = problem_in c.args.probe.now.program.now in
-    subst (λ (r : Reason). HasAll c.as_slice-in-None.result.now (reason_mentions root terms r)) (sym c.requires.reason)
-    (subst (λ (cells : List ℕ). HasAll cells (reason_mentions root terms Bound)) (sym c.as_slice-in-None.ensures.value) c.requires.fits.all)
+    subst (λ (r : Reason). HasAll c.as_slice.result.now (reason_mentions root terms r)) (sym c.requires.reason)
+    (subst (λ (cells : List ℕ). HasAll cells (reason_mentions root terms Bound)) (sym c.as_slice.ensures.value) c.requires.fits.all)

@@ -2,6 +2,7 @@ use Rattle.std.proofs.Common.{sym, ◌∙◌}
 use Rattle.sopl_base.specs.declared.reason.Reason.TheVariants.{Hard}
 use Rattle.term_program.proofs.Lawful.{inside_root}
 use Rattle.prop_linear.proofs.Finding.{cut_at, dead_at, quiet_at}
+use Rattle.prop_linear.proofs.Meeting.{met_cells}
 use Rattle.prop_linear.proofs.comparisons.LinearPropagator.revise.Goals as goal
 
 pub balance-balance-requires-clause-inside : goal.balance-balance-requires-clause-inside
@@ -12,6 +13,13 @@ returns-then-is_closed-clause-finds c =
     dead_at c.args.program.now (Hard c.args.self.now.instance c.args.self.now.scenario) c.balance-balance.result.difference c.args._best c.args.store.now.box c.balance-balance.ensures.tells
     c.balance-balance.ensures.seen
     (inside_root c.args.program.now c.args.store.now.box c.requires.inside) c.reason-reason.result c.reason-reason.ensures (sym c.is_closed.ensures ∙ c.if-is_closed.true)
+
+pub returns-then-is_met-clause-finds : goal.returns-then-is_met-clause-finds
+returns-then-is_met-clause-finds c =
+    let d = c.balance-balance.result.difference in
+    let met = sym c.is_met.ensures ∙ c.if-is_met.true in
+    quiet_at c.args.program.now (Hard c.args.self.now.instance c.args.self.now.scenario) d c.args._best c.args.store.now.box c.balance-balance.ensures.tells c.balance-balance.ensures.seen
+    (inside_root c.args.program.now c.args.store.now.box c.requires.inside) (sym c.is_closed.ensures ∙ c.if-is_closed.false) (met_cells d c.balance-balance.ensures.summed.light met)
 
 pub returns-in-Some-clause-finds : goal.returns-in-Some-clause-finds
 returns-in-Some-clause-finds c =

@@ -1,8 +1,7 @@
 use Rattle.std.proofs.Common.{◌≡◌, ◌+ℤ◌, drop}
 use Rattle.term_program.specs.Programs.{problem_in, root_in, with_interval}
-use Rattle.prop_shave.specs.Sums.{sum_over}
+use Rattle.prop_shave.specs.Sums.{sum_over, turn_of}
 use Rattle.prop_shave.specs.ChanceSums.{weight_over}
-use Rattle.prop_shave.proofs.Adding.{turn_of}
 use Rattle.prop_shave.proofs.chance_delta.ChanceDelta.left_with.Given as goal
 
 abbrev pub invariant-scenarios : goal.invariant-scenarios

@@ -20,5 +20,5 @@ closes_with-requires-clause-to_high c =
 pub returns : goal.returns
 returns c =
     let same : c.args.counted.now.cell ≡ c.args.cell = search rules in
-    counted_is c.args.self.now c.args.counted.now c.args.cell c.args.part.lo c.args.part.hi c.in_ok-best.best.value c.closes_with.result c.requires.known.reason c.in_ok-best.ensures
+    counted_is c.args.self.now c.args.counted.now c.args.cell c.args.part.lo c.args.part.hi c.in_ok-best.best.value c.closes_with.result c.requires.known.reason c.in_ok-best.ensures.some
     same c.closes_with.ensures.closed
