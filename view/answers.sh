@@ -218,7 +218,8 @@ explain() {
         2)
             echo "sopl: the words are $(forms MODEL), where MODEL is the file of a model," \
                 "or $(forms LOG), where LOG is the file of a log of the model," \
-                "or $(forms POLICY), where POLICY is the file of a policy of it"
+                "or $(forms POLICY), where POLICY is the file of a policy of it," \
+                "or $(forms SEED), where a text of STAGES, 1 to 9, is drawn by SEED"
             echo 'sopl: before them may stand --table, --page FILE or --why, which tell more of an answer (docs/FORMATS.md)'
             ;;
         3)

@@ -18,6 +18,7 @@ use Rattle.answer_texts.specs.Solved.{SolvedText}
 use Rattle.answer_texts.specs.declared.status.Status.{Status}
 use Rattle.answer_texts.specs.declared.status.Status.TheVariants.{Done}
 use Rattle.answer_texts.specs.declared.command.Command.TheVariants.{Solve}
+use Rattle.answer_texts.specs.declared.command.Detail.TheVariants.{Full}
 use Rattle.answer_texts.proofs.Ended.{accepted_end_once}
 use Rattle.answer_texts.proofs.Ends.{one_limit_on, one_refusal_on}
 use Rattle.answer_lines.specs.AnswerData.{limit_data, line_of, refused_data}
@@ -152,12 +153,12 @@ module _ (readings_are_unique : ReadingsAreUnique) where
   checks_end_once text log _ _ _ _ (checked p s l solved reply) (limited_text excess over) = absurd (not_limited text p excess solved over)
   checks_end_once text log _ _ _ _ (refused_text refusal broken) (checked p s l solved reply) = absurd (not_refused text p refusal solved broken)
   checks_end_once text log _ _ _ _ (refused_text refusal broken) (refused_text other broke) =
-      record { status = refl; line = ap (λ (r : Refusal). line_of (refused_data (pos r.at) (pos r.code))) (one_refusal_on text 0 refusal other Solve Solve broken broke) }
+      record { status = refl; line = ap (λ (r : Refusal). line_of (refused_data (pos r.at) (pos r.code))) (one_refusal_on text 0 refusal other (Solve Full) (Solve Full) broken broke) }
   checks_end_once text log _ _ _ _ (refused_text refusal broken) (limited_text excess over) = absurd (not_both_told text refusal excess broken over)
   checks_end_once text log _ _ _ _ (limited_text excess over) (checked p s l solved reply) = absurd (not_limited text p excess solved over)
   checks_end_once text log _ _ _ _ (limited_text excess over) (refused_text refusal broken) = absurd (not_both_told text refusal excess broken over)
   checks_end_once text log _ _ _ _ (limited_text excess over) (limited_text other overly) =
-      record { status = refl; line = ap (λ (e : Excess). line_of (limit_data e)) (one_limit_on text 0 excess other Solve Solve over overly) }
+      record { status = refl; line = ap (λ (e : Excess). line_of (limit_data e)) (one_limit_on text 0 excess other (Solve Full) (Solve Full) over overly) }
 
   pub accepted_logs_are_answered : AcceptedLogsAreAnswered
   accepted_logs_are_answered text log problem rows claim solved reads right =

@@ -30,6 +30,7 @@ use Rattle.answer_texts.specs.Replies.{IsFaultOn}
 use Rattle.answer_texts.specs.Solved.{SolvedText}
 use Rattle.answer_texts.specs.Solving.{IsProgramOf, IsSolveFault}
 use Rattle.answer_texts.specs.declared.command.Command.TheVariants.{Solve}
+use Rattle.answer_texts.specs.declared.command.Detail.TheVariants.{Full}
 use Rattle.answer_texts.specs.declared.reply.Reply.{Reply}
 use Rattle.answer_texts.specs.declared.status.Status.{Status}
 use Rattle.answer_texts.specs.declared.status.Status.TheVariants.{Done, Failing, Unreadable}
@@ -83,9 +84,9 @@ program_made text stated (Err fault) states is of = tt
 
 -- and one that is not solved
 pub unsolved_told : (text : List ℕ) (stated : AcceptedProblem) (result : Result Program Fault) → States text stated → IfErr result (IsSolveFault (model_in stated))
-    → IfErr result (IsFaultOn text Solve)
+    → IfErr result (IsFaultOn text (Solve Full))
 unsolved_told text stated (Ok program) states is = tt
-unsolved_told text stated (Err fault) states is = unsolved_so Solve text stated fault states is
+unsolved_told text stated (Err fault) states is = unsolved_so (Solve Full) text stated fault states is
 
 -- the reply to the log of a text with this program
 log_of_program : (text log : List ℕ) (program : Program) (reply : Reply) (is : IsProgramFor text program)

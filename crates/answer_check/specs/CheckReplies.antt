@@ -16,6 +16,7 @@ use Rattle.answer_texts.specs.Replies.{IsLimitedOn, IsRefusedOn}
 use Rattle.answer_texts.specs.Solved.{SolvedText}
 use Rattle.answer_texts.specs.Solving.{IsProgramOf}
 use Rattle.answer_texts.specs.declared.command.Command.TheVariants.{Solve}
+use Rattle.answer_texts.specs.declared.command.Detail.TheVariants.{Full}
 use Rattle.answer_texts.specs.declared.status.Status.{Status}
 use Rattle.answer_texts.specs.declared.status.Status.TheVariants.{Done, Failing, Refused, Limit, Unreadable}
 use Rattle.answer_check.specs.CheckData.{accepted_data, rejected_data, unreadable_data}
@@ -37,9 +38,9 @@ pub data IsCheckReply (text log : List ℕ) : Status → List ℕ → Type 0 whe
   -- the text states a problem, and this is the reply to the log of it
   checked : (problem : Problem) (status : Status) (line : List ℕ) → SolvedText text problem → IsLogReply problem log status line → IsCheckReply text log status line
   -- the text is refused, as `solve` refuses it
-  refused_text : (refusal : Refusal) → IsRefusedOn text refusal Solve → IsCheckReply text log Refused (line_of (refused_data (pos refusal.at) (pos refusal.code)))
+  refused_text : (refusal : Refusal) → IsRefusedOn text refusal (Solve Full) → IsCheckReply text log Refused (line_of (refused_data (pos refusal.at) (pos refusal.code)))
   -- the text passes this limit, as `solve` tells it
-  limited_text : (excess : Excess) → IsLimitedOn text excess Solve → IsCheckReply text log Limit (line_of (limit_data excess))
+  limited_text : (excess : Excess) → IsLimitedOn text excess (Solve Full) → IsCheckReply text log Limit (line_of (limit_data excess))
 
 -- the text states a problem that is solved, and the program is that of the problem
 pub record IsProgramFor (text : List ℕ) (program : Program) : Type 0 where

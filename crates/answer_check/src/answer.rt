@@ -4,6 +4,7 @@ ghost use Rattle.std.specs.Prelude.{ℕ, List, IfOk, IfErr, string_bytes};
 ghost use Rattle.answer_texts.specs.Away.{IsTurnedAway};
 ghost use Rattle.answer_texts.specs.Replies.{IsFaultOn};
 ghost use Rattle.answer_texts.specs.declared.command.Command.TheVariants.{Solve};
+ghost use Rattle.answer_texts.specs.declared.command.Detail.TheVariants.{Full};
 ghost use Rattle.answer_check.specs.CheckReplies.{IsCheckReply, IsProgramFor};
 
 use crate::logs::log_reply;
@@ -15,7 +16,7 @@ use std::alloc::{AllocError, Global};
 
 /// The reply to a text of which no log is checked, for this fault, whatever the log. It is refused only where memory runs out.
 pub fn fault_reply(alloc: Global, fault: Fault) -> Result<Reply, AllocError>
-    ensures reply { (text log : List ℕ) → IsFaultOn text Solve fault
+    ensures reply { (text log : List ℕ) → IsFaultOn text (Solve Full) fault
         → IfOk result (λ reply. IsCheckReply text log reply.status (string_bytes reply.line)) }
     ensures turned_away { IfOk result (λ reply. IsTurnedAway reply.status) }
 {
@@ -26,7 +27,7 @@ pub fn fault_reply(alloc: Global, fault: Fault) -> Result<Reply, AllocError>
 /// the limit that it or its terms pass.
 pub fn program_to_check(alloc: Global, text: &[u8]) -> Result<Program, Fault>
     ensures program { IfOk result (IsProgramFor text.now) }
-    ensures refused { IfErr result (IsFaultOn text.now Solve) }
+    ensures refused { IfErr result (IsFaultOn text.now (Solve Full)) }
 {
     let stated = stated_in(alloc, text)?;
     program_of(alloc, &stated)

@@ -20,6 +20,7 @@ use Rattle.policy_read.specs.Printed.{AcceptedAreRead}
 use Rattle.answer_lines.specs.AnswerData.{limit_data, line_of, refused_data, unreadable_data}
 use Rattle.answer_texts.specs.Solved.{SolvedText}
 use Rattle.answer_texts.specs.declared.command.Command.TheVariants.{Solve}
+use Rattle.answer_texts.specs.declared.command.Detail.TheVariants.{Full}
 use Rattle.answer_texts.specs.declared.status.Status.{Status}
 use Rattle.answer_texts.specs.declared.status.Status.TheVariants.{Done, Unreadable}
 use Rattle.answer_texts.proofs.Ended.{accepted_end_once}
@@ -123,12 +124,12 @@ module _ (reports_are_one : ReportsAreOne) where
   evals_end_once text bytes _ _ _ _ (evaluated p s l solved reply) (text_limited excess over) = absurd (not_limited text p excess solved over)
   evals_end_once text bytes _ _ _ _ (text_refused refusal broken) (evaluated p s l solved reply) = absurd (not_refused text p refusal solved broken)
   evals_end_once text bytes _ _ _ _ (text_refused refusal broken) (text_refused other broke) =
-      (refl, ap (λ (r : Refusal). line_of (refused_data (pos r.at) (pos r.code))) (one_refusal_on text 0 refusal other Solve Solve broken broke))
+      (refl, ap (λ (r : Refusal). line_of (refused_data (pos r.at) (pos r.code))) (one_refusal_on text 0 refusal other (Solve Full) (Solve Full) broken broke))
   evals_end_once text bytes _ _ _ _ (text_refused refusal broken) (text_limited excess over) = absurd (not_both_told text refusal excess broken over)
   evals_end_once text bytes _ _ _ _ (text_limited excess over) (evaluated p s l solved reply) = absurd (not_limited text p excess solved over)
   evals_end_once text bytes _ _ _ _ (text_limited excess over) (text_refused refusal broken) = absurd (not_both_told text refusal excess broken over)
   evals_end_once text bytes _ _ _ _ (text_limited excess over) (text_limited other overly) =
-      (refl, ap (λ (e : Excess). line_of (limit_data e)) (one_limit_on text 0 excess other Solve Solve over overly))
+      (refl, ap (λ (e : Excess). line_of (limit_data e)) (one_limit_on text 0 excess other (Solve Full) (Solve Full) over overly))
 
 module _ (reports_are_one : ReportsAreOne) (accepted_are_read : AcceptedAreRead) where
   -- what is printed of a policy of a solved text is read as the policy

@@ -20,6 +20,7 @@ use Rattle.answer_texts.specs.Models.{IsSolvable}
 use Rattle.answer_texts.specs.Replies.{IsFaultOn}
 use Rattle.answer_texts.specs.Solving.{IsSolveFault}
 use Rattle.answer_texts.specs.declared.command.Command.TheVariants.{Solve}
+use Rattle.answer_texts.specs.declared.command.Detail.TheVariants.{Full}
 use Rattle.answer_texts.specs.declared.reply.Reply.{Reply}
 use Rattle.answer_texts.specs.declared.status.Status.{Status}
 use Rattle.answer_texts.specs.declared.status.Status.TheVariants.{Done, Failing, Unreadable}
@@ -63,9 +64,9 @@ stated_for text stated (Err fault) states laid same is = tt
 
 -- and where it is not
 pub unsolved_told : (text : List ℕ) (stated : AcceptedProblem) (result : Result AcceptedProblem Fault) → States text stated
-    → IfErr result (IsSolveFault (model_in stated)) → IfErr result (IsFaultOn text Solve)
+    → IfErr result (IsSolveFault (model_in stated)) → IfErr result (IsFaultOn text (Solve Full))
 unsolved_told text stated (Ok found) states is = tt
-unsolved_told text stated (Err fault) states is = unsolved_so Solve text stated fault states is
+unsolved_told text stated (Err fault) states is = unsolved_so (Solve Full) text stated fault states is
 
 -- the reply to the policy of a text
 pub policy_replies : (text bytes : List ℕ) (stated : AcceptedProblem) (result : Result Reply AllocError) → IsStatedFor text stated

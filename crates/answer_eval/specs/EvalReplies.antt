@@ -14,6 +14,7 @@ use Rattle.answer_texts.specs.Models.{IsSolvable}
 use Rattle.answer_texts.specs.Replies.{IsLimitedOn, IsRefusedOn}
 use Rattle.answer_texts.specs.Solved.{SolvedText}
 use Rattle.answer_texts.specs.declared.command.Command.TheVariants.{Solve}
+use Rattle.answer_texts.specs.declared.command.Detail.TheVariants.{Full}
 use Rattle.answer_texts.specs.declared.status.Status.{Status}
 use Rattle.answer_texts.specs.declared.status.Status.TheVariants.{Done, Failing, Refused, Limit, Unreadable}
 use Rattle.answer_eval.specs.EvalData.{chance_data, hard_data, objective_data, satisfied_data}
@@ -49,9 +50,9 @@ pub data IsEvalReply (text bytes : List ℕ) : Status → List ℕ → Type 0 wh
   evaluated : (problem : Problem) (status : Status) (line : List ℕ) → SolvedText text problem → IsPolicyReply problem bytes status line
       → IsEvalReply text bytes status line
   -- the text is refused, as `solve` refuses it
-  text_refused : (refusal : Refusal) → IsRefusedOn text refusal Solve → IsEvalReply text bytes Refused (line_of (refused_data (pos refusal.at) (pos refusal.code)))
+  text_refused : (refusal : Refusal) → IsRefusedOn text refusal (Solve Full) → IsEvalReply text bytes Refused (line_of (refused_data (pos refusal.at) (pos refusal.code)))
   -- the text passes this limit, as `solve` tells it
-  text_limited : (excess : Excess) → IsLimitedOn text excess Solve → IsEvalReply text bytes Limit (line_of (limit_data excess))
+  text_limited : (excess : Excess) → IsLimitedOn text excess (Solve Full) → IsEvalReply text bytes Limit (line_of (limit_data excess))
 
 -- the text states this, and it is solved
 pub record IsStatedFor (text : List ℕ) (stated : AcceptedProblem) : Type 0 where

@@ -7,6 +7,7 @@ ghost use Rattle.answer_texts.specs.Models.{IsSolvable};
 ghost use Rattle.answer_texts.specs.Replies.{IsFaultOn};
 ghost use Rattle.answer_texts.specs.Solving.{IsSolveFault};
 ghost use Rattle.answer_texts.specs.declared.command.Command.TheVariants.{Solve};
+ghost use Rattle.answer_texts.specs.declared.command.Detail.TheVariants.{Full};
 ghost use Rattle.answer_eval.specs.EvalReplies.{IsEvalReply, IsStatedFor};
 
 use answer_texts::{Reply, away_reply, terms_allowed};
@@ -30,7 +31,7 @@ fn solvable(alloc: Global, stated: AcceptedProblem) -> Result<AcceptedProblem, F
 /// limit that it passes.
 pub fn text_to_eval(alloc: Global, text: &[u8]) -> Result<AcceptedProblem, Fault>
     ensures stated { IfOk result (IsStatedFor text.now) }
-    ensures refused { IfErr result (IsFaultOn text.now Solve) }
+    ensures refused { IfErr result (IsFaultOn text.now (Solve Full)) }
 {
     let stated = stated_in(alloc, text)?;
     solvable(alloc, stated)
@@ -38,7 +39,7 @@ pub fn text_to_eval(alloc: Global, text: &[u8]) -> Result<AcceptedProblem, Fault
 
 /// The reply to a text of which no policy is evaluated, for this fault, whatever the policy. It is refused only where memory runs out.
 pub fn unsolved_reply(alloc: Global, fault: Fault) -> Result<Reply, AllocError>
-    ensures reply { (text bytes : List ℕ) → IsFaultOn text Solve fault
+    ensures reply { (text bytes : List ℕ) → IsFaultOn text (Solve Full) fault
         → IfOk result (λ reply. IsEvalReply text bytes reply.status (string_bytes reply.line)) }
     ensures of_text { IfOk result (λ reply. IsTurnedAway reply.status) }
 {

@@ -1,11 +1,13 @@
 -- The answers, as JSON data and as the bytes of one line.
-use Rattle.std.specs.Prelude.{ℕ, ℤ, codes, List, [], ◌∷◌, ◌++◌, pos, Option, Some, None}
+use Rattle.std.specs.Prelude.{ℕ, ℤ, codes, List, [], ◌∷◌, ◌++◌, length, pos, Option, Some, None}
 use Rattle.std.specs.Fmt.{signed_decimal}
 use Rattle.serde_json.specs.Data.{Data, string, object, no_members, member}
 use Rattle.serde_json.specs.Written.{compact_text}
 use Rattle.sopl_base.specs.declared.fault.Excess.{Excess}
 use Rattle.sopl_ast.specs.Instances.{Problem}
+use Rattle.sopl_ast.specs.Cells.{cells}
 use Rattle.sopl_ast.specs.Policies.{Policy}
+use Rattle.sopl_ast.specs.Scenarios.{scenarios}
 use Rattle.sopl_ast.specs.Optimal.{denominator}
 use Rattle.policy_json.specs.Entries.{whole_number}
 use Rattle.policy_json.specs.Nodes.{policy_data}
@@ -67,6 +69,24 @@ abbrev pub bounded_data : Problem → Option Valued → ℤ → Data
 bounded_data problem None bound = bound_object (fraction bound (denominator problem))
 bounded_data problem (Some found) bound =
     found_object (fraction bound (denominator problem)) (policy_data problem found.policy) (fraction found.value (denominator problem))
+
+-- a summary of a search that found nothing: how many cells and scenarios there are, and what came of it
+abbrev pub summary_object : ℤ → List ℕ → ℤ → Data
+summary_object cells outcome scenarios =
+    object (member (codes "answer") (string (codes "summary")) (member (codes "cells") (whole_number cells)
+    (member (codes "result") (string outcome) (member (codes "scenarios") (whole_number scenarios) no_members))))
+
+-- and of one that found a policy, with the text of its value
+abbrev pub valued_summary_object : ℤ → List ℕ → ℤ → List ℕ → Data
+valued_summary_object cells outcome scenarios value =
+    object (member (codes "answer") (string (codes "summary")) (member (codes "cells") (whole_number cells)
+    (member (codes "result") (string outcome) (member (codes "scenarios") (whole_number scenarios) (member (codes "value") (string value) no_members)))))
+
+-- the cells of the problem are those of its decisions and histories; its scenarios are all
+abbrev pub summary_data : Problem → List ℕ → Option ℤ → Data
+summary_data problem outcome None = summary_object (pos (length (cells problem))) outcome (pos (length (scenarios problem.stochastics)))
+summary_data problem outcome (Some value) =
+    valued_summary_object (pos (length (cells problem))) outcome (pos (length (scenarios problem.stochastics))) (fraction value (denominator problem))
 
 -- the line of an answer: its compact text and a line feed
 abbrev pub line_of : Data → List ℕ

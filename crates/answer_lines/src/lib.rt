@@ -12,6 +12,6 @@ mod text;
 pub use laws::lines_differ;
 pub use lines::{
     bound_line, found_line, fraction_text, limit_line, line, optimal_line, refused_line,
-    unreadable_line, word_line,
+    summary_line, unreadable_line, valued_summary_line, word_line,
 };
 pub use text::tree_text;

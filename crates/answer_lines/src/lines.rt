@@ -4,7 +4,7 @@ ghost use Rattle.std.specs.Prelude.{◌≡◌, false, codes, string_bytes, IfOk,
 ghost use Rattle.serde_json.specs.View.{view};
 ghost use Rattle.serde_json.specs.Written.{has_float};
 ghost use Rattle.std.specs.Fmt.{signed_decimal};
-ghost use Rattle.answer_lines.specs.AnswerData.{word_data, refused_data, limit_data, limit_object, optimal_object, bound_object, found_object, fraction, line_of, unreadable_data};
+ghost use Rattle.answer_lines.specs.AnswerData.{word_data, refused_data, limit_data, limit_object, optimal_object, bound_object, found_object, fraction, line_of, summary_object, unreadable_data, valued_summary_object};
 
 use serde_json::{Value, json};
 use sopl_base::{Excess, Refusal};
@@ -139,6 +139,59 @@ pub fn found_line(
     let most = fraction_text(alloc, bound, denominator)?;
     let value = fraction_text(alloc, value, denominator)?;
     let answer = found_answer(alloc, most.as_str(), policy, value.as_str())?;
+    line(alloc, &answer)
+}
+
+fn summary_answer(
+    alloc: Global,
+    cells: u32,
+    outcome: &str,
+    scenarios: u32,
+) -> Result<Value, AllocError>
+    ensures answer { IfOk result (λ answer. view answer ≡ summary_object (pos cells) outcome.now (pos scenarios)) }
+{
+    json!(in alloc; {"answer": "summary", "cells": cells, "result": outcome, "scenarios": scenarios})
+}
+
+/// The line that tells of a search that found nothing: how many cells and scenarios there are, and what came of it.
+pub fn summary_line(
+    alloc: Global,
+    cells: u32,
+    outcome: &str,
+    scenarios: u32,
+) -> Result<String, AllocError>
+    ensures text { IfOk result (λ text. string_bytes text ≡ line_of (summary_object (pos cells) outcome.now (pos scenarios))) }
+{
+    let answer = summary_answer(alloc, cells, outcome, scenarios)?;
+    line(alloc, &answer)
+}
+
+fn valued_summary_answer(
+    alloc: Global,
+    cells: u32,
+    outcome: &str,
+    scenarios: u32,
+    value: &str,
+) -> Result<Value, AllocError>
+    ensures answer { IfOk result (λ answer. view answer ≡ valued_summary_object (pos cells) outcome.now (pos scenarios) value.now) }
+{
+    json!(in alloc; {"answer": "summary", "cells": cells, "result": outcome, "scenarios": scenarios, "value": value})
+}
+
+/// The same of a search that found a policy, with the policy's value.
+pub fn valued_summary_line(
+    alloc: Global,
+    cells: u32,
+    outcome: &str,
+    scenarios: u32,
+    value: i128,
+    denominator: i128,
+) -> Result<String, AllocError>
+    ensures text { IfOk result (λ text. string_bytes text
+        ≡ line_of (valued_summary_object (pos cells) outcome.now (pos scenarios) (fraction value denominator))) }
+{
+    let value = fraction_text(alloc, value, denominator)?;
+    let answer = valued_summary_answer(alloc, cells, outcome, scenarios, value.as_str())?;
     line(alloc, &answer)
 }
 

@@ -1,5 +1,5 @@
 -- What the outcome of a run says of the words and of the text, and what the sinks took.
-use Rattle.std.proofs.Common.{◌≡◌, ◌⊎◌, inl, inr, ℕ, ◌≤◌, List, [], Option, Some, None, Result, Err, IsSome, IfSome, option_map, string_bytes, refl, sym, subst, ap}
+use Rattle.std.proofs.Common.{◌≡◌, ◌⊎◌, inl, inr, ℕ, ◌≤◌, List, [], Bool, true, false, Option, Some, None, Result, Err, IfSome, option_map, if◌then◌else◌, string_bytes, refl, sym, subst, ap, ◌∙◌}
 use Rattle.std.specs.Option.{option_and_then}
 use Rattle.std.specs.Io.KnownBytes.{IsAtEnd}
 use Rattle.std.proofs.KnownBytes.{Keeps-refl}
@@ -7,12 +7,15 @@ use Rattle.sopl_io.specs.Causes.{Rose}
 use Rattle.sopl_io.specs.Stock.{Stock, begun_stock, text_of}
 use Rattle.sopl_ast.specs.Instances.{Problem}
 use Rattle.answer_texts.specs.Solved.{SolvedText}
+use Rattle.sopl_base.proofs.Booleans.{impossible}
 use Rattle.sopl_base.specs.declared.stop.SearchStop.{SearchStop}
 use Rattle.sopl_base.specs.declared.stop.SearchStop.TheVariants as search
 use Rattle.sopl_base.specs.declared.stop.SearchStop.TheVariants.{Write}
 use Rattle.answer_texts.specs.Logs.{SinkState, most_nodes}
 use Rattle.answer_texts.specs.Replies.{Ends, solved, settled}
-use Rattle.answer_texts.specs.declared.command.Command.TheVariants.{Solve}
+use Rattle.answer_texts.specs.declared.command.Command.TheVariants.{Solve, Tree}
+use Rattle.answer_texts.specs.declared.command.Detail.TheVariants.{Full, Summary}
+use Rattle.answer_texts.specs.declared.command.Detail.{Detail}
 use Rattle.answer_texts.specs.declared.reply.Reply.{Reply}
 use Rattle.answer_texts.specs.declared.status.Status.{Status}
 use Rattle.answer_texts.specs.declared.status.Status.TheVariants.{Done, Failing, Usage, Refused, Limit, Bounded, ReadFault, WriteFault, NoMemory, Unreadable}
@@ -22,11 +25,13 @@ use Rattle.answer_check.specs.CheckReplies.{IsLogReply, accepted, rejected, unre
 use Rattle.answer_eval.specs.EvalLaws.{EvalsEndOnce}
 use Rattle.answer_eval.specs.EvalReplies.{IsEvalReply, evaluated, text_refused, text_limited, IsPolicyReply, satisfied, hard_fails, chance_fails, objective_fails, unreadable as unreadable_policy}
 use Rattle.answer_run.specs.declared.commands.Job.{Job}
-use Rattle.answer_run.specs.declared.commands.Job.TheVariants.{Text, Pair}
+use Rattle.answer_run.specs.declared.commands.Job.TheVariants.{Text, Pair, Drawn}
 use Rattle.answer_run.specs.declared.commands.PairCommand.{PairCommand}
 use Rattle.answer_run.specs.declared.commands.PairCommand.TheVariants.{Check, Eval}
-use Rattle.answer_run.specs.Words.{Request}
-use Rattle.answer_run.specs.Replies.{Asked, asked_by, asked_in, IsModelText, AreSecondBytes, IsPairReply, IsReply, replied, replied_on_both, usage, read_fault, IsAnswered, Answers, whole, prefix, log_prefix, nothing}
+use Rattle.model_gen.specs.Texts.{generated_text}
+use Rattle.answer_run.specs.declared.commands.DrawnCommand.TheVariants.{Gen, Demo}
+use Rattle.answer_run.specs.Words.{Request, is_drawn, reads_files}
+use Rattle.answer_run.specs.Replies.{Asked, asked_by, asked_in, asked_text, asked_on, second_given, is_search, generated, demonstrated, IsModelText, AreSecondBytes, IsPairReply, IsReply, replied, replied_on_both, usage, read_fault, IsAnswered, Answers, whole, prefix, log_prefix, nothing}
 use Rattle.answer_run.specs.Replies.{EndedEarly, EndsJob, taking, EndsSoundly, EndsCompletely, SettlesInBudget, RefusedOnce, LimitedOnce}
 use Rattle.answer_run.specs.Runs.{IsWritten, all, part, Replied, StopsWith, stop_status}
 
@@ -66,10 +71,6 @@ refused_once (Some a) = λ one other is also. one_refusal_on a.text a.budget one
 pub limited_once : (asked : Option Asked) → LimitedOnce asked
 limited_once None = tt
 limited_once (Some a) = λ one other is also. one_limit_on a.text a.budget one other (taking a.job) (taking a.job) is also
-
-some_request : (request : Option Request) → IsSome request → request ≡ None → ⊥
-some_request None some none = cc
-some_request (Some r) some none = cc
 
 one_request : (r : Request) (request : Option Request) → request ≡ Some r → request ≡ None → ⊥
 one_request r request some none = cc
@@ -127,90 +128,121 @@ pairs_end_once of_checks of_evals Eval text bytes a b l m one other = (of_evals 
 job_status : (text second : List ℕ) (budget : ℕ) (job : Job) (status : Status) → EndsJob text second budget job status → IsEnd status
 job_status text second budget (Text command) status end = end_status text budget command status end
 job_status text second budget (Pair command) status end = pair_status command text second status end.0 end.1
+job_status text second budget (Drawn Gen) status end = subst IsEnd (sym end) (record { no_usage = λ e. cc; no_read = λ e. cc; no_write = λ e. cc })
+job_status text second budget (Drawn Demo) status end = end_status text budget (Solve Summary) status end
 
 -- what is asked for ends in one way, but that a search may be cut short
 job_alike : PairsEndOnce → (text second : List ℕ) (budget : ℕ) (job : Job) (status other : Status) → EndsJob text second budget job status
     → EndsJob text second budget job other → settled status ≡ settled other
 job_alike once text second budget (Text command) status other end ends = ends_alike text budget command status other end ends
 job_alike once text second budget (Pair command) status other end ends = ap settled (once command text second status other end.0 ends.0 end.1 ends.1)
+job_alike once text second budget (Drawn Gen) status other end ends = ap settled (end ∙ sym ends)
+job_alike once text second budget (Drawn Demo) status other end ends = ends_alike text budget (Solve Summary) status other end ends
 
--- the bytes that the stock gives for the second file behind the model's
-pub second_given : Request → Option Stock → List ℕ
-second_given request None = []
-second_given request (Some s) = text_of (begun_stock s) request.second
-
-pub second_is_given : (request : Request) (stock : Option Stock) → AreSecondBytes request stock (second_given request stock)
-unfolding second_given
+-- the bytes that the stock gives for the second file are given
+pub second_is_given : (request : Request) (stock : Option Stock) → AreSecondBytes request stock (second_given stock request)
 second_is_given request None = tt
 second_is_given request (Some s) = refl
 
-abbrev pub asked_with : Request → List ℕ → List ℕ → Asked
-asked_with request text second = record { job = request.job; text = text; second = second; budget = request.plan.budget }
+-- of files that are read, what is asked for is what the stock gives
+pub asked_read : (stock : Option Stock) (request : Request) → is_drawn request.job ≡ false
+    → asked_by stock request ≡ option_map (λ s. asked_on request (text_of s request.model) (text_of (begun_stock s) request.second)) stock
+asked_read None request files =
+    ap (λ (b : Bool). option_map (λ text. asked_on request text []) (if b then Some (generated_text request.stages request.seed) else None)) files
+asked_read (Some s) request files =
+    ap (λ (b : Bool). option_map (λ text. asked_on request text (text_of (begun_stock s) request.second))
+    (if b then Some (generated_text request.stages request.seed) else Some (text_of s request.model))) files
+
+-- of a text that is drawn, that text
+pub asked_drawn : (stock : Option Stock) (request : Request) → is_drawn request.job ≡ true
+    → asked_by stock request ≡ Some (asked_on request (generated_text request.stages request.seed) (second_given stock request))
+asked_drawn stock request drawn =
+    ap (λ (b : Bool). option_map (λ text. asked_on request text (second_given stock request))
+    (if b then Some (generated_text request.stages request.seed) else option_map (λ s. text_of s request.model) stock)) drawn
 
 -- a search whose budget is enough is done
-solve_done : (text second : List ℕ) (budget : ℕ) (job : Job) (status : Status) → job ≡ Text Solve → (problem : Problem) → SolvedText text problem → most_nodes problem ≤ budget
+search_done : (text : List ℕ) (budget : ℕ) (detail : Detail) (status : Status) (problem : Problem) → SolvedText text problem → most_nodes problem ≤ budget
+    → Ends text budget (Solve detail) status → status ≡ Done
+search_done text budget detail status problem a enough ends =
+    settled_done status (ends_alike text budget (Solve detail) status Done ends (solved detail problem a)) (ends_settled text budget problem a enough (Solve detail) status ends)
+
+solve_done : (text second : List ℕ) (budget : ℕ) (job : Job) (status : Status) → is_search job ≡ true → (problem : Problem) → SolvedText text problem → most_nodes problem ≤ budget
     → EndsJob text second budget job status → status ≡ Done
-solve_done text second budget job status solve problem a enough end =
-    let ends : Ends text budget Solve status = subst (λ (j : Job). EndsJob text second budget j status) solve end in
-    settled_done status (ends_alike text budget Solve status Done ends (solved problem a)) (ends_settled text budget problem a enough Solve status ends)
+solve_done text second budget (Text (Solve detail)) status search problem a enough end = search_done text budget detail status problem a enough end
+solve_done text second budget (Text Tree) status search problem a enough end = cc
+solve_done text second budget (Pair command) status search problem a enough end = cc
+solve_done text second budget (Drawn Gen) status search problem a enough end = cc
+solve_done text second budget (Drawn Demo) status search problem a enough end = search_done text budget Summary status problem a enough end
 
 -- what a status says of the words, the source and the text
 pub record Tells (wanted : Option Request) (stock : Option Stock) (before now : ℕ) (status : Status) : Type 0 where
   pub usage : status ≡ Usage → wanted ≡ None
   pub usage_when : wanted ≡ None → (status ≡ Usage) ⊎ (status ≡ WriteFault) ⊎ (status ≡ NoMemory)
   pub read : status ≡ ReadFault → Rose before now
+  pub read_of_files : status ≡ ReadFault → reads_files wanted ≡ true
   pub ends : EndsSoundly (asked_in stock wanted) status
   pub ends_when : EndsCompletely (asked_in stock wanted) status
   pub enough : SettlesInBudget (asked_in stock wanted) status
 
 module _ (wanted : Option Request) (stock : Option Stock) (before now : ℕ) where
   -- what is told of the text is told of what is asked for
-  told_of : (request : Request) (text second : List ℕ) → IsModelText request wanted stock text → AreSecondBytes request stock second → (P : Asked → Type 0)
-      → P (asked_with request text second) → IfSome (asked_in stock wanted) P
-  told_of request text second is are P p =
-      subst (λ o. IfSome (option_and_then (λ (r : Request). option_map (asked_by r) stock) o) P) (sym is.asked) (by_stock stock is.given are)
+  told_of : (request : Request) (text second : List ℕ) → is_drawn request.job ≡ false → IsModelText request wanted stock text → AreSecondBytes request stock second
+      → (P : Asked → Type 0) → P (asked_on request text second) → IfSome (asked_in stock wanted) P
+  told_of request text second files is are P p =
+      subst (λ o. IfSome (option_and_then (asked_by stock) o) P) (sym is.asked)
+      (subst (λ a. IfSome a P) (sym (asked_read stock request files)) (by_stock stock is.given are))
     where
-      by_stock : (o : Option Stock) → IfSome o (λ s. text ≡ text_of s request.model) → AreSecondBytes request o second → IfSome (option_map (asked_by request) o) P
+      by_stock : (o : Option Stock) → IfSome o (λ s. text ≡ text_of s request.model) → AreSecondBytes request o second
+          → IfSome (option_map (λ s. asked_on request (text_of s request.model) (text_of (begun_stock s) request.second)) o) P
       by_stock None given given_second = tt
       by_stock (Some s) given given_second =
-          subst (λ b. P (asked_with request (text_of s request.model) b)) given_second (subst (λ t. P (asked_with request t second)) given p)
+          subst (λ b. P (asked_on request (text_of s request.model) b)) given_second (subst (λ t. P (asked_on request t second)) given p)
+
+  -- of a text that is drawn too
+  told_drawn : (request : Request) → wanted ≡ Some request → is_drawn request.job ≡ true → (P : Asked → Type 0)
+      → P (asked_on request (generated_text request.stages request.seed) (second_given stock request)) → IfSome (asked_in stock wanted) P
+  told_drawn request asked drawn P p =
+      subst (λ o. IfSome (option_and_then (asked_by stock) o) P) (sym asked) (subst (λ a. IfSome a P) (sym (asked_drawn stock request drawn)) p)
 
   none_asked : wanted ≡ None → asked_in stock wanted ≡ None
-  none_asked none = ap (λ o. option_and_then (λ (r : Request). option_map (asked_by r) stock) o) none
+  none_asked none = ap (λ o. option_and_then (asked_by stock) o) none
 
   -- a run that ended early
-  early_tells : (status : Status) → EndedEarly status → ¬ (status ≡ Usage) → (status ≡ ReadFault → Rose before now)
+  early_tells : (status : Status) → EndedEarly status → ¬ (status ≡ Usage) → (status ≡ ReadFault → Rose before now) → (status ≡ ReadFault → reads_files wanted ≡ true)
       → (wanted ≡ None → (status ≡ Usage) ⊎ (status ≡ WriteFault) ⊎ (status ≡ NoMemory)) → Tells wanted stock before now status
-  early_tells status early no_usage read when =
+  early_tells status early no_usage read files when =
       record {
         usage = λ e. absurd (no_usage e);
         usage_when = when;
         read = read;
+        read_of_files = files;
         ends = early_so (asked_in stock wanted) status early;
         ends_when = early_when (asked_in stock wanted) status early;
         enough = early_settled (asked_in stock wanted) status early;
       }
 
   pub write_tells : Tells wanted stock before now WriteFault
-  write_tells = early_tells WriteFault (inr (inl refl)) (λ e. cc) (λ e. cc) (λ none. inr (inl refl))
+  write_tells = early_tells WriteFault (inr (inl refl)) (λ e. cc) (λ e. cc) (λ e. cc) (λ none. inr (inl refl))
 
   pub memory_tells : Tells wanted stock before now NoMemory
-  memory_tells = early_tells NoMemory (inr (inr refl)) (λ e. cc) (λ e. cc) (λ none. inr (inr refl))
+  memory_tells = early_tells NoMemory (inr (inr refl)) (λ e. cc) (λ e. cc) (λ e. cc) (λ none. inr (inr refl))
 
-  text_tells : PairsEndOnce → (request : Request) (text second : List ℕ) (status : Status) → IsModelText request wanted stock text → AreSecondBytes request stock second
+  text_tells : PairsEndOnce → (request : Request) (text second : List ℕ) (status : Status) → wanted ≡ Some request
+      → ((P : Asked → Type 0) → P (asked_on request text second) → IfSome (asked_in stock wanted) P)
       → EndsJob text second request.plan.budget request.job status → Tells wanted stock before now status
-  text_tells once request text second status is are end =
+  text_tells once request text second status asked tell end =
       let no = job_status text second request.plan.budget request.job status end in
       record {
         usage = λ e. absurd (no.no_usage e);
-        usage_when = λ none. absurd (one_request request wanted is.asked none);
+        usage_when = λ none. absurd (one_request request wanted asked none);
         read = λ e. absurd (no.no_read e);
-        ends = told_of request text second is are (λ a. EndedEarly status ⊎ EndsJob a.text a.second a.budget a.job status) (inr end);
-        ends_when = told_of request text second is are
+        read_of_files = λ e. absurd (no.no_read e);
+        ends = tell (λ a. EndedEarly status ⊎ EndsJob a.text a.second a.budget a.job status) (inr end);
+        ends_when = tell
             (λ a. (other : Status) → EndsJob a.text a.second a.budget a.job other → (settled status ≡ settled other) ⊎ EndedEarly status)
             (λ other ends. inl (job_alike once text second request.plan.budget request.job status other end ends));
-        enough = told_of request text second is are
-            (λ a. a.job ≡ Text Solve → (problem : Problem) → SolvedText a.text problem → most_nodes problem ≤ a.budget → (status ≡ Done) ⊎ EndedEarly status)
+        enough = tell
+            (λ a. is_search a.job ≡ true → (problem : Problem) → SolvedText a.text problem → most_nodes problem ≤ a.budget → (status ≡ Done) ⊎ EndedEarly status)
             (λ solve problem a enough. inl (solve_done text second request.plan.budget request.job status solve problem a enough end));
       }
 
@@ -220,29 +252,41 @@ module _ (wanted : Option Request) (stock : Option Stock) (before now : ℕ) whe
         usage = λ e. none;
         usage_when = λ e. inl refl;
         read = λ e. cc;
+        read_of_files = λ e. cc;
         ends = subst (λ a. EndsSoundly a Usage) (sym (none_asked none)) tt;
         ends_when = subst (λ a. EndsCompletely a Usage) (sym (none_asked none)) tt;
         enough = subst (λ a. SettlesInBudget a Usage) (sym (none_asked none)) tt;
       }
 
-  fault_tells : IsSome wanted → Rose before now → Tells wanted stock before now ReadFault
-  fault_tells named rose = early_tells ReadFault (inl refl) (λ e. cc) (λ e. rose) (λ none. absurd (some_request wanted named none))
+  fault_tells : reads_files wanted ≡ true → Rose before now → Tells wanted stock before now ReadFault
+  fault_tells files rose = early_tells ReadFault (inl refl) (λ e. cc) (λ e. rose) (λ e. files) (λ none. absurd (impossible (sym files ∙ ap reads_files none)))
 
   -- each reply tells
   reply_tells : PairsEndOnce → (log : Option (List ℕ)) (status : Status) (line : List ℕ) → IsReply wanted stock before now log status line → Tells wanted stock before now status
   reply_tells once log status line (replied request command text l s m job is reply) =
-      text_tells once request text (second_given request stock) s is (second_is_given request stock)
-      (subst (λ (j : Job). EndsJob text (second_given request stock) request.plan.budget j s) (sym job) (text_reply_ends text request.plan command l s m reply))
+      text_tells once request text (second_given stock request) s is.asked (told_of request text (second_given stock request) (ap is_drawn job) is (second_is_given request stock))
+      (subst (λ (j : Job). EndsJob text (second_given stock request) request.plan.budget j s) (sym job) (text_reply_ends text request.plan command l s m reply))
   reply_tells once log status line (replied_on_both request command text bytes s m job is are reply) =
-      text_tells once request text bytes s is are (subst (λ (j : Job). EndsJob text bytes request.plan.budget j s) (sym job) (m, reply))
+      text_tells once request text bytes s is.asked (told_of request text bytes (ap is_drawn job) is are) (subst (λ (j : Job). EndsJob text bytes request.plan.budget j s) (sym job) (m, reply))
+  reply_tells once log status line (generated request asked job) =
+      text_tells once request (generated_text request.stages request.seed) (second_given stock request) Done asked (told_drawn request asked (ap is_drawn job))
+      (subst (λ (j : Job). EndsJob (generated_text request.stages request.seed) (second_given stock request) request.plan.budget j Done) (sym job) refl)
+  reply_tells once log status line (demonstrated request l s m asked job reply) =
+      text_tells once request (generated_text request.stages request.seed) (second_given stock request) s asked (told_drawn request asked (ap is_drawn job))
+      (subst (λ (j : Job). EndsJob (generated_text request.stages request.seed) (second_given stock request) request.plan.budget j s) (sym job)
+      (text_reply_ends (generated_text request.stages request.seed) request.plan (Solve Summary) l s m reply))
   reply_tells once log status line (usage none) = usage_tells none
-  reply_tells once log status line (read_fault named rose) = fault_tells named rose
+  reply_tells once log status line (read_fault files rose) = fault_tells files rose
 
   -- and no reply is that a sink failed
   pub not_written : (log : Option (List ℕ)) (status : Status) (line : List ℕ) → IsReply wanted stock before now log status line → ¬ (status ≡ WriteFault)
   not_written log status line (replied request command text l s m job is reply) =
       (end_status text request.plan.budget command s (text_reply_ends text request.plan command l s m reply)).no_write
   not_written log status line (replied_on_both request command text bytes s m job is are reply) = (pair_status command text bytes s m reply).no_write
+  not_written log status line (generated request asked job) = λ e. cc
+  not_written log status line (demonstrated request l s m asked job reply) =
+      (end_status (generated_text request.stages request.seed) request.plan.budget (Solve Summary) s
+      (text_reply_ends (generated_text request.stages request.seed) request.plan (Solve Summary) l s m reply)).no_write
   not_written log status line (usage none) = λ e. cc
   not_written log status line (read_fault named rose) = λ e. cc
 

@@ -1,5 +1,5 @@
 -- At most one byte more is read of a text than a text may have: what is answered of the bytes that were read holds of the text.
-use Rattle.std.proofs.Common.{◌≡◌, ◌⊎◌, inl, inr, ℕ, ◌≤◌, ◌<◌, List, [], length, take, refl, sym, ap, subst, arith, Option, Some, None, Result, Ok, Err, IfOk, IfErr, IfSome, IsSome, option_map, codes}
+use Rattle.std.proofs.Common.{◌≡◌, ◌⊎◌, inl, inr, ℕ, ◌≤◌, ◌<◌, List, [], length, take, refl, sym, ap, ◌∙◌, subst, arith, true, false, not, Option, Some, None, Result, Ok, Err, IfOk, IfErr, IfSome, option_map, codes}
 use Rattle.std.proofs.lemmas.List.{take_all, length-take}
 use Rattle.std.specs.Option.{option_map_or}
 use Rattle.std.specs.Prelude.{string_bytes}
@@ -23,17 +23,20 @@ use Rattle.answer_texts.specs.Replies.{IsRefusedOn, by_rule, IsLimitedOn, by_siz
 use Rattle.answer_texts.specs.Replies.{IsCut, Logged, StopsByCause}
 use Rattle.answer_texts.specs.declared.command.Command.{Command}
 use Rattle.answer_texts.specs.declared.command.Command.TheVariants.{Solve}
+use Rattle.answer_texts.specs.declared.command.Detail.TheVariants.{Full, Summary}
 use Rattle.answer_texts.specs.declared.reply.Reply.{Reply}
 use Rattle.answer_texts.specs.declared.status.Status.{Status}
-use Rattle.answer_texts.specs.declared.status.Status.TheVariants.{Usage, Refused, Limit, ReadFault}
+use Rattle.answer_texts.specs.declared.status.Status.TheVariants.{Done, Usage, Refused, Limit, ReadFault}
 use Rattle.answer_texts.specs.Away.{IsTurnedAway}
 use Rattle.answer_check.specs.CheckReplies.{IsCheckReply, checked as checks, refused_text, limited_text}
 use Rattle.answer_eval.specs.EvalReplies.{IsEvalReply, evaluated, text_refused, text_limited}
-use Rattle.answer_run.specs.declared.commands.Job.TheVariants.{Text, Pair}
+use Rattle.answer_run.specs.declared.commands.Job.TheVariants.{Text, Pair, Drawn}
 use Rattle.answer_run.specs.declared.commands.PairCommand.{PairCommand}
 use Rattle.answer_run.specs.declared.commands.PairCommand.TheVariants.{Check, Eval}
-use Rattle.answer_run.specs.Words.{Request}
-use Rattle.answer_run.specs.Replies.{IsAnswered, IsCutOff, cut_off, IsPairReply, IsReply, IsTaken, replied, replied_on_both, usage, read_fault, log_name}
+use Rattle.model_gen.specs.Texts.{generated_text}
+use Rattle.answer_run.specs.declared.commands.DrawnCommand.TheVariants.{Gen, Demo}
+use Rattle.answer_run.specs.Words.{Request, is_drawn, reads_files}
+use Rattle.answer_run.specs.Replies.{IsAnswered, IsCutOff, cut_off, demo_cut_off, IsPairReply, IsReply, IsTaken, replied, replied_on_both, generated, demonstrated, usage, read_fault, log_name}
 use Rattle.answer_run.specs.Runs.{Replied, StopsWith, AnswersBoth, second_read, second_unread}
 
 -- a prefix of a text that is short enough is the whole text
@@ -76,12 +79,12 @@ reply_moved most more text plan command log status line short r =
 -- a reply to what was read of a text is a reply to the text
 reply_whole : (most : ℕ) → 1048576 < most → (text : List ℕ) (plan : SearchPlan) (command : Command) (log : Option (List ℕ)) (status : Status) (line : List ℕ)
     → IsTextReply (take most text) plan command log status line → IsTextReply text plan command log status line
-reply_whole most more text plan _ _ _ _ (optimal problem policy value log is best logged) =
-    reply_moved most more text plan _ _ _ _ is.spelled.read.0 (optimal problem policy value log is best logged)
-reply_whole most more text plan _ _ _ _ (infeasible problem log is none logged) =
-    reply_moved most more text plan _ _ _ _ is.spelled.read.0 (infeasible problem log is none logged)
-reply_whole most more text plan _ _ _ _ (bounded problem found bound log is known less logged) =
-    reply_moved most more text plan _ _ _ _ is.spelled.read.0 (bounded problem found bound log is known less logged)
+reply_whole most more text plan _ _ _ _ (optimal k problem policy value log is best logged) =
+    reply_moved most more text plan _ _ _ _ is.spelled.read.0 (optimal k problem policy value log is best logged)
+reply_whole most more text plan _ _ _ _ (infeasible k problem log is none logged) =
+    reply_moved most more text plan _ _ _ _ is.spelled.read.0 (infeasible k problem log is none logged)
+reply_whole most more text plan _ _ _ _ (bounded k problem found bound log is known less logged) =
+    reply_moved most more text plan _ _ _ _ is.spelled.read.0 (bounded k problem found bound log is known less logged)
 reply_whole most more text plan _ _ _ _ (scenes problem accepted) =
     reply_moved most more text plan _ _ _ _ accepted.spelled.read.0 (scenes problem accepted)
 reply_whole most more text plan _ _ _ _ (refused command refusal why) = refused command refusal (refused_on most more text refusal command why)
@@ -93,6 +96,13 @@ cut_whole : (most : ℕ) → 1048576 < most → (text : List ℕ) (plan : Search
     → IsCut (take most text) plan command name old new → IsCut text plan command name old new
 cut_whole most more text plan command name old new cut =
     subst (λ t. IsCut t plan command name old new) (prefix_is_whole most more text cut.is_solved.spelled.read.0) cut
+
+-- a plan with the seats and the order that are asked for is the one that is asked for
+abbrev pub plan_with : Request → ℕ → Option ℕ → SearchPlan
+plan_with request seats order = record { seats = seats; order = order; asked = request.plan.asked; budget = request.plan.budget }
+
+pub same_plan : (request : Request) (seats : ℕ) (order : Option ℕ) → seats ≡ request.plan.seats → order ≡ request.plan.order → plan_with request seats order ≡ request.plan
+same_plan request seats order one other = λ i. plan_with request (one i) (other i)
 
 module _ (wanted : Option Request) (stock : Option Stock) (before now : ℕ) (old new : SinkState) where
   name_is : (request : Request) → wanted ≡ Some request → log_name wanted ≡ request.log
@@ -119,23 +129,18 @@ module _ (wanted : Option Request) (stock : Option Stock) (before now : ℕ) (ol
 
     module _ (slice : List ℕ) (same : slice ≡ bytes) (read : IfSome stock (λ s. bytes ≡ cut_at (Some most) (text_of s request.model))) where
       -- the same of a reply that was made of so many bytes
-      replied_by : (result : Result Reply SearchStop)
-          → IfOk result (λ reply. Replies slice request.plan command request.log old new reply.status (string_bytes reply.line))
-          → IfOk result (Replied wanted stock before now old new)
-      replied_by (Err stop) replies = tt
-      replied_by (Ok reply) replies =
-          record {
-            log = replies.log;
-            is = read_reply stock read replies.log reply.status (string_bytes reply.line)
-                (subst (λ b. IsTextReply b request.plan command replies.log reply.status (string_bytes reply.line)) same replies.reply);
-            logged = subst (λ n. Logged n replies.log old new) (sym (name_is request asked)) replies.logged;
-          }
-
       pub reply_made : (plan : SearchPlan) → plan ≡ request.plan → (result : Result Reply SearchStop)
           → IfOk result (λ reply. Replies slice plan command request.log old new reply.status (string_bytes reply.line))
           → IfOk result (Replied wanted stock before now old new)
-      reply_made plan is result replies =
-          replied_by result (subst (λ p. IfOk result (λ reply. Replies slice p command request.log old new reply.status (string_bytes reply.line))) is replies)
+      reply_made plan planned (Err stop) replies = tt
+      reply_made plan planned (Ok reply) replies =
+          record {
+            log = replies.log;
+            is = read_reply stock read replies.log reply.status (string_bytes reply.line)
+                (subst (λ b. IsTextReply b request.plan command replies.log reply.status (string_bytes reply.line)) same
+                (subst (λ (p : SearchPlan). IsTextReply slice p command replies.log reply.status (string_bytes reply.line)) planned replies.reply));
+            logged = subst (λ n. Logged n replies.log old new) (sym (name_is request asked)) replies.logged;
+          }
 
       stop_made : (stop : SearchStop) → StopsByCause slice request.plan command request.log old new stop → StopsWith wanted stock old new stop
       stop_made Write cut = read_cut stock read (subst (λ b. IsCut b request.plan command request.log old new) same cut)
@@ -143,14 +148,11 @@ module _ (wanted : Option Request) (stock : Option Stock) (before now : ℕ) (ol
       stop_made NoMemory (inr cut) = inr (read_cut stock read (subst (λ b. IsCut b request.plan command request.log old new) same cut))
 
       -- and of why there is none
-      stopped_by : (result : Result Reply SearchStop) → IfErr result (StopsByCause slice request.plan command request.log old new)
+      pub stops_made : (plan : SearchPlan) → plan ≡ request.plan → (result : Result Reply SearchStop) → IfErr result (StopsByCause slice plan command request.log old new)
           → IfErr result (StopsWith wanted stock old new)
-      stopped_by (Ok reply) stops = tt
-      stopped_by (Err stop) stops = stop_made stop stops
-
-      pub stops_made : (plan : SearchPlan) → plan ≡ request.plan → (result : Result Reply SearchStop)
-          → IfErr result (StopsByCause slice plan command request.log old new) → IfErr result (StopsWith wanted stock old new)
-      stops_made plan is result stops = stopped_by result (subst (λ p. IfErr result (StopsByCause slice p command request.log old new)) is stops)
+      stops_made plan planned (Ok reply) stops = tt
+      stops_made plan planned (Err stop) stops =
+          stop_made stop (subst (λ (p : SearchPlan). StopsByCause slice p command request.log old new stop) planned stops)
 
 -- a text that is turned away is not answered
 pub away_no_answer : (status : Status) → IsTurnedAway status → IsAnswered status → ⊥
@@ -166,9 +168,9 @@ away_no_answer status (inr away) (inr (inr (inr done))) = cc
 -- a text that is answered is no longer than a text may be
 answered_short : (text : List ℕ) (plan : SearchPlan) (command : Command) (log : Option (List ℕ)) (status : Status) (line : List ℕ)
     → IsTextReply text plan command log status line → IsAnswered status → length text ≤ 1048576
-answered_short text plan _ _ _ _ (optimal problem policy value log is best logged) done = is.spelled.read.0
-answered_short text plan _ _ _ _ (infeasible problem log is none logged) done = is.spelled.read.0
-answered_short text plan _ _ _ _ (bounded problem found bound log is known less logged) done = is.spelled.read.0
+answered_short text plan _ _ _ _ (optimal k problem policy value log is best logged) done = is.spelled.read.0
+answered_short text plan _ _ _ _ (infeasible k problem log is none logged) done = is.spelled.read.0
+answered_short text plan _ _ _ _ (bounded k problem found bound log is known less logged) done = is.spelled.read.0
 answered_short text plan _ _ _ _ (scenes problem accepted) done = accepted.spelled.read.0
 answered_short text plan _ _ _ _ (refused command refusal why) done = absurd (away_no_answer Refused (inl refl) done)
 answered_short text plan _ _ _ _ (limited command excess over) done = absurd (away_no_answer Limit (inr refl) done)
@@ -193,8 +195,9 @@ ended_made bytes plan command name old new most size left (Ok reply) same (inr f
 
 -- The lines that speak of no text.
 
-is_asked : (r : Request) (o : Option Request) → o ≡ Some r → IsSome o
-is_asked r o some = subst (λ m. IsSome m) (sym some) refl
+-- files are read for what is asked for so
+pub files_read : (r : Request) (o : Option Request) → o ≡ Some r → is_drawn r.job ≡ false → reads_files o ≡ true
+files_read r o asked files = ap reads_files asked ∙ ap not files
 
 module _ (wanted : Option Request) (stock : Option Stock) (before now : ℕ) (at : SinkState) where
   unused : IsUnused at at
@@ -215,10 +218,10 @@ module _ (wanted : Option Request) (stock : Option Stock) (before now : ℕ) (at
       → IfOk result (λ reply. string_bytes reply.line ≡ line_of (word_data (codes "usage"))) → IfOk result (Replied wanted stock before now at at)
   usage_replied none result ends is = word_replied Usage (codes "usage") (usage none) result ends is
 
-  pub fault_replied : (request : Request) → wanted ≡ Some request → Rose before now → (result : Result Reply SearchStop)
+  pub fault_replied : (request : Request) → wanted ≡ Some request → is_drawn request.job ≡ false → Rose before now → (result : Result Reply SearchStop)
       → IfOk result (λ reply. reply.status ≡ ReadFault) → IfOk result (λ reply. string_bytes reply.line ≡ line_of (word_data (codes "read fault")))
       → IfOk result (Replied wanted stock before now at at)
-  fault_replied request asked rose result ends is = word_replied ReadFault (codes "read fault") (read_fault (is_asked request wanted asked) rose) result ends is
+  fault_replied request asked files rose result ends is = word_replied ReadFault (codes "read fault") (read_fault (files_read request wanted asked files) rose) result ends is
 
   -- where memory ran out before any log
   pub memory_stops : (result : Result Reply SearchStop) → IfErr result (λ stop. stop ≡ NoMemory) → IfErr result (StopsWith wanted stock at at)
@@ -227,6 +230,46 @@ module _ (wanted : Option Request) (stock : Option Stock) (before now : ℕ) (at
 
   pub want_stops : StopsWith wanted stock at at NoMemory
   want_stops = inl unused
+
+-- A command on a text that is drawn.
+
+module _ (request : Request) (stock : Option Stock) (before now : ℕ) (old new : SinkState) where
+  abbrev own : List ℕ
+  own = generated_text request.stages request.seed
+
+  -- the text
+  pub text_drawn : request.job ≡ Drawn Gen → (status : Status) (line : List ℕ) → status ≡ Done → line ≡ own → IsReply (Some request) stock before now None status line
+  text_drawn job status line done is =
+      subst (λ s. IsReply (Some request) stock before now None s line) (sym done)
+      (subst (λ l. IsReply (Some request) stock before now None Done l) (sym is) (generated request refl job))
+
+  -- the summary
+  pub demo_made : request.job ≡ Drawn Demo → (text : List ℕ) → text ≡ own → (plan : SearchPlan) → plan ≡ request.plan → (result : Result Reply SearchStop)
+      → IfOk result (λ reply. Replies text plan (Solve Summary) request.log old new reply.status (string_bytes reply.line))
+      → IfOk result (Replied (Some request) stock before now old new)
+  demo_made job text is plan planned (Err stop) replies = tt
+  demo_made job text is plan planned (Ok reply) replies =
+      record {
+        log = replies.log;
+        is = demonstrated request replies.log reply.status (string_bytes reply.line) refl job
+            (subst (λ t. IsTextReply t request.plan (Solve Summary) replies.log reply.status (string_bytes reply.line)) is
+            (subst (λ (p : SearchPlan). IsTextReply text p (Solve Summary) replies.log reply.status (string_bytes reply.line)) planned replies.reply));
+        logged = replies.logged;
+      }
+
+  -- or why there is none
+  demo_stop : request.job ≡ Drawn Demo → (stop : SearchStop) → StopsByCause own request.plan (Solve Summary) request.log old new stop
+      → StopsWith (Some request) stock old new stop
+  demo_stop job Write cut = demo_cut_off request refl job cut
+  demo_stop job NoMemory (inl unused) = inl unused
+  demo_stop job NoMemory (inr cut) = inr (demo_cut_off request refl job cut)
+
+  pub demo_stops : request.job ≡ Drawn Demo → (text : List ℕ) → text ≡ own → (plan : SearchPlan) → plan ≡ request.plan → (result : Result Reply SearchStop)
+      → IfErr result (StopsByCause text plan (Solve Summary) request.log old new) → IfErr result (StopsWith (Some request) stock old new)
+  demo_stops job text is plan planned (Ok reply) stops = tt
+  demo_stops job text is plan planned (Err stop) stops =
+      demo_stop job stop (subst (λ t. StopsByCause t request.plan (Solve Summary) request.log old new stop) is
+      (subst (λ (p : SearchPlan). StopsByCause text p (Solve Summary) request.log old new stop) planned stops))
 
 -- A command on the text and a second file.
 
@@ -238,16 +281,16 @@ taken_whole command most more text (problem, is) = (problem, subst (λ t. Solved
 check_whole : (most : ℕ) → 1048576 < most → (text log : List ℕ) (status : Status) (line : List ℕ) → IsCheckReply (take most text) log status line → IsCheckReply text log status line
 check_whole most more text log status line (checks problem s l is reply) =
     subst (λ t. IsCheckReply t log s l) (prefix_is_whole most more text is.spelled.read.0) (checks problem s l is reply)
-check_whole most more text log _ _ (refused_text refusal why) = refused_text refusal (refused_on most more text refusal Solve why)
+check_whole most more text log _ _ (refused_text refusal why) = refused_text refusal (refused_on most more text refusal (Solve Full) why)
 check_whole most more text log _ _ (limited_text excess over) =
-    subst (λ t. IsCheckReply t log Limit (line_of (limit_data excess))) (prefix_is_whole most more text (limited_short (take most text) excess Solve over)) (limited_text excess over)
+    subst (λ t. IsCheckReply t log Limit (line_of (limit_data excess))) (prefix_is_whole most more text (limited_short (take most text) excess (Solve Full) over)) (limited_text excess over)
 
 eval_whole : (most : ℕ) → 1048576 < most → (text bytes : List ℕ) (status : Status) (line : List ℕ) → IsEvalReply (take most text) bytes status line → IsEvalReply text bytes status line
 eval_whole most more text bytes status line (evaluated problem s l is reply) =
     subst (λ t. IsEvalReply t bytes s l) (prefix_is_whole most more text is.spelled.read.0) (evaluated problem s l is reply)
-eval_whole most more text bytes _ _ (text_refused refusal why) = text_refused refusal (refused_on most more text refusal Solve why)
+eval_whole most more text bytes _ _ (text_refused refusal why) = text_refused refusal (refused_on most more text refusal (Solve Full) why)
 eval_whole most more text bytes _ _ (text_limited excess over) =
-    subst (λ t. IsEvalReply t bytes Limit (line_of (limit_data excess))) (prefix_is_whole most more text (limited_short (take most text) excess Solve over)) (text_limited excess over)
+    subst (λ t. IsEvalReply t bytes Limit (line_of (limit_data excess))) (prefix_is_whole most more text (limited_short (take most text) excess (Solve Full) over)) (text_limited excess over)
 
 pair_whole : (command : PairCommand) (most : ℕ) → 1048576 < most → (text bytes : List ℕ) (status : Status) (line : List ℕ) → IsPairReply command (take most text) bytes status line
     → IsPairReply command text bytes status line
@@ -259,7 +302,7 @@ module _ (wanted : Option Request) (before later now : ℕ) (up : before ≤ lat
   -- what is answered of both files is a reply to the words
   both_reply : (o : Option Stock) → IfSome o (λ s. bytes ≡ cut_at (Some most) (text_of s request.model)) → (status : Status) (line : List ℕ)
       → AnswersBoth command bytes request.second (option_map begun_stock o) later now status line → IsReply wanted o before now None status line
-  both_reply o read status line (second_unread rose) = read_fault (is_asked request wanted asked) (rose_later before later now up rose)
+  both_reply o read status line (second_unread rose) = read_fault (files_read request wanted asked (ap is_drawn job)) (rose_later before later now up rose)
   both_reply None read status line (second_read second s l given reply) =
       replied_on_both request command bytes second s l job (record { asked = asked; given = tt }) tt reply
   both_reply (Some t) read status line (second_read second s l given reply) =

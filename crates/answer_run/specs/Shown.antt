@@ -26,4 +26,6 @@ request_shown r =
       seats = r.seats;
       order = r.order;
       log = r.log.now;
+      stages = r.stages;
+      seed = r.seed;
     }

@@ -9,8 +9,10 @@ use Rattle.brancher.specs.Picks.{chosen_rule}
 use Rattle.brancher.specs.Rules.{Rule}
 use Rattle.sopl_search.specs.Logged.{SearchPlan}
 use Rattle.answer_texts.specs.declared.command.Command.TheVariants.{Solve, Tree}
+use Rattle.answer_texts.specs.declared.command.Detail.TheVariants.{Full}
+use Rattle.answer_run.specs.declared.commands.DrawnCommand.TheVariants.{Gen, Demo}
 use Rattle.answer_run.specs.declared.commands.Job.{Job}
-use Rattle.answer_run.specs.declared.commands.Job.TheVariants.{Text, Pair}
+use Rattle.answer_run.specs.declared.commands.Job.TheVariants.{Text, Pair, Drawn}
 use Rattle.answer_run.specs.declared.commands.PairCommand.TheVariants.{Check, Eval}
 use Rattle.answer_run.specs.declared.options.Kind.{Kind}
 use Rattle.answer_run.specs.declared.options.Kind.TheVariants.{Budget, Branch, Seats, Order, Log, Plain}
@@ -25,10 +27,12 @@ pub record CommandRow : Type 0 where
 -- the table of commands
 abbrev pub commands : List CommandRow
 commands =
-    record { job = Text Solve; name = codes "solve"; options = Budget ∷ Branch ∷ Seats ∷ Order ∷ Log ∷ []; positional = 1 }
+    record { job = Text (Solve Full); name = codes "solve"; options = Budget ∷ Branch ∷ Seats ∷ Order ∷ Log ∷ []; positional = 1 }
     ∷ record { job = Text Tree; name = codes "tree"; options = []; positional = 1 }
     ∷ record { job = Pair Check; name = codes "check"; options = []; positional = 2 }
     ∷ record { job = Pair Eval; name = codes "eval"; options = []; positional = 2 }
+    ∷ record { job = Drawn Gen; name = codes "gen"; options = []; positional = 2 }
+    ∷ record { job = Drawn Demo; name = codes "demo"; options = Budget ∷ []; positional = 2 }
     ∷ []
 
 -- the row of the command of this name
@@ -152,8 +156,19 @@ named_in row kind words = option_map (λ value. unwrap_or value []) (given row k
 abbrev pub positional_in : CommandRow → ℕ → List (List ℕ) → Option (List ℕ)
 positional_in row place words = option_and_then (λ value. value) (given row (Plain place) words)
 
--- what words say: what is done on what, the file of the model, the second file, which is empty where the command has none, the nodes that a search may finish,
--- the name of the brancher that it asks, if one is given, its seats, their order, if one is given, and the name of the log that it writes
+-- a command draws its text, and reads no file
+abbrev pub is_drawn : Job → Bool
+is_drawn (Text command) = false
+is_drawn (Pair command) = false
+is_drawn (Drawn command) = true
+
+-- the number that a positional word writes, where the text is drawn of such numbers, and else 0
+abbrev pub drawn_in : CommandRow → ℕ → ℕ → ℕ → List (List ℕ) → Option ℕ
+drawn_in row place least most words = if is_drawn row.job then option_and_then (number_of least most) (positional_in row place words) else Some 0
+
+-- what words say: what is done on what, the file of the model and the second file, which is empty where the command has none, where they are files; the nodes that
+-- a search may finish, the name of the brancher that it asks, if one is given, its seats, their order, if one is given, the name of the log that it writes, and how
+-- many stages are drawn, and by which seed
 pub record WordRequest : Type 0 where
   pub job : Job
   pub model : List ℕ
@@ -163,6 +178,8 @@ pub record WordRequest : Type 0 where
   pub seats : ℕ
   pub order : Option ℕ
   pub log : List ℕ
+  pub stages : ℕ
+  pub seed : ℕ
 
 -- what a command and the words behind it say
 abbrev pub requested : CommandRow → List (List ℕ) → Option WordRequest
@@ -173,8 +190,21 @@ requested row words =
     option_and_then (λ order.
     option_and_then (λ log.
     option_and_then (λ second.
-    option_map (λ model.
-    record { job = row.job; model = model; second = second; budget = budget; branch = branch; seats = seats; order = order; log = log }) (positional_in row 0 words))
+    option_and_then (λ model.
+    option_and_then (λ stages.
+    option_map (λ seed.
+    record {
+      job = row.job;
+      model = model;
+      second = second;
+      budget = budget;
+      branch = branch;
+      seats = seats;
+      order = order;
+      log = log;
+      stages = stages;
+      seed = seed;
+    }) (drawn_in row 1 0 2147483647 words)) (drawn_in row 0 1 9 words)) (positional_in row 0 words))
     (named_in row (Plain 1) words)) (named_in row Log words)) (order_in row words)) (seats_in row words)) (given row Branch words)) (budget_in row words)
 
 -- what words say: the name of a command, and behind it its options and its files
@@ -189,6 +219,8 @@ pub record Request : Type 0 where
   pub second : List ℕ
   pub plan : SearchPlan
   pub log : List ℕ
+  pub stages : ℕ
+  pub seed : ℕ
 
 abbrev pub request_with : WordRequest → Option Rule → Request
 request_with r asked =
@@ -198,6 +230,8 @@ request_with r asked =
       second = r.second;
       plan = record { seats = r.seats; order = r.order; asked = asked; budget = r.budget };
       log = r.log;
+      stages = r.stages;
+      seed = r.seed;
     }
 
 -- a name is given, and no brancher is found by it
@@ -213,6 +247,11 @@ asked_with found r = if no_one_has r.branch found then None else Some (request_w
 
 abbrev pub asked_of : List (List ℕ × Rule) → List (List ℕ) → Option Request
 asked_of kinds words = option_and_then (λ r. asked_with (chosen_rule kinds r.branch) r) (request_of words)
+
+-- files are asked for
+abbrev pub reads_files : Option Request → Bool
+reads_files None = false
+reads_files (Some r) = not (is_drawn r.job)
 
 -- the file of the model, where words name one
 abbrev pub model_of : List (List ℕ) → Option (List ℕ)

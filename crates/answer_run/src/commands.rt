@@ -5,7 +5,7 @@ ghost use Rattle.answer_run.specs.Words as spec;
 ghost use Rattle.answer_run.specs.Shown.{row_shown};
 
 use crate::options::Kind;
-use answer_texts::Command;
+use answer_texts::{Command, Detail};
 
 /// A command on the text of a model and the bytes of a second file, which is read where the text is taken.
 #[derive(Clone, Copy, Debug, PartialEq, Eq)]
@@ -16,6 +16,15 @@ pub enum PairCommand {
     Eval,
 }
 
+/// A command on a text that is drawn, and not read.
+#[derive(Clone, Copy, Debug, PartialEq, Eq)]
+pub enum DrawnCommand {
+    /// The text.
+    Gen,
+    /// A summary of what a search finds for the text.
+    Demo,
+}
+
 /// What a command is done on.
 #[derive(Clone, Copy, Debug, PartialEq, Eq)]
 pub enum Job {
@@ -23,6 +32,8 @@ pub enum Job {
     Text(Command),
     /// Such a text and a second file.
     Pair(PairCommand),
+    /// A text that is drawn of two numbers.
+    Drawn(DrawnCommand),
 }
 
 /// A row of the table: what is done on what, the command's name, the options that may stand behind it, and how many positional words do.
@@ -35,9 +46,9 @@ pub struct CommandRow {
 }
 
 /// All commands.
-const COMMANDS: [CommandRow; 4] = [
+const COMMANDS: [CommandRow; 6] = [
     CommandRow {
-        job: Job::Text(Command::Solve),
+        job: Job::Text(Command::Solve(Detail::Full)),
         name: "solve",
         options: &[
             Kind::Budget,
@@ -64,6 +75,18 @@ const COMMANDS: [CommandRow; 4] = [
         job: Job::Pair(PairCommand::Eval),
         name: "eval",
         options: &[],
+        positional: 2,
+    },
+    CommandRow {
+        job: Job::Drawn(DrawnCommand::Gen),
+        name: "gen",
+        options: &[],
+        positional: 2,
+    },
+    CommandRow {
+        job: Job::Drawn(DrawnCommand::Demo),
+        name: "demo",
+        options: &[Kind::Budget],
         positional: 2,
     },
 ];

@@ -6,6 +6,8 @@
 #![tactic(auto)]
 
 mod commands;
+mod drawn;
+mod files;
 mod options;
 mod pair;
 mod reply;

@@ -9,6 +9,7 @@ ghost use Rattle.sopl_base.specs.declared.stop.SearchStop.TheVariants as search;
 ghost use Rattle.answer_texts.specs.Away.{IsTurnedAway};
 ghost use Rattle.answer_texts.specs.Replies.{IsFaultOn};
 ghost use Rattle.answer_texts.specs.declared.command.Command.TheVariants.{Solve};
+ghost use Rattle.answer_texts.specs.declared.command.Detail.TheVariants.{Full};
 ghost use Rattle.answer_eval.specs.EvalReplies.{IsEvalReply, IsStatedFor};
 ghost use Rattle.answer_run.specs.Bases.{IsBasisFor, judging};
 ghost use Rattle.answer_run.specs.Calls.{ReplyCalls};
@@ -39,7 +40,7 @@ enum Basis {
 fn basis_of(alloc: Global, command: PairCommand, text: &[u8]) -> Result<Basis, Fault>
     ensures judging { IfOk result (λ basis. judging basis ≡ command) }
     ensures basis { IfOk result (IsBasisFor text.now) }
-    ensures refused { IfErr result (IsFaultOn text.now Solve) }
+    ensures refused { IfErr result (IsFaultOn text.now (Solve Full)) }
 {
     match command {
         PairCommand::Check => {
@@ -82,7 +83,7 @@ fn bytes_reply(alloc: Global, basis: &Basis, bytes: Vec<u8>) -> Result<Reply, Al
 
 /// The reply to a text of which the command judges no second file, for this fault.
 fn away_reply(alloc: Global, command: PairCommand, fault: Fault) -> Result<Reply, AllocError>
-    ensures reply { (text bytes : List ℕ) → IsFaultOn text Solve fault
+    ensures reply { (text bytes : List ℕ) → IsFaultOn text (Solve Full) fault
         → IfOk result (λ reply. IsPairReply command text bytes reply.status (string_bytes reply.line)) }
     ensures turned_away { IfOk result (λ reply. IsTurnedAway reply.status) }
 {

@@ -17,9 +17,10 @@ const USUAL_BUDGET: u32 = 1_000_000;
 /// The digits that a number may have.
 const MOST_DIGITS: usize = 10;
 
-/// What words say: what is done on what, the file of the model, the second file, which is empty where the command has none, how many
-/// nodes a search may finish, the name of the brancher that it asks, if one is given, how many seats it has, the order in which they
-/// take steps, if one is given, and the name of the log that it writes, which is empty where none is given.
+/// What words say: what is done on what, the file of the model and the second file, which is empty where the command has none, where they
+/// are files; how many nodes a search may finish, the name of the brancher that it asks, if one is given, how many seats it has, the order
+/// in which they take steps, if one is given, the name of the log that it writes, which is empty where none is given; and how many stages
+/// are drawn, and by which seed, both 0 where the text is not drawn.
 #[derive(Clone, Copy, Drop)]
 pub struct WordRequest<'a> {
     pub job: Job,
@@ -30,6 +31,8 @@ pub struct WordRequest<'a> {
     pub seats: u32,
     pub order: Option<u32>,
     pub log: &'a str,
+    pub stages: u32,
+    pub seed: u32,
 }
 
 /// Whether bytes are decimal digits.
@@ -130,6 +133,16 @@ fn positional_in<'a>(row: CommandRow, place: usize, words: &'a [Word]) -> Option
     given(row, Kind::Plain(place), words)?
 }
 
+/// The number that a positional word writes, where the command draws its text of such numbers, and else 0.
+fn drawn_in(row: CommandRow, place: usize, least: u32, most: u32, words: &[Word]) -> Option<u32>
+    ensures { result ≡ spec.drawn_in (row_shown row) place least most words.now }
+{
+    match row.job {
+        Job::Drawn(_) => number_of(positional_in(row, place, words)?, least, most),
+        Job::Text(_) | Job::Pair(_) => Some(0),
+    }
+}
+
 /// What a command and the words behind it say.
 fn requested<'a>(row: CommandRow, words: &'a [Word]) -> Option<WordRequest<'a>>
     ensures request { option_map request_shown result ≡ spec.requested (row_shown row) words.now }
@@ -144,6 +157,8 @@ fn requested<'a>(row: CommandRow, words: &'a [Word]) -> Option<WordRequest<'a>>
     let log = named_in(row, Kind::Log, words)?;
     let second = named_in(row, Kind::Plain(1), words)?;
     let model = positional_in(row, 0, words)?;
+    let stages = drawn_in(row, 0, 1, 9, words)?;
+    let seed = drawn_in(row, 1, 0, 2_147_483_647, words)?;
     Some(WordRequest {
         job: row.job,
         model,
@@ -153,6 +168,8 @@ fn requested<'a>(row: CommandRow, words: &'a [Word]) -> Option<WordRequest<'a>>
         seats,
         order,
         log,
+        stages,
+        seed,
     })
 }
 

@@ -1,33 +1,31 @@
 //! The top call: words, a source and two sinks in, a status out.
 
-ghost use Rattle.std.specs.Prelude.{◌≡◌, ◌⊎◌, ◌≤◌, map, option_map, None, Err, IfOk, IfErr};
+ghost use Rattle.std.specs.Prelude.{◌≡◌, ◌⊎◌, ◌≤◌, true, false, map, option_map, Some, None, Err, IfOk, IfErr};
 ghost use Rattle.std.specs.Io.KnownBytes.{IsAtEnd};
 ghost use Rattle.sopl_io.specs.Causes.{Rose};
 ghost use Rattle.sopl_base.specs.declared.stop.SearchStop.TheVariants as search;
 ghost use Rattle.answer_texts.specs.Logs.{state_of};
 ghost use Rattle.answer_run.specs.Calls.{calls_of, EndsAtFailure, LineCalls, ReplyCalls};
-ghost use Rattle.answer_run.specs.Words.{asked_of, no_one_has};
+ghost use Rattle.sopl_search.specs.Schedules.{AreSeats, IsOrder};
+ghost use Rattle.answer_run.specs.Words.{asked_of, no_one_has, reads_files, request_with};
 ghost use Rattle.answer_run.specs.Replies.{asked_in, Answers, SettlesInBudget, EndsSoundly, EndsCompletely, IsAnswered, LimitedOnce, RefusedOnce, BeginsFiles, IsUntouched};
 ghost use Rattle.answer_run.specs.Reads.{TakesAtMost};
-ghost use Rattle.answer_run.specs.Shown.{text_shown};
+ghost use Rattle.answer_run.specs.Shown.{request_shown, text_shown};
 ghost use Rattle.answer_run.specs.Runs.{IsWritten, Replied, StopsWith, meant_status, stop_status};
 
 use crate::commands::Job;
-use crate::pair::pair_reply;
+use crate::drawn::drawn_reply;
+use crate::files::files_reply;
 use crate::reply::word_reply;
-use crate::request::request_in;
+use crate::request::{WordRequest, request_in};
 use crate::words::Words;
 use answer_check::checks_end_once;
 use answer_eval::evals_end_once;
-use answer_texts::{Reply, Status, reply_to};
+use answer_texts::{Reply, Status};
 use brancher::{Brancher, chosen};
-use sopl_base::{SearchStop, limits};
-use sopl_io::{ReadStop, Sink, Source, read_all, write_all};
-use sopl_search::Schedule;
+use sopl_base::SearchStop;
+use sopl_io::{Sink, Source, write_all};
 use std::alloc::Global;
-
-/// The bytes of a model text that are read at most: one more than a text may have.
-const MOST_READ: usize = limits::TEXT_BYTES + 1;
 
 /// Runs the command that the words name: it reads from the source, writes the log of a search to the log's sink, and then one answer line to the
 /// answer's sink.
@@ -50,7 +48,7 @@ pub fn run<S: Source, K: Sink>(
     ensures usage_when { asked_of (map (λ b. (label b, rule b)) branchers.items) words.now ≡ None
         → (result ≡ Status.Usage) ⊎ (result ≡ Status.WriteFault) ⊎ (result ≡ Status.NoMemory) }
 
-    // A run ends as its command ends on its text, or on its text and its second file. A text that breaks a rule is refused; a text
+    // A run ends as its command ends on its text, on its text and its second file, or on the text that is drawn. A text that breaks a rule is refused; a text
     // that passes a limit, itself or in its terms, ends so; each other one is answered: by `check` and `eval` as the second file
     // deserves, and by `solve` with a bound where the search ends with as many nodes as the budget allows before it is done.
     ensures ends { EndsSoundly (asked_in (S.stock source.old)
@@ -66,8 +64,9 @@ pub fn run<S: Source, K: Sink>(
     ensures limited_once { LimitedOnce (asked_in (S.stock source.old)
         (asked_of (map (λ b. (label b, rule b)) branchers.items) words.now)) }
 
-    // A text that is answered was read to its end, and so was a second file.
-    ensures ended { IsAnswered result → IsAtEnd (S.left source.new) }
+    // Where files are read, a text that is answered was read to its end, and so was a second file.
+    ensures ended { reads_files (asked_of (map (λ b. (label b, rule b)) branchers.items) words.now) ≡ true
+        → IsAnswered result → IsAtEnd (S.left source.new) }
 
     // Of the model's text one byte more is taken than a text may have, at most; a second file has no limit.
     ensures taken_at_most { TakesAtMost 1048577 (asked_in (S.stock source.old)
@@ -75,6 +74,7 @@ pub fn run<S: Source, K: Sink>(
 
     // Faults have their causes.
     ensures read { result ≡ Status.ReadFault → Rose (S.faults source.old) (S.faults source.new) }
+    ensures read_of_files { result ≡ Status.ReadFault → reads_files (asked_of (map (λ b. (label b, rule b)) branchers.items) words.now) ≡ true }
     ensures write { result ≡ Status.WriteFault
         → Rose (K.faults answer.old) (K.faults answer.new) ⊎ Rose (K.faults log.old) (K.faults log.new) }
     ensures faults_grow { (S.faults source.old ≤ S.faults source.new) × (K.faults answer.old ≤ K.faults answer.new)
@@ -84,12 +84,12 @@ pub fn run<S: Source, K: Sink>(
     ensures outcomes { EndsAtFailure (calls_of (S.outcomes source.old) (K.outcomes log.old) (K.outcomes answer.old))
         (calls_of (S.outcomes source.new) (K.outcomes log.new) (K.outcomes answer.new)) (K.taken answer.old) (K.taken answer.new) result }
 
-    // Where the words are not of the form the source stays as it was.
-    ensures untouched { asked_of (map (λ b. (label b, rule b)) branchers.items) words.now ≡ None
+    // Where no files are read, since the words are not of the form or the text is drawn, the source stays as it was.
+    ensures untouched { reads_files (asked_of (map (λ b. (label b, rule b)) branchers.items) words.now) ≡ false
         → IsUntouched (S.left source.old) (S.stock source.old) (S.faults source.old)
         (S.left source.new) (S.stock source.new) (S.faults source.new) }
 
-    // The source is begun once with the file of the model; and, where the command has a second file and takes the text, once with
+    // Where files are read, the source is begun once with the file of the model; and, where the command has a second file and takes the text, once with
     // that behind it, in each run that tells of that file. The answer's sink is not begun.
     ensures names { BeginsFiles (S.stock source.old) (S.names source.old) (S.names source.new)
         (asked_of (map (λ b. (label b, rule b)) branchers.items) words.now) result }
@@ -134,6 +134,42 @@ fn is_missing(name: Option<&str>, brancher: &Option<Box<dyn Brancher>>) -> bool
     name.is_some() && brancher.is_none()
 }
 
+/// The reply to what words say, by this brancher, if any.
+fn request_reply<S: Source, K: Sink>(
+    alloc: Global,
+    request: &WordRequest<'_>,
+    source: &mut S,
+    brancher: Option<Box<dyn Brancher>>,
+    log: &mut K,
+) -> Result<Reply, SearchStop>
+    requires least { 1 ≤ request.now.budget }
+    requires seats { AreSeats request.now.seats }
+    requires order { IsOrder request.now.order }
+    ensures reply { IfOk result (Replied (Some (request_with (request_shown request.now) (option_map rule brancher)))
+        (S.stock source.old) (S.faults source.old) (S.faults source.new)
+        (state_of K.taken K.names log.old) (state_of K.taken K.names log.new)) }
+    ensures stopped { IfErr result (StopsWith (Some (request_with (request_shown request.now) (option_map rule brancher)))
+        (S.stock source.old) (state_of K.taken K.names log.old) (state_of K.taken K.names log.new)) }
+    ensures ended { reads_files (Some (request_with (request_shown request.now) (option_map rule brancher))) ≡ true
+        → IfOk result (λ reply. IsAnswered reply.status → IsAtEnd (S.left source.new)) }
+    ensures taken_at_most { TakesAtMost 1048577 (asked_in (S.stock source.old) (Some (request_with (request_shown request.now) (option_map rule brancher))))
+        (S.faults source.old) (S.faults source.new) (S.left source.new) }
+    ensures faults_grow { S.faults source.old ≤ S.faults source.new }
+    ensures log_later { K.faults log.old ≤ K.faults log.new }
+    ensures write { result ≡ Err search.Write → Rose (K.faults log.old) (K.faults log.new) }
+    ensures outcomes { ReplyCalls (S.outcomes source.old) (S.outcomes source.new) (K.outcomes log.old) (K.outcomes log.new) result }
+    ensures untouched { reads_files (Some (request_with (request_shown request.now) (option_map rule brancher))) ≡ false
+        → IsUntouched (S.left source.old) (S.stock source.old) (S.faults source.old)
+        (S.left source.new) (S.stock source.new) (S.faults source.new) }
+    ensures names { BeginsFiles (S.stock source.old) (S.names source.old) (S.names source.new)
+        (Some (request_with (request_shown request.now) (option_map rule brancher))) (meant_status result) }
+{
+    match request.job {
+        Job::Drawn(command) => drawn_reply(alloc, command, request, brancher, log),
+        Job::Text(_) | Job::Pair(_) => files_reply(alloc, request, source, brancher, log),
+    }
+}
+
 /// The reply to the words, made whole in memory; of a search the log is written first.
 fn reply_for<S: Source, K: Sink>(
     alloc: Global,
@@ -147,14 +183,15 @@ fn reply_for<S: Source, K: Sink>(
         (state_of K.taken K.names log.old) (state_of K.taken K.names log.new)) }
     ensures stopped { IfErr result (StopsWith (asked_of (map (λ b. (label b, rule b)) branchers.items) words.now) (S.stock source.old)
         (state_of K.taken K.names log.old) (state_of K.taken K.names log.new)) }
-    ensures ended { IfOk result (λ reply. IsAnswered reply.status → IsAtEnd (S.left source.new)) }
+    ensures ended { reads_files (asked_of (map (λ b. (label b, rule b)) branchers.items) words.now) ≡ true
+        → IfOk result (λ reply. IsAnswered reply.status → IsAtEnd (S.left source.new)) }
     ensures taken_at_most { TakesAtMost 1048577 (asked_in (S.stock source.old)
         (asked_of (map (λ b. (label b, rule b)) branchers.items) words.now)) (S.faults source.old) (S.faults source.new) (S.left source.new) }
     ensures faults_grow { S.faults source.old ≤ S.faults source.new }
     ensures log_later { K.faults log.old ≤ K.faults log.new }
     ensures write { result ≡ Err search.Write → Rose (K.faults log.old) (K.faults log.new) }
     ensures outcomes { ReplyCalls (S.outcomes source.old) (S.outcomes source.new) (K.outcomes log.old) (K.outcomes log.new) result }
-    ensures untouched { asked_of (map (λ b. (label b, rule b)) branchers.items) words.now ≡ None
+    ensures untouched { reads_files (asked_of (map (λ b. (label b, rule b)) branchers.items) words.now) ≡ false
         → IsUntouched (S.left source.old) (S.stock source.old) (S.faults source.old)
         (S.left source.new) (S.stock source.new) (S.faults source.new) }
     ensures names { BeginsFiles (S.stock source.old) (S.names source.old) (S.names source.new)
@@ -167,27 +204,5 @@ fn reply_for<S: Source, K: Sink>(
     if is_missing(request.branch, &brancher) {
         return word_reply(alloc, Status::Usage, "usage");
     }
-    match read_all(alloc, source, request.model, Some(MOST_READ)) {
-        Ok(text) => match request.job {
-            Job::Text(command) => reply_to(
-                alloc,
-                command,
-                text.as_slice(),
-                request.budget,
-                Schedule::new(request.seats, request.order),
-                brancher,
-                request.log,
-                log,
-            ),
-            Job::Pair(command) => pair_reply(
-                alloc,
-                command,
-                text.as_slice(),
-                request.second,
-                source,
-            ),
-        },
-        Err(ReadStop::Fault) => word_reply(alloc, Status::ReadFault, "read fault"),
-        Err(ReadStop::NoMemory) => Err(SearchStop::NoMemory),
-    }
+    request_reply(alloc, &request, source, brancher, log)
 }

@@ -3,10 +3,12 @@
 ghost use Rattle.std.specs.Prelude.{◌≡◌, Some, None, [], ◌∷◌, codes, map, option_map};
 ghost use Rattle.brancher.specs.Rules.{lower, widest};
 ghost use Rattle.answer_texts.specs.declared.command.Command.TheVariants.{Solve, Tree as ShowTree};
+ghost use Rattle.answer_texts.specs.declared.command.Detail.TheVariants.{Full};
+ghost use Rattle.answer_run.specs.declared.commands.DrawnCommand.TheVariants.{Gen, Demo};
 ghost use Rattle.answer_run.specs.declared.commands.PairCommand.TheVariants.{Check, Eval};
 ghost use Rattle.answer_run.specs.declared.options.Kind.TheVariants.{Budget};
 ghost use Rattle.answer_run.specs.Words.{asked_of, given, model_of, number_of, parts_of, positional_in, request_of};
-ghost use Rattle.answer_run.specs.WorkedWords.{asks, asks_both, asks_seats, rule_asked, three_kinds, two_or_budget, two_words};
+ghost use Rattle.answer_run.specs.WorkedWords.{asks, asks_both, asks_drawn, asks_seats, rule_asked, three_kinds, two_or_budget, two_words};
 
 /// Two positional words, which a row of the table may ask for: each by its place, with an option before, between and behind them; one too few and
 /// one too many; a word that is empty or is no option of the row.
@@ -43,12 +45,17 @@ pub fn worked_numbers()
 
 /// What the words of a command line ask for, and words that ask for nothing.
 pub fn worked_requests()
-    ensures usual { request_of (map codes ("solve" ∷ "m" ∷ [])) ≡ Some (asks Solve 1000000 []) }
-    ensures options_behind { request_of (map codes ("solve" ∷ "m" ∷ "--log" ∷ "f" ∷ "--budget" ∷ "7000" ∷ [])) ≡ Some (asks Solve 7000 (codes "f")) }
-    ensures options_before { request_of (map codes ("solve" ∷ "--log=a=b" ∷ "--budget=4294967295" ∷ "m" ∷ [])) ≡ Some (asks Solve 4294967295 (codes "a=b")) }
+    ensures usual { request_of (map codes ("solve" ∷ "m" ∷ [])) ≡ Some (asks (Solve Full) 1000000 []) }
+    ensures options_behind { request_of (map codes ("solve" ∷ "m" ∷ "--log" ∷ "f" ∷ "--budget" ∷ "7000" ∷ [])) ≡ Some (asks (Solve Full) 7000 (codes "f")) }
+    ensures options_before { request_of (map codes ("solve" ∷ "--log=a=b" ∷ "--budget=4294967295" ∷ "m" ∷ [])) ≡ Some (asks (Solve Full) 4294967295 (codes "a=b")) }
     ensures tree { request_of (map codes ("tree" ∷ "m" ∷ [])) ≡ Some (asks ShowTree 1000000 []) }
     ensures check { request_of (map codes ("check" ∷ "m" ∷ "l" ∷ [])) ≡ Some (asks_both Check (codes "l")) }
     ensures eval { request_of (map codes ("eval" ∷ "m" ∷ "p" ∷ [])) ≡ Some (asks_both Eval (codes "p")) }
+    ensures gen_words { request_of (map codes ("gen" ∷ "0009" ∷ "0000000000" ∷ [])) ≡ Some (asks_drawn Gen (codes "0009") (codes "0000000000") 1000000 9 0) }
+    ensures demo_words { request_of (map codes ("demo" ∷ "9" ∷ "--budget=200" ∷ "1" ∷ [])) ≡ Some (asks_drawn Demo (codes "9") (codes "1") 200 9 1) }
+    ensures no_stages { map request_of (map codes ("gen" ∷ "10" ∷ "1" ∷ []) ∷ map codes ("gen" ∷ "0" ∷ "1" ∷ []) ∷ map codes ("demo" ∷ "m" ∷ "1" ∷ []) ∷ []) ≡ None ∷ None ∷ None ∷ [] }
+    ensures no_seed { map request_of (map codes ("gen" ∷ "9" ∷ "2147483648" ∷ []) ∷ map codes ("demo" ∷ "9" ∷ []) ∷ map codes ("gen" ∷ "1" ∷ "-1" ∷ []) ∷ []) ≡ None ∷ None ∷ None ∷ [] }
+    ensures no_option_of_demo { map request_of (map codes ("demo" ∷ "--log" ∷ "f" ∷ "1" ∷ "1" ∷ []) ∷ map codes ("gen" ∷ "1" ∷ "1" ∷ "--budget=3" ∷ []) ∷ []) ≡ None ∷ None ∷ [] }
     ensures file_twice { request_of (map codes ("check" ∷ "m" ∷ "m" ∷ [])) ≡ Some (asks_both Check (codes "m")) }
     ensures no_second { map request_of (map codes ("check" ∷ "m" ∷ []) ∷ map codes ("check" ∷ "m" ∷ "" ∷ []) ∷ map codes ("check" ∷ "m" ∷ "l" ∷ "k" ∷ []) ∷ [])
         ≡ None ∷ None ∷ None ∷ [] }

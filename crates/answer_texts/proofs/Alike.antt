@@ -19,6 +19,7 @@ use Rattle.answer_texts.specs.Laws.{AnswerAlike, one_value, none_satisfies, Sett
 use Rattle.answer_texts.specs.Replies.{IsTextReply, optimal, infeasible}
 use Rattle.answer_texts.specs.Solved.{SolvedText}
 use Rattle.answer_texts.proofs.Ended.{accepted_end_once}
+use Rattle.answer_texts.specs.declared.command.Detail.TheVariants.{Full}
 
 -- of two values none of which is better
 one_best : (direction : Direction) (v w : ℤ) → ¬ (direction ≡ Nothing) → ¬ IsBetter direction v w → ¬ IsBetter direction w v → v ≡ w
@@ -67,12 +68,12 @@ same_values text problem policy other v w is one two =
     (by_objective problem policy other v w one two problem.objective refl (text_proper text problem is)) (one_value problem policy other v)
 
 pub settled_answer_alike : SettledAnswerAlike
-settled_answer_alike text p q _ _ _ _ (optimal problem policy value log is best logged) (optimal other policy_too value_too log_too is_too best_too logged_too) =
+settled_answer_alike text p q _ _ _ _ (optimal Full problem policy value log is best logged) (optimal Full other policy_too value_too log_too is_too best_too logged_too) =
     let same : other ≡ problem = one_problem text other problem is_too is in
     subst (λ (o : Problem). AnswerAlike (line_of (optimal_data problem policy value)) (line_of (optimal_data o policy_too value_too))) (sym same)
     (same_values text problem policy policy_too value value_too is best (subst (λ (o : Problem). IsOptimal o policy_too value_too) same best_too))
-settled_answer_alike text p q _ _ _ _ (optimal problem policy value log is best logged) (infeasible other log_too is_too none logged_too) =
+settled_answer_alike text p q _ _ _ _ (optimal Full problem policy value log is best logged) (infeasible Full other log_too is_too none logged_too) =
     absurd (not_infeasible problem policy value best (subst IsInfeasible (one_problem text other problem is_too is) none))
-settled_answer_alike text p q _ _ _ _ (infeasible problem log is none logged) (optimal other policy value log_too is_too best logged_too) =
+settled_answer_alike text p q _ _ _ _ (infeasible Full problem log is none logged) (optimal Full other policy value log_too is_too best logged_too) =
     absurd (not_infeasible other policy value best (subst IsInfeasible (one_problem text problem other is is_too) none))
-settled_answer_alike text p q _ _ _ _ (infeasible problem log is none logged) (infeasible other log_too is_too none_too logged_too) = none_satisfies
+settled_answer_alike text p q _ _ _ _ (infeasible Full problem log is none logged) (infeasible Full other log_too is_too none_too logged_too) = none_satisfies

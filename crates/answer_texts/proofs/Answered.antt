@@ -27,6 +27,7 @@ use Rattle.answer_texts.specs.Replies.{Replies, IsCut, StopsByCause}
 use Rattle.answer_texts.specs.AnswerReplies.{reply_of}
 use Rattle.answer_texts.specs.declared.command.Command.{Command}
 use Rattle.answer_texts.specs.declared.command.Command.TheVariants.{Solve, Tree}
+use Rattle.answer_texts.specs.declared.command.Detail.{Detail}
 use Rattle.answer_texts.specs.declared.reply.Reply.{Reply}
 use Rattle.answer_texts.specs.declared.status.Status.{Status}
 use Rattle.answer_texts.specs.declared.status.Status.TheVariants.{Done, Refused, Limit, Bounded}
@@ -75,46 +76,46 @@ tree_so text plan stated line states solvable is =
     subst (λ l. IsTextReply text plan Tree None Done l) (sym is) (scenes (problem_in stated) (solved_text text stated states solvable))
 
 -- or answered
-settled_reply : (text : List ℕ) (plan : SearchPlan) (stated : AcceptedProblem) (log line : List ℕ) → SolvedText text (problem_in stated)
-    → IsSettledBy (problem_in stated) plan log line → IsTextReply text plan Solve (Some log) Done line
-settled_reply text plan stated log _ is (optimal_line policy value best logged) = optimal (problem_in stated) policy value log is best logged
-settled_reply text plan stated log _ is (infeasible_line none logged) = infeasible (problem_in stated) log is none logged
+settled_reply : (detail : Detail) (text : List ℕ) (plan : SearchPlan) (stated : AcceptedProblem) (log line : List ℕ) → SolvedText text (problem_in stated)
+    → IsSettledBy detail (problem_in stated) plan log line → IsTextReply text plan (Solve detail) (Some log) Done line
+settled_reply detail text plan stated log _ is (optimal_line policy value best logged) = optimal detail (problem_in stated) policy value log is best logged
+settled_reply detail text plan stated log _ is (infeasible_line none logged) = infeasible detail (problem_in stated) log is none logged
 
-bounded_reply : (text : List ℕ) (plan : SearchPlan) (stated : AcceptedProblem) (log line : List ℕ) → SolvedText text (problem_in stated)
-    → IsBoundedBy (problem_in stated) plan log line → IsTextReply text plan Solve (Some log) Bounded line
-bounded_reply text plan stated log _ is (bounded_line found bound known within logged) = bounded (problem_in stated) found bound log is known within logged
+bounded_reply : (detail : Detail) (text : List ℕ) (plan : SearchPlan) (stated : AcceptedProblem) (log line : List ℕ) → SolvedText text (problem_in stated)
+    → IsBoundedBy detail (problem_in stated) plan log line → IsTextReply text plan (Solve detail) (Some log) Bounded line
+bounded_reply detail text plan stated log _ is (bounded_line found bound known within logged) = bounded detail (problem_in stated) found bound log is known within logged
 
-module _ (text : List ℕ) (plan : SearchPlan) (stated : AcceptedProblem) (states : States text stated) (name : List ℕ) (old new : SinkState) where
+module _ (detail : Detail) (text : List ℕ) (plan : SearchPlan) (stated : AcceptedProblem) (states : States text stated) (name : List ℕ) (old new : SinkState) where
   -- the reply of an answer
-  pub answer_replies : (answer : Answer) → IsSolvable (model_in stated) → Answers (problem_in stated) plan name old new answer
-      → Replies text plan Solve name old new (reply_of answer).status (string_bytes (reply_of answer).line)
+  pub answer_replies : (answer : Answer) → IsSolvable (model_in stated) → Answers detail (problem_in stated) plan name old new answer
+      → Replies text plan (Solve detail) name old new (reply_of answer).status (string_bytes (reply_of answer).line)
   answer_replies (Settled line) is answers =
       record {
         log = Some answers.log;
-        reply = settled_reply text plan stated answers.log (string_bytes line) (solved_text text stated states is) answers.answered;
+        reply = settled_reply detail text plan stated answers.log (string_bytes line) (solved_text text stated states is) answers.answered;
         logged = answers.wrote;
       }
   answer_replies (Cut line) is answers =
       record {
         log = Some answers.log;
-        reply = bounded_reply text plan stated answers.log (string_bytes line) (solved_text text stated states is) answers.answered;
+        reply = bounded_reply detail text plan stated answers.log (string_bytes line) (solved_text text stated states is) answers.answered;
         logged = answers.wrote;
       }
 
   -- where the log's sink failed, or memory ran out behind its begin
-  pub cut_so : IsCutOff stated plan name old new → IsCut text plan Solve name old new
-  cut_so cut = record { commanded = refl; problem = problem_in stated; is_solved = solved_text text stated states cut.solvable; wrote = cut.wrote }
+  pub cut_so : IsCutOff stated plan name old new → IsCut text plan (Solve detail) name old new
+  cut_so cut = record { detail = detail; commanded = refl; problem = problem_in stated; is_solved = solved_text text stated states cut.solvable; wrote = cut.wrote }
 
-  pub cut_stops : (result : Result Reply SearchStop) → IsCutOff stated plan name old new → IfErr result (StopsByCause text plan Solve name old new)
+  pub cut_stops : (result : Result Reply SearchStop) → IsCutOff stated plan name old new → IfErr result (StopsByCause text plan (Solve detail) name old new)
   cut_stops (Ok reply) cut = tt
   cut_stops (Err stop.Write) cut = cut_so cut
   cut_stops (Err stop.NoMemory) cut = inr (cut_so cut)
 
   -- the answer that was found
   pub solved_replies : (solved : Result Answer Fault) (answer : Answer) → solved ≡ Ok answer → IfOk solved (λ a. IsSolvable (model_in stated))
-      → IfOk solved (Answers (problem_in stated) plan name old new) → Replies text plan Solve name old new (reply_of answer).status (string_bytes (reply_of answer).line)
+      → IfOk solved (Answers detail (problem_in stated) plan name old new) → Replies text plan (Solve detail) name old new (reply_of answer).status (string_bytes (reply_of answer).line)
   solved_replies solved answer is solvable answers =
-      answer_replies answer (IfOk-at_ok (λ a. IsSolvable (model_in stated)) is solvable) (IfOk-at_ok (Answers (problem_in stated) plan name old new) is answers)
+      answer_replies answer (IfOk-at_ok (λ a. IsSolvable (model_in stated)) is solvable) (IfOk-at_ok (Answers detail (problem_in stated) plan name old new) is answers)
 
 -- where the log's sink is not used
 module _ (text : List ℕ) (plan : SearchPlan) (command : Command) (name : List ℕ) (old new : SinkState) (unused : IsUnused old new) where

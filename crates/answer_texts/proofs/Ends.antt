@@ -87,38 +87,38 @@ module _ (text : List ℕ) (budget : ℕ) where
   one_limit_on e f _ _ (by_terms c is) (by_terms d other) = accepted_end_once.one_limit text e f is other
 
   after_solved : (p : Problem) → SolvedText text p → (c : Command) (s : Status) → Ends text budget c s → Done ≡ settled s
-  after_solved p a _ _ (solved q b) = refl
-  after_solved p a _ _ (bounded_text q b less) = refl
+  after_solved p a _ _ (solved k q b) = refl
+  after_solved p a _ _ (bounded_text k q b less) = refl
   after_solved p a _ _ (shown q b) = refl
   after_solved p a _ _ (refused_text c r why) = absurd (solved_refused p a r c why)
   after_solved p a _ _ (limited_text c e over) = absurd (solved_limited p a e c over)
 
   after_refused : (r : Refusal) (c : Command) → IsRefusedOn text r c → (d : Command) (s : Status) → Ends text budget d s → Refused ≡ settled s
-  after_refused r c why _ _ (solved q b) = absurd (solved_refused q b r c why)
-  after_refused r c why _ _ (bounded_text q b less) = absurd (solved_refused q b r c why)
+  after_refused r c why _ _ (solved k q b) = absurd (solved_refused q b r c why)
+  after_refused r c why _ _ (bounded_text k q b less) = absurd (solved_refused q b r c why)
   after_refused r c why _ _ (shown q b) = absurd (solved_refused q b r c why)
   after_refused r c why _ _ (refused_text d s other) = refl
   after_refused r c why _ _ (limited_text d e over) = absurd (refused_limited r e c d why over)
 
   after_limited : (e : Excess) (c : Command) → IsLimitedOn text e c → (d : Command) (s : Status) → Ends text budget d s → status.Limit ≡ settled s
-  after_limited e c over _ _ (solved q b) = absurd (solved_limited q b e c over)
-  after_limited e c over _ _ (bounded_text q b less) = absurd (solved_limited q b e c over)
+  after_limited e c over _ _ (solved k q b) = absurd (solved_limited q b e c over)
+  after_limited e c over _ _ (bounded_text k q b less) = absurd (solved_limited q b e c over)
   after_limited e c over _ _ (shown q b) = absurd (solved_limited q b e c over)
   after_limited e c over _ _ (refused_text d r why) = absurd (refused_limited r e d c why over)
   after_limited e c over _ _ (limited_text d f other) = refl
 
   -- two ends of a command on a text are the same, but that a search may be cut short
   pub ends_alike : (c : Command) (s e : Status) → Ends text budget c s → Ends text budget c e → settled s ≡ settled e
-  ends_alike _ _ e (solved p a) other = after_solved p a Solve e other
-  ends_alike _ _ e (bounded_text p a less) other = after_solved p a Solve e other
+  ends_alike _ _ e (solved k p a) other = after_solved p a (Solve k) e other
+  ends_alike _ _ e (bounded_text k p a less) other = after_solved p a (Solve k) e other
   ends_alike _ _ e (shown p a) other = after_solved p a Tree e other
   ends_alike _ _ e (refused_text c r why) other = after_refused r c why c e other
   ends_alike _ _ e (limited_text c x over) other = after_limited x c over c e other
 
   -- with a budget of as many nodes as there may be, no search is cut short
   pub ends_settled : (p : Problem) → SolvedText text p → most_nodes p ≤ budget → (c : Command) (s : Status) → Ends text budget c s → ¬ (s ≡ Bounded)
-  ends_settled p a enough _ _ (solved q b) is = cc
-  ends_settled p a enough _ _ (bounded_text q b less) is =
+  ends_settled p a enough _ _ (solved k q b) is = cc
+  ends_settled p a enough _ _ (bounded_text k q b less) is =
       let few : budget < most_nodes p = subst (λ r. budget < most_nodes r) (accepted_end_once.one_problem text q p b a) less in
       absurd (omega (arith, few, enough))
   ends_settled p a enough _ _ (shown q b) is = cc
@@ -132,8 +132,8 @@ pub record IsEnd (s : Status) : Type 0 where
   pub no_write : ¬ (s ≡ WriteFault)
 
 pub end_status : (text : List ℕ) (budget : ℕ) (c : Command) (s : Status) → Ends text budget c s → IsEnd s
-end_status text budget _ _ (solved p a) = record { no_usage = λ e. cc; no_read = λ e. cc; no_write = λ e. cc }
-end_status text budget _ _ (bounded_text p a less) = record { no_usage = λ e. cc; no_read = λ e. cc; no_write = λ e. cc }
+end_status text budget _ _ (solved k p a) = record { no_usage = λ e. cc; no_read = λ e. cc; no_write = λ e. cc }
+end_status text budget _ _ (bounded_text k p a less) = record { no_usage = λ e. cc; no_read = λ e. cc; no_write = λ e. cc }
 end_status text budget _ _ (shown p a) = record { no_usage = λ e. cc; no_read = λ e. cc; no_write = λ e. cc }
 end_status text budget _ _ (refused_text c r why) = record { no_usage = λ e. cc; no_read = λ e. cc; no_write = λ e. cc }
 end_status text budget _ _ (limited_text c e over) = record { no_usage = λ e. cc; no_read = λ e. cc; no_write = λ e. cc }
@@ -141,9 +141,9 @@ end_status text budget _ _ (limited_text c e over) = record { no_usage = λ e. c
 -- a reply has the status with which the command ends on the text
 pub reply_ends : (text : List ℕ) (plan : SearchPlan) (c : Command) (log : Option (List ℕ)) (s : Status) (line : List ℕ) → IsTextReply text plan c log s line
     → Ends text plan.budget c s
-reply_ends text plan _ _ _ _ (optimal problem policy value log is best logged) = solved problem is
-reply_ends text plan _ _ _ _ (infeasible problem log is none logged) = solved problem is
-reply_ends text plan _ _ _ _ (bounded problem found bound log is known less logged) = bounded_text problem is less
+reply_ends text plan _ _ _ _ (optimal k problem policy value log is best logged) = solved k problem is
+reply_ends text plan _ _ _ _ (infeasible k problem log is none logged) = solved k problem is
+reply_ends text plan _ _ _ _ (bounded k problem found bound log is known less logged) = bounded_text k problem is less
 reply_ends text plan _ _ _ _ (scenes problem accepted) = shown problem accepted
 reply_ends text plan _ _ _ _ (refused c refusal why) = refused_text c refusal why
 reply_ends text plan _ _ _ _ (limited c excess over) = limited_text c excess over

@@ -11,3 +11,4 @@ pub mod Ends
 pub mod Calls
 pub mod Shared
 pub mod Alike
+pub mod Summaries

@@ -7,6 +7,7 @@ use Rattle.answer_texts.specs.Replies.{IsLimitedOn, IsRefusedOn}
 use Rattle.answer_texts.specs.Replies as ends
 use Rattle.answer_texts.specs.Solved.{SolvedText}
 use Rattle.answer_texts.specs.declared.command.Command.TheVariants.{Solve}
+use Rattle.answer_texts.specs.declared.command.Detail.TheVariants.{Full}
 use Rattle.answer_texts.specs.declared.status.Status.TheVariants.{Done, Limit, Refused}
 use Rattle.answer_texts.proofs.Ends.{ends_alike}
 
@@ -20,14 +21,14 @@ refused_limit : Refused ≡ Limit → ⊥
 refused_limit e = cc
 
 -- a text is solved, refused, or passes a limit: no two of these
-pub not_refused : (text : List ℕ) (problem : Problem) (refusal : Refusal) → SolvedText text problem → IsRefusedOn text refusal Solve → ⊥
+pub not_refused : (text : List ℕ) (problem : Problem) (refusal : Refusal) → SolvedText text problem → IsRefusedOn text refusal (Solve Full) → ⊥
 not_refused text problem refusal solved broken =
-    done_refused (ends_alike text 0 Solve Done Refused (ends.solved problem solved) (ends.refused_text Solve refusal broken))
+    done_refused (ends_alike text 0 (Solve Full) Done Refused (ends.solved Full problem solved) (ends.refused_text (Solve Full) refusal broken))
 
-pub not_limited : (text : List ℕ) (problem : Problem) (excess : Excess) → SolvedText text problem → IsLimitedOn text excess Solve → ⊥
+pub not_limited : (text : List ℕ) (problem : Problem) (excess : Excess) → SolvedText text problem → IsLimitedOn text excess (Solve Full) → ⊥
 not_limited text problem excess solved over =
-    done_limit (ends_alike text 0 Solve Done Limit (ends.solved problem solved) (ends.limited_text Solve excess over))
+    done_limit (ends_alike text 0 (Solve Full) Done Limit (ends.solved Full problem solved) (ends.limited_text (Solve Full) excess over))
 
-pub not_both_told : (text : List ℕ) (refusal : Refusal) (excess : Excess) → IsRefusedOn text refusal Solve → IsLimitedOn text excess Solve → ⊥
+pub not_both_told : (text : List ℕ) (refusal : Refusal) (excess : Excess) → IsRefusedOn text refusal (Solve Full) → IsLimitedOn text excess (Solve Full) → ⊥
 not_both_told text refusal excess broken over =
-    refused_limit (ends_alike text 0 Solve Refused Limit (ends.refused_text Solve refusal broken) (ends.limited_text Solve excess over))
+    refused_limit (ends_alike text 0 (Solve Full) Refused Limit (ends.refused_text (Solve Full) refusal broken) (ends.limited_text (Solve Full) excess over))

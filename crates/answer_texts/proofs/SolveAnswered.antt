@@ -41,7 +41,9 @@ use Rattle.scen_accept.specs.declared.accepted.AcceptedProblem.{AcceptedProblem}
 use Rattle.answer_texts.specs.Bounds.{IsBounded}
 use Rattle.answer_texts.specs.Solving.{IsProgramOf}
 use Rattle.answer_texts.specs.Logs.{IsLogOf, most_nodes, searched_problem, valued_at, TookPrefix, prefix}
-use Rattle.answer_texts.specs.Answering.{FindsPoint, IsAnswerOf, IsAnsweredBy, IsBoundedBy, IsSettledBy, Searched, bounded, found_value, infeasible, is_settled, optimal, outcome_data}
+use Rattle.answer_texts.specs.Answering.{FindsPoint, IsAnswerOf, IsAnsweredBy, IsBoundedBy, IsSettledBy, Searched, bounded, infeasible, is_settled, optimal, outcome_data}
+use Rattle.answer_texts.specs.Telling.{found_value}
+use Rattle.answer_texts.specs.declared.command.Detail.{Detail}
 use Rattle.answer_texts.specs.declared.solve_answer.Answer.{Answer}
 use Rattle.answer_texts.specs.declared.solve_answer.Answer.TheVariants.{Settled, Cut}
 use Rattle.answer_texts.proofs.Points.{text_unfolded}
@@ -135,7 +137,7 @@ whole_prefix problem plan o old new log =
 
 -- The answer.
 
-module _ (text : List ℕ) (stated : AcceptedProblem) (states : States text stated) where
+module _ (detail : Detail) (text : List ℕ) (stated : AcceptedProblem) (states : States text stated) where
   abbrev own : Problem
   own = problem_in stated
 
@@ -161,36 +163,36 @@ module _ (text : List ℕ) (stated : AcceptedProblem) (states : States text stat
       }
 
   settled : (plan : SearchPlan) (o : Outcome) (log line : List ℕ) → IsTrueOf (searched_problem own) o → IsSearchLog (searched_problem own) plan o log
-      → is_settled o ≡ true → line ≡ line_of (outcome_data own o) → IsSettledBy own plan log line
+      → is_settled o ≡ true → line ≡ line_of (outcome_data detail own o) → IsSettledBy detail own plan log line
   settled plan (outcome.Optimal value point) log line true_of is_log is_one is =
       let all = moved (outcome.Optimal value point) true_of in
-      subst (IsSettledBy own plan log) (sym is)
+      subst (IsSettledBy detail own plan log) (sym is)
       (optimal (policy_at (cells own) point) value (unbeaten_is_best (model_in stated) value point unfolded all.0 all.1)
       (record { outcome = outcome.Optimal value point; claimed = refl; found_is = refl; is_log = is_log }))
   settled plan outcome.Infeasible log line true_of is_log is_one is =
-      subst (IsSettledBy own plan log) (sym is)
+      subst (IsSettledBy detail own plan log) (sym is)
       (infeasible (unreached_is_none (model_in stated) unfolded (moved outcome.Infeasible true_of))
       (record { outcome = outcome.Infeasible; claimed = refl; found_is = refl; is_log = is_log }))
   settled plan (outcome.Bounded found bound) log line true_of is_log is_one is = cc
 
   cut : (plan : SearchPlan) (o : Outcome) (log line : List ℕ) → IsTrueOf (searched_problem own) o → HasCause (searched_problem own) plan.budget o
-      → IsSearchLog (searched_problem own) plan o log → is_settled o ≡ false → line ≡ line_of (outcome_data own o) → IsBoundedBy own plan log line
+      → IsSearchLog (searched_problem own) plan o log → is_settled o ≡ false → line ≡ line_of (outcome_data detail own o) → IsBoundedBy detail own plan log line
   cut plan (outcome.Optimal value point) log line true_of cause is_log is_none is = cc
   cut plan outcome.Infeasible log line true_of cause is_log is_none is = cc
   cut plan (outcome.Bounded found bound) log line true_of cause is_log is_none is =
-      subst (IsBoundedBy own plan log) (sym is)
+      subst (IsBoundedBy detail own plan log) (sym is)
       (bounded (option_map (valued_at own) found) bound (bound_is found plan.budget bound true_of cause) (within_most own (value_of found) plan.budget bound cause)
       (record { outcome = outcome.Bounded found bound; claimed = same_claim own found bound; found_is = refl; is_log = is_log }))
 
   answered : (plan : SearchPlan) (o : Outcome) (log : List ℕ) (answer : Answer) → IsTrueOf (searched_problem own) o → HasCause (searched_problem own) plan.budget o
-      → IsSearchLog (searched_problem own) plan o log → IsAnswerOf own o answer → IsAnsweredBy own plan log answer
+      → IsSearchLog (searched_problem own) plan o log → IsAnswerOf detail own o answer → IsAnsweredBy detail own plan log answer
   answered plan o log (Settled line) true_of cause is_log is = settled plan o log (string_bytes line) true_of is_log is.0 is.1
   answered plan o log (Cut line) true_of cause is_log is = cut plan o log (string_bytes line) true_of cause is_log is.0 is.1
 
   module _ (program : Program) (is : IsProgramOf own program) (plan : SearchPlan) (old new : Option (List ℕ)) where
     -- the answer of an outcome that is true, and whose log was taken
     pub answer_made : (o : Outcome) (answer : Answer) → IsTrueOf (box_problem_of program) o → HasCause (box_problem_of program) plan.budget o
-        → IsLogged (box_problem_of program) plan o old new → IsAnswerOf own o answer → Searched own plan old new answer
+        → IsLogged (box_problem_of program) plan o old new → IsAnswerOf detail own o answer → Searched detail own plan old new answer
     answer_made o answer true_of cause logged made =
         let at = searched_is own program is in
         let log : IsLogged (searched_problem own) plan o old new = subst (λ (p : BoxProblem). IsLogged p plan o old new) at logged in

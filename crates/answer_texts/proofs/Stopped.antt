@@ -8,15 +8,16 @@ use Rattle.sopl_base.specs.declared.stop.SearchStop.{SearchStop}
 use Rattle.sopl_search.specs.Logged.{SearchPlan}
 use Rattle.answer_texts.specs.Logs.{emptied, nothing, TookPrefix, told, WrotePrefix}
 use Rattle.answer_texts.specs.Answering.{Answers, Searched}
+use Rattle.answer_texts.specs.declared.command.Detail.{Detail}
 use Rattle.answer_texts.specs.declared.solve_answer.Answer.{Answer}
 
 module _ (problem : Problem) (plan : SearchPlan) (name : List ℕ) (old begun new : Option (List ℕ)) (names at later : Option (List (List ℕ)))
     (empty : begun ≡ emptied old) (with : at ≡ with_name names name) (kept : later ≡ at) where
   -- behind a begin, an answer
-  pub begun_answer : (result : Result Answer SearchStop) → IfOk result (Searched problem plan begun new)
-      → IfOk result (Answers problem plan name (told old names) (told new later))
-  begun_answer (Err stop) found = tt
-  begun_answer (Ok answer) found =
+  pub begun_answer : (detail : Detail) (result : Result Answer SearchStop) → IfOk result (Searched detail problem plan begun new)
+      → IfOk result (Answers detail problem plan name (told old names) (told new later))
+  begun_answer detail (Err stop) found = tt
+  begun_answer detail (Ok answer) found =
       record {
         log = found.log;
         answered = found.answered;

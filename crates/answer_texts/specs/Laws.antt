@@ -10,6 +10,7 @@ use Rattle.answer_lines.specs.AnswerData.{line_of, optimal_data, word_data}
 use Rattle.answer_texts.specs.Solved.{SolvedText, IsLimitedInTerms}
 use Rattle.answer_texts.specs.Replies.{IsTextReply}
 use Rattle.answer_texts.specs.declared.command.Command.TheVariants.{Solve}
+use Rattle.answer_texts.specs.declared.command.Detail.TheVariants.{Full}
 use Rattle.answer_texts.specs.declared.status.Status.TheVariants.{Done}
 
 -- a text is solved with one problem, or passes one limit in its terms, and not both; and an accepted text, and no other one, is one of the two
@@ -31,5 +32,5 @@ pub data AnswerAlike : List ℕ → List ℕ → Type 0 where
 -- so do any two replies of `solve` to a text whose searches were done: with other seats, in another order, with another brancher or budget
 abbrev pub SettledAnswerAlike : Type 0
 SettledAnswerAlike =
-    (text : List ℕ) (p q : SearchPlan) (log other : Option (List ℕ)) (a b : List ℕ) → IsTextReply text p Solve log Done a → IsTextReply text q Solve other Done b
+    (text : List ℕ) (p q : SearchPlan) (log other : Option (List ℕ)) (a b : List ℕ) → IsTextReply text p (Solve Full) log Done a → IsTextReply text q (Solve Full) other Done b
     → AnswerAlike a b

@@ -3,6 +3,7 @@ pub mod Solved
 pub mod Laws
 pub mod Solving
 pub mod Bounds
+pub mod Telling
 pub mod Logs
 pub mod Answering
 pub mod Codes

@@ -15,12 +15,13 @@ use Rattle.sopl_base.specs.declared.stop.SearchStop.TheVariants as stop
 use Rattle.sopl_search.specs.Logged.{SearchPlan}
 use Rattle.answer_lines.specs.Answer.{tree_data}
 use Rattle.answer_texts.specs.Solved.{SolvedText, IsLimitedInTerms}
-use Rattle.answer_lines.specs.AnswerData.{Valued, word_data, refused_data, limit_data, optimal_data, bounded_data, line_of}
-use Rattle.answer_texts.specs.Answering.{found_value}
+use Rattle.answer_lines.specs.AnswerData.{Valued, refused_data, limit_data, line_of}
 use Rattle.answer_texts.specs.Bounds.{IsBounded}
+use Rattle.answer_texts.specs.Telling.{bounded_told, found_value, infeasible_told, optimal_told}
 use Rattle.answer_texts.specs.Logs.{IsLogOf, most_nodes, with_value, IsUnused, SinkState, Wrote, WrotePrefix}
 use Rattle.answer_texts.specs.declared.command.Command.{Command}
 use Rattle.answer_texts.specs.declared.command.Command.TheVariants.{Solve, Tree}
+use Rattle.answer_texts.specs.declared.command.Detail.{Detail}
 use Rattle.answer_texts.specs.declared.status.Status.{Status}
 use Rattle.answer_texts.specs.declared.status.Status.TheVariants.{Done, Failing, Usage, Refused, Limit, Bounded, ReadFault, WriteFault, NoMemory, Unreadable}
 
@@ -45,9 +46,9 @@ IsFaultOn text command fault.NoMemory = Unit {0}
 -- how a command ends on a text, where nothing fails and a search may finish so many nodes
 pub data Ends (text : List ℕ) (budget : ℕ) : Command → Status → Type 0 where
   -- the text is accepted, and its terms pass no limit
-  solved : (problem : Problem) → SolvedText text problem → Ends text budget Solve Done
+  solved : (detail : Detail) (problem : Problem) → SolvedText text problem → Ends text budget (Solve detail) Done
   -- the same, where a search may want more nodes
-  bounded_text : (problem : Problem) → SolvedText text problem → budget < most_nodes problem → Ends text budget Solve Bounded
+  bounded_text : (detail : Detail) (problem : Problem) → SolvedText text problem → budget < most_nodes problem → Ends text budget (Solve detail) Bounded
   -- the same
   shown : (problem : Problem) → SolvedText text problem → Ends text budget Tree Done
   -- the text is refused
@@ -72,17 +73,17 @@ settled Unreadable = Unreadable
 -- why it comes
 pub data IsTextReply (text : List ℕ) (plan : SearchPlan) : Command → Option (List ℕ) → Status → List ℕ → Type 0 where
   -- the text states a problem, and this policy of it is optimal and has this value; it is that of the point of a row of the log
-  optimal : (problem : Problem) (policy : Policy) (value : ℤ) (log : List ℕ) → SolvedText text problem → IsOptimal problem policy value
+  optimal : (detail : Detail) (problem : Problem) (policy : Policy) (value : ℤ) (log : List ℕ) → SolvedText text problem → IsOptimal problem policy value
       → IsLogOf problem plan (claim.Optimal value) (Some (with_value policy value)) log
-      → IsTextReply text plan Solve (Some log) Done (line_of (optimal_data problem policy value))
+      → IsTextReply text plan (Solve detail) (Some log) Done (line_of (optimal_told detail problem policy value))
   -- the text states a problem, and no policy of it satisfies
-  infeasible : (problem : Problem) (log : List ℕ) → SolvedText text problem → IsInfeasible problem → IsLogOf problem plan claim.Infeasible None log
-      → IsTextReply text plan Solve (Some log) Done (line_of (word_data (codes "infeasible")))
+  infeasible : (detail : Detail) (problem : Problem) (log : List ℕ) → SolvedText text problem → IsInfeasible problem → IsLogOf problem plan claim.Infeasible None log
+      → IsTextReply text plan (Solve detail) (Some log) Done (line_of (infeasible_told detail problem))
   -- the text states a problem, no policy of it is better than this bound, and this one satisfies where one was found, that of the point of a row of the
   -- log; the log has as many finished nodes as the budget allows, and the bound is the better end of a box that is open
-  bounded : (problem : Problem) (found : Option Valued) (bound : ℤ) (log : List ℕ) → SolvedText text problem → IsBounded problem found bound
+  bounded : (detail : Detail) (problem : Problem) (found : Option Valued) (bound : ℤ) (log : List ℕ) → SolvedText text problem → IsBounded problem found bound
       → plan.budget < most_nodes problem → IsLogOf problem plan (claim.Bounded (found_value found) bound) found log
-      → IsTextReply text plan Solve (Some log) Bounded (line_of (bounded_data problem found bound))
+      → IsTextReply text plan (Solve detail) (Some log) Bounded (line_of (bounded_told detail problem found bound))
   -- the text states a problem with these scenarios
   scenes : (problem : Problem) → SolvedText text problem
       → IsTextReply text plan Tree None Done (line_of (tree_data problem.decisions problem.stochastics))
@@ -106,7 +107,8 @@ pub record Replies (text : List ℕ) (plan : SearchPlan) (command : Command) (na
 
 -- the text is solved, and the log's sink was begun with a name and took a prefix of a log
 pub record IsCut (text : List ℕ) (plan : SearchPlan) (command : Command) (name : List ℕ) (old new : SinkState) : Type 0 where
-  pub commanded : command ≡ Solve
+  pub detail : Detail
+  pub commanded : command ≡ Solve detail
   pub problem : Problem
   pub is_solved : SolvedText text problem
   pub wrote : WrotePrefix problem plan name old new

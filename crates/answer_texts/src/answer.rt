@@ -15,7 +15,7 @@ ghost use Rattle.answer_texts.specs.Models.{IsSolvable};
 ghost use Rattle.answer_texts.specs.Replies.{IsFaultOn, IsTextReply, Replies, StopsByCause};
 ghost use Rattle.answer_texts.specs.declared.command.Command.TheVariants.{Solve, Tree as ShowTree};
 
-use crate::command::Command;
+use crate::command::{Command, Detail};
 use crate::program::terms_allowed;
 use crate::reply::Reply;
 use crate::solve_answer::Answer;
@@ -126,6 +126,7 @@ fn reply_of(answer: Answer) -> Reply
 /// The reply to `solve` on a text that states this, by a search within a budget; the sink takes its log under a name.
 fn solved_reply<K: Sink>(
     alloc: Global,
+    detail: Detail,
     stated: &AcceptedProblem,
     budget: u32,
     schedule: Schedule,
@@ -138,16 +139,18 @@ fn solved_reply<K: Sink>(
     requires budget { 1 ≤ budget }
     requires turn { schedule.turn ≡ 0 }
     ensures reply { (text : List ℕ) → States text stated.now → IfOk result (λ reply. Replies text
-        (plan_of schedule (option_map rule brancher) budget) Solve name.now
+        (plan_of schedule (option_map rule brancher) budget) (Solve detail) name.now
         (state_of K.taken K.names sink.old) (state_of K.taken K.names sink.new) reply.status (string_bytes reply.line)) }
     ensures stopped { (text : List ℕ) → States text stated.now → IfErr result (StopsByCause text
-        (plan_of schedule (option_map rule brancher) budget) Solve name.now
+        (plan_of schedule (option_map rule brancher) budget) (Solve detail) name.now
         (state_of K.taken K.names sink.old) (state_of K.taken K.names sink.new)) }
     ensures faults_grow { K.faults sink.old ≤ K.faults sink.new }
     ensures write { result ≡ Err search.Write → Rose (K.faults sink.old) (K.faults sink.new) }
     ensures outcomes { StopsWhere (result ≡ Err search.Write) (K.outcomes sink.old) (K.outcomes sink.new) }
 {
-    match solved_answer(alloc, stated, budget, schedule, brancher, name, sink)? {
+    match solved_answer(
+        alloc, detail, stated, budget, schedule, brancher, name, sink,
+    )? {
         Ok(answer) => Ok(reply_of(answer)),
         Err(fault) => {
             let reply = away_reply(alloc, fault)?;
@@ -182,7 +185,9 @@ fn stated_reply<K: Sink>(
     ensures outcomes { StopsWhere (result ≡ Err search.Write) (K.outcomes sink.old) (K.outcomes sink.new) }
 {
     match command {
-        Command::Solve => solved_reply(alloc, stated, budget, schedule, brancher, name, sink),
+        Command::Solve(detail) => solved_reply(
+            alloc, detail, stated, budget, schedule, brancher, name, sink,
+        ),
         Command::Tree => {
             let reply = tree_reply(alloc, stated)?;
             Ok(reply)

@@ -13,9 +13,10 @@ mod solve_answer;
 mod solved;
 mod solved_laws;
 mod status;
+mod summary;
 
 pub use answer::{away_reply, reply_to};
-pub use command::Command;
+pub use command::{Command, Detail};
 pub use program::{program_of, terms_allowed};
 pub use reply::Reply;
 pub use solve_answer::Answer;

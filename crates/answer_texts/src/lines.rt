@@ -9,6 +9,7 @@ ghost use Rattle.sopl_search.specs.declared.outcome.Outcome.TheVariants.{Optimal
 ghost use Rattle.scen_accept.specs.Stated.{IsLaid, problem_in};
 ghost use Rattle.answer_texts.specs.Solving.{IsProgramOf};
 ghost use Rattle.answer_texts.specs.Answering.{FindsPoint, IsAnswerOf};
+ghost use Rattle.answer_texts.specs.declared.command.Detail.TheVariants.{Full};
 
 use crate::solve_answer::Answer;
 use answer_lines::{bound_line, found_line, optimal_line, word_line};
@@ -53,7 +54,7 @@ fn answer_of_optimal(
     requires laid_out { IsLaid stated.now }
     requires program { IsProgramOf (problem_in stated.now) program.now }
     requires inside { IsPoint (cells (problem_in stated.now)) point.now }
-    ensures answer { IfOk result (IsAnswerOf (problem_in stated.now) (Optimal value point.now)) }
+    ensures answer { IfOk result (IsAnswerOf Full (problem_in stated.now) (Optimal value point.now)) }
 {
     let policy = printed_policy(alloc, stated, point)?;
     let line = optimal_line(alloc, policy, value, program.denominator())?;
@@ -62,7 +63,7 @@ fn answer_of_optimal(
 
 /// The answer where no point satisfies.
 fn answer_of_none(alloc: Global, stated: &AcceptedProblem) -> Result<Answer, AllocError>
-    ensures answer { IfOk result (IsAnswerOf (problem_in stated.now) Infeasible) }
+    ensures answer { IfOk result (IsAnswerOf Full (problem_in stated.now) Infeasible) }
 {
     let line = word_line(alloc, "infeasible")?;
     Ok(Answer::Settled(line))
@@ -80,7 +81,7 @@ fn answer_of_found(
     requires laid_out { IsLaid stated.now }
     requires program { IsProgramOf (problem_in stated.now) program.now }
     requires inside { IsPoint (cells (problem_in stated.now)) found.now.cells }
-    ensures answer { IfOk result (IsAnswerOf (problem_in stated.now) (Bounded (Some found.now) bound)) }
+    ensures answer { IfOk result (IsAnswerOf Full (problem_in stated.now) (Bounded (Some found.now) bound)) }
 {
     let policy = printed_policy(alloc, stated, &found.cells)?;
     let line = found_line(alloc, bound, policy, found.value, program.denominator())?;
@@ -96,7 +97,7 @@ fn answer_of_bound(
     bound: i128,
 ) -> Result<Answer, AllocError>
     requires program { IsProgramOf (problem_in stated.now) program.now }
-    ensures answer { IfOk result (IsAnswerOf (problem_in stated.now) (Bounded None bound)) }
+    ensures answer { IfOk result (IsAnswerOf Full (problem_in stated.now) (Bounded None bound)) }
 {
     let line = bound_line(alloc, bound, program.denominator())?;
     Ok(Answer::Cut(line))
@@ -112,7 +113,7 @@ pub(crate) fn answer_of(
     requires laid_out { IsLaid stated.now }
     requires program { IsProgramOf (problem_in stated.now) program.now }
     requires inside { FindsPoint (problem_in stated.now) outcome.now }
-    ensures answer { IfOk result (IsAnswerOf (problem_in stated.now) outcome.now) }
+    ensures answer { IfOk result (IsAnswerOf Full (problem_in stated.now) outcome.now) }
 {
     match outcome {
         Outcome::Optimal { value, cells } => {

@@ -9,23 +9,45 @@ ghost use Rattle.answer_texts.specs.Models.{IsSolvable};
 ghost use Rattle.sopl_base.specs.declared.stop.SearchStop.TheVariants as search;
 ghost use Rattle.answer_texts.specs.Solving.{IsProgramOf, IsSolveFault};
 ghost use Rattle.answer_texts.specs.Logs.{IsUnused, TookPrefix, WrotePrefix, state_of};
-ghost use Rattle.answer_texts.specs.Answering.{Answers, IsCutOff, Searched};
+ghost use Rattle.answer_texts.specs.Answering.{Answers, FindsPoint, IsAnswerOf, IsCutOff, Searched};
 
+use crate::command::Detail;
 use crate::lines::answer_of;
 use crate::program::program_of;
 use crate::solve_answer::Answer;
+use crate::summary::summary_of;
 use brancher::Brancher;
 use prop_set::search_program;
 use scen_accept::AcceptedProblem;
 use sopl_base::{Fault, SearchStop};
 use sopl_io::Sink;
-use sopl_search::Schedule;
+use sopl_search::{Outcome, Schedule};
 use sopl_term::Program;
-use std::alloc::Global;
+use std::alloc::{AllocError, Global};
+
+/// The answer of an outcome, in full or as a summary.
+fn told(
+    alloc: Global,
+    detail: Detail,
+    stated: &AcceptedProblem,
+    program: &Program,
+    outcome: &Outcome,
+) -> Result<Answer, AllocError>
+    requires laid_out { IsLaid stated.now }
+    requires program { IsProgramOf (problem_in stated.now) program.now }
+    requires inside { FindsPoint (problem_in stated.now) outcome.now }
+    ensures answer { IfOk result (IsAnswerOf detail (problem_in stated.now) outcome.now) }
+{
+    match detail {
+        Detail::Full => answer_of(alloc, stated, program, outcome),
+        Detail::Summary => summary_of(alloc, stated, program, outcome),
+    }
+}
 
 /// The answer of a search within a budget, whose log the sink takes.
 fn searched_answer<K: Sink>(
     alloc: Global,
+    detail: Detail,
     stated: &AcceptedProblem,
     program: &Program,
     budget: u32,
@@ -38,7 +60,7 @@ fn searched_answer<K: Sink>(
     requires program { IsProgramOf (problem_in stated.now) program.now }
     requires budget { 1 ≤ budget }
     requires turn { schedule.turn ≡ 0 }
-    ensures answer { IfOk result (Searched (problem_in stated.now)
+    ensures answer { IfOk result (Searched detail (problem_in stated.now)
         (plan_of schedule (option_map rule brancher) budget) (K.taken sink.old) (K.taken sink.new)) }
     ensures stopped { IfErr result (λ stop. TookPrefix (problem_in stated.now)
         (plan_of schedule (option_map rule brancher) budget) (K.taken sink.old) (K.taken sink.new)) }
@@ -48,13 +70,14 @@ fn searched_answer<K: Sink>(
     ensures outcomes { StopsWhere (result ≡ Err search.Write) (K.outcomes sink.old) (K.outcomes sink.new) }
 {
     let outcome = search_program(alloc, program, budget, schedule, brancher, sink)?;
-    let answer = answer_of(alloc, stated, program, &outcome)?;
+    let answer = told(alloc, detail, stated, program, &outcome)?;
     Ok(answer)
 }
 
 /// The same, where the sink is begun with a name first.
 fn logged_answer<K: Sink>(
     alloc: Global,
+    detail: Detail,
     stated: &AcceptedProblem,
     program: &Program,
     budget: u32,
@@ -68,7 +91,7 @@ fn logged_answer<K: Sink>(
     requires program { IsProgramOf (problem_in stated.now) program.now }
     requires budget { 1 ≤ budget }
     requires turn { schedule.turn ≡ 0 }
-    ensures answer { IfOk result (Answers (problem_in stated.now)
+    ensures answer { IfOk result (Answers detail (problem_in stated.now)
         (plan_of schedule (option_map rule brancher) budget) name.now
         (state_of K.taken K.names sink.old) (state_of K.taken K.names sink.new)) }
     ensures stopped { IfErr result (λ stop. WrotePrefix (problem_in stated.now)
@@ -81,7 +104,9 @@ fn logged_answer<K: Sink>(
     if sink.begin(name).is_err() {
         return Err(SearchStop::Write);
     }
-    searched_answer(alloc, stated, program, budget, schedule, brancher, sink)
+    searched_answer(
+        alloc, detail, stated, program, budget, schedule, brancher, sink,
+    )
 }
 
 /// The answer to what an accepted text states: its optimal policy with the value, `infeasible` where no policy satisfies, or a bound
@@ -90,6 +115,7 @@ fn logged_answer<K: Sink>(
 /// them; the sink knows nothing of it. It is refused where the search stops.
 pub fn solved_answer<K: Sink>(
     alloc: Global,
+    detail: Detail,
     stated: &AcceptedProblem,
     budget: u32,
     schedule: Schedule,
@@ -101,7 +127,7 @@ pub fn solved_answer<K: Sink>(
     requires laid_out { IsLaid stated.now }
     requires budget { 1 ≤ budget }
     requires turn { schedule.turn ≡ 0 }
-    ensures answer { IfOk result (λ solved. IfOk solved (Answers (problem_in stated.now)
+    ensures answer { IfOk result (λ solved. IfOk solved (Answers detail (problem_in stated.now)
         (plan_of schedule (option_map rule brancher) budget) name.now
         (state_of K.taken K.names sink.old) (state_of K.taken K.names sink.new))) }
     ensures solvable { IfOk result (λ solved. IfOk solved (λ answer. IsSolvable (model_in stated.now))) }
@@ -117,7 +143,7 @@ pub fn solved_answer<K: Sink>(
     match program_of(alloc, stated) {
         Ok(program) => {
             let answer = logged_answer(
-                alloc, stated, &program, budget, schedule, brancher, name, sink,
+                alloc, detail, stated, &program, budget, schedule, brancher, name, sink,
             )?;
             Ok(Ok(answer))
         }

@@ -1,4 +1,4 @@
-//! Branchers that answer what cuts nothing, what is odd, or what they are told to, each of which counts what it is asked and told.
+//! Branchers that answer what cuts nothing, what is odd, or what they are told to, and one that counts what it is asked and told.
 
 use crate::tests::runs::{
     Ended, FARMER, ORDER, ORDER_ANSWER, WIDE, ends, ran_with, source_of, words_of,
@@ -6,17 +6,8 @@ use crate::tests::runs::{
 use answer_run::Status;
 use brancher::{Brancher, Choice, Event};
 use std::alloc::{AllocError, Global};
-use std::cell::Cell;
 use std::process::Abort;
-use std::rc::Rc;
 use std::test::Fail;
-
-/// How often a brancher was asked, and how many events it was told.
-#[derive(Drop)]
-struct Heard {
-    asked: Cell<u32>,
-    told: Cell<u32>,
-}
 
 /// What a brancher answers.
 #[derive(Clone, Copy)]
@@ -31,20 +22,27 @@ enum Habit {
     Fixed,
     /// The first cell that has more, cut at its least value, of the halves by turns the low and the high one first.
     Turning,
+    /// The same, where the half that comes first is told by what was counted.
+    Counting,
 }
 
-/// A brancher of a habit.
+/// A brancher of a habit. It counts how often it was asked, and how many events it was told.
 #[derive(Drop)]
 struct Odd {
     name: &'static str,
     habit: Habit,
-    low_first: bool,
-    heard: Rc<Heard>,
+    asked: u32,
+    told: u32,
 }
 
-/// A cell of the ends, cut at its lower end.
-fn cut_low(at: Option<usize>, lows: &[i64], low_first: bool) -> Option<Choice> {
-    let at = at?;
+/// Whether the low half comes first where so much was counted.
+const fn is_low_first(asked: u32, told: u32) -> bool {
+    asked.saturating_add(told) % 3 == 0
+}
+
+/// The first cell that has more than one value, cut at its lower end.
+fn cut_low(lows: &[i64], highs: &[i64], low_first: bool) -> Option<Choice> {
+    let at = lows.iter().zip(highs).position(|(lo, hi)| lo < hi)?;
     Some(Choice {
         cell: u32::try_from(at).unwrap_or(0),
         cut: *lows.get(at)?,
@@ -52,25 +50,23 @@ fn cut_low(at: Option<usize>, lows: &[i64], low_first: bool) -> Option<Choice> {
     })
 }
 
-/// What a habit answers.
-fn answer_of(habit: Habit, lows: &[i64], highs: &[i64], low_first: bool) -> Option<Choice> {
-    match habit {
-        Habit::Silent => None,
-        Habit::Always(choice) => Some(choice),
-        Habit::AtTheTop => Some(Choice {
-            cell: 0,
-            cut: *highs.first()?,
-            low_first: true,
-        }),
-        Habit::Fixed => {
-            let at = lows.iter().zip(highs).position(|(lo, hi)| lo == hi);
-            cut_low(at, lows, true)
-        }
-        Habit::Turning => {
-            let at = lows.iter().zip(highs).position(|(lo, hi)| lo < hi);
-            cut_low(at, lows, low_first)
-        }
-    }
+/// The first cell that has one value, cut at it.
+fn cut_fixed(lows: &[i64], highs: &[i64]) -> Option<Choice> {
+    let at = lows.iter().zip(highs).position(|(lo, hi)| lo == hi)?;
+    Some(Choice {
+        cell: u32::try_from(at).unwrap_or(0),
+        cut: *lows.get(at)?,
+        low_first: true,
+    })
+}
+
+/// The first cell, cut at its upper end.
+fn cut_top(highs: &[i64]) -> Option<Choice> {
+    Some(Choice {
+        cell: 0,
+        cut: *highs.first()?,
+        low_first: true,
+    })
 }
 
 impl Brancher for Odd {
@@ -85,15 +81,19 @@ impl Brancher for Odd {
     }
 
     fn choose(&mut self, lows: &[i64], highs: &[i64]) -> Option<Choice> {
-        self.heard
-            .asked
-            .set(self.heard.asked.get().saturating_add(1));
-        self.low_first = !self.low_first;
-        answer_of(self.habit, lows, highs, self.low_first)
+        self.asked = self.asked.saturating_add(1);
+        match self.habit {
+            Habit::Silent => None,
+            Habit::Always(choice) => Some(choice),
+            Habit::AtTheTop => cut_top(highs),
+            Habit::Fixed => cut_fixed(lows, highs),
+            Habit::Turning => cut_low(lows, highs, self.asked % 2 == 1),
+            Habit::Counting => cut_low(lows, highs, is_low_first(self.asked, self.told)),
+        }
     }
 
     fn told(&mut self, _event: Event) {
-        self.heard.told.set(self.heard.told.get().saturating_add(1));
+        self.told = self.told.saturating_add(1);
     }
 }
 
@@ -106,71 +106,46 @@ const fn always(cell: u32, cut: i64, low_first: bool) -> Habit {
     })
 }
 
-/// How many lines of a log begin so.
-fn lines_with(ended: &Ended, begin: &str) -> u32 {
-    let log = std::str::from_utf8(ended.log.bytes()).unwrap_or("");
-    let mut count: u32 = 0;
-    for line in log.lines() {
-        if line.starts_with(begin) {
-            count = count.saturating_add(1);
-        }
+/// A brancher of a name and a habit, which has counted nothing yet.
+const fn new_odd(name: &'static str, habit: Habit) -> Odd {
+    Odd {
+        name,
+        habit,
+        asked: 0,
+        told: 0,
     }
-    count
 }
 
-/// Runs `solve` on a text with a brancher of this habit.
-fn ran_by(
-    alloc: Global,
-    text: &str,
-    options: &[&str],
-    habit: Habit,
-    heard: &Rc<Heard>,
-) -> Result<Ended, AllocError> {
-    let mut texts = Vec::from_slice(alloc, &["solve", "m"])?;
-    texts.extend_from_slice(options)?;
-    let words = words_of(alloc, texts.as_slice())?;
+/// Runs with these words on a text, with a brancher of this habit.
+fn ran_by(alloc: Global, words: &[&str], text: &str, habit: Habit) -> Result<Ended, AllocError> {
+    let words = words_of(alloc, words)?;
     let mut source = source_of(alloc, text, &[])?;
-    let odd = Odd {
-        name: "odd",
-        habit,
-        low_first: false,
-        heard: Rc::clone(heard)?,
-    };
     let mut branchers: Vec<Box<dyn Brancher>> = Vec::new(alloc);
-    branchers.push(Box::new(alloc, odd)?)?;
+    branchers.push(Box::new(alloc, new_odd("odd", habit))?)?;
     ran_with(alloc, &words, &mut source, &WIDE, branchers)
 }
 
-/// A new count.
-fn unheard(alloc: Global) -> Result<Rc<Heard>, AllocError> {
-    let heard = Heard {
-        asked: Cell::new(0),
-        told: Cell::new(0),
-    };
-    Ok(Rc::new(alloc, heard)?)
-}
-
-/// A text is answered so by a brancher of this habit, which is asked once at each box that is cut, and told of each one that is finished.
-fn answers_with(
-    alloc: Global,
-    rt: &impl Abort,
-    text: &str,
-    habit: Habit,
-    want: &str,
-) -> Result<(), Fail> {
-    let heard = unheard(alloc)?;
-    let ended = ran_by(alloc, text, &[], habit, &heard)?;
-    ends(rt, text, &ended, Status::Done, want);
-    let cut = lines_with(&ended, "x ");
-    let closed = lines_with(&ended, "f ");
-    let found = lines_with(&ended, "v");
-    assert_eq!(rt; heard.asked.get(), cut, "{text}");
-    assert_eq!(rt;
-        heard.told.get(),
-        cut.saturating_add(closed).saturating_add(found),
-        "{text}"
-    );
-    Ok(())
+/// The log is that of a brancher which counts: it was asked once at each box that was cut, and told of each one that was finished. Behind a
+/// cut comes the half that its counts have first.
+fn tells_counts(rt: &impl Abort, about: &str, ended: &Ended) {
+    let log = std::str::from_utf8(ended.log.bytes()).unwrap_or("");
+    let mut asked: u32 = 0;
+    let mut told: u32 = 0;
+    let mut awaited: Option<bool> = None;
+    for line in log.lines() {
+        if line.starts_with("n ") {
+            let low = line.ends_with(" l");
+            assert_eq!(rt; low, awaited.unwrap_or(low), "{about}");
+            awaited = None;
+        }
+        if line.starts_with("x ") {
+            asked = asked.saturating_add(1);
+            awaited = Some(is_low_first(asked, told));
+        }
+        if line.starts_with("x ") || line.starts_with("f ") || line == "v" {
+            told = told.saturating_add(1);
+        }
+    }
 }
 
 const FARMER_ANSWER: &str =
@@ -193,6 +168,7 @@ fn habits_change_no_answer(rt: HostRuntime) -> Result<(), Fail> {
         Habit::AtTheTop,
         Habit::Fixed,
         Habit::Turning,
+        Habit::Counting,
         always(4294967295, i64::MIN, true),
         always(999, 0, false),
         always(0, 0, false),
@@ -204,8 +180,19 @@ fn habits_change_no_answer(rt: HostRuntime) -> Result<(), Fail> {
         (TASKS, TASKS_ANSWER),
     ] {
         for habit in habits {
-            answers_with(rt.alloc(), &rt, text, habit, want)?;
+            let ended = ran_by(rt.alloc(), &["solve", "m"], text, habit)?;
+            ends(&rt, text, &ended, Status::Done, want);
         }
+    }
+    Ok(())
+}
+
+/// One that counts was asked once at each box that is cut, and told of each one that is finished.
+#[test]
+fn counts_are_told(rt: HostRuntime) -> Result<(), Fail> {
+    for text in [ORDER, FARMER, CROWDED, TASKS] {
+        let ended = ran_by(rt.alloc(), &["solve", "m"], text, Habit::Counting)?;
+        tells_counts(&rt, text, &ended);
     }
     Ok(())
 }
@@ -220,52 +207,52 @@ const LOW_FIRST: &str = "sopl-log 1\nn 0 r\nx 0 0\nn 1 0 l\nv\nn 2 0 h\nv\nend o
 #[test]
 fn half_that_comes_first(rt: HostRuntime) -> Result<(), Fail> {
     for (low_first, log) in [(false, HIGH_FIRST), (true, LOW_FIRST)] {
-        let heard = unheard(rt.alloc())?;
         let habit = always(0, 0, low_first);
-        let ended = ran_by(rt.alloc(), EITHER, &["--budget", "3"], habit, &heard)?;
+        let ended = ran_by(rt.alloc(), &["solve", "--budget", "3", "m"], EITHER, habit)?;
         assert_eq!(rt; ended.status, Status::Done, "{log}");
         assert_eq!(rt; ended.log.bytes(), log.as_bytes(), "{log}");
     }
     Ok(())
 }
 
-/// A brancher of a name that says nothing.
-fn silent(name: &'static str, heard: &Rc<Heard>) -> Result<Odd, AllocError> {
-    Ok(Odd {
-        name,
-        habit: Habit::Silent,
-        low_first: true,
-        heard: Rc::clone(heard)?,
-    })
+const TEN: &str = "dvar int x in 0..9; maximize expected(x); subject to { }";
+
+/// Words, the status, and how the log begins: by where the root is cut it tells which of three branchers was asked.
+const NAMES: &[(&[&str], Status, &str)] = &[
+    (&["solve", "m"], Status::Done, "sopl-log 1\nn 0 r\nx 0 0\n"),
+    (
+        &["solve", "--branch", "twice", "m"],
+        Status::Done,
+        "sopl-log 1\nn 0 r\nx 0 1\n",
+    ),
+    (
+        &["solve", "m", "--branch=once"],
+        Status::Done,
+        "sopl-log 1\nn 0 r\nx 0 0\n",
+    ),
+    (&["solve", "--branch", "nobody", "m"], Status::Usage, ""),
+    (&["tree", "--branch", "twice", "m"], Status::Usage, ""),
+];
+
+/// Runs with these words and three branchers, the last two of one name.
+fn ran_by_three(alloc: Global, words: &[&str]) -> Result<Ended, AllocError> {
+    let words = words_of(alloc, words)?;
+    let mut source = source_of(alloc, TEN, &[])?;
+    let mut branchers: Vec<Box<dyn Brancher>> = Vec::new(alloc);
+    branchers.push(Box::new(alloc, new_odd("once", always(0, 0, true)))?)?;
+    branchers.push(Box::new(alloc, new_odd("twice", always(0, 1, true)))?)?;
+    branchers.push(Box::new(alloc, new_odd("twice", always(0, 2, true)))?)?;
+    ran_with(alloc, &words, &mut source, &WIDE, branchers)
 }
 
-/// Of branchers with these names the one that is asked by these words is the one at this place; usage where there is none.
+/// Of several branchers the first one of a name is asked, or the first of all; usage where there is none.
 #[test]
 fn first_of_a_name_is_asked(rt: HostRuntime) -> Result<(), Fail> {
-    let alloc = rt.alloc();
-    for (words, place) in [
-        (["solve", "m"].as_slice(), Some(0)),
-        (["solve", "--branch", "twice", "m"].as_slice(), Some(1)),
-        (["solve", "m", "--branch=once"].as_slice(), Some(0)),
-        (["solve", "--branch", "nobody", "m"].as_slice(), None),
-        (["tree", "--branch", "twice", "m"].as_slice(), None),
-    ] {
-        let heard = [unheard(alloc)?, unheard(alloc)?, unheard(alloc)?];
-        let mut branchers: Vec<Box<dyn Brancher>> = Vec::new(alloc);
-        branchers.push(Box::new(alloc, silent("once", &heard[0])?)?)?;
-        branchers.push(Box::new(alloc, silent("twice", &heard[1])?)?)?;
-        branchers.push(Box::new(alloc, silent("twice", &heard[2])?)?)?;
-        let mut source = source_of(alloc, EITHER, &[])?;
-        let words = words_of(alloc, words)?;
-        let ended = ran_with(alloc, &words, &mut source, &WIDE, branchers)?;
-        let status = match place {
-            Some(_) => Status::Done,
-            None => Status::Usage,
-        };
-        assert_eq!(rt; ended.status, status, "{place:?}");
-        for (at, one) in heard.iter().enumerate() {
-            assert_eq!(rt; one.asked.get() > 0, place == Some(at), "{place:?} {at}");
-        }
+    for (words, status, begin) in NAMES {
+        let ended = ran_by_three(rt.alloc(), words)?;
+        assert_eq!(rt; ended.status, *status, "{begin}");
+        assert!(rt; ended.log.bytes().starts_with(begin.as_bytes()), "{begin}");
+        assert_eq!(rt; ended.log.bytes().is_empty(), begin.is_empty(), "{begin}");
     }
     Ok(())
 }

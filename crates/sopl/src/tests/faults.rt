@@ -22,12 +22,12 @@ const FAULTS: &[(&[u64], Room, Status, &str, &str)] = &[
         &[],
         Room {
             answer: 1000,
-            log: 14,
+            log: 12,
             failing: &[],
         },
         Status::WriteFault,
         "",
-        "n 0",
+        "n",
     ),
     (
         &[],

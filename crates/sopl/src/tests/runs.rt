@@ -1,7 +1,7 @@
 //! Runs over sources and sinks in memory, and how they must end.
 
 use answer_run::{Status, Word, Words, run};
-use brancher::Brancher;
+use brancher::{Brancher, Failing, Lower, Widest};
 use sopl_io::{MemSink, MemSource};
 use std::alloc::{AllocError, Global};
 use std::process::Abort;
@@ -84,6 +84,20 @@ pub(super) fn ran_with(
         answer,
         log,
     })
+}
+
+/// The same with the branchers of `main`.
+pub(super) fn ran_branching(
+    alloc: Global,
+    words: &Words,
+    source: &mut MemSource,
+    room: &Room,
+) -> Result<Ended, AllocError> {
+    let mut branchers: Vec<Box<dyn Brancher>> = Vec::new(alloc);
+    branchers.push(Box::new(alloc, Lower::new())?)?;
+    branchers.push(Box::new(alloc, Widest::new())?)?;
+    branchers.push(Box::new(alloc, Failing::new())?)?;
+    ran_with(alloc, words, source, room, branchers)
 }
 
 /// Runs with these words on this text; the calls of the source with these numbers fail.

@@ -1,16 +1,16 @@
-use Rattle.std.proofs.Common.{rules, arith, ◌≡◌, ◌∙◌, Some, None, Err, map, option_map, refl, sym, vec_len}
-use Rattle.sopl_io.specs.Causes.{Rose}
-use Rattle.sopl_io.specs.declared.transfer.ReadStop.TheVariants.{NoMemory}
-use Rattle.sopl_base.specs.declared.stop.SearchStop.TheVariants as search
+use Rattle.std.proofs.Common.{rules, ◌≡◌, ◌∙◌, true, false, Option, Some, None, IfOk, IfErr, map, option_map, sym, subst}
+use Rattle.std.specs.Io.KnownBytes.{IsAtEnd}
 use Rattle.answer_texts.specs.Logs.{told}
-use Rattle.answer_run.specs.declared.commands.Job.TheVariants.{Text, Pair}
-use Rattle.answer_run.specs.Runs.{meant_status}
+use Rattle.answer_texts.specs.declared.reply.Reply.{Reply}
+use Rattle.answer_run.specs.Reads.{TakesAtMost}
+use Rattle.answer_run.specs.Replies.{BeginsFiles, IsAnswered, IsUntouched, asked_in}
+use Rattle.answer_run.specs.Runs.{Replied, StopsWith, meant_status}
 use Rattle.answer_run.specs.Shown.{request_shown}
-use Rattle.answer_run.specs.Words.{asked_of, request_with}
-use Rattle.answer_run.proofs.Asked.{found_asked, missing_asked, none_asked, plan_is}
-use Rattle.answer_run.proofs.Reading.{both_begun, model_taken, none_begun, second_taken, text_begun, unread_begun}
-use Rattle.answer_run.proofs.WholeText.{both_made, ended_made, fault_replied, reply_made, stops_made, usage_replied}
-use Rattle.answer_run.proofs.Calls.{calls_behind, text_calls, unread_calls, usage_calls}
+use Rattle.answer_run.specs.Words.{Request, asked_of, reads_files, request_with}
+use Rattle.answer_run.proofs.Asked.{found_asked, missing_asked, none_asked}
+use Rattle.answer_run.proofs.Reading.{none_begun}
+use Rattle.answer_run.proofs.WholeText.{usage_replied}
+use Rattle.answer_run.proofs.Calls.{usage_calls}
 use Rattle.answer_run.proofs.top.reply_for.Goals as goal
 
 pub returns-in_default-clause-reply : goal.returns-in_default-clause-reply
@@ -59,167 +59,34 @@ returns-then-is_missing-clause-names g c =
     none_begun (asked_of (map (λ b. ((goal.Brancher-dyn g (b.vtable, b.value)).label b.value, (goal.Brancher-dyn g (b.vtable, b.value)).rule b.value)) c.args.branchers.items) c.args.words.now)
     (g.S.Source.stock c.args.source.now) (g.S.Source.names c.args.source.now) none (meant_status c.word_reply-then-is_missing.result)
 
-pub returns-in-Text-clause-reply : goal.returns-in-Text-clause-reply
-returns-in-Text-clause-reply g c =
+pub returns-clause-reply : goal.returns-clause-reply
+returns-clause-reply g c =
     let asked : asked_of (map (λ b. ((goal.Brancher-dyn g (b.vtable, b.value)).label b.value, (goal.Brancher-dyn g (b.vtable, b.value)).rule b.value)) c.args.branchers.items) c.args.words.now ≡
     Some (request_with (request_shown c.in-Some.request) (option_map (λ b. (goal.Brancher-dyn g (b.vtable, b.value)).rule b.value) c.chosen-brancher.result)) =
     found_asked (map (λ b. ((goal.Brancher-dyn g (b.vtable, b.value)).label b.value, (goal.Brancher-dyn g (b.vtable, b.value)).rule b.value)) c.args.branchers.items)
     c.args.words.now (request_shown c.in-Some.request) (option_map (λ b. (goal.Brancher-dyn g (b.vtable, b.value)).rule b.value) c.chosen-brancher.result) (search rules) c.chosen-brancher.ensures
     (sym c.is_missing.ensures.missing ∙ c.if-is_missing.false) in
-    let job : (request_shown c.in-Some.request).job ≡ Text c.in-Text.command = search rules in
-    reply_made (asked_of (map (λ b. ((goal.Brancher-dyn g (b.vtable, b.value)).label b.value, (goal.Brancher-dyn g (b.vtable, b.value)).rule b.value)) c.args.branchers.items) c.args.words.now)
-    (g.S.Source.stock c.args.source.now) (g.S.Source.faults c.args.source.now) (g.S.Source.faults c.read_all.new.source)
-    (told (g.K.Sink.taken c.args.log.now) (g.K.Sink.names c.args.log.now)) (told (g.K.Sink.taken c.reply_to.new.sink) (g.K.Sink.names c.reply_to.new.sink))
-    c.in-Ok.text.items (request_with (request_shown c.in-Some.request) (option_map (λ b. (goal.Brancher-dyn g (b.vtable, b.value)).rule b.value) c.chosen-brancher.result))
-    c.in-Text.command job 1048577 asked (omega arith) c.as_slice.result.now c.as_slice.ensures.value c.in-Ok.ensures.text
-    _ (plan_is c.new.result _ _ _ _ c.new.ensures.seats c.new.ensures.order)
-    c.reply_to.result c.reply_to.ensures.reply
+    subst (λ (w : Option Request). IfOk c.request_reply.result (Replied w (g.S.Source.stock c.args.source.now) (g.S.Source.faults c.args.source.now) (g.S.Source.faults c.request_reply.new.source)
+    (told (g.K.Sink.taken c.args.log.now) (g.K.Sink.names c.args.log.now)) (told (g.K.Sink.taken c.request_reply.new.log) (g.K.Sink.names c.request_reply.new.log)))) (sym asked) c.request_reply.ensures.reply
 
-pub returns-in-Text-clause-stopped : goal.returns-in-Text-clause-stopped
-returns-in-Text-clause-stopped g c =
+pub returns-clause-stopped : goal.returns-clause-stopped
+returns-clause-stopped g c =
     let asked : asked_of (map (λ b. ((goal.Brancher-dyn g (b.vtable, b.value)).label b.value, (goal.Brancher-dyn g (b.vtable, b.value)).rule b.value)) c.args.branchers.items) c.args.words.now ≡
     Some (request_with (request_shown c.in-Some.request) (option_map (λ b. (goal.Brancher-dyn g (b.vtable, b.value)).rule b.value) c.chosen-brancher.result)) =
     found_asked (map (λ b. ((goal.Brancher-dyn g (b.vtable, b.value)).label b.value, (goal.Brancher-dyn g (b.vtable, b.value)).rule b.value)) c.args.branchers.items)
     c.args.words.now (request_shown c.in-Some.request) (option_map (λ b. (goal.Brancher-dyn g (b.vtable, b.value)).rule b.value) c.chosen-brancher.result) (search rules) c.chosen-brancher.ensures
     (sym c.is_missing.ensures.missing ∙ c.if-is_missing.false) in
-    let job : (request_shown c.in-Some.request).job ≡ Text c.in-Text.command = search rules in
-    stops_made (asked_of (map (λ b. ((goal.Brancher-dyn g (b.vtable, b.value)).label b.value, (goal.Brancher-dyn g (b.vtable, b.value)).rule b.value)) c.args.branchers.items) c.args.words.now)
-    (g.S.Source.stock c.args.source.now) (g.S.Source.faults c.args.source.now) (g.S.Source.faults c.read_all.new.source)
-    (told (g.K.Sink.taken c.args.log.now) (g.K.Sink.names c.args.log.now)) (told (g.K.Sink.taken c.reply_to.new.sink) (g.K.Sink.names c.reply_to.new.sink))
-    c.in-Ok.text.items (request_with (request_shown c.in-Some.request) (option_map (λ b. (goal.Brancher-dyn g (b.vtable, b.value)).rule b.value) c.chosen-brancher.result))
-    c.in-Text.command job 1048577 asked (omega arith) c.as_slice.result.now c.as_slice.ensures.value c.in-Ok.ensures.text
-    _ (plan_is c.new.result _ _ _ _ c.new.ensures.seats c.new.ensures.order)
-    c.reply_to.result c.reply_to.ensures.stopped
+    subst (λ (w : Option Request). IfErr c.request_reply.result (StopsWith w (g.S.Source.stock c.args.source.now)
+    (told (g.K.Sink.taken c.args.log.now) (g.K.Sink.names c.args.log.now)) (told (g.K.Sink.taken c.request_reply.new.log) (g.K.Sink.names c.request_reply.new.log)))) (sym asked) c.request_reply.ensures.stopped
 
-pub returns-in-Text-clause-ended : goal.returns-in-Text-clause-ended
-returns-in-Text-clause-ended g c =
-    ended_made c.as_slice.result.now _ c.in-Text.command (request_shown c.in-Some.request).log
-    (told (g.K.Sink.taken c.args.log.now) (g.K.Sink.names c.args.log.now)) (told (g.K.Sink.taken c.reply_to.new.sink) (g.K.Sink.names c.reply_to.new.sink))
-    1048577 (vec_len c.in-Ok.text) (g.S.Source.left c.read_all.new.source) c.reply_to.result c.as_slice.ensures.len c.in-Ok.ensures.end (omega arith)
-    c.reply_to.ensures.reply
-
-pub returns-in-Text-clause-taken_at_most : goal.returns-in-Text-clause-taken_at_most
-returns-in-Text-clause-taken_at_most g c =
+pub returns-clause-ended : goal.returns-clause-ended
+returns-clause-ended g c =
     let asked : asked_of (map (λ b. ((goal.Brancher-dyn g (b.vtable, b.value)).label b.value, (goal.Brancher-dyn g (b.vtable, b.value)).rule b.value)) c.args.branchers.items) c.args.words.now ≡
     Some (request_with (request_shown c.in-Some.request) (option_map (λ b. (goal.Brancher-dyn g (b.vtable, b.value)).rule b.value) c.chosen-brancher.result)) =
     found_asked (map (λ b. ((goal.Brancher-dyn g (b.vtable, b.value)).label b.value, (goal.Brancher-dyn g (b.vtable, b.value)).rule b.value)) c.args.branchers.items)
     c.args.words.now (request_shown c.in-Some.request) (option_map (λ b. (goal.Brancher-dyn g (b.vtable, b.value)).rule b.value) c.chosen-brancher.result) (search rules) c.chosen-brancher.ensures
     (sym c.is_missing.ensures.missing ∙ c.if-is_missing.false) in
-    model_taken (asked_of (map (λ b. ((goal.Brancher-dyn g (b.vtable, b.value)).label b.value, (goal.Brancher-dyn g (b.vtable, b.value)).rule b.value)) c.args.branchers.items) c.args.words.now)
-    (g.S.Source.stock c.args.source.now) 1048577 (g.S.Source.faults c.args.source.now) (g.S.Source.faults c.read_all.new.source)
-    (g.S.Source.left c.read_all.new.source)
-    (request_with (request_shown c.in-Some.request) (option_map (λ b. (goal.Brancher-dyn g (b.vtable, b.value)).rule b.value) c.chosen-brancher.result)) asked c.read_all.ensures.rest
-
-pub returns-in-Text-clause-outcomes : goal.returns-in-Text-clause-outcomes
-returns-in-Text-clause-outcomes g c =
-    text_calls (g.S.Source.outcomes c.args.source.now) (g.S.Source.outcomes c.read_all.new.source) (g.K.Sink.outcomes c.args.log.now) (g.K.Sink.outcomes c.reply_to.new.sink) _ _ _ _ _ _
-    c.reply_to.result (c.in-Ok.ensures.outcomes.all (λ e. cc))
-    c.reply_to.ensures.outcomes c.reply_to.ensures.reply
-
-pub returns-in-Text-clause-names : goal.returns-in-Text-clause-names
-returns-in-Text-clause-names g c =
-    let asked : asked_of (map (λ b. ((goal.Brancher-dyn g (b.vtable, b.value)).label b.value, (goal.Brancher-dyn g (b.vtable, b.value)).rule b.value)) c.args.branchers.items) c.args.words.now ≡
-    Some (request_with (request_shown c.in-Some.request) (option_map (λ b. (goal.Brancher-dyn g (b.vtable, b.value)).rule b.value) c.chosen-brancher.result)) =
-    found_asked (map (λ b. ((goal.Brancher-dyn g (b.vtable, b.value)).label b.value, (goal.Brancher-dyn g (b.vtable, b.value)).rule b.value)) c.args.branchers.items)
-    c.args.words.now (request_shown c.in-Some.request) (option_map (λ b. (goal.Brancher-dyn g (b.vtable, b.value)).rule b.value) c.chosen-brancher.result) (search rules) c.chosen-brancher.ensures
-    (sym c.is_missing.ensures.missing ∙ c.if-is_missing.false) in
-    let job : (request_shown c.in-Some.request).job ≡ Text c.in-Text.command = search rules in
-    text_begun (asked_of (map (λ b. ((goal.Brancher-dyn g (b.vtable, b.value)).label b.value, (goal.Brancher-dyn g (b.vtable, b.value)).rule b.value)) c.args.branchers.items) c.args.words.now)
-    (g.S.Source.stock c.args.source.now) (g.S.Source.names c.args.source.now) (g.S.Source.names c.read_all.new.source)
-    (request_with (request_shown c.in-Some.request) (option_map (λ b. (goal.Brancher-dyn g (b.vtable, b.value)).rule b.value) c.chosen-brancher.result)) c.in-Text.command asked job
-    c.read_all.ensures.names (meant_status c.reply_to.result)
-
-pub returns-in-Ok-clause-reply : goal.returns-in-Ok-clause-reply
-returns-in-Ok-clause-reply g c =
-    let asked : asked_of (map (λ b. ((goal.Brancher-dyn g (b.vtable, b.value)).label b.value, (goal.Brancher-dyn g (b.vtable, b.value)).rule b.value)) c.args.branchers.items) c.args.words.now ≡
-    Some (request_with (request_shown c.in-Some.request) (option_map (λ b. (goal.Brancher-dyn g (b.vtable, b.value)).rule b.value) c.chosen-brancher.result)) =
-    found_asked (map (λ b. ((goal.Brancher-dyn g (b.vtable, b.value)).label b.value, (goal.Brancher-dyn g (b.vtable, b.value)).rule b.value)) c.args.branchers.items)
-    c.args.words.now (request_shown c.in-Some.request) (option_map (λ b. (goal.Brancher-dyn g (b.vtable, b.value)).rule b.value) c.chosen-brancher.result) (search rules) c.chosen-brancher.ensures
-    (sym c.is_missing.ensures.missing ∙ c.if-is_missing.false) in
-    let job : (request_shown c.in-Some.request).job ≡ Pair c.in-Pair.command = search rules in
-    both_made (asked_of (map (λ b. ((goal.Brancher-dyn g (b.vtable, b.value)).label b.value, (goal.Brancher-dyn g (b.vtable, b.value)).rule b.value)) c.args.branchers.items) c.args.words.now)
-    (g.S.Source.faults c.args.source.now) (g.S.Source.faults c.read_all.new.source) (g.S.Source.faults c.pair_reply.new.source)
-    c.read_all.ensures.faults_grow (told (g.K.Sink.taken c.args.log.now) (g.K.Sink.names c.args.log.now)) c.in-Ok.text.items
-    (request_with (request_shown c.in-Some.request) (option_map (λ b. (goal.Brancher-dyn g (b.vtable, b.value)).rule b.value) c.chosen-brancher.result))
-    c.in-Pair.command job 1048577 asked (omega arith) (g.S.Source.stock c.args.source.now) (g.S.Source.stock c.read_all.new.source) c.read_all.ensures.stock
-    c.as_slice-in-Pair.result.now c.as_slice-in-Pair.ensures.value c.in-Ok.ensures.text c.pair_reply.result c.pair_reply.ensures.reply
-
-pub returns-in-Ok-clause-taken_at_most : goal.returns-in-Ok-clause-taken_at_most
-returns-in-Ok-clause-taken_at_most g c =
-    let asked : asked_of (map (λ b. ((goal.Brancher-dyn g (b.vtable, b.value)).label b.value, (goal.Brancher-dyn g (b.vtable, b.value)).rule b.value)) c.args.branchers.items) c.args.words.now ≡
-    Some (request_with (request_shown c.in-Some.request) (option_map (λ b. (goal.Brancher-dyn g (b.vtable, b.value)).rule b.value) c.chosen-brancher.result)) =
-    found_asked (map (λ b. ((goal.Brancher-dyn g (b.vtable, b.value)).label b.value, (goal.Brancher-dyn g (b.vtable, b.value)).rule b.value)) c.args.branchers.items)
-    c.args.words.now (request_shown c.in-Some.request) (option_map (λ b. (goal.Brancher-dyn g (b.vtable, b.value)).rule b.value) c.chosen-brancher.result) (search rules) c.chosen-brancher.ensures
-    (sym c.is_missing.ensures.missing ∙ c.if-is_missing.false) in
-    let job : (request_shown c.in-Some.request).job ≡ Pair c.in-Pair.command = search rules in
-    second_taken (asked_of (map (λ b. ((goal.Brancher-dyn g (b.vtable, b.value)).label b.value, (goal.Brancher-dyn g (b.vtable, b.value)).rule b.value)) c.args.branchers.items) c.args.words.now)
-    (g.S.Source.stock c.args.source.now) (g.S.Source.stock c.read_all.new.source) 1048577 (g.S.Source.faults c.args.source.now)
-    (g.S.Source.faults c.read_all.new.source) (g.S.Source.faults c.pair_reply.new.source) (g.S.Source.left c.read_all.new.source)
-    (g.S.Source.left c.pair_reply.new.source)
-    (request_with (request_shown c.in-Some.request) (option_map (λ b. (goal.Brancher-dyn g (b.vtable, b.value)).rule b.value) c.chosen-brancher.result)) c.in-Pair.command asked job
-    c.read_all.ensures.stock
-    c.read_all.ensures.faults_grow c.read_all.ensures.rest c.pair_reply.ensures.rest
-
-pub returns-in-Ok-clause-outcomes : goal.returns-in-Ok-clause-outcomes
-returns-in-Ok-clause-outcomes g c =
-    calls_behind (g.S.Source.outcomes c.args.source.now) (g.S.Source.outcomes c.pair_reply.new.source) (g.K.Sink.outcomes c.args.log.now)
-    (g.K.Sink.outcomes c.args.log.now) (g.S.Source.outcomes c.read_all.new.source) c.pair_reply.result (c.in-Ok.ensures.outcomes.all (λ e. cc))
-    (c.pair_reply.ensures.outcomes (g.K.Sink.outcomes c.args.log.now))
-
-pub returns-in-Ok-clause-names : goal.returns-in-Ok-clause-names
-returns-in-Ok-clause-names g c =
-    let asked : asked_of (map (λ b. ((goal.Brancher-dyn g (b.vtable, b.value)).label b.value, (goal.Brancher-dyn g (b.vtable, b.value)).rule b.value)) c.args.branchers.items) c.args.words.now ≡
-    Some (request_with (request_shown c.in-Some.request) (option_map (λ b. (goal.Brancher-dyn g (b.vtable, b.value)).rule b.value) c.chosen-brancher.result)) =
-    found_asked (map (λ b. ((goal.Brancher-dyn g (b.vtable, b.value)).label b.value, (goal.Brancher-dyn g (b.vtable, b.value)).rule b.value)) c.args.branchers.items)
-    c.args.words.now (request_shown c.in-Some.request) (option_map (λ b. (goal.Brancher-dyn g (b.vtable, b.value)).rule b.value) c.chosen-brancher.result) (search rules) c.chosen-brancher.ensures
-    (sym c.is_missing.ensures.missing ∙ c.if-is_missing.false) in
-    let job : (request_shown c.in-Some.request).job ≡ Pair c.in-Pair.command = search rules in
-    both_begun (asked_of (map (λ b. ((goal.Brancher-dyn g (b.vtable, b.value)).label b.value, (goal.Brancher-dyn g (b.vtable, b.value)).rule b.value)) c.args.branchers.items) c.args.words.now)
-    (g.S.Source.stock c.args.source.now) (g.S.Source.names c.args.source.now) (g.S.Source.names c.read_all.new.source)
-    (g.S.Source.names c.pair_reply.new.source)
-    (request_with (request_shown c.in-Some.request) (option_map (λ b. (goal.Brancher-dyn g (b.vtable, b.value)).rule b.value) c.chosen-brancher.result)) c.in-Pair.command
-    c.in-Ok.text.items c.as_slice-in-Pair.result.now 1048577 asked job
-    (omega arith) c.as_slice-in-Pair.ensures.value c.in-Ok.ensures.text c.read_all.ensures.names (meant_status c.pair_reply.result) c.pair_reply.ensures.names
-
-pub returns-in-Err-Fault-clause-reply : goal.returns-in-Err-Fault-clause-reply
-returns-in-Err-Fault-clause-reply g c =
-    let asked : asked_of (map (λ b. ((goal.Brancher-dyn g (b.vtable, b.value)).label b.value, (goal.Brancher-dyn g (b.vtable, b.value)).rule b.value)) c.args.branchers.items) c.args.words.now ≡
-    Some (request_with (request_shown c.in-Some.request) (option_map (λ b. (goal.Brancher-dyn g (b.vtable, b.value)).rule b.value) c.chosen-brancher.result)) =
-    found_asked (map (λ b. ((goal.Brancher-dyn g (b.vtable, b.value)).label b.value, (goal.Brancher-dyn g (b.vtable, b.value)).rule b.value)) c.args.branchers.items)
-    c.args.words.now (request_shown c.in-Some.request) (option_map (λ b. (goal.Brancher-dyn g (b.vtable, b.value)).rule b.value) c.chosen-brancher.result) (search rules) c.chosen-brancher.ensures
-    (sym c.is_missing.ensures.missing ∙ c.if-is_missing.false) in
-    let rose : Rose (g.S.Source.faults c.args.source.now) (g.S.Source.faults c.read_all.new.source) = search rules in
-    fault_replied (asked_of (map (λ b. ((goal.Brancher-dyn g (b.vtable, b.value)).label b.value, (goal.Brancher-dyn g (b.vtable, b.value)).rule b.value)) c.args.branchers.items) c.args.words.now)
-    (g.S.Source.stock c.args.source.now) (g.S.Source.faults c.args.source.now) (g.S.Source.faults c.read_all.new.source)
-    (told (g.K.Sink.taken c.args.log.now) (g.K.Sink.names c.args.log.now))
-    (request_with (request_shown c.in-Some.request) (option_map (λ b. (goal.Brancher-dyn g (b.vtable, b.value)).rule b.value) c.chosen-brancher.result)) asked rose
-    c.word_reply-in-Err-Fault.result
-    c.word_reply-in-Err-Fault.ensures.status c.word_reply-in-Err-Fault.ensures.line
-
-pub returns-in-Err-Fault-clause-taken_at_most : goal.returns-in-Err-Fault-clause-taken_at_most
-returns-in-Err-Fault-clause-taken_at_most g c =
-    let asked : asked_of (map (λ b. ((goal.Brancher-dyn g (b.vtable, b.value)).label b.value, (goal.Brancher-dyn g (b.vtable, b.value)).rule b.value)) c.args.branchers.items) c.args.words.now ≡
-    Some (request_with (request_shown c.in-Some.request) (option_map (λ b. (goal.Brancher-dyn g (b.vtable, b.value)).rule b.value) c.chosen-brancher.result)) =
-    found_asked (map (λ b. ((goal.Brancher-dyn g (b.vtable, b.value)).label b.value, (goal.Brancher-dyn g (b.vtable, b.value)).rule b.value)) c.args.branchers.items)
-    c.args.words.now (request_shown c.in-Some.request) (option_map (λ b. (goal.Brancher-dyn g (b.vtable, b.value)).rule b.value) c.chosen-brancher.result) (search rules) c.chosen-brancher.ensures
-    (sym c.is_missing.ensures.missing ∙ c.if-is_missing.false) in
-    model_taken (asked_of (map (λ b. ((goal.Brancher-dyn g (b.vtable, b.value)).label b.value, (goal.Brancher-dyn g (b.vtable, b.value)).rule b.value)) c.args.branchers.items) c.args.words.now)
-    (g.S.Source.stock c.args.source.now) 1048577 (g.S.Source.faults c.args.source.now) (g.S.Source.faults c.read_all.new.source)
-    (g.S.Source.left c.read_all.new.source)
-    (request_with (request_shown c.in-Some.request) (option_map (λ b. (goal.Brancher-dyn g (b.vtable, b.value)).rule b.value) c.chosen-brancher.result)) asked c.read_all.ensures.rest
-
-pub returns-in-Err-Fault-clause-names : goal.returns-in-Err-Fault-clause-names
-returns-in-Err-Fault-clause-names g c =
-    let asked : asked_of (map (λ b. ((goal.Brancher-dyn g (b.vtable, b.value)).label b.value, (goal.Brancher-dyn g (b.vtable, b.value)).rule b.value)) c.args.branchers.items) c.args.words.now ≡
-    Some (request_with (request_shown c.in-Some.request) (option_map (λ b. (goal.Brancher-dyn g (b.vtable, b.value)).rule b.value) c.chosen-brancher.result)) =
-    found_asked (map (λ b. ((goal.Brancher-dyn g (b.vtable, b.value)).label b.value, (goal.Brancher-dyn g (b.vtable, b.value)).rule b.value)) c.args.branchers.items)
-    c.args.words.now (request_shown c.in-Some.request) (option_map (λ b. (goal.Brancher-dyn g (b.vtable, b.value)).rule b.value) c.chosen-brancher.result) (search rules) c.chosen-brancher.ensures
-    (sym c.is_missing.ensures.missing ∙ c.if-is_missing.false) in
-    unread_begun (asked_of (map (λ b. ((goal.Brancher-dyn g (b.vtable, b.value)).label b.value, (goal.Brancher-dyn g (b.vtable, b.value)).rule b.value)) c.args.branchers.items) c.args.words.now)
-    (g.S.Source.stock c.args.source.now) (g.S.Source.names c.args.source.now) (g.S.Source.names c.read_all.new.source)
-    (request_with (request_shown c.in-Some.request) (option_map (λ b. (goal.Brancher-dyn g (b.vtable, b.value)).rule b.value) c.chosen-brancher.result)) asked
-    c.read_all.ensures.names c.word_reply-in-Err-Fault.result c.word_reply-in-Err-Fault.ensures.status
-    c.word_reply-in-Err-Fault.ensures.memory
+    subst (λ (w : Option Request). reads_files w ≡ true → IfOk c.request_reply.result (λ (reply : Reply). IsAnswered reply.status → IsAtEnd (g.S.Source.left c.request_reply.new.source))) (sym asked) c.request_reply.ensures.ended
 
 pub returns-clause-taken_at_most : goal.returns-clause-taken_at_most
 returns-clause-taken_at_most g c =
@@ -228,16 +95,18 @@ returns-clause-taken_at_most g c =
     found_asked (map (λ b. ((goal.Brancher-dyn g (b.vtable, b.value)).label b.value, (goal.Brancher-dyn g (b.vtable, b.value)).rule b.value)) c.args.branchers.items)
     c.args.words.now (request_shown c.in-Some.request) (option_map (λ b. (goal.Brancher-dyn g (b.vtable, b.value)).rule b.value) c.chosen-brancher.result) (search rules) c.chosen-brancher.ensures
     (sym c.is_missing.ensures.missing ∙ c.if-is_missing.false) in
-    model_taken (asked_of (map (λ b. ((goal.Brancher-dyn g (b.vtable, b.value)).label b.value, (goal.Brancher-dyn g (b.vtable, b.value)).rule b.value)) c.args.branchers.items) c.args.words.now)
-    (g.S.Source.stock c.args.source.now) 1048577 (g.S.Source.faults c.args.source.now) (g.S.Source.faults c.read_all.new.source)
-    (g.S.Source.left c.read_all.new.source)
-    (request_with (request_shown c.in-Some.request) (option_map (λ b. (goal.Brancher-dyn g (b.vtable, b.value)).rule b.value) c.chosen-brancher.result)) asked c.read_all.ensures.rest
+    subst (λ (w : Option Request). TakesAtMost 1048577 (asked_in (g.S.Source.stock c.args.source.now) w) (g.S.Source.faults c.args.source.now) (g.S.Source.faults c.request_reply.new.source)
+    (g.S.Source.left c.request_reply.new.source)) (sym asked) c.request_reply.ensures.taken_at_most
 
-pub returns-clause-outcomes : goal.returns-clause-outcomes
-returns-clause-outcomes g c =
-    let failed : c.read_all.result ≡ Err NoMemory = search rules in
-    unread_calls (g.S.Source.outcomes c.args.source.now) (g.S.Source.outcomes c.read_all.new.source) (g.K.Sink.outcomes c.args.log.now) (g.K.Sink.outcomes c.args.log.now)
-    (c.read_all.ensures.outcomes.all (λ e. cc))
+pub returns-clause-untouched : goal.returns-clause-untouched
+returns-clause-untouched g c =
+    let asked : asked_of (map (λ b. ((goal.Brancher-dyn g (b.vtable, b.value)).label b.value, (goal.Brancher-dyn g (b.vtable, b.value)).rule b.value)) c.args.branchers.items) c.args.words.now ≡
+    Some (request_with (request_shown c.in-Some.request) (option_map (λ b. (goal.Brancher-dyn g (b.vtable, b.value)).rule b.value) c.chosen-brancher.result)) =
+    found_asked (map (λ b. ((goal.Brancher-dyn g (b.vtable, b.value)).label b.value, (goal.Brancher-dyn g (b.vtable, b.value)).rule b.value)) c.args.branchers.items)
+    c.args.words.now (request_shown c.in-Some.request) (option_map (λ b. (goal.Brancher-dyn g (b.vtable, b.value)).rule b.value) c.chosen-brancher.result) (search rules) c.chosen-brancher.ensures
+    (sym c.is_missing.ensures.missing ∙ c.if-is_missing.false) in
+    subst (λ (w : Option Request). reads_files w ≡ false → IsUntouched (g.S.Source.left c.args.source.now) (g.S.Source.stock c.args.source.now) (g.S.Source.faults c.args.source.now)
+    (g.S.Source.left c.request_reply.new.source) (g.S.Source.stock c.request_reply.new.source) (g.S.Source.faults c.request_reply.new.source)) (sym asked) c.request_reply.ensures.untouched
 
 pub returns-clause-names : goal.returns-clause-names
 returns-clause-names g c =
@@ -246,7 +115,5 @@ returns-clause-names g c =
     found_asked (map (λ b. ((goal.Brancher-dyn g (b.vtable, b.value)).label b.value, (goal.Brancher-dyn g (b.vtable, b.value)).rule b.value)) c.args.branchers.items)
     c.args.words.now (request_shown c.in-Some.request) (option_map (λ b. (goal.Brancher-dyn g (b.vtable, b.value)).rule b.value) c.chosen-brancher.result) (search rules) c.chosen-brancher.ensures
     (sym c.is_missing.ensures.missing ∙ c.if-is_missing.false) in
-    unread_begun (asked_of (map (λ b. ((goal.Brancher-dyn g (b.vtable, b.value)).label b.value, (goal.Brancher-dyn g (b.vtable, b.value)).rule b.value)) c.args.branchers.items) c.args.words.now)
-    (g.S.Source.stock c.args.source.now) (g.S.Source.names c.args.source.now) (g.S.Source.names c.read_all.new.source)
-    (request_with (request_shown c.in-Some.request) (option_map (λ b. (goal.Brancher-dyn g (b.vtable, b.value)).rule b.value) c.chosen-brancher.result)) asked
-    c.read_all.ensures.names (Err search.NoMemory) tt refl
+    subst (λ (w : Option Request). BeginsFiles (g.S.Source.stock c.args.source.now) (g.S.Source.names c.args.source.now)
+    (g.S.Source.names c.request_reply.new.source) w (meant_status c.request_reply.result)) (sym asked) c.request_reply.ensures.names

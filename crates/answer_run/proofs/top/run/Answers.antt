@@ -1,8 +1,11 @@
 -- What is so where a reply was written, and where there is none.
 use Rattle.std.proofs.Common.{inl, inr, Err, map, ap, sym, subst, ◌∙◌}
+use Rattle.std.proofs.lemmas.Result.{IfOk-at_ok}
+use Rattle.std.specs.Io.KnownBytes.{IsAtEnd}
 use Rattle.answer_texts.specs.Logs.{told}
+use Rattle.answer_texts.specs.declared.reply.Reply.{Reply}
 use Rattle.answer_run.proofs.Statuses.{not_written, pairs_end_once, run_written, stop_answers, stop_cause, stop_no_answer, stop_tells, written_cause, written_ends, written_tells}
-use Rattle.answer_run.specs.Replies.{BeginsFiles}
+use Rattle.answer_run.specs.Replies.{BeginsFiles, IsAnswered}
 use Rattle.answer_run.specs.Runs.{meant_status}
 use Rattle.answer_run.specs.Words.{asked_of}
 use Rattle.answer_run.proofs.Reading.{line_begun}
@@ -35,15 +38,21 @@ returns-in-Ok-clause-enough g c =
 
 pub returns-in-Ok-clause-ended : goal.returns-in-Ok-clause-ended
 returns-in-Ok-clause-ended g c =
+    λ files.
     written_ends (asked_of (map (λ b. ((goal.Brancher-dyn g (b.vtable, b.value)).label b.value, (goal.Brancher-dyn g (b.vtable, b.value)).rule b.value)) c.args.branchers.items) c.args.words.now)
     (g.S.Source.stock c.args.source.now) (g.S.Source.faults c.args.source.now) (g.S.Source.faults c.reply_for.new.source)
     (g.K.Sink.taken c.args.answer.now) (g.K.Sink.taken c.written.new.answer) (g.K.Sink.faults c.args.answer.now) (g.K.Sink.faults c.written.new.answer)
     (told (g.K.Sink.taken c.args.log.now) (g.K.Sink.names c.args.log.now))
-    (told (g.K.Sink.taken c.reply_for.new.log) (g.K.Sink.names c.reply_for.new.log)) c.in-Ok.reply c.written.result _ c.written.ensures.taken c.in-Ok.ensures.ended
+    (told (g.K.Sink.taken c.reply_for.new.log) (g.K.Sink.names c.reply_for.new.log)) c.in-Ok.reply c.written.result _ c.written.ensures.taken
+    (IfOk-at_ok (λ (reply : Reply). IsAnswered reply.status → IsAtEnd (g.S.Source.left c.reply_for.new.source)) c.in-Ok.is (c.reply_for.ensures.ended files))
 
 pub returns-in-Ok-clause-read : goal.returns-in-Ok-clause-read
 returns-in-Ok-clause-read g c =
     (written_tells _ _ _ _ _ _ _ _ _ _ (pairs_end_once c.checks_end_once.ensures.law c.evals_end_once.ensures.law) c.in-Ok.reply c.written.result c.in-Ok.ensures.reply c.written.ensures.taken).read
+
+pub returns-in-Ok-clause-read_of_files : goal.returns-in-Ok-clause-read_of_files
+returns-in-Ok-clause-read_of_files g c =
+    (written_tells _ _ _ _ _ _ _ _ _ _ (pairs_end_once c.checks_end_once.ensures.law c.evals_end_once.ensures.law) c.in-Ok.reply c.written.result c.in-Ok.ensures.reply c.written.ensures.taken).read_of_files
 
 pub returns-in-Ok-clause-write : goal.returns-in-Ok-clause-write
 returns-in-Ok-clause-write g c =
@@ -87,13 +96,19 @@ returns-in-Err-clause-enough g c =
     c.status_of.ensures.status).enough
 
 pub returns-in-Err-clause-ended : goal.returns-in-Err-clause-ended
-returns-in-Err-clause-ended g c = stop_no_answer c.in-Err.stop c.status_of.result _ c.status_of.ensures.status
+returns-in-Err-clause-ended g c = λ files. stop_no_answer c.in-Err.stop c.status_of.result _ c.status_of.ensures.status
 
 pub returns-in-Err-clause-read : goal.returns-in-Err-clause-read
 returns-in-Err-clause-read g c =
     (stop_tells (asked_of (map (λ b. ((goal.Brancher-dyn g (b.vtable, b.value)).label b.value, (goal.Brancher-dyn g (b.vtable, b.value)).rule b.value)) c.args.branchers.items) c.args.words.now)
     (g.S.Source.stock c.args.source.now) (g.S.Source.faults c.args.source.now) (g.S.Source.faults c.reply_for.new.source) c.in-Err.stop c.status_of.result
     c.status_of.ensures.status).read
+
+pub returns-in-Err-clause-read_of_files : goal.returns-in-Err-clause-read_of_files
+returns-in-Err-clause-read_of_files g c =
+    (stop_tells (asked_of (map (λ b. ((goal.Brancher-dyn g (b.vtable, b.value)).label b.value, (goal.Brancher-dyn g (b.vtable, b.value)).rule b.value)) c.args.branchers.items) c.args.words.now)
+    (g.S.Source.stock c.args.source.now) (g.S.Source.faults c.args.source.now) (g.S.Source.faults c.reply_for.new.source) c.in-Err.stop c.status_of.result
+    c.status_of.ensures.status).read_of_files
 
 pub returns-in-Err-clause-write : goal.returns-in-Err-clause-write
 returns-in-Err-clause-write g c =

@@ -10,23 +10,23 @@ use Rattle.answer_texts.proofs.solved.searched_answer.Goals as goal
 pub search_program-requires-clause-bits : goal.search_program-requires-clause-bits
 search_program-requires-clause-bits g c = root_few_bits c.requires.stated.0 c.args.stated.now c.args.program.now c.requires.stated.1 c.requires.program
 
-pub answer_of-requires-clause-inside : goal.answer_of-requires-clause-inside
-answer_of-requires-clause-inside g c = program_finds_point (problem_in c.args.stated.now) c.args.program.now c.in_ok-outcome.outcome c.requires.program c.in_ok-outcome.ensures.truth
+pub told-requires-clause-inside : goal.told-requires-clause-inside
+told-requires-clause-inside g c = program_finds_point (problem_in c.args.stated.now) c.args.program.now c.in_ok-outcome.outcome c.requires.program c.in_ok-outcome.ensures.truth
 
 pub returns-clause-answer : goal.returns-clause-answer
 returns-clause-answer g c =
-    answer_made c.requires.stated.0 c.args.stated.now c.requires.stated.1 c.args.program.now c.requires.program _
+    answer_made c.args.detail c.requires.stated.0 c.args.stated.now c.requires.stated.1 c.args.program.now c.requires.program _
     (g.K.Sink.taken c.args.sink.now) (g.K.Sink.taken c.search_program.new.sink) c.in_ok-outcome.outcome c.in_ok-answer.answer
     c.in_ok-outcome.ensures.truth c.in_ok-outcome.ensures.cause c.in_ok-outcome.ensures.log c.in_ok-answer.ensures.answer
 
 pub returns-in_err-answer-clause-stopped : goal.returns-in_err-answer-clause-stopped
 returns-in_err-answer-clause-stopped g c =
-    on_err _ (log_taken c.requires.stated.0 c.args.stated.now c.requires.stated.1 c.args.program.now c.requires.program _
+    on_err _ (log_taken c.args.detail c.requires.stated.0 c.args.stated.now c.requires.stated.1 c.args.program.now c.requires.program _
     (g.K.Sink.taken c.args.sink.now) (g.K.Sink.taken c.search_program.new.sink) c.in_ok-outcome.outcome c.in_ok-outcome.ensures.log)
 
 pub returns-in_err-outcome-clause-stopped : goal.returns-in_err-outcome-clause-stopped
 returns-in_err-outcome-clause-stopped g c =
-    on_err _ (search_stopped c.requires.stated.0 c.args.stated.now c.requires.stated.1 c.args.program.now c.requires.program _
+    on_err _ (search_stopped c.args.detail c.requires.stated.0 c.args.stated.now c.requires.stated.1 c.args.program.now c.requires.program _
     (g.K.Sink.taken c.args.sink.now) (g.K.Sink.taken c.search_program.new.sink) (at_err c.search_program.result c.in_err-outcome.field-0.0 (search rules) c.search_program.ensures.prefix))
 
 pub returns-clause-outcomes : goal.returns-clause-outcomes
