@@ -4,9 +4,12 @@
 # tables are told from; calls `read_options` with its words and drops as many as that has counted; then calls `run_and_tell` where
 # something `is_told` and else the program; and calls `drop_notes` when it ends.
 
-# The folder of an answer that is told in words, which does not outlive the script.
+# The folder of an answer that is told in words, and the processes of a run that can be stopped: none of them outlives the script.
 notes=
+running=
+watcher=
 drop_notes() {
+    [ -z "$running$watcher" ] || kill -KILL $running $watcher 2>/dev/null
     rm -rf ${notes:+"$notes"}
 }
 
@@ -21,8 +24,9 @@ fail() {
 table=
 page=
 why=
+seconds=
 
-# Sets `table`, `page` and `why` by the words, and `options` to how many words these options are.
+# Sets `table`, `page`, `why` and `seconds` by the words, and `options` to how many words these options are.
 read_options() {
     options=0
     while :; do
@@ -36,32 +40,67 @@ read_options() {
                 options=$((options + 1))
                 shift
                 ;;
+            --seconds=*) take_seconds "${1#--seconds=}" ;;
+            --seconds)
+                take_seconds "$2"
+                options=$((options + 1))
+                shift
+                ;;
             *) break ;;
         esac
         options=$((options + 1))
         shift
     done
-    [ -z "$table$page$why" ] || fit_options "$@"
+    [ -z "$table$page$why$seconds" ] || fit_options "$@"
+}
+take_seconds() {
+    case $1 in
+        '' | *[!0-9]* | ??????????*) seconds=0 ;;
+        *) seconds=$1 ;;
+    esac
+    [ "$seconds" -gt 0 ] || fail 2 'behind --seconds stands N, a whole number from 1 to 999999999'
 }
 
 # Ends where the options do not go with the command, or cannot be done here.
 fit_options() {
     case $1 in
         solve) ;;
-        tree) [ -z "$page$why" ] ;;
-        check) [ -z "$table$page" ] ;;
+        tree) [ -z "$page$why$seconds" ] ;;
+        check) [ -z "$table$page$seconds" ] ;;
         *) false ;;
-    esac || fail 2 "--table stands before 'solve' or 'tree', --page FILE before 'solve', --why before 'solve' or 'check'"
+    esac || fail 2 "--table stands before 'solve' or 'tree', --page FILE and --seconds N before 'solve', --why before 'solve' or 'check'"
     [ -z "$why" ] || [ "$1" = check ] || no_log "$@" ||
         fail 2 "--why has a log of its own: leave --log out, or run 'solve --log FILE MODEL', and then '--why check MODEL FILE'"
     [ -z "$page" ] || can_write "$page" || fail 70 "the page $page cannot be written"
     [ -z "$page" ] || command -v python3 >/dev/null || fail 127 '--page asks for python3, which is not on this machine'
+    [ -z "$seconds" ] || can_read_again "$@" || fail 70 '--seconds reads the model and the log once more: each has to be a file, and no pipe or device'
 }
 no_log() {
     for word do
         case $word in
             --log | --log=*) return 1 ;;
         esac
+    done
+}
+# The file of the log, where the words name one.
+log_of() {
+    while [ "$#" -gt 0 ]; do
+        case $1 in
+            --log=*)
+                printf '%s\n' "${1#--log=}"
+                return
+                ;;
+            --log)
+                printf '%s\n' "$2"
+                return
+                ;;
+        esac
+        shift
+    done
+}
+can_read_again() {
+    for file in "$(file_at 1 "$@")" "$(log_of "$@")"; do
+        [ ! -e "$file" ] || [ -f "$file" ] || [ -d "$file" ] || return 1
     done
 }
 can_write() {
@@ -73,7 +112,7 @@ can_write() {
 
 # Whether anything is told beside the answer.
 is_told() {
-    [ -n "$table$page$why" ] || explains
+    [ -n "$table$page$why$seconds" ] || explains
 }
 
 # Whether answers are told in words.
@@ -220,7 +259,8 @@ explain() {
                 "or $(forms LOG), where LOG is the file of a log of the model," \
                 "or $(forms POLICY), where POLICY is the file of a policy of it," \
                 "or $(forms SEED), where a text of STAGES, 1 to 9, is drawn by SEED"
-            echo 'sopl: before them may stand --table, --page FILE or --why, which tell more of an answer (docs/FORMATS.md)'
+            echo 'sopl: before them may stand --table, --page FILE or --why, which tell more of an answer, and --seconds N, which ends a search' \
+                '(docs/FORMATS.md)'
             ;;
         3)
             if [ -n "$is_file" ]; then
@@ -299,6 +339,154 @@ end_reading() {
     wait "$reader"
 }
 
+# A run that can be stopped: it has a log, which tells how far it came, and the same search up to there has an answer.
+
+# Of the last bytes of the log, as many as are given: how many nodes there are up to the last one with a policy, and how many are whole; 0
+# where there is none. Numbers of nodes ascend. A line that is cut off at its begin is left out, and so is one that the full stop changes.
+read_end() {
+    { tail -c "$1" "$log" 2>/dev/null; echo .; } | LC_ALL=C awk '
+        NR == 1 { next }
+        /^n [0-9]+ (r|[0-9]+ [lh])$/ { node = $2 + 1 }
+        node && /^([fx] .*[0-9b]|v)$/ { whole = node }
+        node && $0 == "v" { found = node }
+        END { printf "%.0f %.0f\n", found, whole }'
+}
+
+# Whether the program has begun the log: else an older one may stand there.
+is_begun() {
+    [ -n "$(find "$log" -newer "$notes/begun" 2>/dev/null)" ]
+}
+
+# Sets `found` and `whole` as `read_end` tells them, by no more of the log's end than it takes to see a policy.
+read_log() {
+    found=0
+    whole=0
+    is_begun || return 0
+    size=65536
+    bytes=$(wc -c <"$log")
+    while :; do
+        counts=$(read_end "$size")
+        found=${counts% *}
+        whole=${counts#* }
+        [ "$found" -eq 0 ] && [ "$size" -lt "$bytes" ] || return 0
+        size=$((16 * size))
+    done
+}
+
+# Ends the program after as many seconds as are given, if any are, and tells on a terminal how far it came. What sleeps holds nothing open.
+watch() {
+    passed=0
+    whole=0
+    until [ -n "$1" ] && [ "$passed" -ge "$1" ]; do
+        sleep 1 </dev/null >/dev/null 2>&1 5<&-
+        passed=$((passed + 1))
+        [ -t 2 ] || continue
+        ! is_begun || whole=$(read_end 65536)
+        printf '\r%s nodes, %s s ' "${whole#* }" "$passed" >&2
+    done
+    : >"$notes/late"
+    kill -KILL "$running"
+}
+
+# Ends the program.
+stop() {
+    stopped=1
+    interrupted=1
+    [ -z "$running" ] || kill -KILL "$running" 2>/dev/null
+}
+
+# Runs the program on the words behind the first, which is how many seconds it may take, or empty, and sets `status`. A `wait` that a signal
+# ends is begun anew, and says 127 where the program had ended before.
+run_watched() {
+    limit=$1
+    shift
+    status=127
+    if [ -e "$log" ]; then touch -r "$log" "$notes/begun"; else touch -t 200001010000 "$notes/begun"; fi
+    "$program" "$@" <&5 5<&- >"$notes/answer" &
+    running=$!
+    [ -z "$stopped" ] || kill -KILL "$running"
+    watch "$limit" &
+    watcher=$!
+    while :; do
+        interrupted=
+        wait "$running" 2>/dev/null
+        ended=$?
+        [ "$ended" -eq 127 ] || status=$ended
+        [ -n "$interrupted" ] || break
+    done
+    running=
+    kill -KILL "$watcher" 2>/dev/null
+    wait "$watcher" 2>/dev/null
+    watcher=
+    [ ! -t 2 ] || printf '\r%40s\r' '' >&2
+}
+
+# Runs the same search in as many seconds as are given, or empty, with a budget in place of that of the words, which is not smaller; of the
+# budget is told what is said.
+run_bounded() {
+    limit=$1
+    budget=$2
+    what=$3
+    shift 3
+    echo "sopl: the search was ended; it runs again with --budget $budget, $what, which takes as long again at most, and answers" >&2
+    echo 'sopl: what its last nodes found may be missing; who ends this run too has no answer' >&2
+    is_budget=
+    for word do
+        shift
+        [ -z "$is_budget" ] || { is_budget=; continue; }
+        case $word in
+            --budget) is_budget=1 ;;
+            --budget=*) ;;
+            *) set -- "$@" "$word" ;;
+        esac
+    done
+    run_watched "$limit" "$@" --budget "$budget"
+}
+
+# Whether the run was ended, by its seconds or by a signal.
+was_ended() {
+    [ "$status" -gt 128 ] && { [ -n "$stopped" ] || [ -e "$notes/late" ]; }
+}
+
+# Runs a search that was ended once more, up to what its log has; where it has no node yet, the first one has a bound, if it is not too long.
+run_again() {
+    stopped=
+    rm -f "$notes/late"
+    read_log
+    if [ "$found" -gt 0 ]; then
+        run_bounded '' "$found" 'up to the last node with a policy' "$@"
+    elif [ "$whole" -gt 0 ]; then
+        run_bounded '' "$whole" 'all nodes of its log, none with a policy' "$@"
+    else
+        run_bounded "$seconds" 1 'since its log had no node yet' "$@"
+        ! was_ended || fail 70 'nothing is known yet: the first node takes more seconds than that'
+    fi
+}
+
+# Runs the program so that it can be stopped, and where it was, the same search up to what its log has.
+run_stoppable() {
+    log=$(log_of "$@")
+    if no_log "$@"; then
+        log=$notes/log
+        set -- "$@" --log "$log"
+    fi
+    case $log in
+        /*) ;;
+        *) log=./$log ;;
+    esac
+    exec 5<&0
+    stopped=
+    trap stop INT TERM
+    run_watched "$seconds" "$@"
+    trap 'exit 130' INT
+    trap 'exit 143' TERM
+    ! was_ended || run_again "$@"
+    [ -z "$why" ] || [ ! -e "$log" ] || {
+        keep_tree
+        count_reasons - <"$log" >"$notes/why"
+    }
+}
+
 # What closed the nodes of the search, or of the log that was checked.
 show_why() {
     if [ "$command" = solve ]; then
@@ -333,7 +521,9 @@ run_and_tell() {
     notes=$(mktemp -d) || exit 70
     command=$1
     take_model "$@"
-    if [ "$why$command" = 1solve ]; then
+    if [ -n "$seconds" ]; then
+        run_stoppable "$@"
+    elif [ "$why$command" = 1solve ]; then
         begin_reading
         "$program" "$@" --log "$notes/log" >"$notes/answer" 3>&-
         status=$?

@@ -1,7 +1,8 @@
 #!/bin/sh
 # Runs the installed `sopl` on the words given: standard output and exit status are the program's. This is bin/sopl of the folder in which
 # `./sopl --install` has put it; the program, and what tells its answers, stand in lib/sopl, and the tables of FORMATS.md in share/doc/sopl.
-# Options before the command, `--table`, `--page FILE` and `--why`, tell more of the answer on standard error: the manual page has them.
+# Options before the command, `--table`, `--page FILE` and `--why`, tell more of the answer on standard error, and `--seconds N` ends a search:
+# the manual page has them.
 top=$(cd "$(dirname "$(readlink -f "$0")")/.." && pwd) || exit 70
 views=$top/lib/sopl
 program=$views/sopl
