@@ -1,11 +1,11 @@
 //! The store of a box.
 
-ghost use Rattle.std.specs.Prelude.{◌≡◌, [], ◌∷◌, ◌+◌, ◌<◌, ◌≤◌, ◌^◌, length, IfOk, OnOk, OnErr};
+ghost use Rattle.std.specs.Prelude.{◌≡◌, [], ◌∷◌, ◌++◌, ◌+◌, ◌<◌, ◌≤◌, ◌^◌, length, IfOk, OnOk, OnErr};
 ghost use Rattle.box_problem.specs.Box.{IsBox, box_of, low, high};
 ghost use Rattle.box_problem.specs.Steps.{IsCut, narrowed};
-ghost use Rattle.box_store.specs.Store.{IsUndone};
+ghost use Rattle.box_store.specs.Store.{IsUndone, HoldsChanges};
 
-use crate::trail::{End, Entry, back_to_mark};
+use crate::trail::{Before, End, Entry, back_to_mark};
 use sopl_base::{Interval, Side};
 use std::alloc::{AllocError, Global};
 use std::marker::Model;
@@ -17,6 +17,12 @@ pub struct BoxStore {
     lows: Vec<i64>,
     highs: Vec<i64>,
     trail: Vec<Entry>,
+    /// The cell of each change of the trail.
+    changes: Vec<u32>,
+    /// How many changes there were at the newest mark.
+    start: usize,
+    /// How long the trail can grow without memory.
+    room: usize,
 }
 
 impl Model for BoxStore {
@@ -37,11 +43,17 @@ impl BoxStore {
         requires few { length roots.now < 2 ^ 32 }
         ensures root { IfOk result (λ store. store.box ≡ box_of roots.now) }
         ensures marks { IfOk result (λ store. store.marks ≡ []) }
+        ensures changed { IfOk result (λ store. store.changed ≡ []) }
     {
+        let trail = Vec::new(alloc);
+        let changes = Vec::new(alloc);
         Ok(BoxStore {
             lows: lows_of(alloc, roots)?,
             highs: highs_of(alloc, roots)?,
-            trail: Vec::new(alloc),
+            trail,
+            changes,
+            start: 0,
+            room: 0,
         })
     }
 
@@ -89,9 +101,17 @@ impl BoxStore {
         ensures kept { self.old.spare ≤ self.new.spare }
         ensures same_box { self.new.box ≡ self.old.box }
         ensures same_marks { self.new.marks ≡ self.old.marks }
+        ensures same_changed { self.new.changed ≡ self.old.changed }
         ensures err { OnErr result (self.new ≡ self.old) }
     {
-        self.trail.reserve(n)
+        if n <= self.room.saturating_sub(self.trail.len()) {
+            return Ok(());
+        }
+        self.trail.reserve(n)?;
+        let room = self.trail.len() + n;
+        self.changes.reserve(room - self.changes.len())?;
+        self.room = room;
+        Ok(())
     }
 
     /// Moves one end of a cell to `k`: `Le` the upper one, `Ge` the lower one.
@@ -101,7 +121,9 @@ impl BoxStore {
         ensures narrowed { self.new.box ≡ narrowed self.old.box cell side k }
         ensures same_marks { self.new.marks ≡ self.old.marks }
         ensures spare { self.new.spare + 1 ≡ self.old.spare }
+        ensures changed { self.new.changed ≡ self.old.changed ++ cell ∷ [] }
     {
+        self.changes.push_reserved(cell);
         let at = cell as usize;
         match side {
             Side::Le => {
@@ -129,9 +151,23 @@ impl BoxStore {
         ensures same_box { self.new.box ≡ self.old.box }
         ensures marks { self.new.marks ≡ (record { box = self.old.box; spare = self.old.spare }) ∷ self.old.marks }
         ensures spare { self.new.spare + 1 ≡ self.old.spare }
+        ensures changed { self.new.changed ≡ [] }
     {
-        let spare = self.trail.capacity() - self.trail.len();
-        self.trail.push_reserved(Entry::Marked(spare));
+        let before = Before {
+            spare: self.room - self.trail.len(),
+            start: self.start,
+        };
+        self.trail.push_reserved(Entry::Marked(before));
+        self.start = self.changes.len();
+    }
+
+    /// The cells that were tightened since the newest mark, in that order, each as often as it was tightened.
+    pub fn changed(&self) -> &[u32]
+        requires marked { 0 < length self.now.marks }
+        ensures listed { result.now ≡ self.now.changed }
+        ensures held { HoldsChanges self.now.marks self.now.box result.now }
+    {
+        &self.changes.as_slice()[self.start..]
     }
 
     /// Goes back to the box at the newest mark, and takes that mark away.
@@ -139,7 +175,8 @@ impl BoxStore {
         requires marked { 0 < length self.old.marks }
         ensures { IsUndone self.old.marks self.new }
     {
-        back_to_mark(
+        self.changes.truncate(self.start);
+        self.start = back_to_mark(
             &mut self.trail,
             self.lows.as_mut_slice(),
             self.highs.as_mut_slice(),

@@ -1,10 +1,10 @@
-ghost use Rattle.std.specs.Prelude.{◌≡◌, ◌+◌, ◌≤◌, length, IfOk};
+ghost use Rattle.std.specs.Prelude.{◌≡◌, ◌+◌, ◌<◌, ◌≤◌, length, IfOk};
 
 use super::*;
 
-/// A store of cells from 0 to 9 and from -4 to 4, with room for four changes or marks.
+/// A store of cells from 0 to 9 and from -4 to 4, with room for six changes or marks.
 fn small(alloc: Global) -> Result<BoxStore, AllocError>
-    ensures room { IfOk result (λ store. 4 ≤ store.spare) }
+    ensures room { IfOk result (λ store. 6 ≤ store.spare) }
 {
     let mut roots = Vec::new(alloc);
     for (lo, hi) in [(0, 9), (-4, 4)] {
@@ -13,7 +13,7 @@ fn small(alloc: Global) -> Result<BoxStore, AllocError>
         }
     }
     let mut store = BoxStore::new(alloc, prefix(roots.as_slice()))?;
-    store.reserve(4)?;
+    store.reserve(6)?;
     Ok(store)
 }
 
@@ -66,4 +66,25 @@ fn ends_move_and_come_back(rt: HostRuntime) {
     assert!(rt; shows(&store, &[0, -4], &[7, 4]), "one moved");
     store.undo();
     assert!(rt; shows(&store, &[0, -4], &[9, 4]), "none moved");
+}
+
+fn tells(store: &BoxStore, cells: &[u32]) -> bool
+    requires { 0 < length store.now.marks }
+{
+    store.changed() == cells
+}
+
+#[test]
+fn changed_cells_are_those_since_the_newest_mark(rt: HostRuntime) {
+    let mut store = small(rt.alloc()).expect(&rt, "memory");
+    moved(&mut store, 1, Side::Le, 3);
+    store.mark();
+    assert!(rt; tells(&store, &[]), "none since the first mark");
+    moved(&mut store, 0, Side::Le, 7);
+    store.mark();
+    moved(&mut store, 1, Side::Ge, 2);
+    moved(&mut store, 1, Side::Le, 2);
+    assert!(rt; tells(&store, &[1, 1]), "one cell twice");
+    store.undo();
+    assert!(rt; tells(&store, &[0]), "the one before the second mark");
 }
