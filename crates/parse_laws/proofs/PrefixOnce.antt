@@ -1,36 +1,12 @@
 -- Tokens are misspelled by one code at one place.
-use Rattle.std.proofs.Common.{◌≡◌, ◌∙◌, refl, sym, ap, subst, ℕ, List, [], ◌∷◌, ◌++◌, append_assoc}
+use Rattle.std.proofs.Common.{◌≡◌, ◌∙◌, sym, ap, subst, ℕ, List, [], ◌∷◌, ◌++◌, append_assoc}
 use Rattle.sopl_ast.specs.declared.token.Token.{Token}
 use Rattle.sopl_ast.specs.Grammar.{Spells, IsPrefix}
 use Rattle.sopl_ast.specs.Misspelled.{place_in, NoneGoesOn, IsMisplaced, IsTooDeep, misplaced, too_deep}
 use Rattle.sopl_lex.proofs.Meet.{same_refusal}
 use Rattle.parse_laws.specs.Misspelled.{PrefixesAreClosed, MisspelledOnce}
 use Rattle.parse_laws.proofs.Prefixes.{prefixes_go_on}
-
--- two ways to cut one list in two: at one place, or one before the other
-data Cuts (a b c d : List Token) : Type 0 where
-  at_one : a ≡ c → b ≡ d → Cuts a b c d
-  sooner : (u : Token) (us : List Token) → c ≡ a ++ u ∷ us → b ≡ u ∷ us ++ d → Cuts a b c d
-  later : (u : Token) (us : List Token) → a ≡ c ++ u ∷ us → d ≡ u ∷ us ++ b → Cuts a b c d
-
--- a token before both
-cuts_behind : (u v : Token) (a b c d : List Token) → u ≡ v → Cuts a b c d → Cuts (u ∷ a) b (v ∷ c) d
-cuts_behind u v a b c d same (at_one one two) = at_one (ap (λ x. x ∷ a) same ∙ ap (λ l. v ∷ l) one) two
-cuts_behind u v a b c d same (sooner w ws one two) = sooner w ws (ap (λ l. v ∷ l) one ∙ ap (λ x. x ∷ (a ++ w ∷ ws)) (sym same)) two
-cuts_behind u v a b c d same (later w ws one two) = later w ws (ap (λ l. u ∷ l) one ∙ ap (λ x. x ∷ (c ++ w ∷ ws)) same) two
-
-same_first : (u v : Token) (us vs : List Token) → u ∷ us ≡ v ∷ vs → u ≡ v
-same_first u v us vs e = cc
-
-same_rest : (u v : Token) (us vs : List Token) → u ∷ us ≡ v ∷ vs → us ≡ vs
-same_rest u v us vs e = cc
-
-cuts : (a b c d : List Token) → a ++ b ≡ c ++ d → Cuts a b c d
-cuts [] b [] d e = at_one refl e
-cuts [] b (v ∷ vs) d e = sooner v vs refl e
-cuts (u ∷ us) b [] d e = later u us refl (sym e)
-cuts (u ∷ us) b (v ∷ vs) d e =
-    cuts_behind u v us b vs d (same_first u v (us ++ b) (vs ++ d) e) (cuts us b vs d (same_rest u v (us ++ b) (vs ++ d) e))
+use Rattle.parse_laws.proofs.TwoCuts.{TwoCuts, at_one, sooner, later, same_first, two_cuts}
 
 -- where reading stops: what stands before is a prefix, and is none with the token there
 record Stops (n : ℕ) (tokens : List Token) : Type 0 where
@@ -81,9 +57,9 @@ record SamePlace (n : ℕ) (tokens : List Token) (a b : Stops n tokens) : Type 0
   behind : a.behind ≡ b.behind
 
 one_place : PrefixesAreClosed → (n : ℕ) (tokens : List Token) (a b : Stops n tokens) → SamePlace n tokens a b
-one_place closed n tokens a b = by_cuts (cuts a.before a.behind b.before b.behind (sym a.split ∙ b.split))
+one_place closed n tokens a b = by_cuts (two_cuts a.before a.behind b.before b.behind (sym a.split ∙ b.split))
   where
-    by_cuts : Cuts a.before a.behind b.before b.behind → SamePlace n tokens a b
+    by_cuts : TwoCuts a.before a.behind b.before b.behind → SamePlace n tokens a b
     by_cuts (at_one one two) = record { before = one; behind = two }
     by_cuts (sooner u us one two) = absurd (not_sooner closed n tokens a b u us one two)
     by_cuts (later u us one two) = absurd (not_sooner closed n tokens b a u us one two)

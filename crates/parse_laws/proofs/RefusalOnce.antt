@@ -8,13 +8,13 @@ use Rattle.sopl_ast.specs.Misspelled.{IsMisspelled}
 use Rattle.parse_laws.proofs.PrefixOnce.{misspelled_once}
 use Rattle.parse_laws.specs.RefusalLaws.{no_tokens, misspelled, OneRefusal}
 
-abbrev lexed : List Token → Result (List Token) Refusal
+abbrev pub lexed : List Token → Result (List Token) Refusal
 lexed tokens = Ok tokens
 
 abbrev unlexed : Refusal → Result (List Token) Refusal
 unlexed refusal = Err refusal
 
-same_tokens : (a b : List Token) → lexed a ≡ lexed b → a ≡ b
+pub same_tokens : (a b : List Token) → lexed a ≡ lexed b → a ≡ b
 same_tokens a b e = cc
 
 same_refusal : (a b : Refusal) → unlexed a ≡ unlexed b → a ≡ b

@@ -5,11 +5,11 @@ use Rattle.sopl_ast.specs.Whole.{ModelTree}
 use Rattle.sopl_ast.specs.Grammar.{Spells, IsPrefix}
 
 -- some model's tokens begin with these
-pub record GoesOn (tokens : List Token) : Type 0 where
+pub record BeginsSomeModel (tokens : List Token) : Type 0 where
   pub others : List Token
   pub whole : ModelTree
   pub spelled : Spells (tokens ++ others) whole
 
 -- tokens that go along the productions up to where they end are the beginning of some model's tokens
 abbrev pub PrefixesGoOn : Type 0
-PrefixesGoOn = (n : ℕ) (tokens : List Token) → IsPrefix n tokens → GoesOn tokens
+PrefixesGoOn = (n : ℕ) (tokens : List Token) → IsPrefix n tokens → BeginsSomeModel tokens
