@@ -90,6 +90,13 @@ impl Chance {
         })
     }
 
+    /// The cells that its conditions mention, in ascending order.
+    pub fn cells(&self) -> &[u32]
+        ensures { result.now ≡ self.now.cells.items }
+    {
+        self.cells.as_slice()
+    }
+
     /// The one reason for which it narrows boxes.
     fn reason(&self) -> Reason
         ensures { result ≡ reason.Chance self.now.instance }
@@ -182,7 +189,7 @@ impl Chance {
         }
     }
 
-    /// The same; where the weight that is left has no room, each end is tried by all scenarios.
+    /// What is found of the box for the constraint; where the weight that is left has no room, each end is tried by all scenarios.
     fn finding<'a>(&'a self, probe: &'a Probe<'a>, left: Option<Wide>) -> Finding
         requires fits { Fits self.now probe.now.program.now }
         requires asked { IsAsked probe.now }
@@ -197,7 +204,7 @@ impl Chance {
         }
     }
 
-    /// The same of the box of a store, against the best value where there is one, where it is given the weight that is left.
+    /// What is found of the box of a store, against the best value where there is one, by the weight that is left.
     fn found<'a>(
         &self,
         program: &'a Program,
@@ -231,6 +238,8 @@ impl Propagator for Chance {
     ghost reasons = { reasons_of };
 
     ghost fits = { Fits };
+
+    ghost in_step = { λ _ _ _. Unit {0} };
 
     fn revise(&mut self, program: &Program, store: &BoxStore, best: Option<i128>) -> Finding {
         let left = self.truths.look(program, self.instance, store);

@@ -165,7 +165,7 @@ fn partial_scenarios(
     Ok(list)
 }
 
-/// The same for the box of all points.
+/// The scenarios in which the objective's term may have no value in the box of all points.
 fn partial_of(alloc: Global, program: &Program) -> Result<Vec<u32>, AllocError>
     requires made { IsMade program.now }
     ensures partial { IfOk result (λ list. ArePartial (root_in program.now) (problem_in program.now) (length (problem_in program.now).weights) list.items) }
@@ -196,7 +196,7 @@ fn term_step(probe: &Probe<'_>, scenario: u32, term: TermId) -> Option<Step>
     }
 }
 
-/// The same of the term in that scenario, where there is an objective.
+/// A right step for the objective's lack of a value in that scenario, or none; without an objective nothing is asked.
 #[tactic(auto, using(crate::proofs::Objectives::quiet_without))]
 fn undefined_step(probe: &Probe<'_>, scenario: u32) -> Option<Step>
     requires asked { IsAsked probe.now }
@@ -227,7 +227,7 @@ fn closes_by_end(probe: &Probe<'_>, end: Wide) -> bool
     }
 }
 
-/// The same; where the end is not at hand, it is computed.
+/// Whether the bound closes the box, by its better end, which is computed where it is not at hand.
 fn is_beaten(probe: &Probe<'_>, known: Option<Wide>) -> bool
     requires asked { IsAsked probe.now }
     requires reason { probe.now.reason ≡ Bound }
@@ -260,6 +260,13 @@ impl Goal {
             parts,
             touched,
         })
+    }
+
+    /// The cells that the objective's terms mention, in ascending order.
+    pub fn cells(&self) -> &[u32]
+        ensures { result.now ≡ self.now.cells.items }
+    {
+        self.cells.as_slice()
     }
 
     /// The first scenario in which the objective's lack of a value closes the box, if there is one.
@@ -324,7 +331,7 @@ impl Goal {
         self.parts.look(program, store)
     }
 
-    /// The same where there is a best value; else nothing is asked.
+    /// The better end over the box where there is a best value to compare it with; else nothing is asked.
     fn look_for(&mut self, program: &Program, store: &BoxStore, best: Option<i128>) -> Option<Wide>
         requires fits { Fits self.old program.now }
         requires inside { Inside store.now.box (root_in program.now) }
@@ -359,7 +366,7 @@ impl Goal {
         }
     }
 
-    /// The same by the better end over the box and the parts that mention each cell.
+    /// A right step for the bound, or none, by the better end over the box and the parts that mention each cell.
     fn step_by<'a>(&'a self, probe: &'a Probe<'a>, end: Wide) -> Option<Step>
         requires fits { Fits self.now probe.now.program.now }
         requires asked { IsAsked probe.now }
@@ -454,6 +461,8 @@ impl Propagator for Goal {
     ghost reasons = { reasons_of };
 
     ghost fits = { Fits };
+
+    ghost in_step = { λ _ _ _. Unit {0} };
 
     fn revise(&mut self, program: &Program, store: &BoxStore, best: Option<i128>) -> Finding {
         if let Some(reason) = self.undefined(program, store, best) {

@@ -1,4 +1,5 @@
 //! The propagators of a chance constraint and of the objective: each tests both ends of each cell that its reasons mention.
+//! Its tests stand in `search_tests`.
 #![tactic(auto)]
 
 mod cell_sets;

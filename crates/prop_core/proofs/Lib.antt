@@ -2,3 +2,8 @@ pub mod Members
 pub mod Rests
 pub mod Stepping
 pub mod Rising
+pub mod Calmed
+pub mod Told
+pub mod Onward
+pub mod Listed
+pub mod Rested

@@ -3,3 +3,8 @@ pub mod Rests
 pub mod Members
 pub mod Sweeps
 pub mod Rising
+pub mod Watches
+pub mod Waking
+pub mod Places
+-- For proofs alone: nothing is to be believed here
+pub mod Alike

@@ -15,7 +15,7 @@ use sopl_base::{Step, Steps};
 use std::alloc::AllocError;
 
 /// Makes a step in the box of a store, and adds it to a list of steps.
-fn make(step: &Step, store: &mut BoxStore, steps: &mut Steps) -> Result<(), AllocError>
+pub(crate) fn make(step: &Step, store: &mut BoxStore, steps: &mut Steps) -> Result<(), AllocError>
     requires cut { IsCut store.old.box step.now.cell step.now.side step.now.k }
     ensures made { OnOk result (store.new.box ≡ after_step store.old.box step.now) }
     ensures added { OnOk result (steps.new ≡ steps.old ++ step.now ∷ []) }

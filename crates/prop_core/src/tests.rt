@@ -1,7 +1,8 @@
 ghost use Rattle.std.specs.Prelude.{◌≡◌, ◌<◌, ◌∷◌, [], length, ◌^◌, All, IfOk};
 ghost use Rattle.sopl_base.specs.declared.reason.Reason.TheVariants.{Hard};
-ghost use Rattle.box_problem.specs.Box.{Inside, box_of};
-ghost use Rattle.prop_core.specs.Rising.{AreCells, rising};
+ghost use Rattle.box_problem.specs.Box.{Box, Inside, box_of};
+ghost use Rattle.prop_core.specs.Rising.{AreCells, LooksAtRise, rising};
+ghost use Rattle.prop_core.specs.Watches.{HasRested};
 
 use super::*;
 use box_store::BoxStore;
@@ -30,6 +31,8 @@ impl Propagator for Rise {
     ghost reasons = { λ rise. Hard rise.first rise.second ∷ [] };
 
     ghost fits = { λ rise program. AreCells program.intervals.items rise.first rise.second };
+
+    ghost in_step = { λ _ _ _. Unit {0} };
 
     #[tactic(auto, using(crate::proofs::Rising::cell_there, crate::proofs::Rising::rise_dead, crate::proofs::Rising::rise_first, crate::proofs::Rising::rise_second, crate::proofs::Rising::rise_quiet))]
     fn revise(&mut self, _program: &Rising, store: &BoxStore, _best: Option<i128>) -> Finding {
@@ -60,10 +63,29 @@ impl Propagator for Rise {
     }
 }
 
+/// A member for two cells, which rests until one of them has changed.
+fn resting(
+    alloc: Global,
+    program: &Rising,
+    first: u32,
+    second: u32,
+) -> Result<Resting<Rise>, AllocError>
+    requires cells { AreCells program.now.intervals.items first second }
+    ensures fits { IfOk result (λ made. LooksAtRise program.now.intervals.items program.now.reasons.items made.member.first made.member.second made.cells.items) }
+    ensures in_step { IfOk result (λ made. (b : Box) → HasRested (rising (box_of program.now.intervals.items) program.now.reasons.items)
+        (Hard made.member.first made.member.second ∷ []) made.rested b) }
+{
+    let cells = Vec::from_slice(alloc, &[first, second])?;
+    Ok(Resting::new(Rise { first, second }, cells))
+}
+
 /// A member for each reason whose cells exist.
-#[tactic(auto, using(sopl_base::proofs::Lists::all_none, crate::proofs::Rising::all_more))]
-fn members(alloc: Global, program: &Rising) -> Result<Vec<Rise>, AllocError>
-    ensures fit { IfOk result (λ list. All (λ rise. AreCells program.now.intervals.items rise.first rise.second) list.items) }
+#[tactic(auto, using(sopl_base::proofs::Lists::all_none))]
+fn members(alloc: Global, program: &Rising) -> Result<Vec<Resting<Rise>>, AllocError>
+    ensures fit { IfOk result (λ list. All (λ made. LooksAtRise program.now.intervals.items program.now.reasons.items made.member.first made.member.second
+        made.cells.items) list.items) }
+    ensures in_step { IfOk result (λ list. (b : Box) → All (λ made. HasRested (rising (box_of program.now.intervals.items) program.now.reasons.items)
+        (Hard made.member.first made.member.second ∷ []) made.rested b) list.items) }
 {
     let count = program.intervals.len();
     let mut list = Vec::new(alloc);
@@ -71,12 +93,13 @@ fn members(alloc: Global, program: &Rising) -> Result<Vec<Rise>, AllocError>
         let Reason::Hard { instance, scenario } = *reason else {
             continue;
         };
-        if (instance as usize) < count && (scenario as usize) < count {
-            list.push(Rise {
-                first: instance,
-                second: scenario,
-            })?;
+        if instance as usize >= count {
+            continue;
         }
+        if scenario as usize >= count {
+            continue;
+        }
+        list.push(resting(alloc, program, instance, scenario)?)?;
     }
     Ok(list)
 }
@@ -118,11 +141,42 @@ fn comes_to_rest(
     Ok(calm == Calm::Quiet && same && steps.as_slice().len() == count)
 }
 
+/// Whether they do where each member is asked once, and again only where one of its cells has changed; then all of them have rested.
+#[tactic(auto, using(crate::proofs::Rising::root_inside))]
+fn comes_to_rest_kept(
+    alloc: Global,
+    program: &Rising,
+    lows: &[i64],
+    highs: &[i64],
+    count: usize,
+) -> Result<bool, AllocError>
+    requires few { length program.now.intervals.items < 2 ^ 32 }
+{
+    let mut store = BoxStore::new(alloc, program.intervals.as_slice())?;
+    let mut steps = Steps::new(alloc);
+    let mut list = members(alloc, program)?;
+    let watch = Watch::new(alloc, list.as_slice(), store.cells())?;
+    let calm = fixpoint_kept(
+        alloc,
+        list.as_mut_slice(),
+        &watch,
+        program,
+        &mut store,
+        None,
+        &mut steps,
+    )?;
+    let same = store.lows() == lows && store.highs() == highs;
+    let rested = list.iter().all(|member| member.rested.is_some());
+    Ok(calm == Calm::Quiet && same && rested && steps.as_slice().len() == count)
+}
+
 #[test]
 fn cells_come_to_rest(rt: HostRuntime) {
     let program = four(rt.alloc(), &[(2, 9), (0, 9), (0, 9), (0, 5)]).expect(&rt, "memory");
     if program.intervals.len() <= 4 {
         let rests = comes_to_rest(rt.alloc(), &program, &[2, 2, 2, 2], &[5, 5, 5, 5], 6);
         assert!(rt; rests.expect(&rt, "memory"), "six steps");
+        let kept = comes_to_rest_kept(rt.alloc(), &program, &[2, 2, 2, 2], &[5, 5, 5, 5], 6);
+        assert!(rt; kept.expect(&rt, "memory"), "six steps, and all rest");
     }
 }

@@ -1,2 +1,3 @@
 pub mod Together
 pub mod Asking
+pub mod Deciding

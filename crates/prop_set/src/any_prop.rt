@@ -1,26 +1,27 @@
 //! A propagator of any kind.
 
 ghost use Rattle.term_program.specs.Stated.{box_problem_of};
-ghost use Rattle.prop_set.specs.Kinds.{Fits, reasons_of};
+ghost use Rattle.prop_set.specs.Kinds.{Fits, IsInStep, reasons_of, watches_of};
 
 use box_store::BoxStore;
 use prop_alldiff::AllDiff;
 use prop_chance::{Chance, Goal};
-use prop_core::{Finding, Propagator};
+use prop_core::{Finding, Propagator, Resting, Watching};
 use prop_cumul::Cumul;
 use prop_linear::Linear;
 use prop_term::AnyTerm;
 use term_program::Program;
 
-/// A propagator of any kind: of a linear comparison, of `allDifferent`, of `cumulative`, of another hard constraint, of a chance constraint, or of the objective.
+/// A propagator of any kind: of a linear comparison, of `allDifferent`, of `cumulative`, of another hard constraint, of a chance constraint, or of the
+/// objective. Where it has rested and no cell has changed since that one of its reasons mentions, it is not asked anew.
 #[derive(Drop)]
 pub enum AnyProp {
-    Linear(Linear),
-    AllDiff(AllDiff),
-    Cumul(Cumul),
-    AnyTerm(AnyTerm),
-    Chance(Chance),
-    Goal(Goal),
+    Linear(Resting<Linear>),
+    AllDiff(Resting<AllDiff>),
+    Cumul(Resting<Cumul>),
+    AnyTerm(Resting<AnyTerm>),
+    Chance(Resting<Chance>),
+    Goal(Resting<Goal>),
 }
 
 impl Propagator for AnyProp {
@@ -32,6 +33,8 @@ impl Propagator for AnyProp {
 
     ghost fits = { Fits };
 
+    ghost in_step = { IsInStep };
+
     fn revise(&mut self, program: &Program, store: &BoxStore, best: Option<i128>) -> Finding {
         match self {
             AnyProp::Linear(prop) => prop.revise(program, store, best),
@@ -42,4 +45,48 @@ impl Propagator for AnyProp {
             AnyProp::Goal(prop) => prop.revise(program, store, best),
         }
     }
+}
+
+impl Watching for AnyProp {
+    ghost use Rattle.prop_core.specs.Alike.{rested_alike};
+    ghost use Rattle.prop_set.specs.Kinds.{rested_in};
+
+    ghost watches = { watches_of };
+
+    fn watched_cells(&self) -> &[u32] {
+        match self {
+            AnyProp::Linear(prop) => prop.watched_cells(),
+            AnyProp::AllDiff(prop) => prop.watched_cells(),
+            AnyProp::Cumul(prop) => prop.watched_cells(),
+            AnyProp::AnyTerm(prop) => prop.watched_cells(),
+            AnyProp::Chance(prop) => prop.watched_cells(),
+            AnyProp::Goal(prop) => prop.watched_cells(),
+        }
+    }
+
+    fn touched(&mut self, cell: u32) {
+        match self {
+            AnyProp::Linear(prop) => prop.touched(cell),
+            AnyProp::AllDiff(prop) => prop.touched(cell),
+            AnyProp::Cumul(prop) => prop.touched(cell),
+            AnyProp::AnyTerm(prop) => prop.touched(cell),
+            AnyProp::Chance(prop) => prop.touched(cell),
+            AnyProp::Goal(prop) => prop.touched(cell),
+        }
+    }
+
+    fn revise_kept(&mut self, program: &Program, store: &BoxStore, best: Option<i128>) -> Finding {
+        match self {
+            AnyProp::Linear(prop) => prop.revise_kept(program, store, best),
+            AnyProp::AllDiff(prop) => prop.revise_kept(program, store, best),
+            AnyProp::Cumul(prop) => prop.revise_kept(program, store, best),
+            AnyProp::AnyTerm(prop) => prop.revise_kept(program, store, best),
+            AnyProp::Chance(prop) => prop.revise_kept(program, store, best),
+            AnyProp::Goal(prop) => prop.revise_kept(program, store, best),
+        }
+    }
+
+    ghost steps_agree = { λ m p b c fits b_in c_in agree rested. rested_alike (box_problem_of p) (reasons_of m) (watches_of m) (rested_in m) b c fits.looks b_in c_in agree rested };
+
+    ghost reasons_agree = { λ m p fits. fits.looks };
 }

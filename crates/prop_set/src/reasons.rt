@@ -3,13 +3,16 @@
 ghost use Rattle.std.specs.Prelude.{◌≡◌, ◌<◌, ◌∷◌, ◌++◌, [], length, map, IfOk, OnOk};
 ghost use Rattle.sopl_base.specs.declared.reason.Reason.TheVariants as reason;
 ghost use Rattle.term_program.specs.Stated.{box_problem_of};
+ghost use Rattle.box_problem.specs.Box.{Box};
 ghost use Rattle.prop_core.specs.Members.{AllFit, together};
+ghost use Rattle.prop_core.specs.Watches.{AllInStep};
 ghost use Rattle.term_program.specs.Programs.{IsMade, problem_in};
-ghost use Rattle.prop_set.specs.Kinds.{Fits, chance_reasons, goal_reasons, reasons_of};
+ghost use Rattle.prop_set.specs.Kinds.{Fits, IsInStep, chance_reasons, goal_reasons, reasons_of};
 
 use crate::any_prop::AnyProp;
 use crate::members::hard_props;
 use prop_chance::{Chance, Goal};
+use prop_core::Resting;
 use std::alloc::{AllocError, Global};
 use term_program::Program;
 
@@ -19,8 +22,11 @@ fn chance_prop(alloc: Global, program: &Program, instance: u32) -> Result<AnyPro
     requires instance { instance < length (problem_in program.now).chances }
     ensures reasons { IfOk result (λ made. reasons_of made ≡ reason.Chance instance ∷ []) }
     ensures fits { IfOk result (λ made. Fits made program.now) }
+    ensures in_step { IfOk result (λ made. (b : Box) → IsInStep made program.now b) }
 {
-    Ok(AnyProp::Chance(Chance::new(alloc, program, instance)?))
+    let member = Chance::new(alloc, program, instance)?;
+    let cells = Vec::from_slice(alloc, member.cells())?;
+    Ok(AnyProp::Chance(Resting::new(member, cells)))
 }
 
 /// The propagator of the objective.
@@ -28,8 +34,11 @@ fn goal_prop(alloc: Global, program: &Program) -> Result<AnyProp, AllocError>
     requires made { IsMade program.now }
     ensures reasons { IfOk result (λ made. reasons_of made ≡ goal_reasons (problem_in program.now)) }
     ensures fits { IfOk result (λ made. Fits made program.now) }
+    ensures in_step { IfOk result (λ made. (b : Box) → IsInStep made program.now b) }
 {
-    Ok(AnyProp::Goal(Goal::new(alloc, program)?))
+    let member = Goal::new(alloc, program)?;
+    let cells = Vec::from_slice(alloc, member.cells())?;
+    Ok(AnyProp::Goal(Resting::new(member, cells)))
 }
 
 /// Adds the propagators of all chance constraints.
@@ -37,7 +46,9 @@ fn goal_prop(alloc: Global, program: &Program) -> Result<AnyProp, AllocError>
 fn add_chances(alloc: Global, program: &Program, list: &mut Vec<AnyProp>) -> Result<(), AllocError>
     requires made { IsMade program.now }
     requires fit { AllFit Fits program.now list.old.items }
+    requires in_step { (b : Box) → AllInStep IsInStep program.now b list.old.items }
     ensures fit { OnOk result (AllFit Fits program.now list.new.items) }
+    ensures in_step { OnOk result ((b : Box) → AllInStep IsInStep program.now b list.new.items) }
     ensures reasons { OnOk result (together (map reasons_of list.new.items) ≡ together (map reasons_of list.old.items) ++ chance_reasons (problem_in program.now)) }
 {
     'instances: for instance in 0..program.chances() {
@@ -47,11 +58,13 @@ fn add_chances(alloc: Global, program: &Program, list: &mut Vec<AnyProp>) -> Res
 }
 
 /// Adds the propagator of the objective.
-#[tactic(auto, using(crate::proofs::Together::fit_more, crate::proofs::Together::goal_more))]
+#[tactic(auto, using(crate::proofs::Together::goal_more))]
 fn add_goal(alloc: Global, program: &Program, list: &mut Vec<AnyProp>) -> Result<(), AllocError>
     requires made { IsMade program.now }
     requires fit { AllFit Fits program.now list.old.items }
+    requires in_step { (b : Box) → AllInStep IsInStep program.now b list.old.items }
     ensures fit { OnOk result (AllFit Fits program.now list.new.items) }
+    ensures in_step { OnOk result ((b : Box) → AllInStep IsInStep program.now b list.new.items) }
     ensures reasons { OnOk result (together (map reasons_of list.new.items) ≡ together (map reasons_of list.old.items) ++ goal_reasons (problem_in program.now)) }
 {
     list.push(goal_prop(alloc, program)?)?;
@@ -64,6 +77,7 @@ fn add_goal(alloc: Global, program: &Program, list: &mut Vec<AnyProp>) -> Result
 pub fn props_of(alloc: Global, program: &Program) -> Result<Vec<AnyProp>, AllocError>
     requires made { IsMade program.now }
     ensures fit { IfOk result (λ list. AllFit Fits program.now list.items) }
+    ensures in_step { IfOk result (λ list. (b : Box) → AllInStep IsInStep program.now b list.items) }
     ensures reasons { IfOk result (λ list. together (map reasons_of list.items) ≡ (box_problem_of program.now).reasons) }
 {
     let mut list = hard_props(alloc, program)?;

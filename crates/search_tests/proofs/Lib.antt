@@ -1,3 +1,5 @@
 pub mod Growing
 pub mod Resting
 pub mod ProgramResting
+pub mod Counting
+pub mod Posing

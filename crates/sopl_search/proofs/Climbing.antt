@@ -1,13 +1,14 @@
 -- What holds of two cells of which the first one climbs.
-use Rattle.std.proofs.Common.{◌≡◌, ℕ, zero, suc, ◌^◌, ◌<◌, ◌≤◌, nat_le, ℤ, pos, ◌+ℤ◌, ◌-ℤ◌, ◌<ℤ◌, ◌≤ℤ◌, int_le, Bool, true, false, List, [], ◌∷◌, ◌++◌, Option, Some, None}
+use Rattle.std.proofs.Common.{◌≡◌, ℕ, zero, suc, ◌^◌, ◌<◌, ◌≤◌, nat_le, ℤ, pos, ◌+ℤ◌, ◌-ℤ◌, ◌<ℤ◌, ◌≤ℤ◌, int_le, int_lt, Bool, true, false, List, [], ◌∷◌, ◌++◌, Option, Some, None}
 use Rattle.std.proofs.Common.{length, get_or, arith, refl, sym, ap, subst, ◌∙◌}
 use Rattle.std.specs.Int.{int_gap}
-use Rattle.std.specs.List.{Contains, range_with_len}
+use Rattle.std.specs.List.{All, Contains, range_with_len}
 use Rattle.std.proofs.lemmas.List.FromFn.{length-range_with_len}
 use Rattle.std.proofs.lemmas.List.Sums.{count_by-le-length, length-filter}
 use Rattle.box_problem.specs.Bits.{bits_in, digits}
 use Rattle.std.proofs.lemmas.Int.{ints, by_lt_z}
 use Rattle.std.proofs.lemmas.List.{get_or-set_same}
+use Rattle.std.proofs.lemmas.List.Elements.{All-cons, All-nil}
 use Rattle.sopl_base.specs.declared.direction.Direction.TheVariants.{Maximize}
 use Rattle.sopl_base.specs.declared.interval.Interval.{Interval}
 use Rattle.sopl_base.specs.declared.reason.Reason.{Reason}
@@ -20,6 +21,7 @@ use Rattle.box_problem.specs.Rightness.{Quiets}
 use Rattle.box_problem.proofs.Boxes.{intervals_make_a_box}
 use Rattle.box_problem.proofs.Lists.{at_set}
 use Rattle.prop_core.specs.Findings.{Closes, Narrows}
+use Rattle.prop_core.specs.Watches.{LooksAt}
 use Rattle.sopl_search.specs.Climbing.{both_reasons, climbing, is_closed, pair_of, reached}
 use Rattle.sopl_search.specs.Ends.{AreAll, IsPosed}
 use Rattle.box_problem.specs.Near.{IsNear, IsNearBox}
@@ -207,6 +209,19 @@ pub climb_all : (root : Box) → AreAll (climbing root) (both_reasons ++ [])
 climb_all root = record {
   among = λ reason own. subst (λ (rs : List Reason). Contains rs reason) (sym (append_nothing both_reasons)) own;
 }
+
+-- both look at the two cells alone
+pub climb_looks : (root : Box) (cells : List ℕ) → cells ≡ 0 ∷ 1 ∷ [] → LooksAt (climbing root) both_reasons cells
+climb_looks root cells is =
+    subst (λ (list : List ℕ). LooksAt (climbing root) both_reasons list) (sym is)
+    (λ b c v reason b_in c_in agree own.
+    for_both (λ r. is_closed r b v ≡ is_closed r c v)
+    (ap (λ h. int_lt h (low b 0)) (agree.highs 1 (1, omega arith, refl)) ∙ ap (λ l. int_lt (high c 1) l) (agree.lows 0 (0, omega arith, refl)))
+    (ap (λ h. reached h v) (agree.highs 0 (0, omega arith, refl)))
+    reason own)
+
+pub only_member : {X : Type 0} (P : X → Type 0) (xs : List X) (x : X) → xs ≡ x ∷ [] → P x → All P xs
+only_member P xs x is holds = subst (All P) (sym is) (All-cons P x [] holds (All-nil P))
 
 -- both intervals are near
 pub pair_near : (first second : Interval) → IsNear first.lo → IsNear first.hi → IsNear second.lo → IsNear second.hi → IsNearBox (pair_of first second)

@@ -3,6 +3,7 @@ mod Parts
 mod Drawing
 mod Picking
 mod Resting
+mod Followed
 mod Entering
 mod BestEnds
 mod Taken

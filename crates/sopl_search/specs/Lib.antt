@@ -8,4 +8,5 @@ pub mod TreeLaws
 pub mod Frontiers
 pub mod Moves
 pub mod Closes
+pub mod Following
 pub mod Climbing

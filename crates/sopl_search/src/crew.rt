@@ -10,8 +10,10 @@ ghost use Rattle.sopl_base.specs.declared.stop.SearchStop.TheVariants.{NoMemory,
 ghost use Rattle.log_rows.specs.Lines.{ended, head_line};
 ghost use Rattle.log_rows.specs.declared.rows.Row.{Row};
 ghost use Rattle.prop_core.specs.Members.{AllFit, together};
+ghost use Rattle.prop_core.specs.Watches.{AllInStep};
 ghost use Rattle.sopl_search.specs.Closes.{IsBrokenClose, IsClosed};
 ghost use Rattle.sopl_search.specs.Ends.{AreAll, IsPosed};
+ghost use Rattle.sopl_search.specs.Following.{AreFollowing};
 ghost use Rattle.sopl_search.specs.Frontiers.{IsBegun, IsSearchOf, Keeps};
 ghost use Rattle.sopl_search.specs.Moves.{IsBrokenStep, IsStepped};
 ghost use Rattle.sopl_search.specs.Outcomes.{HasCause as HasSearchCause, IsTrueOf, value_of};
@@ -20,6 +22,8 @@ ghost use Rattle.sopl_search.specs.Schedules.{AreSeats};
 use crate::frontier::Frontier;
 use crate::outcome::Outcome;
 use crate::posed::SearchProblem;
+use crate::watchers::Watchers;
+use box_store::BoxStore;
 use brancher::Brancher;
 use log_rows::put_head;
 use sopl_base::SearchStop;
@@ -31,7 +35,7 @@ use std::alloc::{AllocError, Global};
 #[derive(Drop)]
 pub struct Crew<P> {
     pub alloc: Global,
-    pub list: Vec<P>,
+    pub watchers: Watchers<P>,
     pub brancher: Option<Box<dyn Brancher>>,
     pub frontier: Frontier,
     pub broken: bool,
@@ -50,24 +54,35 @@ impl<P: SearchProblem + Drop> Crew<P> {
         requires valid { P.valid program.now }
         requires fits { AllFit P.fits program.now props.items }
         requires all { AreAll (P.problem program.now) (together (map P.reasons props.items)) }
+        requires in_step { AllInStep P.in_step program.now (P.problem program.now).root props.items }
         requires seats { AreSeats seats }
         ensures begun { IfOk result (λ crew. IsBegun (P.problem program.now).root seats crew.frontier) }
         ensures search { IfOk result (λ crew. IsSearchOf (P.problem program.now) (option_map rule brancher) crew.frontier) }
         ensures first_state { IfOk result (λ crew. Keeps (P.problem program.now) (option_map rule brancher) [] crew.frontier) }
-        ensures fits { IfOk result (λ crew. AllFit P.fits program.now crew.list.items) }
-        ensures all { IfOk result (λ crew. AreAll (P.problem program.now) (together (map P.reasons crew.list.items))) }
+        ensures fits { IfOk result (λ crew. AllFit P.fits program.now crew.watchers.list.items) }
+        ensures all { IfOk result (λ crew. AreAll (P.problem program.now) (together (map P.reasons crew.watchers.list.items))) }
+        ensures following { IfOk result (λ crew. AreFollowing P.in_step P.watches program.now (P.problem program.now).root crew.watchers) }
         ensures asked { IfOk result (λ crew. option_map rule crew.brancher ≡ option_map rule brancher) }
         ensures whole { IfOk result (λ crew. crew.broken ≡ false) }
     {
         let roots = P::roots(alloc, program)?;
-        let frontier = Frontier::new(alloc, roots.as_slice(), seats)?;
+        let store = BoxStore::new(alloc, roots.as_slice())?;
+        let watchers = Watchers::new(alloc, props, &store)?;
+        let frontier = Frontier::new(alloc, store, seats)?;
         Ok(Crew {
             alloc,
-            list: props,
+            watchers,
             brancher,
             frontier,
             broken: false,
         })
+    }
+
+    /// The propagators, in the order in which they were handed in.
+    pub fn members(&self) -> &[P]
+        ensures { result.now ≡ self.now.watchers.list.items }
+    {
+        self.watchers.list.as_slice()
     }
 
     /// How many nodes are open.
@@ -115,7 +130,7 @@ impl<P: SearchProblem + Drop> Crew<P> {
         ensures all { OnOk result (GathersAll (K.taken sink.old) self.old.frontier.gather.kept (K.taken sink.new) self.new.frontier.gather.kept (ended head_line)) }
         ensures prefix { OnErr result (AppendsPrefix (K.taken sink.old) (K.taken sink.new) (self.old.frontier.gather.kept ++ ended head_line)) }
         ensures stop { OnErr result (result ≡ Err Write) }
-        ensures list { self.new.list ≡ self.old.list }
+        ensures watchers { self.new.watchers ≡ self.old.watchers }
         ensures brancher { self.new.brancher ≡ self.old.brancher }
         ensures walk { self.new.frontier.walk ≡ self.old.frontier.walk }
         ensures seats { self.new.frontier.seats ≡ self.old.frontier.seats }
@@ -142,8 +157,9 @@ impl<P: SearchProblem + Drop> Crew<P> {
     ) -> Result<(), SearchStop>
         requires posed { IsPosed (P.problem program.now) }
         requires valid { P.valid program.now }
-        requires fits { AllFit P.fits program.now self.old.list.items }
-        requires all { AreAll (P.problem program.now) (together (map P.reasons self.old.list.items)) }
+        requires fits { AllFit P.fits program.now self.old.watchers.list.items }
+        requires all { AreAll (P.problem program.now) (together (map P.reasons self.old.watchers.list.items)) }
+        requires following { AreFollowing P.in_step P.watches program.now (P.problem program.now).root self.old.watchers }
         requires search { IsSearchOf (P.problem program.now) (option_map rule self.old.brancher) self.old.frontier }
         requires some { 0 < self.old.frontier.open_count }
         requires room { self.old.frontier.finished < 2 ^ 62 }
@@ -157,8 +173,9 @@ impl<P: SearchProblem + Drop> Crew<P> {
             → OnErr result (IsBrokenStep (P.problem program.now) rows seat self.old.frontier (K.taken sink.old) (K.taken sink.new)) }
         ensures finished { OnOk result (self.new.frontier.finished ≡ self.old.frontier.finished + 1) }
         ensures seats { OnOk result (length self.new.frontier.seats.seats.items ≡ length self.old.frontier.seats.seats.items) }
-        ensures fits { AllFit P.fits program.now self.new.list.items }
-        ensures all { AreAll (P.problem program.now) (together (map P.reasons self.new.list.items)) }
+        ensures fits { AllFit P.fits program.now self.new.watchers.list.items }
+        ensures all { AreAll (P.problem program.now) (together (map P.reasons self.new.watchers.list.items)) }
+        ensures following { AreFollowing P.in_step P.watches program.now (P.problem program.now).root self.new.watchers }
         ensures asked { option_map rule self.new.brancher ≡ option_map rule self.old.brancher }
         ensures whole { OnOk result (self.new.broken ≡ false) }
         ensures broken { OnErr result (self.new.broken ≡ true) }
@@ -171,7 +188,7 @@ impl<P: SearchProblem + Drop> Crew<P> {
         self.frontier.step(
             self.alloc,
             program,
-            self.list.as_mut_slice(),
+            &mut self.watchers,
             &mut self.brancher,
             seat,
             sink,

@@ -9,17 +9,19 @@ ghost use Rattle.brancher.specs.Picks.{IsProperChoice};
 ghost use Rattle.prop_core.specs.Members.{AllFit, StillFit, together};
 ghost use Rattle.log_rows.specs.Ranges.{EndFits};
 ghost use Rattle.open_nodes.specs.Ways.{row_cut};
+ghost use Rattle.sopl_search.specs.Following.{AreFollowing};
 ghost use Rattle.sopl_search.specs.Lines.{line_of};
 ghost use Rattle.sopl_search.specs.Ends.{AreAll, Ends, EndsPicked, IsPosed};
 
 use crate::fitting::reason_fits;
+use crate::watchers::Watchers;
 use box_store::BoxStore;
 use brancher::{Brancher, Choice, pick};
 use log_rows::{Cut, EndLine};
 use open_nodes::Halving;
-use prop_core::{Calm, Propagator, fixpoint};
+use prop_core::{Calm, Watching};
 use sopl_base::{Reason, Steps};
-use std::alloc::AllocError;
+use std::alloc::{AllocError, Global};
 
 /// How a node ends: a reason closes its box, its box is cut into two halves, or its box is one point that is better than all before.
 #[derive(Clone, Copy)]
@@ -91,8 +93,9 @@ fn end_of(store: &BoxStore, brancher: &mut Option<Box<dyn Brancher>>, depth: u32
 
 /// Narrows the box of a node at this depth until propagators rest, adds these steps to a list, and tells how the node ends.
 #[tactic(auto, using(crate::proofs::Resting::appended_inside, crate::proofs::Resting::near_part))]
-pub(crate) fn finish<P: Propagator>(
-    list: &mut [P],
+pub(crate) fn finish<P: Watching + Drop>(
+    alloc: Global,
+    watchers: &mut Watchers<P>,
     program: &P::Program,
     store: &mut BoxStore,
     best: Option<i128>,
@@ -101,17 +104,19 @@ pub(crate) fn finish<P: Propagator>(
     depth: u32,
 ) -> Result<NodeEnd, AllocError>
     requires posed { IsPosed (P.problem program.now) }
-    requires fits { AllFit P.fits program.now list.old }
-    requires all { AreAll (P.problem program.now) (together (map P.reasons list.old)) }
+    requires fits { AllFit P.fits program.now watchers.old.list.items }
+    requires all { AreAll (P.problem program.now) (together (map P.reasons watchers.old.list.items)) }
+    requires following { AreFollowing P.in_step P.watches program.now (P.problem program.now).root watchers.old }
     requires inside { Inside store.old.box (P.problem program.now).root }
     ensures ends { IfOk result (Ends (P.problem program.now) best (option_map rule brancher.old) depth store.new.box) }
     ensures steps { Appended (P.problem program.now) best store.old.box steps.old steps.new store.new.box }
     ensures marks { store.new.marks ≡ store.old.marks }
-    ensures same_reasons { map P.reasons list.new ≡ map P.reasons list.old }
-    ensures still_fit { StillFit P.fits list.old list.new }
+    ensures following { AreFollowing P.in_step P.watches program.now (P.problem program.now).root watchers.new }
+    ensures same_reasons { map P.reasons watchers.new.list.items ≡ map P.reasons watchers.old.list.items }
+    ensures still_fit { StillFit P.fits watchers.old.list.items watchers.new.list.items }
     ensures same_rule { option_map rule brancher.new ≡ option_map rule brancher.old }
 {
-    match fixpoint(list, program, store, best, steps)? {
+    match watchers.come_to_rest(alloc, program, store, best, steps)? {
         Calm::Dead(reason) => Ok(NodeEnd::Refuted(reason)),
         Calm::Quiet => Ok(end_of(store, brancher, depth)),
     }

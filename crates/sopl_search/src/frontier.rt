@@ -1,17 +1,18 @@
 //! What a search has found, and what it has left to do.
 
-ghost use Rattle.std.specs.Prelude.{◌≡◌, ◌+◌, ◌<◌, ◌≤◌, ◌^◌, ◌++◌, List, length, map, option_map, Some, Err, IfOk, OnOk, OnErr};
+ghost use Rattle.std.specs.Prelude.{◌≡◌, ◌+◌, ◌<◌, ◌≤◌, ◌^◌, ◌++◌, [], List, length, map, option_map, Some, Err, IfOk, OnOk, OnErr};
 ghost use Rattle.sopl_io.specs.Calls.{StopsAtFailure, StopsWhere};
 ghost use Rattle.sopl_io.specs.Causes.{HasCause, Rose};
 ghost use Rattle.sopl_io.specs.Transfer.{AppendsPrefix};
 ghost use Rattle.sopl_base.specs.declared.stop.SearchStop.TheVariants.{Write};
-ghost use Rattle.box_problem.specs.Box.{Inside, box_of};
+ghost use Rattle.box_problem.specs.Box.{Inside};
 ghost use Rattle.prop_core.specs.Members.{AllFit, StillFit, together};
 ghost use Rattle.log_rows.specs.Lines.{row_lines, text_of};
 ghost use Rattle.log_rows.specs.Ranges.{RowFits};
 ghost use Rattle.log_rows.specs.declared.rows.Row.{Row};
 ghost use Rattle.open_nodes.specs.Takes.{Takes, lists_of};
 ghost use Rattle.sopl_search.specs.Ends.{AreAll, IsPosed};
+ghost use Rattle.sopl_search.specs.Following.{AreFollowing};
 ghost use Rattle.sopl_search.specs.Frontiers.{IsBegun, Keeps, Stands, StandsAtRoot, first_lists, nodes_of};
 ghost use Rattle.sopl_search.specs.Moves.{GivesSplit, HasTaken, IsBrokenStep, IsEnded, IsPut, IsStepped, IsWorked, event_told, worked_row};
 ghost use Rattle.sopl_search.specs.Outcomes.{found_at, value_of};
@@ -24,11 +25,12 @@ use crate::nodes::{cell_of, depth_of, parent_of};
 use crate::outcome::{Found, value_in};
 use crate::posed::SearchProblem;
 use crate::values::Values;
+use crate::watchers::Watchers;
 use box_store::BoxStore;
 use brancher::{Brancher, Event, tell};
 use log_rows::{Row, put_row};
 use open_nodes::{BoxWalk, Halving, OpenNode, Seats, made, release};
-use sopl_base::{Interval, SearchStop, Side, Steps};
+use sopl_base::{SearchStop, Side, Steps};
 use sopl_io::{Gather, Sink};
 use std::alloc::{AllocError, Global};
 
@@ -57,12 +59,11 @@ pub(crate) struct WorkedNode {
     pub(crate) end: NodeEnd,
 }
 
-/// A box that stands at the root.
-fn rooted(alloc: Global, roots: &[Interval]) -> Result<BoxWalk, AllocError>
-    requires few { length roots.now < 2 ^ 32 }
-    ensures stands { IfOk result (λ walk. StandsAtRoot (box_of roots.now) walk) }
+/// A box that stands at the root, which is the box of this store.
+fn rooted(alloc: Global, mut store: BoxStore) -> Result<BoxWalk, AllocError>
+    requires unmarked { store.marks ≡ [] }
+    ensures stands { IfOk result (λ walk. StandsAtRoot store.box walk) }
 {
-    let mut store = BoxStore::new(alloc, roots)?;
     store.reserve(1)?;
     store.mark();
     Ok(BoxWalk {
@@ -86,14 +87,14 @@ fn seated(alloc: Global, seats: u32) -> Result<Seats, AllocError>
 }
 
 impl Frontier {
-    /// One open node, whose box is that of all points; the first of so many seats has it.
-    pub(crate) fn new(alloc: Global, roots: &[Interval], seats: u32) -> Result<Frontier, AllocError>
-        requires few { length roots.now < 2 ^ 32 }
+    /// One open node, whose box is that of this store; the first of so many seats has it.
+    pub(crate) fn new(alloc: Global, store: BoxStore, seats: u32) -> Result<Frontier, AllocError>
+        requires unmarked { store.marks ≡ [] }
         requires seats { AreSeats seats }
-        ensures begun { IfOk result (IsBegun (box_of roots.now) seats) }
+        ensures begun { IfOk result (IsBegun store.box seats) }
     {
         Ok(Frontier {
-            walk: rooted(alloc, roots)?,
+            walk: rooted(alloc, store)?,
             remade: Vec::new(alloc),
             seats: seated(alloc, seats)?,
             open_count: 1,
@@ -125,17 +126,18 @@ impl Frontier {
     }
 
     /// Takes the node that a step of this seat finishes, and narrows its box.
-    fn work<P: SearchProblem>(
+    fn work<P: SearchProblem + Drop>(
         &mut self,
         alloc: Global,
         program: &P::Program,
-        list: &mut [P],
+        watchers: &mut Watchers<P>,
         brancher: &mut Option<Box<dyn Brancher>>,
         seat: u32,
     ) -> Result<WorkedNode, AllocError>
         requires posed { IsPosed (P.problem program.now) }
-        requires fits { AllFit P.fits program.now list.old }
-        requires all { AreAll (P.problem program.now) (together (map P.reasons list.old)) }
+        requires fits { AllFit P.fits program.now watchers.old.list.items }
+        requires all { AreAll (P.problem program.now) (together (map P.reasons watchers.old.list.items)) }
+        requires following { AreFollowing P.in_step P.watches program.now (P.problem program.now).root watchers.old }
         requires exists { seat < length self.old.seats.seats.items }
         requires some { 0 < self.old.open_count }
         requires stands { Stands (P.problem program.now) self.old }
@@ -143,8 +145,9 @@ impl Frontier {
         ensures worked { (rows : List Row) → Keeps (P.problem program.now) (option_map rule brancher.old) rows self.old
             → IfOk result (IsWorked (P.problem program.now) (option_map rule brancher.old) rows seat self.old self.new) }
         ensures taken { (node : OpenNode) × (others : List (List OpenNode)) × Takes (lists_of self.old.seats) others seat node }
-        ensures same_reasons { map P.reasons list.new ≡ map P.reasons list.old }
-        ensures still_fit { StillFit P.fits list.old list.new }
+        ensures following { AreFollowing P.in_step P.watches program.now (P.problem program.now).root watchers.new }
+        ensures same_reasons { map P.reasons watchers.new.list.items ≡ map P.reasons watchers.old.list.items }
+        ensures still_fit { StillFit P.fits watchers.old.list.items watchers.new.list.items }
         ensures same_rule { option_map rule brancher.new ≡ option_map rule brancher.old }
     {
         let node = self.take(seat);
@@ -153,7 +156,8 @@ impl Frontier {
         let best = self.value();
         let mut steps = Steps::new(alloc);
         let end = finish(
-            list,
+            alloc,
+            watchers,
             program,
             &mut self.walk.store,
             best,
@@ -292,19 +296,20 @@ impl Frontier {
     }
 
     /// Finishes one node: the newest one of this seat, or else the oldest one of the first seat that has one.
-    pub(crate) fn step<P: SearchProblem, K: Sink>(
+    pub(crate) fn step<P: SearchProblem + Drop, K: Sink>(
         &mut self,
         alloc: Global,
         program: &P::Program,
-        list: &mut [P],
+        watchers: &mut Watchers<P>,
         brancher: &mut Option<Box<dyn Brancher>>,
         seat: u32,
         sink: &mut K,
     ) -> Result<(), SearchStop>
         requires posed { IsPosed (P.problem program.now) }
         requires valid { P.valid program.now }
-        requires fits { AllFit P.fits program.now list.old }
-        requires all { AreAll (P.problem program.now) (together (map P.reasons list.old)) }
+        requires fits { AllFit P.fits program.now watchers.old.list.items }
+        requires all { AreAll (P.problem program.now) (together (map P.reasons watchers.old.list.items)) }
+        requires following { AreFollowing P.in_step P.watches program.now (P.problem program.now).root watchers.old }
         requires exists { seat < length self.old.seats.seats.items }
         requires some { 0 < self.old.open_count }
         requires room { self.old.finished < 2 ^ 62 }
@@ -317,15 +322,16 @@ impl Frontier {
             → OnErr result (IsBrokenStep (P.problem program.now) rows seat self.old (K.taken sink.old) (K.taken sink.new)) }
         ensures finished { OnOk result (self.new.finished ≡ self.old.finished + 1) }
         ensures seats { OnOk result (length self.new.seats.seats.items ≡ length self.old.seats.seats.items) }
-        ensures same_reasons { map P.reasons list.new ≡ map P.reasons list.old }
-        ensures still_fit { StillFit P.fits list.old list.new }
+        ensures following { AreFollowing P.in_step P.watches program.now (P.problem program.now).root watchers.new }
+        ensures same_reasons { map P.reasons watchers.new.list.items ≡ map P.reasons watchers.old.list.items }
+        ensures still_fit { StillFit P.fits watchers.old.list.items watchers.new.list.items }
         ensures same_rule { option_map rule brancher.new ≡ option_map rule brancher.old }
         ensures names { K.names sink.new ≡ K.names sink.old }
         ensures faults_grow { K.faults sink.old ≤ K.faults sink.new }
         ensures write { result ≡ Err Write → Rose (K.faults sink.old) (K.faults sink.new) }
         ensures outcomes { StopsWhere (result ≡ Err Write) (K.outcomes sink.old) (K.outcomes sink.new) }
     {
-        let worked = self.work(alloc, program, list, brancher, seat)?;
+        let worked = self.work(alloc, program, watchers, brancher, seat)?;
         let worked = self.put(sink, worked)?;
         let event = event_of(&worked);
         self.end::<P>(alloc, program, seat, worked)?;

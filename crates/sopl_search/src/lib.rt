@@ -1,4 +1,5 @@
 //! The search for the best point of a problem by branch and bound, over any propagators, by one seat or several.
+//! Its tests stand in `tests`; those over the programs of texts in `search_tests` and `run_tests`.
 #![tactic(auto)]
 
 mod bounding;
@@ -16,6 +17,7 @@ mod schedule;
 mod searching;
 mod tree_laws;
 mod values;
+mod watchers;
 
 pub use crew::Crew;
 pub use crew_laws::{runs_are_logs, settled_outcomes_agree};
@@ -27,6 +29,7 @@ pub use searching::search;
 pub use sopl_base::SearchStop;
 pub use tree_laws::{high_half_never_alone, sides_are_ordered};
 pub use values::Values;
+pub use watchers::Watchers;
 
 #[cfg(test)]
 mod tests;

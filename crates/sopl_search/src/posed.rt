@@ -1,12 +1,12 @@
 //! What a search reads of the problem that propagators narrow.
 
 use box_store::BoxStore;
-use prop_core::Propagator;
+use prop_core::Watching;
 use sopl_base::{Direction, Interval};
 use std::alloc::{AllocError, Global};
 
 /// A propagator whose programs tell the box of all points, which values are better, and the better end over a box.
-pub trait SearchProblem: Propagator {
+pub trait SearchProblem: Watching {
     ghost use Rattle.std.specs.Prelude.{◌≡◌, ◌<◌, ◌^◌, length, IfOk};
     ghost use Rattle.box_problem.specs.Box.{Inside, box_of};
 

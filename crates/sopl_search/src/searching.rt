@@ -11,7 +11,9 @@ ghost use Rattle.box_problem.specs.Covers.{nodes_for};
 ghost use Rattle.box_problem.specs.Near.{IsNearBox};
 ghost use Rattle.brancher.specs.Rules.{Rule};
 ghost use Rattle.prop_core.specs.Members.{AllFit, together};
+ghost use Rattle.prop_core.specs.Watches.{AllInStep};
 ghost use Rattle.sopl_search.specs.Ends.{AreAll, IsPosed};
+ghost use Rattle.sopl_search.specs.Following.{AreFollowing};
 ghost use Rattle.sopl_search.specs.Frontiers.{IsRunning};
 ghost use Rattle.sopl_search.specs.Logged.{IsLogged, IsPrefixLogged, plan_of};
 ghost use Rattle.sopl_search.specs.Outcomes.{HasCause, IsSettled, IsTrueOf};
@@ -39,14 +41,16 @@ fn begun<P: SearchProblem + Drop, K: Sink>(
     requires valid { P.valid program.now }
     requires fits { AllFit P.fits program.now props.items }
     requires all { AreAll (P.problem program.now) (together (map P.reasons props.items)) }
+    requires in_step { AllInStep P.in_step program.now (P.problem program.now).root props.items }
     ensures running { IfOk result (λ crew. IsRunning (P.problem program.now) (plan_of schedule (option_map rule brancher) budget) crew.frontier
         (K.taken sink.old) (K.taken sink.new)) }
     ensures prefix { OnErr result (IsPrefixLogged (P.problem program.now) (plan_of schedule (option_map rule brancher) budget)
         (K.taken sink.old) (K.taken sink.new)) }
     ensures none_finished { IfOk result (λ crew. crew.frontier.finished ≡ 0) }
     ensures root { IfOk result (λ crew. crew.frontier.open_count ≡ 1) }
-    ensures fits { IfOk result (λ crew. AllFit P.fits program.now crew.list.items) }
-    ensures all { IfOk result (λ crew. AreAll (P.problem program.now) (together (map P.reasons crew.list.items))) }
+    ensures fits { IfOk result (λ crew. AllFit P.fits program.now crew.watchers.list.items) }
+    ensures all { IfOk result (λ crew. AreAll (P.problem program.now) (together (map P.reasons crew.watchers.list.items))) }
+    ensures following { IfOk result (λ crew. AreFollowing P.in_step P.watches program.now (P.problem program.now).root crew.watchers) }
     ensures asked { IfOk result (λ crew. option_map rule crew.brancher ≡ option_map rule brancher) }
     ensures whole { IfOk result (λ crew. crew.broken ≡ false) }
     ensures names { K.names sink.new ≡ K.names sink.old }
@@ -69,8 +73,9 @@ fn run<P: SearchProblem + Drop, K: Sink>(
 ) -> Result<(), SearchStop>
     requires posed { IsPosed (P.problem program.now) }
     requires valid { P.valid program.now }
-    requires fits { AllFit P.fits program.now crew.old.list.items }
-    requires all { AreAll (P.problem program.now) (together (map P.reasons crew.old.list.items)) }
+    requires fits { AllFit P.fits program.now crew.old.watchers.list.items }
+    requires all { AreAll (P.problem program.now) (together (map P.reasons crew.old.watchers.list.items)) }
+    requires following { AreFollowing P.in_step P.watches program.now (P.problem program.now).root crew.old.watchers }
     requires whole { crew.old.broken ≡ false }
     requires begun { crew.old.frontier.finished ≡ 0 }
     requires root { 0 < crew.old.frontier.open_count }
@@ -120,6 +125,7 @@ pub fn search<P: SearchProblem + Drop, K: Sink>(
     requires valid { P.valid program.now }
     requires fits { AllFit P.fits program.now props.items }
     requires all { AreAll (P.problem program.now) (together (map P.reasons props.items)) }
+    requires in_step { AllInStep P.in_step program.now (P.problem program.now).root props.items }
     requires budget { 1 ≤ budget }
     requires turn { schedule.turn ≡ 0 }
     ensures truth { IfOk result (IsTrueOf (P.problem program.now)) }

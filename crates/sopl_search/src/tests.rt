@@ -1,5 +1,8 @@
-ghost use Rattle.std.specs.Prelude.{◌≡◌, ◌≤◌};
+ghost use Rattle.std.specs.Prelude.{◌≡◌, ◌≤◌, map, All, IfOk};
+ghost use Rattle.prop_core.specs.Members.{together};
+ghost use Rattle.prop_core.specs.Watches.{FitsAndLooksAt, HasRested};
 ghost use Rattle.sopl_search.specs.Climbing.{both_reasons, climbing, pair_of, reached};
+ghost use Rattle.sopl_search.specs.Ends.{AreAll};
 ghost use Rattle.sopl_search.specs.Schedules.{AreSeats, IsOrder};
 
 use super::*;
@@ -7,7 +10,7 @@ use crate::tests::answering::{AnswerKind, AnsweringBrancher};
 use crate::tests::pairs::{Pair, near_pair};
 use box_store::BoxStore;
 use brancher::{Brancher, Choice};
-use prop_core::{Finding, Propagator};
+use prop_core::{Finding, Propagator, Resting};
 use sopl_base::{Direction, Interval, Reason, Side, Step};
 use sopl_io::MemSink;
 use std::alloc::{AllocError, Global};
@@ -43,6 +46,8 @@ impl Propagator for Climb {
     ghost reasons = { λ _. both_reasons };
 
     ghost fits = { λ _ _. Unit {0} };
+
+    ghost in_step = { λ _ _ _. Unit {0} };
 
     #[tactic(auto, using(crate::proofs::Climbing::both_cells, crate::proofs::Climbing::climb_crossed))]
     fn revise(&mut self, _program: &Pair, store: &BoxStore, best: Option<i128>) -> Finding {
@@ -80,7 +85,7 @@ impl Propagator for Climb {
     }
 }
 
-impl SearchProblem for Climb {
+impl SearchProblem for Resting<Climb> {
     ghost valid = { λ _. Unit {0} };
 
     fn roots(alloc: Global, program: &Pair) -> Result<Vec<Interval>, AllocError> {
@@ -96,8 +101,31 @@ impl SearchProblem for Climb {
     }
 }
 
+/// The propagator of a pair, which rests until one of its cells has changed.
+fn climber(alloc: Global, pair: &Pair) -> Result<Resting<Climb>, AllocError>
+    ensures fits { IfOk result (λ made. FitsAndLooksAt (Unit {0}) (climbing (pair_of pair.now.first pair.now.second)) both_reasons made.cells.items) }
+    ensures in_step { IfOk result (λ made. HasRested (climbing (pair_of pair.now.first pair.now.second)) both_reasons made.rested
+        (pair_of pair.now.first pair.now.second)) }
+{
+    let cells = Vec::from_slice(alloc, &[0, 1])?;
+    Ok(Resting::new(Climb, cells))
+}
+
+/// It alone.
+fn climbers(alloc: Global, pair: &Pair) -> Result<Vec<Resting<Climb>>, AllocError>
+    ensures fits { IfOk result (λ list. All (λ made. FitsAndLooksAt (Unit {0}) (climbing (pair_of pair.now.first pair.now.second)) both_reasons made.cells.items)
+        list.items) }
+    ensures all { IfOk result (λ list. AreAll (climbing (pair_of pair.now.first pair.now.second)) (together (map (λ _. both_reasons) list.items))) }
+    ensures in_step { IfOk result (λ list. All (λ made. HasRested (climbing (pair_of pair.now.first pair.now.second)) both_reasons made.rested
+        (pair_of pair.now.first pair.now.second)) list.items) }
+{
+    let mut list = Vec::new(alloc);
+    list.push(climber(alloc, pair)?)?;
+    Ok(list)
+}
+
 /// What a search over a pair of cells answers; a sink takes its log.
-#[tactic(auto, using(crate::proofs::Climbing::climb_all, crate::proofs::Climbing::pair_bits))]
+#[tactic(auto, using(crate::proofs::Climbing::pair_bits))]
 fn outcome_of(
     alloc: Global,
     pair: &Pair,
@@ -110,13 +138,13 @@ fn outcome_of(
     requires seats { AreSeats seats }
     requires order { IsOrder order }
 {
-    let props = Vec::from_slice(alloc, &[Climb])?;
+    let props = climbers(alloc, pair)?;
     let schedule = Schedule::new(seats, order);
     search(alloc, pair, props, budget, schedule, None, sink)
 }
 
-/// The same, where a brancher of this kind is asked.
-#[tactic(auto, using(crate::proofs::Climbing::climb_all, crate::proofs::Climbing::pair_bits))]
+/// What it answers where a brancher of this kind is asked.
+#[tactic(auto, using(crate::proofs::Climbing::pair_bits))]
 fn outcome_by(
     alloc: Global,
     pair: &Pair,
@@ -128,7 +156,7 @@ fn outcome_by(
     requires budget { 1 ≤ budget }
     requires seats { AreSeats seats }
 {
-    let props = Vec::from_slice(alloc, &[Climb])?;
+    let props = climbers(alloc, pair)?;
     let schedule = Schedule::new(seats, None);
     let answering = AnsweringBrancher {
         kind,
@@ -144,7 +172,7 @@ fn outcome_by(
 
 /// Gives two seats these turns, as long as a node is open, and closes the search; what the last call answers. No first line is written. A
 /// brancher may be asked.
-#[tactic(auto, using(crate::proofs::Climbing::climb_all, crate::proofs::Climbing::climbing_posed))]
+#[tactic(auto, using(crate::proofs::Climbing::climbing_posed))]
 fn driven(
     alloc: Global,
     pair: &Pair,
@@ -152,7 +180,7 @@ fn driven(
     brancher: Option<Box<dyn Brancher>>,
     sink: &mut MemSink,
 ) -> Result<Result<Outcome, SearchStop>, SearchStop> {
-    let props = Vec::from_slice(alloc, &[Climb])?;
+    let props = climbers(alloc, pair)?;
     let mut crew = Crew::new(alloc, pair, props, 2, brancher)?;
     'steps: for seat in turns {
         if crew.open_nodes() == 0 || *seat > 1 || crew.finished() > 1000 {
@@ -164,6 +192,16 @@ fn driven(
         return Err(SearchStop::NoMemory);
     }
     Ok(crew.close(pair, sink))
+}
+
+/// Whether the members of a crew have rested after the first step of its one seat.
+#[tactic(auto, using(crate::proofs::Climbing::climbing_posed))]
+fn rests_after_a_step(alloc: Global, pair: &Pair, sink: &mut MemSink) -> Result<bool, SearchStop> {
+    let props = climbers(alloc, pair)?;
+    let mut crew = Crew::new(alloc, pair, props, 1, None)?;
+    crew.step(pair, 0, sink)?;
+    let members = crew.members();
+    Ok(members.len() == 1 && members.iter().all(|member| member.rested.is_some()))
 }
 
 /// Whether a point and its value are these.
@@ -198,52 +236,70 @@ fn empty_sink(alloc: Global, failing: &[u64]) -> Result<MemSink, AllocError> {
 
 #[test]
 fn outcomes(rt: HostRuntime) {
-    for (first, second, budget, want, bound) in [
-        ((0, 7), (0, 5), 100, Some((5, [5, 5])), None),
-        ((3, 3), (4, 4), 1, Some((3, [3, 4])), None),
-        ((5, 6), (0, 4), 100, None, None),
-        ((0, 7), (0, 5), 1, None, Some(5)),
-        ((0, 7), (0, 5), 7, Some((0, [0, 0])), Some(5)),
+    for (word, first, second, budget, want, bound) in [
+        ("optimal", (0, 7), (0, 5), 100, Some((5, [5, 5])), None),
+        ("one point", (3, 3), (4, 4), 1, Some((3, [3, 4])), None),
+        ("infeasible", (5, 6), (0, 4), 100, None, None),
+        ("a budget of one node", (0, 7), (0, 5), 1, None, Some(5)),
+        (
+            "a budget with a point",
+            (0, 7),
+            (0, 5),
+            7,
+            Some((0, [0, 0])),
+            Some(5),
+        ),
     ] {
         if let Some(pair) = near_pair(first, second) {
             let mut sink = empty_sink(rt.alloc(), &[]).expect(&rt, "memory");
             let outcome = outcome_of(rt.alloc(), &pair, budget, 1, None, &mut sink).expect(
                 &rt, "outcome",
             );
-            assert!(rt; is_told(&outcome, want, bound), "another outcome");
+            assert!(rt; is_told(&outcome, want, bound), "{word}");
         }
     }
 }
 
 #[test]
 fn logs(rt: HostRuntime) {
-    for (first, second, budget, log) in [
-        ((3, 3), (4, 4), 1, "sopl-log 1\nn 0 r\nv\nend optimal 3\n"),
+    for (word, first, second, budget, log) in [
         (
+            "one point",
+            (3, 3),
+            (4, 4),
+            1,
+            "sopl-log 1\nn 0 r\nv\nend optimal 3\n",
+        ),
+        (
+            "infeasible",
             (5, 6),
             (0, 4),
             100,
             "sopl-log 1\nn 0 r\nf h 0 0\nend infeasible\n",
         ),
         (
+            "steps and points",
             (0, 2),
             (0, 1),
             100,
             "sopl-log 1\nn 0 r\ns h 0 0 0 le 1\nx 0 0\nn 1 0 l\nx 1 0\nn 2 1 l\nv\nn 3 1 h\nf b\nn 4 0 h\ns h 0 0 1 ge 1\nv\nend optimal 1\n",
         ),
         (
+            "open nodes behind a point",
             (0, 3),
             (3, 3),
             3,
             "sopl-log 1\nn 0 r\nx 0 1\nn 1 0 l\nx 0 0\nn 2 1 l\nv\nn 3 0 h\no\nn 4 1 h\no\nend bounded 0 3\n",
         ),
         (
+            "open nodes without a point",
             (0, 7),
             (0, 5),
             3,
             "sopl-log 1\nn 0 r\ns h 0 0 0 le 5\nx 0 2\nn 1 0 l\nx 0 1\nn 2 1 l\nx 0 0\nn 3 0 h\no\nn 4 1 h\no\nn 5 2 l\no\nn 6 2 h\no\nend bounded none 5\n",
         ),
         (
+            "open nodes at all depths",
             (0, 7),
             (0, 5),
             7,
@@ -253,7 +309,7 @@ fn logs(rt: HostRuntime) {
         if let Some(pair) = near_pair(first, second) {
             let mut sink = empty_sink(rt.alloc(), &[]).expect(&rt, "memory");
             outcome_of(rt.alloc(), &pair, budget, 1, None, &mut sink).expect(&rt, "outcome");
-            assert!(rt; sink.bytes() == log.as_bytes(), "another log");
+            assert!(rt; sink.bytes() == log.as_bytes(), "{word}");
         }
     }
 }
@@ -303,6 +359,15 @@ fn turns_by_hand(rt: HostRuntime) {
 }
 
 #[test]
+fn members_that_have_rested(rt: HostRuntime) {
+    if let Some(pair) = near_pair((0, 3), (3, 3)) {
+        let mut sink = empty_sink(rt.alloc(), &[]).expect(&rt, "memory");
+        let rested = rests_after_a_step(rt.alloc(), &pair, &mut sink).expect(&rt, "a step");
+        assert!(rt; rested, "not rested");
+    }
+}
+
+#[test]
 fn fault_at_close(rt: HostRuntime) {
     if let Some(pair) = near_pair((0, 3), (3, 3)) {
         let none = Vec::from_slice(rt.alloc(), &[]).expect(&rt, "memory");
@@ -324,13 +389,16 @@ fn choice(cell: u32, cut: i64, low_first: bool) -> Choice {
 
 #[test]
 fn any_brancher(rt: HostRuntime) {
-    for kind in [
-        AnswerKind::Nothing,
-        AnswerKind::AtUpperEnd,
-        AnswerKind::Always(choice(1, 3, false)),
-        AnswerKind::Always(choice(4_294_967_295, i64::MIN, true)),
-        AnswerKind::Turning,
-        AnswerKind::Counting,
+    for (word, kind) in [
+        ("no answer", AnswerKind::Nothing),
+        ("the upper end", AnswerKind::AtUpperEnd),
+        ("one choice always", AnswerKind::Always(choice(1, 3, false))),
+        (
+            "a choice of no cell",
+            AnswerKind::Always(choice(4_294_967_295, i64::MIN, true)),
+        ),
+        ("halves by turns", AnswerKind::Turning),
+        ("halves by what was counted", AnswerKind::Counting),
     ] {
         for seats in [1, 2] {
             if let Some(pair) = near_pair((0, 7), (0, 5)) {
@@ -340,7 +408,7 @@ fn any_brancher(rt: HostRuntime) {
                 );
                 assert!(rt;
                     is_told(&outcome, Some((5, [5, 5])), None),
-                    "another outcome"
+                    "{word} under {seats}"
                 );
             }
         }
@@ -349,18 +417,21 @@ fn any_brancher(rt: HostRuntime) {
 
 #[test]
 fn logs_by_branchers(rt: HostRuntime) {
-    for (kind, budget, log) in [
+    for (word, kind, budget, log) in [
         (
+            "one choice always",
             AnswerKind::Always(choice(0, 0, false)),
             3,
             "sopl-log 1\nn 0 r\nx 0 0\nn 1 0 h\nx 0 2\nn 2 1 l\nx 0 1\nn 3 0 l\no\nn 4 1 h\no\nn 5 2 l\no\nn 6 2 h\no\nend bounded none 3\n",
         ),
         (
+            "halves by turns",
             AnswerKind::Turning,
             100,
             "sopl-log 1\nn 0 r\nx 0 0\nn 1 0 h\nx 0 1\nn 2 1 l\nv\nn 3 1 h\nx 0 2\nn 4 3 h\nv\nn 5 3 l\nf b\nn 6 0 l\nf b\nend optimal 3\n",
         ),
         (
+            "halves by what was counted",
             AnswerKind::Counting,
             100,
             "sopl-log 1\nn 0 r\nx 0 0\nn 1 0 l\nv\nn 2 0 h\nx 0 1\nn 3 2 h\nx 0 2\nn 4 3 h\nv\nn 5 3 l\nf b\nn 6 2 l\nf b\nend optimal 3\n",
@@ -369,31 +440,28 @@ fn logs_by_branchers(rt: HostRuntime) {
         if let Some(pair) = near_pair((0, 3), (3, 3)) {
             let mut sink = empty_sink(rt.alloc(), &[]).expect(&rt, "memory");
             outcome_by(rt.alloc(), &pair, budget, 1, kind, &mut sink).expect(&rt, "outcome");
-            assert!(rt; sink.bytes() == log.as_bytes(), "another log");
+            assert!(rt; sink.bytes() == log.as_bytes(), "{word}");
         }
     }
 }
 
 #[test]
 fn one_outcome(rt: HostRuntime) {
-    for (many, order) in [
-        (1, None),
-        (2, None),
-        (3, None),
-        (64, None),
-        (2, Some(1)),
-        (3, Some(0)),
-        (64, Some(2147483647)),
+    for (word, many, order) in [
+        ("one seat", 1, None),
+        ("two seats", 2, None),
+        ("three seats", 3, None),
+        ("the most seats", 64, None),
+        ("two seats in a drawn order", 2, Some(1)),
+        ("three seats by the least seed", 3, Some(0)),
+        ("the most seats by the greatest seed", 64, Some(2147483647)),
     ] {
         if let Some(pair) = near_pair((0, 7), (0, 5)) {
             let mut sink = empty_sink(rt.alloc(), &[]).expect(&rt, "memory");
             let outcome = outcome_of(rt.alloc(), &pair, 100, many, order, &mut sink).expect(
                 &rt, "outcome",
             );
-            assert!(rt;
-                is_told(&outcome, Some((5, [5, 5])), None),
-                "another outcome"
-            );
+            assert!(rt; is_told(&outcome, Some((5, [5, 5])), None), "{word}");
         }
     }
 }

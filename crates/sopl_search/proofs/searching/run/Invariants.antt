@@ -3,6 +3,7 @@ use Rattle.sopl_io.specs.Calls.{AllSucceeded}
 use Rattle.brancher.specs.Rules.{Rule}
 use Rattle.prop_core.specs.Members.{AllFit, together}
 use Rattle.sopl_search.specs.Ends.{AreAll}
+use Rattle.sopl_search.specs.Following.{AreFollowing}
 use Rattle.sopl_search.specs.Frontiers.{IsRunning}
 use Rattle.sopl_search.specs.Logged.{plan_of}
 use Rattle.sopl_search.proofs.searching.run.Given as goal
@@ -14,8 +15,9 @@ invariant-nodes g l = record {
       → IsRunning (g.P.Propagator.problem l.program) (plan_of l.fn.schedule asked l.budget) l.crew.frontier before (g.K.Sink.taken l.sink);
   asked : option_map (λ b. (goal.Brancher-dyn g (b.vtable, b.value)).rule b.value) l.crew.brancher
       ≡ option_map (λ b. (goal.Brancher-dyn g (b.vtable, b.value)).rule b.value) l.fn.crew.brancher;
-  fits : AllFit g.P.Propagator.fits l.program l.crew.list.items;
-  all : AreAll (g.P.Propagator.problem l.program) (together (map g.P.Propagator.reasons l.crew.list.items));
+  fits : AllFit g.P.Propagator.fits l.program l.crew.watchers.list.items;
+  all : AreAll (g.P.Propagator.problem l.program) (together (map g.P.Propagator.reasons l.crew.watchers.list.items));
+  following : AreFollowing g.P.Propagator.in_step g.P.Watching.watches l.program (g.P.Propagator.problem l.program).root l.crew.watchers;
   whole : l.crew.broken ≡ false;
   seats : l.turns.seats ≡ l.fn.schedule.seats;
   order : l.turns.order ≡ l.fn.schedule.order;

@@ -13,6 +13,8 @@ steps-init g c =
     record {
       search = subst (λ (asked : Option Rule). IsSearchOf (climbing (pair_of pair.first pair.second)) asked c.in_ok-crew.crew.frontier) (sym c.in_ok-crew.ensures.asked) c.in_ok-crew.ensures.search;
       all = c.in_ok-crew.ensures.all;
+      fits = c.in_ok-crew.ensures.fits;
+      following = c.in_ok-crew.ensures.following;
       whole = c.in_ok-crew.ensures.whole;
       seats = seats_are (climbing (pair_of pair.first pair.second)) None 2 c.in_ok-crew.crew.frontier posed (omega arith, omega arith)
           (at_once (pair_of pair.first pair.second) 2 c.in_ok-crew.crew.frontier c.in_ok-crew.ensures.begun);
@@ -24,6 +26,8 @@ steps-preserved g c =
     record {
       search = subst (λ (asked : Option Rule). IsSearchOf (climbing (pair_of pair.first pair.second)) asked c.step.new.self.frontier) (sym c.step.ensures.asked) c.in_ok-step.ensures.search;
       all = c.step.ensures.all;
+      fits = c.step.ensures.fits;
+      following = c.step.ensures.following;
       whole = c.in_ok-step.ensures.whole;
       seats = c.in_ok-step.ensures.seats ∙ c.steps.invariant.seats;
     }
