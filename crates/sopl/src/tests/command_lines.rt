@@ -1,10 +1,13 @@
 //! Command lines, and how a run over them ends.
 
-use crate::tests::runs::{Ended, ORDER, WIDE, ran_branching};
-use answer_run::{Word, Words};
-use sopl_io::MemSource;
+use crate::tests::runs::{ran_branching, words_in};
+use answer_run::Status;
+use sopl_io::{MemSink, MemSource};
 use std::alloc::{AllocError, Global};
 use std::test::Fail;
+
+const ORDER: &str =
+    "dvar int x in 0..5 stage 1; stoch int d in {1:1, 3:1} stage 1; dvar int y in 0..3 stage 2; maximize expected(4*y - 3*x); subject to { y <= d; y <= x; }";
 
 /// A log of the ordering text that is not right, and a policy of it that satisfies.
 const LOG: &str = "sopl-log 1\nn 0 r\nf h 0 0\nend infeasible\n";
@@ -13,7 +16,7 @@ const POLICY: &str =
     "{\"policy\":{\"decide\":[[\"x\",[],1]],\"next\":[{\"seen\":[[\"d\",[],1]],\"then\":{\"decide\":[[\"y\",[],1]],\"next\":[]}},{\"seen\":[[\"d\",[],3]],\"then\":{\"decide\":[[\"y\",[],1]],\"next\":[]}}]}}";
 
 /// The exit status, and the words behind it: over the ordering text `m`, the log `l` and the policy `p`.
-const LINES: &str = r##"
+const LINES: &str = "\
 2 solve
 0 solve m
 2 solve m m
@@ -91,16 +94,9 @@ const LINES: &str = r##"
 2 demo --log f 1 1
 2 demo 10 1
 2 demo 1
-"##;
+";
 
-fn words_behind(alloc: Global, line: &str) -> Result<Words, AllocError> {
-    let mut words = Words::new(alloc);
-    for word in line.split(' ').skip(1) {
-        words.push(Word::new(String::from_str(alloc, word)?))?;
-    }
-    Ok(words)
-}
-
+/// A source of the three files.
 fn files(alloc: Global) -> Result<MemSource, AllocError> {
     let mut texts = Vec::new(alloc);
     for (name, text) in [("m", ORDER), ("l", LOG), ("p", POLICY)] {
@@ -110,21 +106,21 @@ fn files(alloc: Global) -> Result<MemSource, AllocError> {
     Ok(MemSource::new(texts, Vec::new(alloc)))
 }
 
-fn ran_line(alloc: Global, line: &str) -> Result<Ended, AllocError> {
-    let words = words_behind(alloc, line)?;
+/// How a run with these words ends.
+fn ended(alloc: Global, line: &str) -> Result<Status, AllocError> {
+    let words = words_in(alloc, line)?;
     let mut source = files(alloc)?;
-    ran_branching(alloc, &words, &mut source, &WIDE)
+    let mut log = MemSink::new(alloc, 100_000, Vec::new(alloc))?;
+    ran_branching(alloc, &words, &mut source, &mut log)
 }
 
 #[test]
 fn command_lines_end_so(rt: HostRuntime) -> Result<(), Fail> {
     for line in LINES.lines() {
-        if line.is_empty() {
-            continue;
-        }
-        let ended = ran_line(rt.alloc(), line)?;
-        let code = line.as_bytes().first().copied().unwrap_or(0);
-        assert_eq!(rt; ended.status.code(), code.wrapping_sub(b'0'), "{line}");
+        let (code, words) = line.split_once(" ").unwrap_or(("", ""));
+        let status = ended(rt.alloc(), words)?;
+        let digit = code.as_bytes().first().copied().unwrap_or(0);
+        assert_eq!(rt; status.code(), digit.wrapping_sub(b'0'), "{line}");
     }
     Ok(())
 }

@@ -1,6 +1,7 @@
 //! Where the branchers of `main` cut.
 
-use crate::tests::runs::{Ended, WIDE, ran_branching, source_of, words_of};
+use crate::tests::runs::{ran_branching, words_in};
+use sopl_io::{MemSink, MemSource};
 use std::alloc::{AllocError, Global};
 use std::test::Fail;
 
@@ -9,55 +10,66 @@ const TWO: &str =
 
 const EITHER: &str = "dvar int x in 0..1; maximize expected(x); subject to { }";
 
-/// The brancher, the budget, the text, and the whole log that must come.
-const LOGS: [(&str, &str, &str, &str); 4] = [
+/// The words, the text, and the whole log that must come.
+const LOGS: [(&str, &str, &str); 5] = [
     (
-        "lower",
-        "1",
+        "solve --branch lower --budget 1 m",
         TWO,
         "sopl-log 1\nn 0 r\nx 0 0\nn 1 0 l\no\nn 2 0 h\no\nend bounded none 12\n",
     ),
     (
-        "widest",
-        "1",
+        "solve --budget 1 m",
+        TWO,
+        "sopl-log 1\nn 0 r\nx 0 0\nn 1 0 l\no\nn 2 0 h\no\nend bounded none 12\n",
+    ),
+    (
+        "solve --branch widest --budget 1 m",
         TWO,
         "sopl-log 1\nn 0 r\nx 1 4\nn 1 0 l\no\nn 2 0 h\no\nend bounded none 12\n",
     ),
     (
-        "failing",
-        "1",
+        "solve --branch failing --budget 1 m",
         TWO,
         "sopl-log 1\nn 0 r\nx 0 1\nn 1 0 l\no\nn 2 0 h\no\nend bounded none 12\n",
     ),
     (
-        "lower",
-        "3",
+        "solve --branch lower --budget 3 m",
         EITHER,
         "sopl-log 1\nn 0 r\nx 0 0\nn 1 0 l\nv\nn 2 0 h\nv\nend optimal 1\n",
     ),
 ];
 
-/// What `solve` writes with these words before the file.
-fn solved(alloc: Global, text: &str, words: &[&str]) -> Result<Ended, AllocError> {
-    let words = words_of(alloc, words)?;
-    let mut source = source_of(alloc, text, &[])?;
-    ran_branching(alloc, &words, &mut source, &WIDE)
+/// A source of a model `m`.
+fn source_of(alloc: Global, text: &str) -> Result<MemSource, AllocError> {
+    let mut texts = Vec::new(alloc);
+    let bytes = Vec::from_slice(alloc, text.as_bytes())?;
+    texts.push((String::from_str(alloc, "m")?, bytes))?;
+    Ok(MemSource::new(texts, Vec::new(alloc)))
+}
+
+/// What a run with the words of a line writes to the log's sink.
+fn logged(alloc: Global, line: &str, text: &str) -> Result<MemSink, AllocError> {
+    let words = words_in(alloc, line)?;
+    let mut source = source_of(alloc, text)?;
+    let mut log = MemSink::new(alloc, 100_000, Vec::new(alloc))?;
+    let _status = ran_branching(alloc, &words, &mut source, &mut log)?;
+    Ok(log)
 }
 
 #[test]
 fn each_kind_cuts_by_its_rule(rt: HostRuntime) -> Result<(), Fail> {
-    for (name, budget, text, log) in LOGS {
-        let words = ["solve", "--branch", name, "--budget", budget, "m"];
-        let ended = solved(rt.alloc(), text, &words)?;
-        assert_eq!(rt; ended.log.bytes(), log.as_bytes(), "{name}");
+    for (line, text, want) in LOGS {
+        let log = logged(rt.alloc(), line, text)?;
+        assert_eq!(rt; log.bytes(), want.as_bytes(), "{line}");
     }
     Ok(())
 }
 
+/// The first one is asked where none is named, to the end of the search.
 #[test]
 fn the_first_one_is_taken_where_none_is_named(rt: HostRuntime) -> Result<(), Fail> {
-    let first = solved(rt.alloc(), TWO, &["solve", "m"])?;
-    let named = solved(rt.alloc(), TWO, &["solve", "--branch=lower", "m"])?;
-    assert_eq!(rt; first.log.bytes(), named.log.bytes());
+    let first = logged(rt.alloc(), "solve m", TWO)?;
+    let named = logged(rt.alloc(), "solve --branch=lower m", TWO)?;
+    assert_eq!(rt; first.bytes(), named.bytes());
     Ok(())
 }

@@ -1,43 +1,36 @@
 //! Texts that are drawn, and searches of them.
 
-use crate::tests::runs::{Ended, Room, WIDE, ends, ran_branching, words_of};
+use crate::commands::FIRST;
+use crate::runs::{Ended, Room, WIDE, ends, ran_branching, source_of_two, words_in};
 use answer_run::Status;
 use sopl_io::MemSource;
 use std::alloc::{AllocError, Global};
 use std::test::Fail;
 
-/// The text of one stage and the seed 1.
-const FIRST: &str =
-    "int n = 1;\nrange T = 1..n;\nint price[T] = [7];\nint cost[T] = [2];\nint low[T] = [1];\nint high[T] = [3];\nint weight[T] = [2];\ndvar int x[t in T] in 0..3 stage t;\nstoch int d[t in T] in {low[t]:1, high[t]:weight[t]} stage t;\nmaximize expected(sum(t in T) (price[t]*min(x[t], d[t]) - cost[t]*x[t]));\nsubject to {\n  forall(t in T) sum(s in 1..t) x[s] <= 2*t;\n  prob(sum(t in T) x[t] >= d[1]) >= 1/4;\n}\n";
-
 /// Words, and how their run ends.
-const RUNS: [(&[&str], Status, &str); 6] = [
-    (&["gen", "1", "1"], Status::Done, FIRST),
+const RUNS: [(&str, Status, &str); 6] = [
+    ("gen 1 1", Status::Done, FIRST),
     (
-        &["demo", "1", "1"],
+        "demo 1 1",
         Status::Done,
         "{\"answer\":\"summary\",\"cells\":1,\"result\":\"optimal\",\"scenarios\":2,\"value\":\"23/3\"}\n",
     ),
     (
-        &["demo", "2", "7"],
+        "demo 2 7",
         Status::Done,
         "{\"answer\":\"summary\",\"cells\":3,\"result\":\"optimal\",\"scenarios\":4,\"value\":\"112/16\"}\n",
     ),
     (
-        &["demo", "3", "1"],
+        "demo 3 1",
         Status::Done,
         "{\"answer\":\"summary\",\"cells\":7,\"result\":\"optimal\",\"scenarios\":8,\"value\":\"424/24\"}\n",
     ),
     (
-        &["demo", "1", "1", "--budget", "1"],
+        "demo 1 1 --budget 1",
         Status::Bounded,
         "{\"answer\":\"summary\",\"cells\":1,\"result\":\"bounded\",\"scenarios\":2}\n",
     ),
-    (
-        &["demo", "10", "1"],
-        Status::Usage,
-        "{\"answer\":\"usage\"}\n",
-    ),
+    ("demo 10 1", Status::Usage, "{\"answer\":\"usage\"}\n"),
 ];
 
 /// Numbers of stages and seeds of texts that are evaluated.
@@ -70,10 +63,10 @@ fn no_files(alloc: Global) -> MemSource {
 #[test]
 fn drawn_texts_are_answered(rt: HostRuntime) -> Result<(), Fail> {
     let alloc = rt.alloc();
-    for (texts, status, want) in RUNS {
-        let words = words_of(alloc, texts)?;
+    for (line, status, want) in RUNS {
+        let words = words_in(alloc, line)?;
         let ended = ran_branching(alloc, &words, &mut no_files(alloc), &WIDE)?;
-        ends(&rt, want, &ended, status, want);
+        ends(&rt, line, &ended, status, want);
     }
     Ok(())
 }
@@ -115,19 +108,20 @@ fn policy(alloc: Global, stages: u32, seed: u32) -> Result<String, AllocError> {
     format!(in alloc; "{{\"policy\":{node}}}")
 }
 
+/// The text that is drawn is the answer of this run.
+fn generated(alloc: Global, stages: u32, seed: u32) -> Result<Ended, AllocError> {
+    let line = format!(in alloc; "gen {stages} {seed}")?;
+    let words = words_in(alloc, line.as_str())?;
+    ran_branching(alloc, &words, &mut no_files(alloc), &LARGE)
+}
+
 /// Evaluates a policy of the text that is drawn.
 fn evaluated(alloc: Global, stages: u32, seed: u32) -> Result<Ended, AllocError> {
-    let count = format!(in alloc; "{stages}")?;
-    let number = format!(in alloc; "{seed}")?;
-    let words = words_of(alloc, &["gen", count.as_str(), number.as_str()])?;
-    let made = ran_branching(alloc, &words, &mut no_files(alloc), &LARGE)?;
-    let mut files = Vec::new(alloc);
-    let text = Vec::from_slice(alloc, made.answer.bytes())?;
-    files.push((String::from_str(alloc, "m")?, text))?;
+    let made = generated(alloc, stages, seed)?;
+    let text = std::str::from_utf8(made.answer.bytes()).unwrap_or("");
     let bought = policy(alloc, stages, seed)?;
-    files.push((String::from_str(alloc, "p")?, bought.into_bytes()))?;
-    let mut source = MemSource::new(files, Vec::new(alloc));
-    let words = words_of(alloc, &["eval", "m", "p"])?;
+    let mut source = source_of_two(alloc, text, bought.as_bytes())?;
+    let words = words_in(alloc, "eval m o")?;
     ran_branching(alloc, &words, &mut source, &LARGE)
 }
 

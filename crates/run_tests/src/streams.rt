@@ -1,12 +1,15 @@
-//! Sources and sinks that take a byte at a time, and files.
+//! Sources and sinks that move a byte at a time, and files.
 
 ghost use Rattle.std.specs.Prelude.{None};
 ghost use Rattle.sopl_io.specs.Calls.{counted};
 
-use crate::tests::runs::{ORDER, ORDER_ANSWER, words_of};
+use crate::commands::{RUNS, WholeRun, files_of};
+use crate::runs::{Ended, ORDER, ORDER_ANSWER, ORDER_LOG, ends, words_in};
 use answer_run::{Status, run};
-use sopl_io::{Failed, FileSink, FileSource, Sink, Source, read_all, write_all};
-use std::alloc::AllocError;
+use sopl_io::{
+    Failed, FileSink, FileSource, MemSink, MemSource, Sink, Source, read_all, write_all,
+};
+use std::alloc::{AllocError, Global};
 use std::test::Fail;
 
 /// A source that gives one byte at a time.
@@ -78,7 +81,7 @@ impl Sink for Narrow {
 #[test]
 fn one_byte_at_a_time(rt: HostRuntime) -> Result<(), Fail> {
     let alloc = rt.alloc();
-    let words = words_of(alloc, &["solve", "m"])?;
+    let words = words_in(alloc, "solve m")?;
     let mut source = Drops {
         text: Vec::from_slice(alloc, ORDER.as_bytes())?,
         at: 0,
@@ -101,8 +104,35 @@ fn one_byte_at_a_time(rt: HostRuntime) -> Result<(), Fail> {
     );
     assert_eq!(rt; ended, Status::Done);
     assert_eq!(rt; answer.taken.as_slice(), ORDER_ANSWER.as_bytes());
-    let text = std::str::from_utf8(log.taken.as_slice()).unwrap_or("");
-    assert_eq!(rt; text.lines().last(), Some("end optimal 2"));
+    assert_eq!(rt; log.taken.as_slice(), ORDER_LOG.as_bytes());
+    Ok(())
+}
+
+/// Runs over a source and sinks in memory that move one byte at a time.
+fn ran_by_bytes(alloc: Global, whole: &WholeRun) -> Result<Ended, AllocError> {
+    let words = words_in(alloc, whole.words)?;
+    let texts = files_of(alloc, whole)?;
+    let mut source = MemSource::dribbling(texts, Vec::new(alloc), 1);
+    let mut answer = MemSink::dribbling(alloc, 1000, Vec::new(alloc), 1)?;
+    let mut log = MemSink::dribbling(alloc, 1000, Vec::new(alloc), 1)?;
+    let branchers = Vec::new(alloc);
+    let status = run(alloc, &words, &mut source, &mut answer, &mut log, branchers);
+    Ok(Ended {
+        status,
+        answer,
+        log,
+    })
+}
+
+/// Each command answers as it does where all is moved at once, and has the same log.
+#[test]
+fn bytes_change_no_answer(rt: HostRuntime) -> Result<(), Fail> {
+    for whole in RUNS {
+        let about = whole.words;
+        let ended = ran_by_bytes(rt.alloc(), whole)?;
+        ends(&rt, about, &ended, Status::Done, whole.line);
+        assert_eq!(rt; ended.log.bytes(), whole.log.as_bytes(), "{about}");
+    }
     Ok(())
 }
 
