@@ -6,4 +6,5 @@ pub mod WholeText
 pub mod Statuses
 pub mod Reading
 pub mod Calls
+mod LogBegins
 mod Seconds

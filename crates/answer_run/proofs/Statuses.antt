@@ -186,7 +186,7 @@ pub record Tells (wanted : Option Request) (stock : Option Stock) (before now : 
 
 module _ (wanted : Option Request) (stock : Option Stock) (before now : ℕ) where
   -- what is told of the text is told of what is asked for
-  told_of : (request : Request) (text second : List ℕ) → is_drawn request.job ≡ false → IsModelText request wanted stock text → AreSecondBytes request stock second
+  pub told_of : (request : Request) (text second : List ℕ) → is_drawn request.job ≡ false → IsModelText request wanted stock text → AreSecondBytes request stock second
       → (P : Asked → Type 0) → P (asked_on request text second) → IfSome (asked_in stock wanted) P
   told_of request text second files is are P p =
       subst (λ o. IfSome (option_and_then (asked_by stock) o) P) (sym is.asked)
@@ -199,7 +199,7 @@ module _ (wanted : Option Request) (stock : Option Stock) (before now : ℕ) whe
           subst (λ b. P (asked_on request (text_of s request.model) b)) given_second (subst (λ t. P (asked_on request t second)) given p)
 
   -- of a text that is drawn too
-  told_drawn : (request : Request) → wanted ≡ Some request → is_drawn request.job ≡ true → (P : Asked → Type 0)
+  pub told_drawn : (request : Request) → wanted ≡ Some request → is_drawn request.job ≡ true → (P : Asked → Type 0)
       → P (asked_on request (generated_text request.stages request.seed) (second_given stock request)) → IfSome (asked_in stock wanted) P
   told_drawn request asked drawn P p =
       subst (λ o. IfSome (option_and_then (asked_by stock) o) P) (sym asked) (subst (λ a. IfSome a P) (sym (asked_drawn stock request drawn)) p)

@@ -105,7 +105,7 @@ pub same_plan : (request : Request) (seats : ℕ) (order : Option ℕ) → seats
 same_plan request seats order one other = λ i. plan_with request (one i) (other i)
 
 module _ (wanted : Option Request) (stock : Option Stock) (before now : ℕ) (old new : SinkState) where
-  name_is : (request : Request) → wanted ≡ Some request → log_name wanted ≡ request.log
+  pub name_is : (request : Request) → wanted ≡ Some request → log_name wanted ≡ request.log
   name_is request asked = ap (λ (o : Option Request). option_map_or (λ (r : Request). r.log) o []) asked
 
   module _ (bytes : List ℕ) (request : Request) (command : Command) (job : request.job ≡ Text command) (most : ℕ) (asked : wanted ≡ Some request)

@@ -186,6 +186,28 @@ pub data BeginsFiles (stock : Option Stock) (old new : Option (List (List ℕ)))
       → IfSome stock (λ s. IsTaken command (text_of s request.model)) → new ≡ with_name (with_name old request.model) request.second → ¬ IsTurnedAway status
       → BeginsFiles stock old new (Some request) status
 
+-- a search is asked for
+abbrev pub makes_search : Option Request → Bool
+makes_search None = false
+makes_search (Some r) = is_search r.job
+
+-- the text that is asked for is solved
+abbrev pub AskedIsSolved : Asked → Type 0
+AskedIsSolved a = (problem : Problem) × SolvedText a.text problem
+
+-- the names with which the log's sink was begun before and after a run that ended with a status: once with the log's name, which is empty
+-- where none is given, if a search is asked for and its text is solved; and else not. The counts are those of the source's faults
+pub data BeginsLog (wanted : Option Request) (stock : Option Stock) (before now : ℕ) (old new : Option (List (List ℕ)))
+    (status : Status) : Type 0 where
+  no_search : makes_search wanted ≡ false → new ≡ old → BeginsLog wanted stock before now old new status
+  -- the text, where it is told, is solved; there is an answer, a sink failed, or memory ran out
+  log_begun : makes_search wanted ≡ true → IfSome (asked_in stock wanted) AskedIsSolved → new ≡ with_name old (log_name wanted)
+      → IsAnswered status ⊎ (status ≡ WriteFault) ⊎ (status ≡ NoMemory) → BeginsLog wanted stock before now old new status
+  -- it is not, or the source failed, or memory ran out; and there is no answer
+  log_not_begun : makes_search wanted ≡ true → new ≡ old
+      → IfSome (asked_in stock wanted) (λ a. ¬ AskedIsSolved a) ⊎ Rose before now ⊎ (status ≡ NoMemory)
+      → IsTurnedAway status ⊎ EndedEarly status → BeginsLog wanted stock before now old new status
+
 -- a source gives what it gave before, and has not failed since: the bytes that are left, its stock, its count of faults
 abbrev pub IsUntouched : Option (List ℕ) → Option Stock → ℕ → Option (List ℕ) → Option Stock → ℕ → Type 0
 IsUntouched old_left old_stock old_faults left stock faults = (left ≡ old_left) × (stock ≡ old_stock) × (faults ≡ old_faults)

@@ -2,7 +2,7 @@
 //!
 //! `run` reads the words and the text of the model; what a command is answered on that text is the reply of `answer_texts`. Where it takes
 //! a second file, `run` reads that behind the text, and the reply is that of `answer_check` or `answer_eval`.
-//! Its tests stand in `sopl`.
+//! Its tests stand in `run_tests`.
 #![tactic(auto)]
 
 mod commands;

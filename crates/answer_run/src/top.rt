@@ -8,7 +8,8 @@ ghost use Rattle.answer_texts.specs.Logs.{state_of};
 ghost use Rattle.answer_run.specs.Calls.{calls_of, EndsAtFailure, LineCalls, ReplyCalls};
 ghost use Rattle.sopl_search.specs.Schedules.{AreSeats, IsOrder};
 ghost use Rattle.answer_run.specs.Words.{asked_of, no_one_has, reads_files, request_with};
-ghost use Rattle.answer_run.specs.Replies.{asked_in, Answers, SettlesInBudget, EndsSoundly, EndsCompletely, IsAnswered, LimitedOnce, RefusedOnce, BeginsFiles, IsUntouched};
+ghost use Rattle.answer_run.specs.Replies.{asked_in, Answers, SettlesInBudget, EndsSoundly, EndsCompletely, IsAnswered, LimitedOnce, RefusedOnce};
+ghost use Rattle.answer_run.specs.Replies.{BeginsFiles, BeginsLog, IsUntouched};
 ghost use Rattle.answer_run.specs.Reads.{TakesAtMost};
 ghost use Rattle.answer_run.specs.Shown.{request_shown, text_shown};
 ghost use Rattle.answer_run.specs.Runs.{IsWritten, Replied, StopsWith, meant_status, stop_status};
@@ -94,6 +95,11 @@ pub fn run<S: Source, K: Sink>(
     ensures names { BeginsFiles (S.stock source.old) (S.names source.old) (S.names source.new)
         (asked_of (map (λ b. (label b, rule b)) branchers.items) words.now) result }
     ensures answer_names { K.names answer.new ≡ K.names answer.old }
+
+    // The log's sink is begun once, with the name of the log, where a search is asked for and its text is solved, unless the source failed or
+    // memory ran out; in no other run is it begun.
+    ensures log_names { BeginsLog (asked_of (map (λ b. (label b, rule b)) branchers.items) words.now)
+        (S.stock source.old) (S.faults source.old) (S.faults source.new) (K.names log.old) (K.names log.new) result }
 {
     checks_end_once();
     evals_end_once();

@@ -10,6 +10,7 @@ use Rattle.answer_run.specs.Runs.{meant_status}
 use Rattle.answer_run.specs.Words.{asked_of}
 use Rattle.answer_run.proofs.Reading.{line_begun}
 use Rattle.answer_run.proofs.Calls.{run_calls, stop_calls}
+use Rattle.answer_run.proofs.LogBegins.{run_begins}
 use Rattle.answer_run.proofs.top.run.Goals as goal
 
 pub returns-in-Ok-clause-answered : goal.returns-in-Ok-clause-answered
@@ -142,3 +143,22 @@ returns-in-Err-clause-names g c =
     subst (BeginsFiles (g.S.Source.stock c.args.source.now) (g.S.Source.names c.args.source.now) (g.S.Source.names c.reply_for.new.source)
     (asked_of (map (λ b. ((goal.Brancher-dyn g (b.vtable, b.value)).label b.value, (goal.Brancher-dyn g (b.vtable, b.value)).rule b.value)) c.args.branchers.items) c.args.words.now))
     (ap meant_status c.in-Err.is ∙ sym c.status_of.ensures.status) c.reply_for.ensures.names
+
+pub returns-in-Ok-clause-log_names : goal.returns-in-Ok-clause-log_names
+returns-in-Ok-clause-log_names g c =
+    run_begins (asked_of (map (λ b. ((goal.Brancher-dyn g (b.vtable, b.value)).label b.value, (goal.Brancher-dyn g (b.vtable, b.value)).rule b.value)) c.args.branchers.items) c.args.words.now)
+    (g.S.Source.stock c.args.source.now) (g.S.Source.faults c.args.source.now) (g.S.Source.faults c.reply_for.new.source)
+    (told (g.K.Sink.taken c.args.log.now) (g.K.Sink.names c.args.log.now)) (told (g.K.Sink.taken c.reply_for.new.log) (g.K.Sink.names c.reply_for.new.log))
+    (g.K.Sink.taken c.args.answer.now) (g.K.Sink.taken c.written.new.answer) (g.K.Sink.faults c.args.answer.now) (g.K.Sink.faults c.written.new.answer)
+    (g.K.Sink.faults c.args.log.now) (g.K.Sink.faults c.reply_for.new.log) c.written.result
+    (run_written _ _ _ _ _ _ _ _ _ _ _ _ c.in-Ok.reply c.written.result c.in-Ok.ensures.reply c.written.ensures.taken)
+
+pub returns-in-Err-clause-log_names : goal.returns-in-Err-clause-log_names
+returns-in-Err-clause-log_names g c =
+    run_begins (asked_of (map (λ b. ((goal.Brancher-dyn g (b.vtable, b.value)).label b.value, (goal.Brancher-dyn g (b.vtable, b.value)).rule b.value)) c.args.branchers.items) c.args.words.now)
+    (g.S.Source.stock c.args.source.now) (g.S.Source.faults c.args.source.now) (g.S.Source.faults c.reply_for.new.source)
+    (told (g.K.Sink.taken c.args.log.now) (g.K.Sink.names c.args.log.now)) (told (g.K.Sink.taken c.reply_for.new.log) (g.K.Sink.names c.reply_for.new.log))
+    (g.K.Sink.taken c.args.answer.now) (g.K.Sink.taken c.args.answer.now) (g.K.Sink.faults c.args.answer.now) (g.K.Sink.faults c.args.answer.now)
+    (g.K.Sink.faults c.args.log.now) (g.K.Sink.faults c.reply_for.new.log) c.status_of.result
+    (stop_answers _ _ _ _ _ _ _ _ _ _ c.in-Err.stop c.status_of.result c.status_of.ensures.status (λ is. c.reply_for.ensures.write (c.in-Err.is ∙ ap Err is))
+    c.in-Err.ensures.stopped)
