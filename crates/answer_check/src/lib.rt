@@ -1,5 +1,6 @@
 //! What `check` answers of a text and the bytes of a log: that the log is accepted, with what it claims; its first wrong line; or that it cannot be read as a
 //! log. A text that is refused, or whose terms pass a limit, is told as `solve` tells it.
+//! Its tests stand in `tests`, and those of logs that are right but for one line in `tests/changes`.
 #![tactic(auto)]
 
 mod answer;

@@ -19,137 +19,151 @@ const LARGE: &str = "dvar int x in 0..65535; subject to { x*1099511627776 >= 0; 
 const CROWDED: &str =
     "range R = 1..3; dvar int x[R] in 1..2; subject to { allDifferent(all(i in R) x[i]); }";
 
-// A text, and logs of it, each with the status and the line that must come; the lines of a log are parted by ` / `. Each log was worked out by hand.
-const LOGS: &[(&str, &str, Status, &str)] = &[
+// What a row is about, a text and a log of it, with the status and the line that must come; the lines of a log are parted by
+// ` / `. Each log was worked out by hand.
+const LOGS: &[(&str, &str, &str, Status, &str)] = &[
     (
+        "a best value",
         ONE,
         "sopl-log 1 / n 0 r / x 0 0 / n 1 0 l / v / n 2 0 h / v / end optimal 1",
         Status::Done,
         r#"{"answer":"accepted","claim":"optimal","value":"1/1"}"#,
     ),
-    // the first point is no better than 0, the second is
     (
+        "a second point that is better than the claim",
         ONE,
         "sopl-log 1 / n 0 r / x 0 0 / n 1 0 l / v / n 2 0 h / v / end optimal 0",
         Status::Failing,
         r#"{"answer":"rejected","line":7,"node":2}"#,
     ),
-    // no point has the value 2, and the node of the last line is the number of nodes
     (
+        "a best value that no point has",
         ONE,
         "sopl-log 1 / n 0 r / x 0 0 / n 1 0 l / v / n 2 0 h / v / end optimal 2",
         Status::Failing,
         r#"{"answer":"rejected","line":8,"node":3}"#,
     ),
     (
+        "a side that is missing",
         ONE,
         "sopl-log 1 / n 0 r / x 0 0 / n 1 0 l / v / end optimal 0",
         Status::Failing,
         r#"{"answer":"rejected","line":3,"node":0}"#,
     ),
     (
+        "a bound alone",
         ONE,
         "sopl-log 1 / n 0 r / x 0 0 / n 1 0 l / o / n 2 0 h / o / end bounded none 1",
         Status::Done,
         r#"{"answer":"accepted","bound":"1/1","claim":"bounded"}"#,
     ),
     (
+        "a bound alone that is too high",
         ONE,
         "sopl-log 1 / n 0 r / x 0 0 / n 1 0 l / o / n 2 0 h / o / end bounded none 2",
         Status::Failing,
         r#"{"answer":"rejected","line":8,"node":3}"#,
     ),
     (
+        "a value and a bound",
         FOUR,
         "sopl-log 1 / n 0 r / x 0 1 / n 1 0 l / x 0 0 / n 2 1 l / v / n 3 0 h / o / n 4 1 h / o / end bounded 0 3",
         Status::Done,
         r#"{"answer":"accepted","bound":"3/1","claim":"bounded","value":"0/1"}"#,
     ),
     (
+        "a bound that is too low",
         FOUR,
         "sopl-log 1 / n 0 r / x 0 1 / n 1 0 l / x 0 0 / n 2 1 l / v / n 3 0 h / o / n 4 1 h / o / end bounded 0 1",
         Status::Failing,
         r#"{"answer":"rejected","line":12,"node":5}"#,
     ),
     (
+        "no point",
         NONE,
         "sopl-log 1 / n 0 r / f h 0 0 / end infeasible",
         Status::Done,
         r#"{"answer":"accepted","claim":"infeasible"}"#,
     ),
     (
+        "an open node where no point is claimed",
         NONE,
         "sopl-log 1 / n 0 r / o / end infeasible",
         Status::Failing,
         r#"{"answer":"rejected","line":3,"node":0}"#,
     ),
     (
+        "steps of hard constraints and of the bound",
         ORDER,
         "sopl-log 1 / n 0 r / s h 0 0 1 le 1 / s b 0 le 2 / s h 1 1 2 le 2 / s b 0 le 1 / s h 1 1 2 le 1 / x 0 0 / n 1 0 l / s h 1 0 1 le 0 / s h 1 1 2 le 0 / v / n 2 0 h / x 1 0 / n 3 2 l / f b / n 4 2 h / x 2 0 / n 5 4 l / f b / n 6 4 h / v / end optimal 2",
         Status::Done,
         r#"{"answer":"accepted","claim":"optimal","value":"2/2"}"#,
     ),
-    // a step that cuts off more than its reason refutes
     (
+        "a step that cuts off more than its reason refutes",
         ORDER,
         "sopl-log 1 / n 0 r / s h 0 0 1 le 1 / s b 0 le 2 / s h 1 1 2 le 1 / s b 0 le 1 / x 0 0 / n 1 0 l / s h 1 0 1 le 0 / s h 1 1 2 le 0 / v / n 2 0 h / x 1 0 / n 3 2 l / f b / n 4 2 h / x 2 0 / n 5 4 l / f b / n 6 4 h / v / end optimal 2",
         Status::Failing,
         r#"{"answer":"rejected","line":5,"node":0}"#,
     ),
-    // a node that is no point
     (
+        "a node that is no point",
         ORDER,
         "sopl-log 1 / n 0 r / s h 0 0 1 le 1 / s b 0 le 2 / s h 1 1 2 le 2 / s b 0 le 1 / s h 1 1 2 le 1 / x 0 0 / n 1 0 l / s h 1 0 1 le 0 / s h 1 1 2 le 0 / v / n 2 0 h / x 1 0 / n 3 2 l / v / n 4 2 h / x 2 0 / n 5 4 l / f b / n 6 4 h / v / end optimal 2",
         Status::Failing,
         r#"{"answer":"rejected","line":16,"node":3}"#,
     ),
-    // a value that no point of the log has
     (
+        "a value that no point of the log has",
         FOUR,
         "sopl-log 1 / n 0 r / x 0 1 / n 1 0 h / f b / n 2 0 l / f b / end bounded 3 3",
         Status::Failing,
         r#"{"answer":"rejected","line":8,"node":3}"#,
     ),
-    // two wrong lines, of which a walk along the low sides meets the later one first
     (
+        "two wrong lines, of which a walk along the low sides meets the later one first",
         FOUR,
         "sopl-log 1 / n 0 r / x 0 1 / n 1 0 h / f b / n 2 0 l / v / end optimal 2",
         Status::Failing,
         r#"{"answer":"rejected","line":5,"node":1}"#,
     ),
     (
+        "no byte",
         ONE,
         "",
         Status::Unreadable,
         r#"{"answer":"unreadable","at":1,"code":301}"#,
     ),
     (
+        "an end behind the first line of a node",
         ONE,
         "sopl-log 1 / n 0 r / x 0 0 / n 1 0 l / v / n 2 0 h",
         Status::Unreadable,
         r#"{"answer":"unreadable","at":7,"code":301}"#,
     ),
     (
+        "two roots",
         ONE,
         "sopl-log 1 / n 0 r / v / n 0 r / v / end optimal 1",
         Status::Unreadable,
         r#"{"answer":"unreadable","at":4,"code":302}"#,
     ),
-    // a text that is infeasible at its root, by its one constraint; of another constraint there is none
     (
+        "a root that its one constraint closes",
         CROWDED,
         "sopl-log 1 / n 0 r / f h 0 0 / end infeasible",
         Status::Done,
         r#"{"answer":"accepted","claim":"infeasible"}"#,
     ),
     (
+        "a constraint that the text does not have",
         CROWDED,
         "sopl-log 1 / n 0 r / f h 1 0 / end infeasible",
         Status::Failing,
         r#"{"answer":"rejected","line":3,"node":0}"#,
     ),
-    // the limit that the terms of a text pass is told before its log is looked at
     (
+        "terms that pass a limit, which is told before the log is looked at",
         LARGE,
         "",
         Status::Limit,
@@ -187,14 +201,14 @@ fn answered(alloc: Global, text: &str, log: &[u8]) -> Result<(Status, String), A
 #[test]
 fn logs_are_checked(rt: HostRuntime) -> Result<(), Fail> {
     let alloc = rt.alloc();
-    for (text, log, status, line) in LOGS {
+    for (word, text, log, status, line) in LOGS {
         let bytes = bytes_of(alloc, log)?;
         let Ok((ended, told)) = answered(alloc, text, bytes.as_bytes()) else {
-            panic!(rt; "{text}: no answer")
+            panic!(rt; "no answer to {word}")
         };
-        println!(rt; "{log} -> {}", told.as_str())?;
-        assert_eq!(rt; ended, *status, "{log}");
-        assert_eq!(rt; told.as_str().strip_suffix("\n"), Some(*line), "{log}");
+        println!(rt; "{word}: {log} -> {}", told.as_str())?;
+        assert_eq!(rt; ended, *status, "{word}");
+        assert_eq!(rt; told.as_str().strip_suffix("\n"), Some(*line), "{word}");
     }
     Ok(())
 }

@@ -1,6 +1,7 @@
 //! What `eval` answers of a text and the bytes of a policy: that the policy satisfies, with its value and the weights of the chance
 //! constraints; what fails first; or that the bytes cannot be read as a policy of the text. A text that passes a limit on its terms is
 //! told as `solve` tells it.
+//! Its tests stand in `tests`, and those of each form of expression in `tests/forms`.
 #![tactic(auto)]
 
 mod laws;

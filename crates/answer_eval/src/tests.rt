@@ -30,179 +30,200 @@ const APART: &str =
 
 const MISSPELLED: &str = "dvar int x in 0..5; subject to {";
 
-// A text, the bytes of a policy, and the status and the line that must come; `P` is the policy of one decision x with the value that follows it, and `Q` that of
-// ORDER, with x, y after 1 and y after 3. Each was worked out by hand.
-const POLICIES: &[(&str, &str, Status, &str)] = &[
+// What a row is about, a text, the bytes of a policy, and the status and the line that must come; `P` is the policy of one decision x with the
+// value that follows it, and `Q` that of ORDER, with x, y after 1 and y after 3. Each was worked out by hand.
+const POLICIES: &[(&str, &str, &str, Status, &str)] = &[
     (
+        "a sum below its threshold",
         CHANCE,
         "P1",
         Status::Failing,
         r#"{"answer":"failing","instance":0,"sum":"1/3","what":"chance"}"#,
     ),
     (
+        "a sum that meets its threshold",
         CHANCE,
         "P2",
         Status::Done,
         r#"{"answer":"satisfied","chances":["2/3"],"value":"6/3"}"#,
     ),
     (
+        "a value outside its domain",
         CHANCE,
         "P9",
         Status::Unreadable,
         r#"{"answer":"unreadable","at":0,"code":403}"#,
     ),
     (
+        "no JSON",
         CHANCE,
         "[",
         Status::Unreadable,
         r#"{"answer":"unreadable","at":0,"code":401}"#,
     ),
     (
+        "no byte",
         CHANCE,
         "",
         Status::Unreadable,
         r#"{"answer":"unreadable","at":0,"code":401}"#,
     ),
     (
+        "no policy",
         CHANCE,
         "{}",
         Status::Unreadable,
         r#"{"answer":"unreadable","at":0,"code":402}"#,
     ),
     (
+        "a hard constraint that fails",
         HARD,
         "P7",
         Status::Failing,
         r#"{"answer":"failing","instance":0,"scenario":0,"what":"hard"}"#,
     ),
     (
+        "a hard constraint that holds",
         HARD,
         "P6",
         Status::Done,
         r#"{"answer":"satisfied","chances":[],"value":"6/1"}"#,
     ),
     (
+        "an undefined objective",
         UNDEFINED,
         "P0",
         Status::Failing,
         r#"{"answer":"failing","scenario":0,"what":"objective"}"#,
     ),
     (
+        "an element as the objective",
         UNDEFINED,
         "P2",
         Status::Done,
         r#"{"answer":"satisfied","chances":[],"value":"7/1"}"#,
     ),
-    // the best policy, and two that are worse
     (
+        "the best policy",
         ORDER,
         "Q1 1 1",
         Status::Done,
         r#"{"answer":"satisfied","chances":[],"value":"2/2"}"#,
     ),
     (
+        "a policy that is worse",
         ORDER,
         "Q3 1 3",
         Status::Done,
         r#"{"answer":"satisfied","chances":[],"value":"-2/2"}"#,
     ),
-    // y passes d where d is 1, and x where d is 3: the first constraint comes first, then its first scenario
     (
+        "the first constraint in the first scenario, and the second one in the second",
         ORDER,
         "Q2 2 3",
         Status::Failing,
         r#"{"answer":"failing","instance":0,"scenario":0,"what":"hard"}"#,
     ),
     (
+        "the second constraint in the second scenario",
         ORDER,
         "Q2 1 3",
         Status::Failing,
         r#"{"answer":"failing","instance":1,"scenario":1,"what":"hard"}"#,
     ),
-    // both of y lie outside their domains: the first one as printed
     (
+        "the last value outside its domain",
         ORDER,
         "Q2 1 4",
         Status::Unreadable,
         r#"{"answer":"unreadable","at":2,"code":403}"#,
     ),
     (
+        "both values of y outside their domains",
         ORDER,
         "Q2 -1 4",
         Status::Unreadable,
         r#"{"answer":"unreadable","at":1,"code":403}"#,
     ),
     (
+        "a value with a decimal point",
         ORDER,
         "Q2 1 1.0",
         Status::Unreadable,
         r#"{"answer":"unreadable","at":2,"code":402}"#,
     ),
     (
+        "a policy of one stage for two",
         ORDER,
         "P2",
         Status::Unreadable,
         r#"{"answer":"unreadable","at":0,"code":402}"#,
     ),
-    // three sums, over the weight of all scenarios, and a value over 1
     (
+        "three sums and a worst value",
         WORST,
         "P1",
         Status::Done,
         r#"{"answer":"satisfied","chances":["1/2","2/2","1/2"],"value":"2/1"}"#,
     ),
     (
+        "the last of three sums below its threshold",
         WORST,
         "P2",
         Status::Failing,
         r#"{"answer":"failing","instance":2,"sum":"0/2","what":"chance"}"#,
     ),
     (
+        "two decisions in a node",
         TWO,
         r#"{"policy":{"decide":[],"next":[{"seen":[["d",[],1]],"then":{"decide":[["a",[],0],["b",[],1]],"next":[]}},{"seen":[["d",[],3]],"then":{"decide":[["a",[],2],["b",[],1]],"next":[]}}]}}"#,
         Status::Done,
         r#"{"answer":"satisfied","chances":[],"value":"0/1"}"#,
     ),
-    // of b at 1 and a at 3, whose cells are 2 and 1, the first as printed
     (
+        "a value outside in each of two nodes, the first as printed with the later cell",
         TWO,
         r#"{"policy":{"decide":[],"next":[{"seen":[["d",[],1]],"then":{"decide":[["a",[],0],["b",[],9]],"next":[]}},{"seen":[["d",[],3]],"then":{"decide":[["a",[],9],["b",[],1]],"next":[]}}]}}"#,
         Status::Unreadable,
         r#"{"answer":"unreadable","at":2,"code":403}"#,
     ),
-    // the branches in another order, and a branch with what the other has seen
     (
+        "branches in another order",
         TWO,
         r#"{"policy":{"decide":[],"next":[{"seen":[["d",[],3]],"then":{"decide":[["a",[],2],["b",[],1]],"next":[]}},{"seen":[["d",[],1]],"then":{"decide":[["a",[],0],["b",[],1]],"next":[]}}]}}"#,
         Status::Unreadable,
         r#"{"answer":"unreadable","at":0,"code":402}"#,
     ),
     (
+        "a branch that has seen what the other one has",
         TWO,
         r#"{"policy":{"decide":[],"next":[{"seen":[["d",[],1]],"then":{"decide":[["a",[],0],["b",[],1]],"next":[]}},{"seen":[["d",[],1]],"then":{"decide":[["a",[],2],["b",[],1]],"next":[]}}]}}"#,
         Status::Unreadable,
         r#"{"answer":"unreadable","at":0,"code":402}"#,
     ),
     (
+        "equal terms of `allDifferent`",
         APART,
         r#"{"policy":{"decide":[["x",[1],1],["x",[2],1]],"next":[]}}"#,
         Status::Failing,
         r#"{"answer":"failing","instance":0,"scenario":0,"what":"hard"}"#,
     ),
     (
+        "terms of `allDifferent` that differ",
         APART,
         r#"{"policy":{"decide":[["x",[1],2],["x",[2],1]],"next":[]}}"#,
         Status::Done,
         r#"{"answer":"satisfied","chances":[],"value":"0/1"}"#,
     ),
-    // a text that is not solved is told before its policy is looked at
     (
+        "terms that pass a limit, which is told before the policy is looked at",
         LARGE,
         "[",
         Status::Limit,
         r#"{"answer":"limit","code":207,"counted":"72056494526300160","limit":"1099511627776"}"#,
     ),
     (
+        "a text that is refused, which is told before the policy is looked at",
         MISSPELLED,
         "[",
         Status::Refused,
@@ -248,15 +269,15 @@ fn evaluated(alloc: Global, text: &str, policy: &[u8]) -> Result<Reply, AllocErr
 #[test]
 fn policies_are_evaluated(rt: HostRuntime) -> Result<(), Fail> {
     let alloc = rt.alloc();
-    for (text, policy, status, line) in POLICIES {
+    for (word, text, policy, status, line) in POLICIES {
         let bytes = bytes_of(alloc, policy)?;
         let reply = evaluated(alloc, text, bytes.as_bytes())?;
         assert_eq!(rt;
             reply.line.as_str().strip_suffix("\n"),
             Some(*line),
-            "{text} {policy}"
+            "{word}"
         );
-        assert_eq!(rt; reply.status, *status, "{text} {policy}");
+        assert_eq!(rt; reply.status, *status, "{word}");
     }
     Ok(())
 }

@@ -1,6 +1,6 @@
 //! The lines of answers: one JSON object in compact form, and a line feed; that of the command `tree` has the scenarios of a text, with
 //! their weights, and the numbers of their histories.
-//! Its tests stand in `sopl`.
+//! Its tests stand in `run_tests`.
 #![tactic(auto)]
 
 mod laws;

@@ -178,7 +178,7 @@ fn valued_summary_answer(
     json!(in alloc; {"answer": "summary", "cells": cells, "result": outcome, "scenarios": scenarios, "value": value})
 }
 
-/// The same of a search that found a policy, with the policy's value.
+/// The line that tells of a search that found a policy, with the policy's value.
 pub fn valued_summary_line(
     alloc: Global,
     cells: u32,

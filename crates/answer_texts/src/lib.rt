@@ -1,7 +1,7 @@
 //! What a command on a text is answered: a status and a line of JSON. `reply_to` takes the command and the bytes of the text; `solve` is
 //! answered by the best policy, that none satisfies, or a bound, with the log of the search, or the limit that the text's terms pass; each
 //! accepted text is solved, or passes a limit on its terms.
-//! Its tests stand in `sopl`.
+//! Its tests stand in `run_tests`.
 #![tactic(auto)]
 
 mod answer;

@@ -74,7 +74,7 @@ fn searched_answer<K: Sink>(
     Ok(answer)
 }
 
-/// The same, where the sink is begun with a name first.
+/// The answer of a search whose log a sink takes that is begun with this name first.
 fn logged_answer<K: Sink>(
     alloc: Global,
     detail: Detail,

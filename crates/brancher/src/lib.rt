@@ -1,5 +1,6 @@
 //! What chooses where the box of a node is cut, and what is done with an answer that cuts nothing. A brancher is an object that whoever calls
 //! a search hands in; it may answer what it likes.
+//! Its tests stand in `tests`; searches with branchers are tested in `sopl`.
 #![tactic(auto)]
 
 mod asking;

@@ -36,14 +36,14 @@ impl Nodes {
         }
     }
 
-    /// The same nodes and that of the operator over them.
+    /// These nodes and that of the operator over them.
     pub(crate) fn with_operator(self) -> Nodes
         ensures both { (a : ℕ) → self.count ≡ capped a → result.count ≡ capped (1 + a) }
     {
         Nodes::one().plus(self)
     }
 
-    /// The same nodes in each of so many scenarios.
+    /// These nodes in each of so many scenarios.
     pub(crate) fn times(self, scenarios: u32) -> Nodes
         ensures all { (a : ℕ) → self.count ≡ capped a → result.count ≡ capped (scenarios * a) }
     {

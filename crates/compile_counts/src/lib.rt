@@ -1,6 +1,6 @@
 //! The places that binders give and the numbers that stand as divisors, in a text whose unfolding nothing stops; and how many term nodes
 //! such a text has, before any term is made.
-//! Its tests stand in `compile_tests`.
+//! Its tests stand in `tests` and in `compile_tests`.
 #![tactic(auto)]
 
 mod bindings;

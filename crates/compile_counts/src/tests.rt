@@ -75,20 +75,25 @@ fn instance<'a>(alloc: Global, table: &'a Table, env: &'a Env) -> Result<Vec<i64
 fn places(rt: HostRuntime) -> Result<(), Fail> {
     let alloc = rt.alloc();
     let table = Table::new(alloc);
-    for (last, most, expected) in [
-        (2, 3, [1, 1, 1, 2, 1, 3, 2, 2, 2, 3].as_slice()),
-        (3, 2, [1, 1, 1, 2, 2, 2].as_slice()),
-        (1, 1, [1, 1].as_slice()),
-        (0, 5, [].as_slice()),
+    for (word, last, most, expected) in [
+        (
+            "some j for each i",
+            2,
+            3,
+            [1, 1, 1, 2, 1, 3, 2, 2, 2, 3].as_slice(),
+        ),
+        ("no j for the last i", 3, 2, [1, 1, 1, 2, 2, 2].as_slice()),
+        ("one place", 1, 1, [1, 1].as_slice()),
+        ("no i", 0, 5, [].as_slice()),
     ] {
         let e = sum(alloc, last, most)?;
         let found = numbers_of(alloc, &table, &e)?;
-        assert_eq!(rt; found.as_slice(), expected);
+        assert_eq!(rt; found.as_slice(), expected, "{word}");
     }
     let mut env = Env::new(alloc);
     env.push((Name::from_bytes(alloc, b"i")?, 4))?;
     env.push((Name::from_bytes(alloc, b"j")?, 9))?;
     let found = instance(alloc, &table, &env)?;
-    assert_eq!(rt; found.as_slice(), [4, 9].as_slice());
+    assert_eq!(rt; found.as_slice(), [4, 9].as_slice(), "an instance");
     Ok(())
 }

@@ -5,6 +5,7 @@ use Rattle.std.proofs.lemmas.Slice.Eq.{bytes_eq-Decides}
 use Rattle.std.specs.List.{AllByRecursion}
 use Rattle.std.specs.Option.{unwrap_or}
 use Rattle.std.specs.Str.{bytes_eq}
+use Rattle.sopl_base.proofs.Lists.{bytes_same}
 use Rattle.sopl_base.proofs.Tests.{nat_untest}
 use Rattle.sopl_ast.specs.declared.operators.MulOp.TheVariants.{Times, Div, Mod}
 use Rattle.sopl_ast.specs.Constants as constant
@@ -27,9 +28,6 @@ use Rattle.compile_laws.specs.Whole.{numbers_from}
 or_true : (b : Bool) → (b || true) ≡ true
 or_true true = refl
 or_true false = refl
-
-bytes_same : (name : List ℕ) → bytes_eq name name ≡ true
-bytes_same name = (bytes_eq-Decides name name).1 refl
 
 module _ (ss : List Stochastic) (ds : List Decision) (v w : List ℤ) (m n : List ℕ) where
   -- two places that know the same, in two scenarios

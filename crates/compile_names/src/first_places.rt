@@ -72,7 +72,7 @@ impl Places {
         Ok(())
     }
 
-    /// The same, for each number of the first set.
+    /// Puts the places of the indices that begin with each number of the first set.
     #[cycle(list)]
     fn list_first(
         &self,
@@ -93,7 +93,7 @@ impl Places {
         Ok(())
     }
 
-    /// The same for one number of the first set.
+    /// Puts the places of the indices that begin with one number of the first set.
     #[cycle(list)]
     fn list_behind(
         &self,

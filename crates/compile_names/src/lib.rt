@@ -1,5 +1,6 @@
 //! The names of a problem in a scenario: which constants, stochastic variables and decisions have a name, where its array takes its items
 //! from, the index sets of an array, and which element stands at each index.
+//! Its tests stand in `tests` and `plan_tests`, and those of arrays by their names in `compile_tests`.
 #![tactic(auto)]
 
 mod arrays;

@@ -26,32 +26,36 @@ fn is_planned(
 
 #[test]
 fn plans_by_indices(rt: HostRuntime) -> Result<(), AllocError> {
-    let rows: [(&[&[i64]], &[&[i64]], &[Option<usize>]); 6] = [
-        (&[], &[&[]], &[]),
-        (&[&[]], &[], &[Some(0)]),
+    let rows: [(&str, &[&[i64]], &[&[i64]], &[Option<usize>]); 6] = [
+        ("no element", &[], &[&[]], &[]),
+        ("an element without an index", &[&[]], &[], &[Some(0)]),
         (
+            "an index twice",
             &[&[3], &[-1], &[3], &[2]],
             &[&[-1, 2, 3]],
             &[Some(1), Some(3), Some(0)],
         ),
         (
+            "an element that is missing",
             &[&[2, 5], &[1, 7], &[2, 7]],
             &[&[1, 2], &[5, 7]],
             &[None, Some(1), Some(0), Some(2)],
         ),
         (
+            "an index that is too short",
             &[&[1, 4], &[2]],
             &[&[1, 2], &[0, 4]],
             &[None, Some(0), None, None],
         ),
         (
+            "four dimensions",
             &[&[7, 2, 5, 0], &[7, 1, 5, 0]],
             &[&[7], &[1, 2], &[5], &[0]],
             &[Some(1), Some(0)],
         ),
     ];
-    for (given, sets, order) in rows {
-        assert!(rt; is_planned(rt.alloc(), given, sets, order)?, "{given:?}");
+    for (word, given, sets, order) in rows {
+        assert!(rt; is_planned(rt.alloc(), given, sets, order)?, "{word}");
     }
     Ok(())
 }

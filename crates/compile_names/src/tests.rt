@@ -15,9 +15,14 @@ fn has_numbers(alloc: Global, name: &[u8], want: &[u32]) -> Result<bool, AllocEr
 
 #[test]
 fn numbers_by_name(rt: HostRuntime) -> Result<(), AllocError> {
-    let rows: [(&[u8], &[u32]); 4] = [(b"a", &[0, 2]), (b"ab", &[1]), (b"b", &[]), (b"", &[])];
-    for (name, want) in rows {
-        assert!(rt; has_numbers(rt.alloc(), name, want)?, "{name:?}");
+    let rows: [(&str, &[u8], &[u32]); 4] = [
+        ("a name twice", b"a", &[0, 2]),
+        ("a longer name", b"ab", &[1]),
+        ("the end of a name", b"b", &[]),
+        ("a name of no letter", b"", &[]),
+    ];
+    for (word, name, want) in rows {
+        assert!(rt; has_numbers(rt.alloc(), name, want)?, "{word}");
     }
     Ok(())
 }

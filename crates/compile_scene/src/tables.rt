@@ -40,7 +40,7 @@ fn are_fixed(origins: &[Origin]) -> bool
     origins.iter().all(|origin| is_fixed(origin))
 }
 
-/// The same sets once more.
+/// A copy of these sets.
 #[tactic(auto, using(crate::proofs::Copies::one_copied))]
 fn copied(alloc: Global, sets: &[Vec<i64>]) -> Result<Vec<Vec<i64>>, AllocError>
     ensures { IfOk result (λ list. kept.sets_of list.items ≡ kept.sets_of sets.now) }

@@ -3,6 +3,7 @@
 //! Each number was worked out by hand.
 
 use crate::instances::left_of;
+use crate::rows::parts;
 use compile_counts::{divisor, known_at};
 use scen_accept::stated_in;
 use sopl_ast::{Expr, Kind};
@@ -46,29 +47,29 @@ fn put_divisors(out: &mut String, alloc: Global, ground: &Ground) -> Result<(), 
 
 /// Texts, and the divisors of their instances.
 const TEXTS: &str = "\
-dvar int x in 0..9; subject to { x div 2 == 1; x mod 3 == 1; x div (0 - 4) == 1; } -> 2 3 -4
-dvar int x in 0..9; subject to { forall(i in 1..3) x div (2 * i) == 1; x mod 5 == 1; } -> 2 4 6 5
-range R = 1..2; int a[R] = [5, 0 - 7]; dvar int x in 0..9; subject to { forall(i in R) x mod a[i] == 1; } -> 5 -7
-{int} S = {9, 2}; dvar int x in 0..9; subject to { forall(i in S, j in i..i + 1) x div (i - 2 * j) == 1; } -> -2 -4 -9 -11
-dvar int x in 0..9; subject to { forall(i in 1..3) x div (1 + sum(j in 1..i, k in j..2) k) == 1; } -> 4 6 6
-dvar int x in 0..9; subject to { x div (17 mod 7 * 2) == 1; x mod (1 - 3 div 2 - 1) == 1; x div (7 == 7) == 1; } -> 6 -1 1
-dvar int x in 0..9; subject to { x div (min(4, 3) + max(1, 2) * abs(0 - 5)) == 1; forall(i in 1..0) x div i == 1; } -> 13
+literals and a number below 0: dvar int x in 0..9; subject to { x div 2 == 1; x mod 3 == 1; x div (0 - 4) == 1; } -> 2 3 -4
+a binder: dvar int x in 0..9; subject to { forall(i in 1..3) x div (2 * i) == 1; x mod 5 == 1; } -> 2 4 6 5
+elements: range R = 1..2; int a[R] = [5, 0 - 7]; dvar int x in 0..9; subject to { forall(i in R) x mod a[i] == 1; } -> 5 -7
+two binders: {int} S = {9, 2}; dvar int x in 0..9; subject to { forall(i in S, j in i..i + 1) x div (i - 2 * j) == 1; } -> -2 -4 -9 -11
+a sum over a range: dvar int x in 0..9; subject to { forall(i in 1..3) x div (1 + sum(j in 1..i, k in j..2) k) == 1; } -> 4 6 6
+products, remainders and a comparison: dvar int x in 0..9; subject to { x div (17 mod 7 * 2) == 1; x mod (1 - 3 div 2 - 1) == 1; x div (7 == 7) == 1; } -> 6 -1 1
+functions, and no instance: dvar int x in 0..9; subject to { x div (min(4, 3) + max(1, 2) * abs(0 - 5)) == 1; forall(i in 1..0) x div i == 1; } -> 13
 ";
 
 /// A text has these divisors.
-fn gives(alloc: Global, rt: &impl Abort, text: &str, want: &str) -> Result<(), Fail> {
+fn gives(alloc: Global, rt: &impl Abort, word: &str, text: &str, want: &str) -> Result<(), Fail> {
     let stated = stated_in(alloc, text.as_bytes())?;
     let mut out = String::new(alloc);
     put_divisors(&mut out, alloc, &stated.ground)?;
-    assert_eq!(rt; out.as_str().trim_end(), want, "{text}");
+    assert_eq!(rt; out.as_str().trim_end(), want, "{word}: {text}");
     Ok(())
 }
 
 #[test]
 fn divisors(rt: HostRuntime) -> Result<(), Fail> {
     for row in TEXTS.lines() {
-        let (text, want) = row.split_once(" -> ").unwrap_or((row, ""));
-        gives(rt.alloc(), &rt, text, want)?;
+        let (word, text, want) = parts(row);
+        gives(rt.alloc(), &rt, word, text, want)?;
     }
     Ok(())
 }

@@ -2,6 +2,7 @@
 //!
 //! Each list was written down by hand.
 
+use crate::rows::parts;
 use scen_accept::stated_in;
 use sopl_ast::Name;
 use sopl_base::Fault;
@@ -35,33 +36,33 @@ fn elements_in(alloc: Global, name: &str, text: &str) -> Result<String, Fault> {
 
 /// Names in texts, and their elements in the order of their declaration.
 const TEXTS: &str = "\
-n in int n = 7; subject to { } -> []7
-a in int a[1..2] = 7; int b = a[1] + 1; subject to { } -> [1]7 [2]7
-b in int a[1..2] = 7; int b = a[1] + 1; subject to { } -> []8
-a in int b = 1; int a[i in 0..2] = b - 2 * i; int c = 1; subject to { } -> [0]1 [1]-1 [2]-3
-a in {int} S = {9, 2}; int a[S] = [5, 6]; subject to { } -> [2]5 [9]6
-a in {int} S = {9, 2}; int a[S][i in 1..2] = [[5, 6], [7, 8]]; subject to { } -> [2, 1]5 [2, 2]6 [9, 1]7 [9, 2]8
-a in int a[i in 3..4][1..1][k in 0..1] = 10 * i + k; subject to { } -> [3, 1, 0]30 [3, 1, 1]31 [4, 1, 0]40 [4, 1, 1]41
-a in int ab[1..2] = 7; int a[1..0] = 7; range R = 1..2; subject to { } -> 
-ab in int a[1..2] = 6; int ab[1..2] = 7; int b[1..2] = 8; subject to { } -> [1]7 [2]7
-R in range R = 1..2; int a[R] = 7; subject to { } -> 
-x in dvar int x in 0..1; stoch int d in {1:1}; subject to { } -> 
-d in dvar int x in 0..1; stoch int d in {1:1}; subject to { } -> 
+a constant: n in int n = 7; subject to { } -> []7
+one number for an array: a in int a[1..2] = 7; int b = a[1] + 1; subject to { } -> [1]7 [2]7
+a constant by an element: b in int a[1..2] = 7; int b = a[1] + 1; subject to { } -> []8
+elements by their binder: a in int b = 1; int a[i in 0..2] = b - 2 * i; int c = 1; subject to { } -> [0]1 [1]-1 [2]-3
+a set in the order of its list: a in {int} S = {9, 2}; int a[S] = [5, 6]; subject to { } -> [2]5 [9]6
+a set and a binder as dimensions: a in {int} S = {9, 2}; int a[S][i in 1..2] = [[5, 6], [7, 8]]; subject to { } -> [2, 1]5 [2, 2]6 [9, 1]7 [9, 2]8
+three dimensions: a in int a[i in 3..4][1..1][k in 0..1] = 10 * i + k; subject to { } -> [3, 1, 0]30 [3, 1, 1]31 [4, 1, 0]40 [4, 1, 1]41
+an empty array, beside a longer name: a in int ab[1..2] = 7; int a[1..0] = 7; range R = 1..2; subject to { } -> 
+an array beside names that it begins or ends with: ab in int a[1..2] = 6; int ab[1..2] = 7; int b[1..2] = 8; subject to { } -> [1]7 [2]7
+a range: R in range R = 1..2; int a[R] = 7; subject to { } -> 
+a decision: x in dvar int x in 0..1; stoch int d in {1:1}; subject to { } -> 
+a stochastic variable: d in dvar int x in 0..1; stoch int d in {1:1}; subject to { } -> 
 ";
 
 /// A name has these elements in a text.
-fn gives(alloc: Global, rt: &impl Abort, row: &str, want: &str) -> Result<(), Fail> {
-    let (name, text) = row.split_once(" in ").unwrap_or(("", row));
+fn gives(alloc: Global, rt: &impl Abort, word: &str, asked: &str, want: &str) -> Result<(), Fail> {
+    let (name, text) = asked.split_once(" in ").unwrap_or(("", asked));
     let found = elements_in(alloc, name, text)?;
-    assert_eq!(rt; found.as_str().trim_end(), want, "{row}");
+    assert_eq!(rt; found.as_str().trim_end(), want, "{word}: {asked}");
     Ok(())
 }
 
 #[test]
 fn elements_by_name(rt: HostRuntime) -> Result<(), Fail> {
     for row in TEXTS.lines() {
-        let (row, want) = row.split_once(" -> ").unwrap_or((row, ""));
-        gives(rt.alloc(), &rt, row, want)?;
+        let (word, asked, want) = parts(row);
+        gives(rt.alloc(), &rt, word, asked, want)?;
     }
     Ok(())
 }

@@ -5,9 +5,10 @@
 //! shown. A text that is refused shows its code and its place: `104 at 19`.
 
 use crate::expression_texts::{EXPRESSIONS, NO_EXPRESSIONS};
-use crate::model_texts::{CONSTRAINTS, DECLARATIONS, NO_DECLARATIONS, WHOLE};
+use crate::model_texts::{CONSTRAINTS, DECLARATIONS, LINES, NO_DECLARATIONS, WHOLE};
 use crate::nesting_texts::{LONG, NESTS};
 use crate::printed::printed;
+use crate::rows::parts;
 use sopl_ast::{Model, Token};
 use sopl_base::Fault;
 use sopl_lex::lex;
@@ -99,42 +100,41 @@ fn put_nested(out: &mut String, nest: &Nest<'_>) -> Result<(), AllocError> {
 }
 
 /// A text gives what stands beside it.
-fn gives(alloc: Global, rt: &impl Abort, text: &str, want: &str) -> Result<(), Fail> {
+fn gives(alloc: Global, rt: &impl Abort, word: &str, text: &str, want: &str) -> Result<(), Fail> {
     let given = answer(alloc, text.as_bytes())?;
-    assert_eq!(rt; given.as_str(), want, "{text}");
+    assert_eq!(rt; given.as_str(), want, "{word}: {text}");
     Ok(())
 }
 
 /// A nested text is read, or refused, as its row says.
-fn nests(alloc: Global, rt: &impl Abort, row: &str, want: &str) -> Result<(), Fail> {
-    let Some(nest) = parts_of(row) else {
-        return Err(Fail::new(row));
+fn nests(alloc: Global, rt: &impl Abort, word: &str, shown: &str, want: &str) -> Result<(), Fail> {
+    let Some(nest) = parts_of(shown) else {
+        return Err(Fail::new(shown));
     };
     let mut text = String::new(alloc);
     put_nested(&mut text, &nest)?;
     let given = outcome(alloc, text.as_bytes())?;
-    assert_eq!(rt; given.as_str(), want, "{row}");
+    assert_eq!(rt; given.as_str(), want, "{word}: {shown}");
     Ok(())
-}
-
-/// The two sides of a row.
-fn sides(row: &str) -> (&str, &str) {
-    row.split_once(" -> ").unwrap_or((row, ""))
 }
 
 /// Each text of a table gives what stands beside it.
 fn each_gives(alloc: Global, rt: &impl Abort, table: &str) -> Result<(), Fail> {
     for row in table.lines() {
-        let (text, want) = sides(row);
-        gives(alloc, rt, text, want)?;
+        let (word, text, want) = parts(row);
+        gives(alloc, rt, word, text, want)?;
     }
     Ok(())
 }
 
-/// Each whole text gives what stands beside it.
-fn each_whole_gives(alloc: Global, rt: &impl Abort, rows: &[(&str, &str)]) -> Result<(), Fail> {
-    for (text, want) in rows {
-        gives(alloc, rt, text, want)?;
+/// Each text of several lines gives what stands beside it.
+fn each_of_lines_gives(
+    alloc: Global,
+    rt: &impl Abort,
+    rows: &[(&str, &str, &str)],
+) -> Result<(), Fail> {
+    for (word, text, want) in rows {
+        gives(alloc, rt, word, text, want)?;
     }
     Ok(())
 }
@@ -142,8 +142,8 @@ fn each_whole_gives(alloc: Global, rt: &impl Abort, rows: &[(&str, &str)]) -> Re
 /// Each nested text of a table is read, or refused, as it says.
 fn each_nests(alloc: Global, rt: &impl Abort, table: &str) -> Result<(), Fail> {
     for row in table.lines() {
-        let (row, want) = sides(row);
-        nests(alloc, rt, row, want)?;
+        let (word, shown, want) = parts(row);
+        nests(alloc, rt, word, shown, want)?;
     }
     Ok(())
 }
@@ -161,7 +161,7 @@ fn each_prefix_ends_early(
         if prefix.len() < text.len() {
             let given = outcome(alloc, prefix)?;
             let want = format!(in alloc; "104 at {end}")?;
-            assert_eq!(rt; given.as_str(), want.as_str());
+            assert_eq!(rt; given.as_str(), want.as_str(), "an end at {end}");
         }
     }
     Ok(())
@@ -194,7 +194,8 @@ fn constraints(rt: HostRuntime) -> Result<(), Fail> {
 
 #[test]
 fn whole_texts(rt: HostRuntime) -> Result<(), Fail> {
-    each_whole_gives(rt.alloc(), &rt, WHOLE)
+    each_gives(rt.alloc(), &rt, WHOLE)?;
+    each_of_lines_gives(rt.alloc(), &rt, LINES)
 }
 
 #[test]

@@ -29,4 +29,6 @@ mod place_tests;
 #[cfg(test)]
 mod printed;
 #[cfg(test)]
+mod rows;
+#[cfg(test)]
 mod unfold_tests;

@@ -3,6 +3,7 @@
 //! Each was written down by hand.
 
 use crate::instances::left_of;
+use crate::rows::parts;
 use compile_counts::{all_places, known_at};
 use scen_accept::stated_in;
 use sopl_ast::{Expr, Kind};
@@ -61,28 +62,28 @@ fn put_instances(out: &mut String, alloc: Global, ground: &Ground) -> Result<(),
 
 /// Texts, and for each instance the places on its left side.
 const TEXTS: &str = "\
-subject to { sum(i in 1..2, j in i..3) i == 0; sum(i in 5..4) i == 0; 1 == 1; } -> i1j1; i1j2; i1j3; i2j2; i2j3; | | ; |
-subject to { forall(i in 1..2, j in i..2) i <= j; } -> i1j1; | i1j2; | i2j2; |
-{int} S = {9, 2, 5}; subject to { forall(i in S) sum(j in 1..2) (i * j) >= 0; } -> i2j1; i2j2; | i5j1; i5j2; | i9j1; i9j2; |
-{int} S = {9, 2, 5}; range R = 3..4; int n = 8; subject to { sum(r in R, s in S, t in n..n + r - 3) t >= 0; } -> r3s2t8; r3s5t8; r3s9t8; r4s2t8; r4s2t9; r4s5t8; r4s5t9; r4s9t8; r4s9t9; |
-int a[i in 1..3] = 2 - i; subject to { forall(i in 1..3) sum(j in a[i]..1) j == i; } -> i1j1; | i2j0; i2j1; | i3j-1; i3j0; i3j1; |
-subject to { forall(i in 1..2) { sum(j in 1..i) j >= 0; forall(k in i..2) { sum(j in k..k) j >= i; } } } -> i1j1; | i1k1j1; | i1k2j2; | i2j1; i2j2; | i2k2j2; |
+binders of sums, and no sum: subject to { sum(i in 1..2, j in i..3) i == 0; sum(i in 5..4) i == 0; 1 == 1; } -> i1j1; i1j2; i1j3; i2j2; i2j3; | | ; |
+binders of `forall`: subject to { forall(i in 1..2, j in i..2) i <= j; } -> i1j1; | i1j2; | i2j2; |
+a set in order: {int} S = {9, 2, 5}; subject to { forall(i in S) sum(j in 1..2) (i * j) >= 0; } -> i2j1; i2j2; | i5j1; i5j2; | i9j1; i9j2; |
+a range by the number of another binder: {int} S = {9, 2, 5}; range R = 3..4; int n = 8; subject to { sum(r in R, s in S, t in n..n + r - 3) t >= 0; } -> r3s2t8; r3s5t8; r3s9t8; r4s2t8; r4s2t9; r4s5t8; r4s5t9; r4s9t8; r4s9t9; |
+elements as ends: int a[i in 1..3] = 2 - i; subject to { forall(i in 1..3) sum(j in a[i]..1) j == i; } -> i1j1; | i2j0; i2j1; | i3j-1; i3j0; i3j1; |
+`forall` in `forall`: subject to { forall(i in 1..2) { sum(j in 1..i) j >= 0; forall(k in i..2) { sum(j in k..k) j >= i; } } } -> i1j1; | i1k1j1; | i1k2j2; | i2j1; i2j2; | i2k2j2; |
 ";
 
 /// A text has these places.
-fn gives(alloc: Global, rt: &impl Abort, text: &str, want: &str) -> Result<(), Fail> {
+fn gives(alloc: Global, rt: &impl Abort, word: &str, text: &str, want: &str) -> Result<(), Fail> {
     let stated = stated_in(alloc, text.as_bytes())?;
     let mut out = String::new(alloc);
     put_instances(&mut out, alloc, &stated.ground)?;
-    assert_eq!(rt; out.as_str().trim_end(), want, "{text}");
+    assert_eq!(rt; out.as_str().trim_end(), want, "{word}: {text}");
     Ok(())
 }
 
 #[test]
 fn places(rt: HostRuntime) -> Result<(), Fail> {
     for row in TEXTS.lines() {
-        let (text, want) = row.split_once(" -> ").unwrap_or((row, ""));
-        gives(rt.alloc(), &rt, text, want)?;
+        let (word, text, want) = parts(row);
+        gives(rt.alloc(), &rt, word, text, want)?;
     }
     Ok(())
 }

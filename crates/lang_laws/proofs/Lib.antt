@@ -6,3 +6,4 @@ mod Holding
 mod Satisfied
 pub mod Distinct
 pub mod Shared
+pub mod Limits

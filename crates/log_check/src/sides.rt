@@ -17,7 +17,7 @@ pub(crate) struct Sides {
 }
 
 impl Sides {
-    /// The same with a row as one of its sides.
+    /// This row's sides with a row as one of them.
     fn with(&self, side: Side, row: usize) -> Sides
         ensures with { result ≡ spec.with_row self.now side row }
     {

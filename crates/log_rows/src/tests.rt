@@ -67,12 +67,21 @@ const LINES: &str =
     "sopl-log 1\nn 0 r\ns h 3 17 4 le -12\ns b 4294967295 ge 9223372036854775807\nx 0 -1\nn 1 0 l\nf c 2\nn 2 0 h\nf u 5\nn 3 18446744073709551615 h\nf b\nn 4 1 l\nv\nn 5 1 h\no\n";
 
 // What is claimed, and the last line.
-const CLAIMS: [(Footer, &str); 5] = [
-    (Footer::Optimal(-7), "end optimal -7\n"),
-    (Footer::Infeasible, "end infeasible\n"),
-    (Footer::Bounded(None, 3), "end bounded none 3\n"),
-    (Footer::Bounded(Some(0), 3), "end bounded 0 3\n"),
+const CLAIMS: [(&str, Footer, &str); 5] = [
+    ("a best value", Footer::Optimal(-7), "end optimal -7\n"),
+    ("no point", Footer::Infeasible, "end infeasible\n"),
     (
+        "a bound alone",
+        Footer::Bounded(None, 3),
+        "end bounded none 3\n",
+    ),
+    (
+        "a value and a bound",
+        Footer::Bounded(Some(0), 3),
+        "end bounded 0 3\n",
+    ),
+    (
+        "the least value",
         Footer::Optimal(-170141183460469231731687303715884105728),
         "end optimal -170141183460469231731687303715884105728\n",
     ),
@@ -109,12 +118,12 @@ fn sample(alloc: Global) -> Result<Vec<Row>, AllocError> {
 fn logs_are_written(rt: HostRuntime) -> Result<(), Fail> {
     let alloc = rt.alloc();
     let rows = sample(alloc)?;
-    for (footer, last) in CLAIMS {
+    for (word, footer, last) in CLAIMS {
         let mut gather = Gather::new(alloc, 64)?;
         let mut sink = MemSink::new(alloc, 512, Vec::new(alloc))?;
         put_log(&mut gather, &mut sink, &rows, &footer)?;
         let expected = format!(in alloc; "{LINES}{last}")?;
-        assert_eq!(rt; sink.bytes(), expected.as_bytes());
+        assert_eq!(rt; sink.bytes(), expected.as_bytes(), "{word}");
     }
     Ok(())
 }
@@ -127,9 +136,12 @@ fn a_full_sink_has_a_prefix(rt: HostRuntime) -> Result<(), Fail> {
         let mut gather = Gather::new(alloc, 64)?;
         let mut sink = MemSink::new(alloc, room, Vec::new(alloc))?;
         let outcome = put_log(&mut gather, &mut sink, &rows, &Footer::Infeasible);
-        assert!(rt; outcome.is_err());
-        assert_eq!(rt; sink.bytes().len(), room);
-        assert!(rt; LINES.as_bytes().starts_with(sink.bytes()));
+        assert!(rt; outcome.is_err(), "room for {room}");
+        assert_eq!(rt; sink.bytes().len(), room, "room for {room}");
+        assert!(rt;
+            LINES.as_bytes().starts_with(sink.bytes()),
+            "room for {room}"
+        );
     }
     Ok(())
 }

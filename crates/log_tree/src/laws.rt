@@ -12,7 +12,7 @@ pub fn texts_are_read()
     ensures law { TextsAreRead }
 {}
 
-/// The same bytes are read in one way.
+/// Bytes are read in one way at most.
 pub fn readings_are_unique()
     ensures law { ReadingsAreUnique }
 {}

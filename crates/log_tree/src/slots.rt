@@ -29,7 +29,7 @@ impl Slots {
         }
     }
 
-    /// The same with a side taken.
+    /// These slots with a side taken.
     fn taken(&self, side: Side) -> Slots
         ensures { result ≡ spec.taken self.now side }
     {

@@ -1,4 +1,5 @@
 //! Texts of models that are drawn by numbers: stages in which something is bought before it is known how much of it is asked for.
+//! Its tests stand in `tests`.
 #![tactic(auto)]
 
 mod drawn_stage;

@@ -1,5 +1,6 @@
 //! The open nodes of a search that several seats share, and a box that goes from one of them to another. An open node keeps no box: it keeps the split of
 //! which it is a side, and that split the one above it, so that nodes share their ways up to the root. Each seat has a list of open nodes.
+//! Its tests stand in `tests`; what they do not reach is reached by searches of one seat or several in `sopl`.
 #![tactic(auto)]
 
 mod descending;

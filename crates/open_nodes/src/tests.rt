@@ -78,16 +78,18 @@ const HIGH_OF_1: Option<(u64, Side)> = Some((1, Side::Ge));
 
 const HIGH_OF_2: Option<(u64, Side)> = Some((2, Side::Ge));
 
-// One seat: always its newest; two in turn: the second has none at first, and takes the oldest of the first; the same with the
-// last seat alone at work; no seat has one left.
-const ROWS: [(usize, &[usize], u64, &[Option<(u64, Side)>]); 4] = [
+// How many seats there are, which of them takes, one after another, how many nodes are split, and which ones are taken. A seat takes its newest
+// node, and where it has none the oldest of another.
+const ROWS: [(&str, usize, &[usize], u64, &[Option<(u64, Side)>]); 4] = [
     (
+        "one seat",
         1,
         &[0, 0, 0, 0, 0],
         2,
         &[None, LOW_OF_0, LOW_OF_1, HIGH_OF_1, HIGH_OF_0],
     ),
     (
+        "two seats in turn",
         2,
         &[0, 1, 0, 1, 0, 1, 0],
         3,
@@ -96,19 +98,20 @@ const ROWS: [(usize, &[usize], u64, &[Option<(u64, Side)>]); 4] = [
         ],
     ),
     (
+        "the last of three seats alone at work",
         3,
         &[0, 2, 2, 2, 1],
         2,
         &[None, HIGH_OF_0, LOW_OF_1, HIGH_OF_1, LOW_OF_0],
     ),
-    (2, &[1, 1, 0], 0, &[None]),
+    ("no node is left", 2, &[1, 1, 0], 0, &[None]),
 ];
 
 #[test]
 fn seats_take(rt: HostRuntime) -> Result<(), Fail> {
-    for (many, order, splits, wanted) in ROWS {
+    for (word, many, order, splits, wanted) in ROWS {
         let told = taken(rt.alloc(), many, order, splits)?;
-        assert_eq!(rt; told.as_slice(), wanted, "{many} seats");
+        assert_eq!(rt; told.as_slice(), wanted, "{word}");
     }
     Ok(())
 }

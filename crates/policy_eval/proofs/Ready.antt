@@ -29,6 +29,7 @@ use Rattle.sopl_ast.specs.WholeModel.{goal_tree, whole}
 use Rattle.sopl_ast.specs.declared.whole.Model.{Model}
 use Rattle.std.specs.declared.alloc.AllocError.{AllocError}
 use Rattle.sopl_base.proofs.Lists.{positive_there}
+use Rattle.lang_laws.proofs.Limits.{light_within}
 use Rattle.policy_eval.specs.Reports.{IsReport}
 use Rattle.policy_eval.specs.Shown.{report_shown}
 use Rattle.policy_eval.specs.declared.report.Report.{Report}
@@ -69,7 +70,7 @@ use Rattle.policy_values.specs.Safe.{IsSafe, IsTestable}
 use Rattle.policy_eval.specs.Tried.{IsGoalTried, IsTrial, IsTried, policy_of, posed, value_at}
 use Rattle.policy_eval.specs.declared.trial.Trial.{Trial}
 use Rattle.policy_eval.proofs.Light.{AreLight, before, behind, no_larger}
-use Rattle.policy_eval.proofs.Limited.{light, no_large, no_large_goal}
+use Rattle.policy_eval.proofs.Limited.{no_large, no_large_goal}
 use Rattle.policy_eval.proofs.Listed.{there, valued_by}
 use Rattle.policy_eval.proofs.Placed.{many, place_is, weights_are}
 use Rattle.policy_eval.proofs.Safe.{condition_safe, number_safe}
@@ -310,7 +311,7 @@ module _ (trial : Trial) (is : IsUnfolding (posed trial)) (laid : IsTreeOf trial
     goal = goals_tried trial.goal.now refl;
     weights = subst (AllByRecursion (λ w. pos 1 ≤ℤ w)) (sym (weights_are trial laid)) is.weighs;
     whole = ap total (weights_are trial laid) ∙ sym (total_so (problem_terms asked).weights) ∙ sym is.sums_to ∙ sym laid.whole;
-    most = subst (λ z. z ≤ℤ pos (2 ^ 100)) (sym laid.whole) (light asked within);
+    most = subst (λ z. z ≤ℤ pos (2 ^ 100)) (sym laid.whole) (light_within asked within);
     some = omega (arith, is.some, length-map found (λ (s : Scenario). s.weight), many trial laid);
     few_hards = is.few_hards;
     few_chances = is.few_chances;

@@ -211,7 +211,7 @@ impl<'a, 'b> Trial<'a, 'b> {
         }
     }
 
-    /// The same where there is an objective.
+    /// What the policy comes to where there is an objective: its value, or the first scenario in which the objective is undefined.
     fn valued(&self, goal: &'a Goal, sums: Vec<i128>) -> Result<Report, AllocError>
         requires tried { IsTrial self.now }
         requires held { All (IsHeld (posed self.now) (policy_of self.now)) self.now.hards.now }
@@ -323,7 +323,7 @@ fn worst(direction: Direction, values: &[i64]) -> Wide
     Wide::of(worst_value(direction, values).unwrap_or(0))
 }
 
-/// The same, if there is one.
+/// The worst of values, or none of no values.
 fn worst_value(direction: Direction, values: &[i64]) -> Option<i64>
     ensures worst { result ≡ worst_in direction values.now }
 {

@@ -1,4 +1,5 @@
 //! A policy as nested JSON, an instance with its value as JSON, and the last stage of decisions.
+//! Its tests stand in `tests` and `entry_tests`.
 #![tactic(auto)]
 
 mod bytes;

@@ -4,13 +4,12 @@ use Rattle.std.proofs.Common.{◌≡◌, ◌∙◌, ◌+◌, ◌++◌, ℕ, zero
 use Rattle.std.proofs.lemmas.Int.{ints}
 use Rattle.std.specs.List.{AllByRecursion, enumerate_from, position_from, zip}
 use Rattle.std.specs.Option.{option_map_or}
-use Rattle.std.specs.Str.{bytes_eq}
 use Rattle.serde_json.specs.Data.{Data, string}
 use Rattle.serde_json.specs.Find.{as_i64, of_integer}
+use Rattle.sopl_base.proofs.Lists.{bytes_same}
 use Rattle.sopl_ast.specs.Instances.{Decision, Stochastic}
 use Rattle.sopl_ast.specs.Policies.{Policy}
 use Rattle.policy_tree.proofs.Members.{In, from_enumerate, from_filter}
-use Rattle.scen_laws.proofs.Prefixes.{same}
 use Rattle.policy_json.specs.Entries.{entry_of, list_of, seen_entries, whole_number}
 use Rattle.policy_json.specs.Nodes.{branch_of, decide_of, decided_at, decision_entry, node_at, node_of, numbered_in_stage, outcomes_after, seen_after}
 use Rattle.policy_json.proofs.Branches.{branch_after}
@@ -22,10 +21,6 @@ use Rattle.policy_read.proofs.Alike.{listed}
 -- a whole number is read back
 abbrev pub IsReadBack : ℤ → Type 0
 IsReadBack z = as_i64 (of_integer z) ≡ Some z
-
-bytes_same : (bs : List ℕ) → bytes_eq bs bs ≡ true
-bytes_same [] = refl
-bytes_same (b ∷ bs) = λ i. same b b refl i && bytes_same bs i
 
 int_same : (z : ℤ) → int_is z z ≡ true
 int_same (pos n) = search (arith, ints)

@@ -28,7 +28,7 @@ use Rattle.policy_read.specs.Forms.{Facing, all_told, facing, nodes_behind, node
 use Rattle.sopl_scen.specs.Domains.{cell_ends}
 use Rattle.policy_read.specs.Domains.{low_in}
 use Rattle.policy_read.specs.Policies.{Differs, NoJson, Point, data_read, node_read, policy_unless, put_all_at, values_unless}
-use Rattle.policy_read.specs.Printed.{AcceptedAreRead, AreReadable, PrintedIsRead, TextsAreRead}
+use Rattle.policy_read.specs.Printed.{AcceptedAreRead, AreReadable, PrintedIsRead, PolicyTextsAreRead}
 use Rattle.policy_read.proofs.Indices.{accepted_are_readable}
 use Rattle.policy_read.proofs.Printing.{IsReadBack, decide_back}
 use Rattle.policy_read.proofs.Putting.{all_point, all_there, lows_lie, none_outside}
@@ -143,12 +143,12 @@ printed_is_read problem values staged bounded point small =
     ∙ ap (λ o. policy_unless o told domains) (none_outside values (cells problem) point told are_told)
     ∙ ap Point (points_differ problem ws values is_point point one)
 
-pub texts_are_read : TextsAreRead
-texts_are_read problem values staged bounded point small text d read has =
+pub policy_texts_are_read : PolicyTextsAreRead
+policy_texts_are_read problem values staged bounded point small text d read has =
     ap (λ o. option_map_or (data_read problem.decisions problem.stochastics) o NoJson) read
     ∙ ap (λ o. option_map_or (node_read problem.decisions problem.stochastics) o (Differs 0)) has
     ∙ printed_is_read problem values staged bounded point small
 
 pub accepted_are_read : AcceptedAreRead
 accepted_are_read model from passes values point text d read has =
-    texts_are_read (problem_of model) values (texts_are_staged model from passes) (decisions_are_bounded model passes) point (accepted_are_readable model passes values point) text d read has
+    policy_texts_are_read (problem_of model) values (texts_are_staged model from passes) (decisions_are_bounded model passes) point (accepted_are_readable model passes values point) text d read has

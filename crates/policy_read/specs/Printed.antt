@@ -41,8 +41,8 @@ PrintedIsRead =
     → node_read problem.decisions problem.stochastics (policy_data problem (policy_at (cells problem) values)) ≡ Point values
 
 -- and so is each text whose data has it as its member `policy`
-abbrev pub TextsAreRead : Type 0
-TextsAreRead =
+abbrev pub PolicyTextsAreRead : Type 0
+PolicyTextsAreRead =
     (problem : Problem) (values : List ℤ) → IsStaged problem → AllByRecursion IsBoundedDecision problem.decisions → IsPoint (cells problem) values → AreReadable problem values
     → (text : List ℕ) (d : Data) → data_in text ≡ Some d → get (codes "policy") d ≡ Some (policy_data problem (policy_at (cells problem) values))
     → policy_in problem.decisions problem.stochastics text ≡ Point values

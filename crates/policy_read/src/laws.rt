@@ -1,13 +1,13 @@
 //! What is printed of a policy is read as that policy.
 
-ghost use Rattle.policy_read.specs.Printed.{AcceptedAreRead, AcceptedAreReadable, PrintedIsRead, PrintsInForm, TextsAreRead};
+ghost use Rattle.policy_read.specs.Printed.{AcceptedAreRead, AcceptedAreReadable, PrintedIsRead, PrintsInForm, PolicyTextsAreRead};
 
 /// The outermost node that is printed of a point's policy is read as that point, where the problem comes by stage, and its indices and
 /// values are whole numbers of 64 signed bits; and so is each text whose JSON has this node as its member `policy`, whatever else it has.
 /// No node of it differs from the form's, also where values lie outside their domains.
 pub fn printed_is_read()
     ensures node { PrintedIsRead }
-    ensures text { TextsAreRead }
+    ensures text { PolicyTextsAreRead }
     ensures form { PrintsInForm }
 {}
 

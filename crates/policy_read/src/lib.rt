@@ -1,4 +1,5 @@
 //! A policy is read from JSON.
+//! Its tests stand in `tests`; policies of whole texts are tested in `answer_eval`.
 #![tactic(auto)]
 
 mod domains;

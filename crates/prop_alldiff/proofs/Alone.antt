@@ -1,17 +1,16 @@
 -- Where no window takes its numbers away from a term, a cell that stands alone may be at either end.
-use Rattle.std.proofs.Common.{◌≡◌, ◌∙◌, ◌⊎◌, inl, inr, refl, ap, ap₂, sym, subst, ℕ, zero, suc, ◌+◌, ◌<◌, ◌≤◌, ℤ, pos, negsuc, ◌+ℤ◌, ◌*ℤ◌, ◌≤ℤ◌, int_le, Bool, true, false, List, [], ◌∷◌, length, get_or, arith}
+use Rattle.std.proofs.Common.{◌≡◌, ◌∙◌, ◌⊎◌, inl, inr, refl, ap, ap₂, sym, subst, ℕ, zero, suc, ◌+◌, ◌<◌, ◌≤◌, ℤ, pos, ◌+ℤ◌, ◌*ℤ◌, ◌≤ℤ◌, false, List, [], ◌∷◌, length, get_or, arith}
 use Rattle.std.proofs.lemmas.Bool.{cases_lt}
-use Rattle.sopl_base.proofs.Tests.{le_tested}
-use Rattle.term_language.proofs.FormValues.{by_bool}
+use Rattle.sopl_base.proofs.Integers.{order_total}
 use Rattle.std.proofs.lemmas.Int.{ints, clamps}
 use Rattle.std.proofs.lemmas.List.{get_or-set_same}
-use Rattle.box_problem.specs.Box.{Box, IsBox, Inside, high, low, with_high, with_low}
+use Rattle.box_problem.specs.Box.{Box, IsBox, Inside, high, low}
 use Rattle.box_problem.proofs.Shared.{lows_inside}
 use Rattle.term_crowds.specs.Crowds.{AreWhole, at_high, at_low}
-use Rattle.term_crowds.specs.Shrinking.{AgreeEach, ShrinksAlone, term_among}
+use Rattle.term_crowds.specs.Shrinking.{AgreeEach, term_among}
 use Rattle.term_crowds.proofs.Shrinking.{high_open, low_open}
 use Rattle.term_language.specs.Ends as rule
-use Rattle.term_language.specs.Forms.{Form, cells_ends, whole}
+use Rattle.term_language.specs.Forms.{Form, whole}
 use Rattle.term_language.specs.Laws.{AreProper, Sharper}
 use Rattle.term_language.specs.MentionLaws.{BoxesAgree}
 use Rattle.term_language.specs.Mentions.{mentions}
@@ -24,18 +23,16 @@ use Rattle.term_language.specs.declared.answers.Truth.TheVariants.{False, Unknow
 use Rattle.term_language.proofs.Layers.{IsClear}
 use Rattle.term_language.proofs.Sharpening.{marks_sharpen}
 use Rattle.term_language.proofs.Soundness.{read}
-use Rattle.term_math.specs.Shown.{IsPart}
 use Rattle.term_math.proofs.Inner.{part_inside}
 use Rattle.term_nodes.specs.Built.{IsSoundTerm}
 use Rattle.term_nodes.proofs.Ready.{small_term, terms_proper}
 use Rattle.term_problem.specs.Refuted.{is_false}
 use Rattle.term_program.specs.LinearTerms.{IsOneCell, form_of_one}
-use Rattle.term_program.specs.Programs.{IsMade, root_in, things_in, with_interval}
+use Rattle.term_program.specs.Programs.{IsMade, root_in, with_interval}
 use Rattle.term_program.specs.declared.linear_terms.OneCell.{OneCell}
 use Rattle.term_program.specs.declared.program.Program.{Program}
 use Rattle.prop_shave.proofs.Mentioned.{with_agrees}
-use Rattle.prop_shave.proofs.Parts.{part_high, part_low}
-use Rattle.prop_operands.specs.Kept.{IsOnly, MentionsCell, operand_ids, operand_term, operand_terms}
+use Rattle.prop_operands.specs.Kept.{MentionsCell, operand_ids, operand_term, operand_terms}
 use Rattle.prop_operands.specs.declared.operands.Operand.{Operand}
 use Rattle.prop_alldiff.specs.Kinds.{IsAlone}
 
@@ -121,20 +118,16 @@ multiple root b t one inside sound is =
     ((read Near root b b.lows t inside.is_box (lows_inside b inside.is_box) sound.proper).clear (ap (λ (f : Form). f.plain) is.form)))
 
 -- one of two numbers is the least or the greatest of both
-order-total : (x y : ℤ) → (x ≤ℤ y) ⊎ (y ≤ℤ x)
-order-total x y =
-    by_bool (λ t. int_le x y ≡ t → (x ≤ℤ y) ⊎ (y ≤ℤ x)) (int_le x y) (λ met is. inl (le_tested x y is)) (λ unmet is. inr (grind (arith, ints, is))) refl
-
 first_end : (x y : ℤ) → (x ≡ (rule.between x y).low) ⊎ (x ≡ (rule.between x y).high)
 first_end x y =
-    elim (order-total x y) [
+    elim (order_total x y) [
       | inl below ↦ inl (omega (arith, ints, clamps, below))
       | inr above ↦ inr (omega (arith, ints, clamps, above))
     ]
 
 second_end : (x y : ℤ) → (y ≡ (rule.between x y).low) ⊎ (y ≡ (rule.between x y).high)
 second_end x y =
-    elim (order-total x y) [
+    elim (order_total x y) [
       | inl below ↦ inr (omega (arith, ints, clamps, below))
       | inr above ↦ inl (omega (arith, ints, clamps, above))
     ]

@@ -1,20 +1,18 @@
 -- What the reason of a propagator closes.
-use Rattle.std.proofs.Common.{◌≡◌, ◌∙◌, refl, ap, ap₂, sym, List, [], ◌∷◌}
+use Rattle.std.proofs.Common.{◌≡◌, ◌∙◌, refl, ap, ap₂, sym, List, ◌∷◌}
 use Rattle.sopl_base.specs.declared.reason.Reason.TheVariants.{Hard}
 use Rattle.box_problem.specs.Box.{Box}
-use Rattle.term_language.specs.Ends.{Ends}
 use Rattle.term_language.specs.Globals.{TaskEnds, always_fit, never_fit}
 use Rattle.term_language.specs.Marks.{all_marks, both}
 use Rattle.term_language.specs.Rules.{Near, interval, intervals, mark, marks, task_ends, task_mark, truth}
 use Rattle.term_language.specs.Terms.{Term, Terms, Tasks, no_task, no_term, task, term, Cumulative}
 use Rattle.term_language.specs.declared.answers.Defined.{Defined}
-use Rattle.term_language.specs.declared.answers.Defined.TheVariants.{Never, Maybe, Always}
+use Rattle.term_language.proofs.Marks.{both_always, both_grouped}
 use Rattle.term_problem.specs.Refuted.{is_false}
 use Rattle.term_program.specs.Globals.{tasks_then}
 use Rattle.term_program.specs.Programs.{problem_in, root_in}
 use Rattle.prop_shave.specs.Probes.{closes}
 use Rattle.prop_shave.specs.declared.probes.Probe.{Probe}
-use Rattle.prop_operands.specs.Kept.{operand_terms, operands_mark}
 use Rattle.prop_operands.specs.Questions.{IsAbout, is_refuted}
 use Rattle.prop_operands.proofs.Asking.{hard_closes, judged_refuted}
 use Rattle.prop_cumul.specs.Kinds.{Fits}
@@ -22,20 +20,6 @@ use Rattle.prop_cumul.specs.Profiles.{capacity_in, is_overfull_list, tasks_in}
 use Rattle.prop_cumul.specs.declared.cumul.Cumul.{Cumul}
 
 -- the mark of all operands
-both_always : (m : Defined) → both m Always ≡ m
-both_always Never = refl
-both_always Maybe = refl
-both_always Always = refl
-
-both_grouped : (l m n : Defined) → both (both l m) n ≡ both l (both m n)
-both_grouped Never m n = refl
-both_grouped Maybe Never n = refl
-both_grouped Maybe Maybe Never = refl
-both_grouped Maybe Maybe Maybe = refl
-both_grouped Maybe Maybe Always = refl
-both_grouped Maybe Always n = refl
-both_grouped Always m n = refl
-
 marks_then : (root b : Box) (tasks : Tasks) (capacity : Term)
     → all_marks (marks Near root b (tasks_then tasks (term capacity no_term))) ≡ both (task_mark Near root b tasks) (mark Near root b capacity)
 marks_then root b no_task capacity = both_always (mark Near root b capacity)

@@ -114,6 +114,8 @@ impl Propagator for Cumul {
 
     ghost fits = { Fits };
 
+    ghost in_step = { λ _ _ _. Unit {0} };
+
     fn revise(&mut self, program: &Program, store: &BoxStore, best: Option<i128>) -> Finding {
         let probe = self.probe(program, store, best);
         self.found(&probe)

@@ -22,6 +22,7 @@ use Rattle.term_language.specs.Terms.{Term, Constant, Sum, no_part, part, Cond, 
 use Rattle.term_language.specs.Values.{value}
 use Rattle.term_language.proofs.FormValues.{and_first, and_second, by_bool}
 use Rattle.term_language.proofs.Layers.{IsClear}
+use Rattle.term_language.proofs.Marks.{both_not_never}
 use Rattle.term_language.proofs.Soundness.{marks_tell, read}
 use Rattle.term_problem.specs.Refuted.{is_false}
 use Rattle.term_nodes.proofs.Ready.{nothing_small, small_term}
@@ -150,13 +151,6 @@ known_not_never Never Maybe None undefined defined is = cc
 known_not_never Never n (Some x) undefined defined is = absurd undefined
 known_not_never Maybe n v undefined defined is = λ wrong. cc
 known_not_never Always n v undefined defined is = λ wrong. cc
-
-both_not_never : (m n : Defined) → ¬ m ≡ Never → ¬ n ≡ Never → ¬ both m n ≡ Never
-both_not_never Never n first second is = first refl
-both_not_never Maybe Never first second is = second refl
-both_not_never Maybe Maybe first second is = cc
-both_not_never Maybe Always first second is = cc
-both_not_never Always n first second is = second is
 
 not_never : (root b : Box) (t : Term) → IsBox root → Inside b root → IsSoundTerm root t → mark Near root root t ≡ Always → ¬ mark Near root b t ≡ Never
 not_never root b t is_root inside sound always =

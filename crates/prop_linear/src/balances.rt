@@ -23,7 +23,7 @@ pub(crate) struct Difference<'a> {
     pub(crate) view: BoxView<'a>,
 }
 
-/// The same with the interval of the whole sum over the box.
+/// A linear comparison over a box, with the interval of the whole sum.
 #[derive(Clone, Copy)]
 pub(crate) struct Balance<'a> {
     pub(crate) difference: Difference<'a>,

@@ -115,6 +115,8 @@ impl Propagator for Linear {
 
     ghost fits = { Fits };
 
+    ghost in_step = { λ _ _ _. Unit {0} };
+
     fn revise(&mut self, program: &Program, store: &BoxStore, _best: Option<i128>) -> Finding {
         let reason = self.reason();
         let balance = self.balance(program, store);

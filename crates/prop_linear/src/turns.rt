@@ -21,7 +21,7 @@ pub(crate) struct Turn {
 }
 
 impl Turn {
-    /// The same at the upper end.
+    /// This turn at the upper end.
     pub(crate) fn upper(&self) -> Turn
         ensures { result ≡ with_end self.now (upper_of self.now.end) }
     {

@@ -1,19 +1,19 @@
 -- What is seen of operands, one after the other.
-use Rattle.std.proofs.Common.{◌≡◌, ◌∙◌, refl, ap, ap₂, sym, subst, ℕ, zero, suc, ◌+◌, ◌<◌, ◌≤◌, ℤ, Bool, false, List, [], ◌∷◌, ◌++◌, length, map, get_or, set, take, arith}
+use Rattle.std.proofs.Common.{◌≡◌, ◌∙◌, refl, ap, ap₂, sym, subst, ℕ, zero, suc, ◌+◌, ◌<◌, ◌≤◌, ℤ, false, List, [], ◌∷◌, ◌++◌, length, get_or, set, take, arith}
 use Rattle.std.proofs.lemmas.List.{map-append, take_all, take_more, take_more_set}
 use Rattle.box_problem.specs.Box.{Box}
 use Rattle.term_language.specs.Ends as rule
 use Rattle.term_language.specs.Marks.{all_marks, both}
 use Rattle.term_language.specs.Mentions.{mentions}
 use Rattle.term_language.specs.Rules.{Near, interval, intervals, mark, marks}
-use Rattle.term_language.specs.Terms.{Terms, no_term, term}
+use Rattle.term_language.specs.Terms.{term}
 use Rattle.term_language.specs.declared.answers.Defined.{Defined}
-use Rattle.term_language.specs.declared.answers.Defined.TheVariants.{Never, Maybe, Always}
+use Rattle.term_language.specs.declared.answers.Defined.TheVariants.{Never, Always}
 use Rattle.term_language.proofs.Agreement.{intervals_agree, marks_agree}
+use Rattle.term_language.proofs.Marks.{both_never, both_not_never}
 use Rattle.term_math.specs.Shown.{ends_of}
 use Rattle.term_math.specs.declared.ends.Ends.{Ends}
 use Rattle.term_nodes.specs.Things.{Thing, term_at, terms_at}
-use Rattle.term_program.specs.Mentions.{IsListOf}
 use Rattle.term_program.specs.Programs.{root_in, things_in, with_interval}
 use Rattle.term_program.specs.declared.program.Program.{Program}
 use Rattle.term_windows.specs.Windows.{spans}
@@ -26,18 +26,6 @@ use Rattle.prop_operands.specs.declared.operands.Operand.{Operand}
 never_first : (n : Defined) → both Never n ≡ Never
 never_first n = refl
 
-never_second : (m : Defined) → both m Never ≡ Never
-never_second Never = refl
-never_second Maybe = refl
-never_second Always = refl
-
-both_ever : (m n : Defined) → ¬ m ≡ Never → ¬ n ≡ Never → ¬ both m n ≡ Never
-both_ever Never n first second is = first refl
-both_ever Maybe Never first second is = second refl
-both_ever Maybe Maybe first second is = cc
-both_ever Maybe Always first second is = cc
-both_ever Always n first second is = second is
-
 always_ever : ¬ Always ≡ Never
 always_ever is = cc
 
@@ -45,7 +33,7 @@ first_ever : (m n : Defined) → ¬ both m n ≡ Never → ¬ m ≡ Never
 first_ever m n ever is = ever (ap (λ (d : Defined). both d n) is)
 
 second_ever : (m n : Defined) → ¬ both m n ≡ Never → ¬ n ≡ Never
-second_ever m n ever is = ever (ap (both m) is ∙ never_second m)
+second_ever m n ever is = ever (ap (both m) is ∙ both_never m)
 
 -- where one operand is Never defined, so are all together
 pub never_there : (program : Program) (b : Box) (list : List Operand) (place : ℕ) (x : Operand) → place < length list → x ≡ get_or list place x
@@ -55,7 +43,7 @@ never_there program b (first ∷ list) zero x exists at is =
     ap (λ (d : Defined). both d (operands_mark program list b)) (ap (λ (y : Operand). mark Near (root_in program) b (operand_term program y)) (sym at) ∙ is)
 never_there program b (first ∷ list) (suc place) x exists at is =
     ap (both (mark Near (root_in program) b (operand_term program first))) (never_there program b list place x (omega (arith, exists)) at is)
-    ∙ never_second (mark Near (root_in program) b (operand_term program first))
+    ∙ both_never (mark Near (root_in program) b (operand_term program first))
 
 -- and where they are not, none is
 pub ever_there : (program : Program) (b : Box) (list : List Operand) (place : ℕ) (x : Operand) → place < length list → x ≡ get_or list place x → ¬ operands_mark program list b ≡ Never
@@ -65,11 +53,11 @@ ever_there program b list place x exists at ever is = ever (never_there program 
 -- one more behind several
 mark_more : (root b : Box) (all : List Thing) (ids : List ℕ) (id : ℕ) → ¬ all_marks (marks Near root b (terms_at all ids)) ≡ Never → ¬ mark Near root b (term_at all id) ≡ Never
     → ¬ all_marks (marks Near root b (terms_at all (ids ++ id ∷ []))) ≡ Never
-mark_more root b all [] id before here = both_ever (mark Near root b (term_at all id)) Always here always_ever
+mark_more root b all [] id before here = both_not_never (mark Near root b (term_at all id)) Always here always_ever
 mark_more root b all (x ∷ ids) id before here =
     let m = mark Near root b (term_at all x) in
     let n = all_marks (marks Near root b (terms_at all ids)) in
-    both_ever m (all_marks (marks Near root b (terms_at all (ids ++ id ∷ [])))) (first_ever m n before) (mark_more root b all ids id (second_ever m n before) here)
+    both_not_never m (all_marks (marks Near root b (terms_at all (ids ++ id ∷ [])))) (first_ever m n before) (mark_more root b all ids id (second_ever m n before) here)
 
 interval_more : (root b : Box) (all : List Thing) (ids : List ℕ) (id : ℕ)
     → intervals Near root b (terms_at all (ids ++ id ∷ [])) ≡ intervals Near root b (terms_at all ids) ++ interval Near root b (term_at all id) ∷ []

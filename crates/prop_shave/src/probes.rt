@@ -63,7 +63,7 @@ impl Probe<'_> {
         }
     }
 
-    /// The same by what is at hand, or none where it does not tell.
+    /// Whether the reason closes that box, by what is at hand; none where this does not tell.
     fn closes_by_delta(&self, cell: u32, part: Interval) -> Option<bool>
         requires asked { IsAsked self.now }
         requires from_low { low (root_in self.now.program.now) cell ≤ℤ part.lo }
@@ -76,7 +76,7 @@ impl Probe<'_> {
         }
     }
 
-    /// The same by this weight.
+    /// Whether a chance constraint closes that box, by the weight that is left over the box and the truths that mention the cell.
     fn closes_by_chance_delta(
         &self,
         weighed: &ChanceDelta<'_>,
@@ -95,7 +95,7 @@ impl Probe<'_> {
         weighed.closes_with(self.program, self.store, part)
     }
 
-    /// The same by the better end that is at hand, or none where it does not tell.
+    /// Whether the bound closes that box, by the better end that is at hand; none where this does not tell.
     fn closes_by_end(&self, cell: u32, part: Interval) -> Option<bool>
         requires asked { IsAsked self.now }
         requires from_low { low (root_in self.now.program.now) cell ≤ℤ part.lo }
@@ -119,7 +119,7 @@ impl Probe<'_> {
         }
     }
 
-    /// The same by this better end.
+    /// Whether the bound closes that box, by this better end over the box and the parts that mention the cell.
     fn closes_by_goal_delta(
         &self,
         counted: &GoalDelta<'_>,
@@ -154,7 +154,7 @@ impl Probe<'_> {
         }
     }
 
-    /// The same, and that the reason closes the box where it does.
+    /// What is found of the box for the reason: that it closes the box, a right step at one of the ends of these cells, or nothing.
     #[tactic(auto, using(crate::proofs::Finding::found_dead))]
     pub fn finding(&self, cells: &[u32]) -> Finding
         requires asked { IsAsked self.now }

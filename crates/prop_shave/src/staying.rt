@@ -81,7 +81,7 @@ impl Probe<'_> {
         }
     }
 
-    /// The same by the better end that is at hand, where there is one.
+    /// Whether the bound is seen to leave the box open with the cell at either end, by the better end that is at hand, where there is one.
     fn stays_open_by_end(&self, cell: u32) -> bool
         requires asked { IsAsked self.now }
         ensures stays { result ≡ true → IsOpen self.now cell }

@@ -78,6 +78,8 @@ impl Propagator for AnyTerm {
 
     ghost fits = { Fits };
 
+    ghost in_step = { λ _ _ _. Unit {0} };
+
     fn revise(&mut self, program: &Program, store: &BoxStore, best: Option<i128>) -> Finding {
         self.found(program, store, best)
     }

@@ -1,4 +1,5 @@
 //! From the bytes of a text to what it states, or to the first refusal or limit.
+//! Its tests stand in `compile_tests`; `tree_tests` has those of trees that are built call by call.
 #![tactic(auto)]
 
 mod accepted;

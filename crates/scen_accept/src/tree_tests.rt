@@ -37,22 +37,29 @@ fn takes_a_comparison_apart(rt: HostRuntime) -> Result<(), Fail> {
     let Kind::Cmp(op, left, right) = &e.kind else {
         return Err(Fail::from("no comparison"));
     };
-    assert_eq!(rt; *op, CmpOp::Le);
-    assert_eq!(rt; right.at, 11);
+    assert_eq!(rt; *op, CmpOp::Le, "the operator");
+    assert_eq!(rt; right.at, 11, "the place of the right side");
     let Kind::Add(parts) = &left.kind else {
         return Err(Fail::from("no sum"));
     };
-    assert_eq!(rt; parts.as_slice().len(), 2);
+    assert_eq!(rt; parts.as_slice().len(), 2, "the terms of the sum");
     let (minus, first) = &parts.as_slice()[0];
-    assert!(rt; !*minus);
+    assert!(rt; !*minus, "the sign of the first term");
     let Kind::Mul(factors) = &first.kind else {
         return Err(Fail::from("no product"));
     };
-    assert!(rt; matches!(factors.first().kind, Kind::Name(_)));
-    assert_eq!(rt; factors.as_slice().len(), 1);
-    for (text, stands) in [(b"a", true), (b"x", true), (b"y", false)] {
+    assert!(rt;
+        matches!(factors.first().kind, Kind::Name(_)),
+        "the first factor"
+    );
+    assert_eq!(rt; factors.as_slice().len(), 1, "the factors behind it");
+    for (word, text, stands) in [
+        ("a name on the left", b"a", true),
+        ("the name on the right", b"x", true),
+        ("another name", b"y", false),
+    ] {
         let name = Name::from_bytes(rt.alloc(), text)?;
-        assert_eq!(rt; e.mentions(&name), stands);
+        assert_eq!(rt; e.mentions(&name), stands, "{word}");
     }
     Ok(())
 }
@@ -100,15 +107,18 @@ fn small_model(alloc: Global) -> Result<Model, AllocError>
 #[test]
 fn takes_a_model_apart(rt: HostRuntime) -> Result<(), Fail> {
     let m = small_model(rt.alloc())?;
-    assert_eq!(rt; m.decls.as_slice().len(), 1);
-    assert!(rt; matches!(m.decls.as_slice()[0], Decl::Range { at: 6, .. }));
-    assert!(rt; m.goal.is_some());
-    assert_eq!(rt; m.body.as_slice().len(), 1);
+    assert_eq!(rt; m.decls.as_slice().len(), 1, "declarations");
+    assert!(rt;
+        matches!(m.decls.as_slice()[0], Decl::Range { at: 6, .. }),
+        "the range"
+    );
+    assert!(rt; m.goal.is_some(), "the objective");
+    assert_eq!(rt; m.body.as_slice().len(), 1, "constraints");
     let Cons::Forall(over, inner) = &m.body.as_slice()[0] else {
         return Err(Fail::from("no forall"));
     };
-    assert_eq!(rt; over.as_slice().len(), 1);
-    assert!(rt; matches!(**inner, Cons::Hard(_)));
+    assert_eq!(rt; over.as_slice().len(), 1, "binders");
+    assert!(rt; matches!(**inner, Cons::Hard(_)), "what is bound");
     Ok(())
 }
 

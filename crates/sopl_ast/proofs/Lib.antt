@@ -1,3 +1,4 @@
 pub mod ConstraintTrees
 pub mod Lighter
 pub mod TreeLists
+pub mod InitWeights

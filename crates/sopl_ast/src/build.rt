@@ -226,7 +226,7 @@ impl Expr {
         })
     }
 
-    /// The same expression at another place, as within parentheses.
+    /// This expression at another place, as within parentheses.
     pub fn moved(self, at: usize) -> Expr
         ensures built { result ≡ Node at (shape_of self) }
     {

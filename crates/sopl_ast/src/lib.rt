@@ -1,6 +1,6 @@
 //! The tokens and the syntax tree of a model text, and what the language means: the definitions in
 //! `specs/` that every contract above cites.
-//! Its tests stand in `compile_tests`.
+//! Its tests stand in `compile_tests`, and in `tree_tests` of `scen_accept`.
 #![tactic(auto)]
 
 mod binders;

@@ -1,7 +1,15 @@
 -- Sums and products of whole numbers.
-use Rattle.std.proofs.Common.{ℤ, ◌+ℤ◌, ◌≡◌, arith, ◌-ℤ◌, pos, zero, ◌*ℤ◌, ◌∙◌, sym, ap, suc, negsuc}
+use Rattle.std.proofs.Common.{ℤ, ◌+ℤ◌, ◌≤ℤ◌, ◌⊎◌, inl, inr, ◌≡◌, refl, arith, ◌-ℤ◌, pos, zero, ◌*ℤ◌, ◌∙◌, sym, ap, suc, negsuc}
 use Rattle.std.proofs.Math.IntN.{zero-*ℤ, suc_ℤ, suc_ℤ-*ℤ, pred_ℤ, pred_ℤ-*ℤ, *ℤ_comm}
 use Rattle.std.proofs.lemmas.Int.{ints}
+
+-- one of two numbers is at most the other
+pub order_total : (x y : ℤ) → (x ≤ℤ y) ⊎ (y ≤ℤ x)
+order_total x y = by (y -ℤ x) refl
+  where
+    by : (d : ℤ) → (y -ℤ x) ≡ d → (x ≤ℤ y) ⊎ (y ≤ℤ x)
+    by (pos n) is = inl (omega (arith, ints, is))
+    by (negsuc n) is = inr (omega (arith, ints, is))
 
 pub four_parts : (a b c d : ℤ) → (a +ℤ b) +ℤ (c +ℤ d) ≡ (a +ℤ c) +ℤ (b +ℤ d)
 four_parts a b c d = omega (arith, ints)

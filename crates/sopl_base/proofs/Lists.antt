@@ -8,7 +8,12 @@ use Rattle.std.proofs.lemmas.List.{map-id, at_drop_more, at_drop_all, map-append
 use Rattle.std.proofs.lemmas.List.Elements.{All-nil}
 use Rattle.std.proofs.lemmas.List.FromFn.{map-range_with_len_more}
 use Rattle.std.proofs.lemmas.Option.{same_Some}
+use Rattle.std.proofs.lemmas.Slice.Eq.{bytes_eq-Decides}
 use Rattle.std.specs.List.{range_with_len, AllByRecursion, All, flat_map}
+use Rattle.std.specs.Str.{bytes_eq}
+
+pub bytes_same : (bs : List ℕ) → bytes_eq bs bs ≡ true
+bytes_same bs = (bytes_eq-Decides bs bs).1 refl
 
 pub any_here : {X : Type 0} (P : X → Type 0) (x : X) (xs : List X) → P x → Any P (x ∷ xs)
 any_here P x xs here = (zero, x, omega arith, refl, here)

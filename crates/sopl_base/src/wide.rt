@@ -85,23 +85,52 @@ mod tests {
     fn checked_arithmetic(rt: HostRuntime) {
         let wide = |value| Wide { value };
         let most = i128::MAX;
-        for (a, b, sum, difference, product) in [
-            (2, 3, Some(5), Some(-1), Some(6)),
-            (-7, 3, Some(-4), Some(-10), Some(-21)),
-            (most, 0, Some(most), Some(most), Some(0)),
-            (most, 1, None, Some(most - 1), Some(most)),
-            (i128::MIN, 1, Some(i128::MIN + 1), None, Some(i128::MIN)),
-            (most, 2, None, Some(most - 2), None),
-            (i128::MIN, -1, None, Some(-most), None),
+        for (word, a, b, sum, difference, product) in [
+            ("small numbers", 2, 3, Some(5), Some(-1), Some(6)),
+            ("one below 0", -7, 3, Some(-4), Some(-10), Some(-21)),
+            (
+                "the greatest and 0",
+                most,
+                0,
+                Some(most),
+                Some(most),
+                Some(0),
+            ),
+            (
+                "the greatest and 1",
+                most,
+                1,
+                None,
+                Some(most - 1),
+                Some(most),
+            ),
+            (
+                "the least and 1",
+                i128::MIN,
+                1,
+                Some(i128::MIN + 1),
+                None,
+                Some(i128::MIN),
+            ),
+            ("the greatest and 2", most, 2, None, Some(most - 2), None),
+            ("the least and -1", i128::MIN, -1, None, Some(-most), None),
         ] {
             let value = |wide: Option<Wide>| wide.map(|wide| wide.value);
-            assert_eq!(rt; value(wide(a).checked_plus(wide(b))), sum, "{a} + {b}");
+            assert_eq!(rt;
+                value(wide(a).checked_plus(wide(b))),
+                sum,
+                "the sum, {word}"
+            );
             assert_eq!(rt;
                 value(wide(a).checked_minus(wide(b))),
                 difference,
-                "{a} - {b}"
+                "the difference, {word}"
             );
-            assert_eq!(rt; value(wide(a).checked_times(wide(b))), product, "{a} * {b}");
+            assert_eq!(rt;
+                value(wide(a).checked_times(wide(b))),
+                product,
+                "the product, {word}"
+            );
         }
     }
 }

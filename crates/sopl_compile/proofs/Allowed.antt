@@ -1,10 +1,9 @@
 -- What the limits on scenarios and instances say of a problem's scenarios and cells.
-use Rattle.std.proofs.Common.{arith, ◌≡◌, ◌∙◌, refl, sym, ap, ℕ, suc, ◌+◌, ◌*◌, ◌<◌, ◌≤◌, ◌^◌, ◌-◌, ℤ, pos, ◌≤ℤ◌, int_le, Bool, not, List, [], ◌∷◌, length}
+use Rattle.std.proofs.Common.{arith, ◌≡◌, refl, ap, ℕ, suc, ◌+◌, ◌*◌, ◌<◌, ◌≤◌, ◌^◌, ◌-◌, ℤ, pos, ◌≤ℤ◌, int_le, Bool, not, List, [], ◌∷◌, length}
 use Rattle.std.proofs.Common.{length-append, map, filter, Option, None}
 use Rattle.std.proofs.lemmas.Int.{ints}
 use Rattle.std.proofs.lemmas.List.{length-map}
 use Rattle.std.proofs.lemmas.List.Filters.{length-filter_both}
-use Rattle.std.proofs.lemmas.Simd.{map-map}
 use Rattle.std.specs.Int.{int_min}
 use Rattle.std.specs.List.{enumerate_from, flat_map}
 use Rattle.box_problem.specs.Box.{Box, box_of}
@@ -16,24 +15,14 @@ use Rattle.sopl_ast.specs.Histories.{distinct, histories, history, same_values}
 use Rattle.sopl_ast.specs.Instances.{Decision, Problem, Stochastic}
 use Rattle.sopl_ast.specs.Limits.{first_above, prefixes, size_excess, usual_limits, weight_excess, scenario_excess, copy_excess, bit_excess, instance_count}
 use Rattle.sopl_ast.specs.Numbers.{or_else}
-use Rattle.sopl_ast.specs.UnfoldEvents.{excess}
 use Rattle.sopl_ast.specs.Scenarios.{Scenario, scenarios, total_weight}
+use Rattle.sopl_ast.specs.UnfoldEvents.{excess}
 use Rattle.sopl_base.specs.declared.fault.Excess.{Excess}
 use Rattle.sopl_base.specs.declared.interval.Interval.{Interval}
 use Rattle.sopl_base.proofs.Tests.{le_tested}
-use Rattle.lang_laws.proofs.Shared.{first_none, later_none, passed, then_none}
+use Rattle.lang_laws.proofs.Limits.{light_within, whole_within}
+use Rattle.lang_laws.proofs.Shared.{first_none, passed, then_none}
 use Rattle.sopl_compile.specs.Posed.{IsSettingOf}
-
-abbrev told : ℕ → ℕ → ℤ → Excess
-told code limit n = excess code (int_min n (pos (2 ^ 127 - 1))) (pos limit)
-
-whole_within : {A : Type 0} (code limit : ℕ) (f : List A → ℤ) (x : A) (xs : List A) → first_above code limit (map f (prefixes (x ∷ xs))) ≡ None → f (x ∷ xs) ≤ℤ pos limit
-whole_within code limit f x [] none = le_tested (f (x ∷ [])) (pos limit) (passed (int_le (f (x ∷ [])) (pos limit)) (told code limit (f (x ∷ []))) None none)
-whole_within {A} code limit f x (y ∷ ys) none =
-    let behind : List A → ℤ = λ (prefix : List A). f (x ∷ prefix) in
-    let later : first_above code limit (map f (map (λ (prefix : List A). x ∷ prefix) (prefixes (y ∷ ys)))) ≡ None =
-    later_none (int_le (f (x ∷ [])) (pos limit)) (told code limit (f (x ∷ []))) (first_above code limit (map f (map (λ (prefix : List A). x ∷ prefix) (prefixes (y ∷ ys))))) none in
-    whole_within code limit behind y ys (sym (ap (first_above code limit) (map-map f (λ (prefix : List A). x ∷ prefix) (prefixes (y ∷ ys)))) ∙ later)
 
 -- Cells.
 
@@ -72,11 +61,7 @@ module _ (problem : Problem) (within : size_excess usual_limits problem ≡ None
   behind_weight = or_else (scenario_excess usual_limits problem) behind_scenarios
 
   pub light : total_weight problem.stochastics ≤ℤ pos (2 ^ 100)
-  light = by problem.stochastics (first_none (weight_excess usual_limits problem) behind_weight within)
-    where
-      by : (ss : List Stochastic) → first_above 201 (2 ^ 100) (map total_weight (prefixes ss)) ≡ None → total_weight ss ≤ℤ pos (2 ^ 100)
-      by [] none = omega (arith, ints)
-      by (s ∷ ss) none = whole_within 201 (2 ^ 100) total_weight s ss none
+  light = light_within problem within
 
   pub few_scenarios : length (scenarios problem.stochastics) ≤ 16384
   few_scenarios = by problem.stochastics (first_none (scenario_excess usual_limits problem) behind_scenarios (then_none (weight_excess usual_limits problem) behind_weight within))
@@ -94,7 +79,8 @@ module _ (problem : Problem) (within : size_excess usual_limits problem ≡ None
       let none : copy_excess usual_limits problem ≡ None =
       first_none (copy_excess usual_limits problem) behind_copies
       (then_none (scenario_excess usual_limits problem) behind_scenarios (then_none (weight_excess usual_limits problem) behind_weight within)) in
-      let most : pos copies ≤ℤ pos 1048576 = le_tested (pos copies) (pos 1048576) (passed (int_le (pos copies) (pos 1048576)) (told 209 1048576 (pos copies)) None none) in
+      let told : Excess = excess 209 (int_min (pos copies) (pos (2 ^ 127 - 1))) (pos 1048576) in
+      let most : pos copies ≤ℤ pos 1048576 = le_tested (pos copies) (pos 1048576) (passed (int_le (pos copies) (pos 1048576)) told None none) in
       let all = cells_few problem.stochastics 0 problem.decisions (length problem.stochastics + (length problem.hards + length problem.chances)) in
       omega (arith, ints, most, all)
 

@@ -1,5 +1,6 @@
 //! Where bytes come from and go to: sources and sinks that count their faults, in memory and over files,
 //! and the two transfers between them and lists of bytes.
+//! Its tests stand at the end of this file; real files are read and written by `.ci/files`, which runs the program.
 #![tactic(auto)]
 
 mod fault;
@@ -39,59 +40,63 @@ mod tests {
     }
 
     // Where the text is cut, and what is read of it.
-    const CUTS: [(Option<usize>, &str); 4] = [
-        (None, "abcde"),
-        (Some(9), "abcde"),
-        (Some(3), "abc"),
-        (Some(0), ""),
+    const CUTS: [(&str, Option<usize>, &str); 4] = [
+        ("no cut", None, "abcde"),
+        ("behind the text", Some(9), "abcde"),
+        ("within the text", Some(3), "abc"),
+        ("before the text", Some(0), ""),
     ];
 
     #[test]
     fn a_text_is_read_and_written(rt: HostRuntime) -> Result<(), Fail> {
         let alloc = rt.alloc();
-        for (most, expected) in CUTS {
+        for (word, most, expected) in CUTS {
             let mut source = named_source(alloc, &[])?;
             let bytes = read_all(alloc, &mut source, "model", most)?;
-            assert_eq!(rt; bytes.as_slice(), expected.as_bytes());
+            assert_eq!(rt; bytes.as_slice(), expected.as_bytes(), "read, {word}");
 
             let mut sink = MemSink::new(alloc, 8, Vec::new(alloc))?;
             write_all(&mut sink, &bytes)?;
-            assert_eq!(rt; sink.bytes(), expected.as_bytes());
+            assert_eq!(rt; sink.bytes(), expected.as_bytes(), "written, {word}");
         }
         Ok(())
     }
 
     // The names that a source of one text is begun with, the calls that fail, and whether it is read.
-    const FAULTS: [(&str, &[u64], bool); 5] = [
-        ("model", &[], true),
-        ("other", &[], false),
-        ("model", &[0], false),
-        ("model", &[2], false),
-        ("model", &[3], true),
+    const FAULTS: [(&str, &str, &[u64], bool); 5] = [
+        ("no call fails", "model", &[], true),
+        ("another name", "other", &[], false),
+        ("the begin fails", "model", &[0], false),
+        ("the read that finds the end fails", "model", &[2], false),
+        ("a call behind the last one would fail", "model", &[3], true),
     ];
 
     #[test]
     fn listed_calls_of_a_source_fail(rt: HostRuntime) -> Result<(), Fail> {
         let alloc = rt.alloc();
-        for (name, failing, is_read) in FAULTS {
+        for (word, name, failing, is_read) in FAULTS {
             let mut source = named_source(alloc, failing)?;
             let outcome = read_all(alloc, &mut source, name, None);
-            assert_eq!(rt; outcome.is_ok(), is_read);
+            assert_eq!(rt; outcome.is_ok(), is_read, "{word}");
         }
         Ok(())
     }
 
     // How much a sink can hold, the calls that fail, and what it holds of five bytes in the end.
-    const HELD: [(usize, &[u64], &str); 3] = [(5, &[], "abcde"), (3, &[], "abc"), (5, &[0], "")];
+    const HELD: [(&str, usize, &[u64], &str); 3] = [
+        ("room for all", 5, &[], "abcde"),
+        ("room for three", 3, &[], "abc"),
+        ("the first call fails", 5, &[0], ""),
+    ];
 
     #[test]
     fn a_sink_holds_what_fits(rt: HostRuntime) -> Result<(), Fail> {
         let alloc = rt.alloc();
-        for (capacity, failing, held) in HELD {
+        for (word, capacity, failing, held) in HELD {
             let mut sink = MemSink::new(alloc, capacity, failing.to_vec(alloc)?)?;
             let outcome = write_all(&mut sink, b"abcde");
-            assert_eq!(rt; outcome.is_ok(), held.len() == 5);
-            assert_eq!(rt; sink.bytes(), held.as_bytes());
+            assert_eq!(rt; outcome.is_ok(), held.len() == 5, "{word}");
+            assert_eq!(rt; sink.bytes(), held.as_bytes(), "{word}");
         }
         Ok(())
     }
@@ -101,9 +106,14 @@ mod tests {
         let alloc = rt.alloc();
         let texts = vec![in alloc; b"one".to_vec(alloc)?, b"two".to_vec(alloc)?]?;
         let mut source = PlainSource::new(texts);
-        for expected in ["one", "two", "", ""] {
+        for (word, expected) in [
+            ("the first text", "one"),
+            ("the second text", "two"),
+            ("behind the last text", ""),
+            ("once more behind it", ""),
+        ] {
             let bytes = read_all(alloc, &mut source, "any", None)?;
-            assert_eq!(rt; bytes.as_slice(), expected.as_bytes());
+            assert_eq!(rt; bytes.as_slice(), expected.as_bytes(), "{word}");
         }
         Ok(())
     }
@@ -119,24 +129,45 @@ mod tests {
             let texts = vec![in alloc; (name, b"abcde".to_vec(alloc)?)]?;
             let mut source = MemSource::dribbling(texts, Vec::new(alloc), most);
             let bytes = read_all(alloc, &mut source, "model", None)?;
-            assert_eq!(rt; bytes.as_slice(), b"abcde".as_slice());
+            assert_eq!(rt; bytes.as_slice(), b"abcde".as_slice(), "read by {most}");
 
             let mut sink = MemSink::dribbling(alloc, 8, Vec::new(alloc), most)?;
             write_all(&mut sink, &bytes)?;
-            assert_eq!(rt; sink.bytes(), b"abcde".as_slice());
+            assert_eq!(rt; sink.bytes(), b"abcde".as_slice(), "written by {most}");
         }
         Ok(())
     }
 
     // How many bytes are gathered, how many the sink takes at once, which of its calls fails, what it holds before the flush, and in the end.
-    const GATHERED: [(usize, usize, &[u64], &str, &str); 7] = [
-        (16, 8, &[], "", "abcdefg"),
-        (4, 8, &[], "abcd", "abcdefg"),
-        (3, 8, &[], "abcdef", "abcdefg"),
-        (1, 8, &[], "abcdef", "abcdefg"),
-        (4, 1, &[], "abcd", "abcdefg"),
-        (4, 2, &[1], "ab", "ab"),
-        (4, 8, &[1], "abcd", "abcd"),
+    const GATHERED: [(&str, usize, usize, &[u64], &str, &str); 7] = [
+        ("all of it", 16, 8, &[], "", "abcdefg"),
+        ("four, and three are left", 4, 8, &[], "abcd", "abcdefg"),
+        ("three, and one is left", 3, 8, &[], "abcdef", "abcdefg"),
+        ("each byte alone", 1, 8, &[], "abcdef", "abcdefg"),
+        (
+            "four, for a sink that takes one",
+            4,
+            1,
+            &[],
+            "abcd",
+            "abcdefg",
+        ),
+        (
+            "four, and the sink fails within them",
+            4,
+            2,
+            &[1],
+            "ab",
+            "ab",
+        ),
+        (
+            "four, and the sink fails at the flush",
+            4,
+            8,
+            &[1],
+            "abcd",
+            "abcd",
+        ),
     ];
 
     fn gathered(gather: &mut Gather, sink: &mut MemSink) -> Result<(), Failed> {
@@ -149,14 +180,14 @@ mod tests {
     #[test]
     fn pieces_are_gathered(rt: HostRuntime) -> Result<(), Fail> {
         let alloc = rt.alloc();
-        for (size, most, failing, before, after) in GATHERED {
+        for (word, size, most, failing, before, after) in GATHERED {
             let mut gather = Gather::new(alloc, size)?;
             let mut sink = MemSink::dribbling(alloc, 16, failing.to_vec(alloc)?, most)?;
             let put = gathered(&mut gather, &mut sink);
-            assert_eq!(rt; sink.bytes(), before.as_bytes(), "{size}, {most}");
+            assert_eq!(rt; sink.bytes(), before.as_bytes(), "before the flush: {word}");
             let ended = put.is_ok() && gather.flush(&mut sink).is_ok();
-            assert_eq!(rt; sink.bytes(), after.as_bytes(), "{size}, {most}");
-            assert_eq!(rt; ended, after.len() == 7, "{size}, {most}");
+            assert_eq!(rt; sink.bytes(), after.as_bytes(), "in the end: {word}");
+            assert_eq!(rt; ended, after.len() == 7, "whether it ended: {word}");
         }
         Ok(())
     }

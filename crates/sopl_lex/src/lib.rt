@@ -1,4 +1,5 @@
 //! The tokens of a model text.
+//! Its tests stand in `tests`.
 #![tactic(auto)]
 
 mod pieces;

@@ -33,7 +33,7 @@ impl Scenes {
         Scenes::of_levels(alloc, stochs, &levels)
     }
 
-    /// The same, of their levels.
+    /// The scenarios of these variables, of which each has its level beside it.
     fn of_levels(alloc: Global, stochs: &[StochItem], levels: &[Level]) -> Result<Self, AllocError>
         requires small { AreSmall stochs.now }
         requires levels { levels.now ≡ all_levels stochs.now }

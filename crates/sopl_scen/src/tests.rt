@@ -60,24 +60,41 @@ fn tree_of(alloc: Global, first: u32, second: u32) -> Option<Tree>
 fn trees(rt: HostRuntime) -> Result<(), Fail> {
     // The stages of two stochastic variables; how many histories stage 2 then has, and how many
     // cells there are; of the last scenario, the number of its history and of its second cell.
-    for (first, second, histories, cells, history, cell) in [
-        (1, 1, 4, 5, 3, 4),
-        (1, 2, 2, 3, 1, 2),
-        (2, 2, 1, 2, 0, 1),
+    for (word, first, second, histories, cells, history, cell) in [
+        ("both are seen before stage 2", 1, 1, 4, 5, 3, 4),
+        ("one is seen before stage 2", 1, 2, 2, 3, 1, 2),
+        ("none is seen before stage 2", 2, 2, 1, 2, 0, 1),
     ] {
         let Some(tree) = tree_of(rt.alloc(), first, second) else {
             return Err(Fail::from("no tree"));
         };
-        assert_eq!(rt; tree.count(), 4);
-        assert_eq!(rt; tree.total(), 9);
-        assert_eq!(rt; (tree.weight(1), tree.weight(3)), (2, 4));
+        assert_eq!(rt; tree.count(), 4, "scenarios, where {word}");
+        assert_eq!(rt; tree.total(), 9, "the weight of all, where {word}");
+        assert_eq!(rt;
+            (tree.weight(1), tree.weight(3)),
+            (2, 4),
+            "weights, where {word}"
+        );
         assert_eq!(rt;
             (tree.histories(2), tree.history(2, 3)),
-            (histories, history)
+            (histories, history),
+            "histories, where {word}"
         );
-        assert_eq!(rt; (tree.cells(), tree.cell_of(1, 3)), (cells, cell));
-        assert_eq!(rt; (tree.value(0, 2), tree.value(1, 2)), (3, 1));
-        assert_eq!(rt; (tree.cell_of(0, 3), tree.history(1, 3)), (0, 0));
+        assert_eq!(rt;
+            (tree.cells(), tree.cell_of(1, 3)),
+            (cells, cell),
+            "cells, where {word}"
+        );
+        assert_eq!(rt;
+            (tree.value(0, 2), tree.value(1, 2)),
+            (3, 1),
+            "values, where {word}"
+        );
+        assert_eq!(rt;
+            (tree.cell_of(0, 3), tree.history(1, 3)),
+            (0, 0),
+            "stage 1, where {word}"
+        );
     }
     Ok(())
 }
@@ -128,17 +145,53 @@ fn limits(rt: HostRuntime) -> Result<(), Fail> {
     let alloc = rt.alloc();
     // A running product of 2 ^ 99 goes on to 2 ^ 132, and is given as the greatest number.
     let half = MOST / 256;
-    for (many, one, three, hi, constraints, limit) in [
-        (2, MOST, MOST, 1, 0, None),
-        (3, MOST, MOST, 1, 0, Some((201, 1 << 123))),
-        (4, half, half, 1, 0, Some((201, i128::MAX))),
-        (15, 1, 1, 1, 0, Some((202, 32768))),
-        (14, 1, 1, 0, 49, None),
-        (14, 1, 1, 0, 50, Some((209, 1064960))),
-        (10, 1, 1, 1, 0, None),
-        (10, 1, 1, 2, 0, Some((204, 2048))),
+    for (word, many, one, three, hi, constraints, limit) in [
+        ("a weight of 2 ^ 82", 2, MOST, MOST, 1, 0, None),
+        (
+            "a weight of 2 ^ 123",
+            3,
+            MOST,
+            MOST,
+            1,
+            0,
+            Some((201, 1 << 123)),
+        ),
+        (
+            "a weight of 2 ^ 132",
+            4,
+            half,
+            half,
+            1,
+            0,
+            Some((201, i128::MAX)),
+        ),
+        (
+            "twice as many scenarios as there may be",
+            15,
+            1,
+            1,
+            1,
+            0,
+            Some((202, 32768)),
+        ),
+        (
+            "as many instances in all scenarios as there may be",
+            14,
+            1,
+            1,
+            0,
+            49,
+            None,
+        ),
+        ("one constraint more", 14, 1, 1, 0, 50, Some((209, 1064960))),
+        ("1024 cells of one bit", 10, 1, 1, 1, 0, None),
+        ("1024 cells of two bits", 10, 1, 1, 2, 0, Some((204, 2048))),
     ] {
-        assert_eq!(rt; limit_of(alloc, many, one, three, hi, constraints), limit);
+        assert_eq!(rt;
+            limit_of(alloc, many, one, three, hi, constraints),
+            limit,
+            "{word}"
+        );
     }
     Ok(())
 }

@@ -1,20 +1,14 @@
 -- Walks over initial values.
-use Rattle.std.proofs.Common.{◌≡◌, refl, ℕ, zero, suc, ◌+◌, ◌<◌, ◌≤◌, List, [], ◌∷◌, map, length, get_or, drop, Option, arith}
+use Rattle.std.proofs.Common.{◌≡◌, refl, ℕ, ◌+◌, ◌<◌, ◌≤◌, List, map, length, get_or, drop, Option}
 use Rattle.sopl_base.specs.declared.fault.Refusal.{Refusal}
 use Rattle.sopl_ast.specs.declared.inits.Init.{Init}
 use Rattle.sopl_ast.specs.Inits.{init_tree}
 use Rattle.sopl_ast.specs.Mistakes.{Scope, of_init, of_inits}
 use Rattle.sopl_ast.specs.Whole.{inits}
-use Rattle.sopl_ast.specs.WholeWeight.{weight_init, weight_inits}
+use Rattle.sopl_ast.proofs.InitWeights.{weight-part}
 use Rattle.sopl_types.specs.Earliest.{earlier_of, earliest}
 use Rattle.sopl_types.proofs.EarliestLemmas.{earlier_none}
 use Rattle.sopl_types.proofs.Walks.{walk_more, walk_end}
-
--- an initial value weighs less than its list
-pub weight-part : (xs : List Init) (i : ℕ) (d : Init) → i < length xs → weight_init (init_tree (get_or xs i d)) < weight_inits (inits (map init_tree xs))
-weight-part [] i d h = absurd (omega arith)
-weight-part (x ∷ xs) zero d h = omega arith
-weight-part (x ∷ xs) (suc i) d h = omega (arith, weight-part xs i d (omega arith))
 
 module _ (scope : Scope) (first : Option Refusal) (xs : List Init) (i : ℕ) where
   pub inits_more : (x : Init) → i < length xs → x ≡ get_or xs i x →

@@ -52,8 +52,7 @@ pub fn wrong_depth(dims: usize, value: &Init) -> Option<Refusal>
     }
 }
 
-/// The same inside an initial value; `left` is how many brackets may follow, and none where there
-/// are too many.
+/// The first such place inside an initial value; `left` is how many brackets may follow, and none where there are too many.
 #[cycle(depths)]
 #[tactic(auto, using(crate::proofs::InitWalks::init_walks, crate::proofs::DepthLemmas::depths))]
 fn wrong_inside(left: Option<usize>, value: &Init) -> Option<Refusal>

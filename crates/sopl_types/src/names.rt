@@ -107,7 +107,7 @@ impl<'a> Names<'a> {
         }
     }
 
-    /// The same names, around a list that has none yet; it takes no memory.
+    /// These names around a list that has none yet; it takes no memory.
     pub fn inside(names: &'a Names<'a>) -> Self
         ensures { known_in result ≡ known_in names.now }
     {

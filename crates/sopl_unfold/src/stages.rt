@@ -9,7 +9,7 @@ ghost use Rattle.unfold_laws.specs.Bounds.{IsStage};
 use std::alloc::AllocError;
 use unfold_variables::StochItem;
 
-/// The same variables by stage, and those of one stage in the order that they had.
+/// Orders variables by stage; those of one stage keep the order that they had.
 pub(crate) fn by_stage(stochs: Vec<StochItem>) -> Result<Vec<StochItem>, AllocError>
     requires stages { AllByRecursion (λ (s : Stochastic). IsStage s.stage) stochs.items }
     ensures sorted { IfOk result (λ sorted. sorted.items ≡ in_stages stochs.items) }

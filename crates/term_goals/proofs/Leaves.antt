@@ -1,12 +1,12 @@
 -- The non-linear part of a term is that of the terms that it is made of.
-use Rattle.std.proofs.Common.{◌≡◌, ◌⊎◌, inl, inr, ℕ, ◌*◌, ◌≤◌, ℤ, pos, negsuc, ◌-ℤ◌, ◌*ℤ◌, ◌≤ℤ◌, unsigned_abs, Bool, true, false, ◌&&◌, ◌||◌, if◌then◌else◌, arith, refl, ap, subst, sym, ◌∙◌}
+use Rattle.std.proofs.Common.{◌≡◌, ◌⊎◌, inl, inr, ℕ, ◌*◌, ◌≤◌, ℤ, pos, negsuc, ◌*ℤ◌, ◌≤ℤ◌, unsigned_abs, Bool, true, false, ◌&&◌, ◌||◌, if◌then◌else◌, arith, refl, ap, subst, sym, ◌∙◌}
 use Rattle.std.specs.Int.{int_min, int_max}
 use Rattle.std.specs.Ordering.{int_eq}
 use Rattle.std.proofs.lemmas.Int.{ints, clamps}
 use Rattle.std.proofs.Math.Nat.{mul-le-mul_left}
 use Rattle.std.proofs.Math.IntN.{*ℤ-zero}
 use Rattle.std.proofs.lemmas.Bool.{or_parts}
-use Rattle.sopl_base.proofs.Integers.{*ℤ-+ℤ, *ℤ_assoc}
+use Rattle.sopl_base.proofs.Integers.{*ℤ-+ℤ, *ℤ_assoc, order_total}
 use Rattle.box_problem.specs.Box.{Box}
 use Rattle.term_language.specs.Ends as ends
 use Rattle.term_language.specs.Forms.{Form, is_constant, atom_form, times_form, product_form, sign, whole}
@@ -21,13 +21,6 @@ use Rattle.term_goals.proofs.Summing.{zero_plus}
 cases_sign : (k : ℤ) → (pos 0 ≤ℤ k) ⊎ (k ≤ℤ pos 0)
 cases_sign (pos n) = inl (omega (arith, ints))
 cases_sign (negsuc n) = inr (omega (arith, ints))
-
-cases_order : (x y : ℤ) → (x ≤ℤ y) ⊎ (y ≤ℤ x)
-cases_order x y =
-    elim (cases_sign (y -ℤ x)) [
-      | inl positive ↦ inl (omega (arith, ints, positive))
-      | inr negative ↦ inr (omega (arith, ints, negative))
-    ]
 
 pub same_ends : (a c : ends.Ends) → a.low ≡ c.low → a.high ≡ c.high → a ≡ c
 same_ends a c low high = ap (λ (z : ℤ). ends.ends z a.high) low ∙ ap (λ (z : ℤ). ends.ends c.low z) high
@@ -54,7 +47,7 @@ between_turned x y = same_ends (ends.between x y) (ends.between y x) (omega (ari
 
 between_times : (k x y : ℤ) → ends.scaled k (ends.between x y) ≡ ends.between (k *ℤ x) (k *ℤ y)
 between_times k x y =
-    elim (cases_order x y) [
+    elim (order_total x y) [
       | inl less ↦
           let low : int_min x y ≡ x = omega (arith, ints, clamps, less) in
           let high : int_max x y ≡ y = omega (arith, ints, clamps, less) in

@@ -1,4 +1,5 @@
 //! The objective of a program over boxes: the interval of the value that is expected over all scenarios, or of the worst one.
+//! Its tests stand in `tests`; objectives of whole programs are tested in `term_tests`.
 #![tactic(auto)]
 
 mod goal;

@@ -117,7 +117,7 @@ fn add(list: &mut Vec<Atom>, here: &Evaluator, times: &Wide, id: u32) -> Result<
     add_bare(list, here, &atom)
 }
 
-/// The same, of a term that is no product with a number.
+/// Adds multiples of the terms that a term is made of which is no product with a number.
 #[cycle(list)]
 #[tactic(auto, using(crate::proofs::Growing::leaf_form, crate::proofs::Operands::bare_leaf, term_nodes::proofs::Steps::below_at))]
 fn add_bare(list: &mut Vec<Atom>, here: &Evaluator, atom: &Atom) -> Result<(), AllocError>

@@ -167,8 +167,8 @@ fn expected(
     )
 }
 
-/// Cells that cancel across scenarios, and products as atoms.
-fn summed(store: &mut TermStore, alloc: Global) -> Result<bool, Fault>
+/// What is wrong of cells that cancel across scenarios, and of products as atoms.
+fn summed(store: &mut TermStore, alloc: Global) -> Result<Option<&'static str>, Fault>
     requires sound { IsSoundStore store.old }
 {
     let x = add_cell(store, 0)?;
@@ -180,34 +180,43 @@ fn summed(store: &mut TermStore, alloc: Global) -> Result<bool, Fault>
     let times = product(store, x, y)?;
     let negative = product(store, factor, times)?;
     let mixed = sum(store, times, y)?;
-    Ok(
-        expected(store, alloc, both, turned)? == (-20, 16)
-            && expected(store, alloc, times, negative)? == (-243, 243)
-            && expected(store, alloc, x, mixed)? == (-71, 67),
-    )
+    if expected(store, alloc, both, turned)? != (-20, 16) {
+        return Ok(Some("cells that cancel"));
+    }
+    if expected(store, alloc, times, negative)? != (-243, 243) {
+        return Ok(Some("a product in both scenarios"));
+    }
+    if expected(store, alloc, x, mixed)? != (-71, 67) {
+        return Ok(Some("a product and a cell"));
+    }
+    Ok(None)
 }
 
 #[test]
 fn sums_over_scenarios(rt: HostRuntime) {
     let mut store = small(rt.alloc()).expect(&rt, "memory");
-    assert_eq!(rt; summed(&mut store, rt.alloc()), Ok(true));
+    assert_eq!(rt; summed(&mut store, rt.alloc()), Ok(None));
 }
 
-/// The worst of x and y.
-fn worst(store: &mut TermStore, alloc: Global) -> Result<bool, Fault>
+/// What is wrong of the worst of x and y.
+fn worst(store: &mut TermStore, alloc: Global) -> Result<Option<&'static str>, Fault>
     requires sound { IsSoundStore store.old }
 {
     let x = add_cell(store, 0)?;
     let y = add_cell(store, 1)?;
-    let least = ends(store, alloc, (Direction::Minimize, true), &[3, 1], x, y)?;
-    let greatest = ends(store, alloc, (Direction::Maximize, true), &[3, 1], x, y)?;
-    Ok(least == (-5, 9) && greatest == (-7, 4))
+    if ends(store, alloc, (Direction::Minimize, true), &[3, 1], x, y)? != (-5, 9) {
+        return Ok(Some("the greatest of both"));
+    }
+    if ends(store, alloc, (Direction::Maximize, true), &[3, 1], x, y)? != (-7, 4) {
+        return Ok(Some("the least of both"));
+    }
+    Ok(None)
 }
 
 #[test]
 fn worst_scenarios(rt: HostRuntime) {
     let mut store = small(rt.alloc()).expect(&rt, "memory");
-    assert_eq!(rt; worst(&mut store, rt.alloc()), Ok(true));
+    assert_eq!(rt; worst(&mut store, rt.alloc()), Ok(None));
 }
 
 /// The number that is counted where a constant is the term in both scenarios; 0 where it is not refused.
@@ -245,20 +254,25 @@ fn counted(
     }
 }
 
-/// Sizes of 2^126, of one more, and of more than 2^127.
-fn sizes(store: &mut TermStore, alloc: Global) -> Result<bool, Fault>
+/// What is wrong of sizes of 2^126, of one more, and of more than 2^127.
+fn sizes(store: &mut TermStore, alloc: Global) -> Result<Option<&'static str>, Fault>
     requires sound { IsSoundStore store.old }
 {
     let least = 279484306681724883751233665136;
-    Ok(
-        counted(store, alloc, (1 << 26) - 1, &[1 << 99, 1 << 99])? == 0
-            && counted(store, alloc, 304384144, &[1, least])? == (1 << 126) + 1
-            && counted(store, alloc, 1 << 40, &[1 << 99, 1 << 99])? == i128::MAX,
-    )
+    if counted(store, alloc, (1 << 26) - 1, &[1 << 99, 1 << 99])? != 0 {
+        return Ok(Some("a size of 2^126"));
+    }
+    if counted(store, alloc, 304384144, &[1, least])? != (1 << 126) + 1 {
+        return Ok(Some("one more than 2^126"));
+    }
+    if counted(store, alloc, 1 << 40, &[1 << 99, 1 << 99])? != i128::MAX {
+        return Ok(Some("more than 2^127"));
+    }
+    Ok(None)
 }
 
 #[test]
 fn refused_for_its_size(rt: HostRuntime) {
     let mut store = small(rt.alloc()).expect(&rt, "memory");
-    assert_eq!(rt; sizes(&mut store, rt.alloc()), Ok(true));
+    assert_eq!(rt; sizes(&mut store, rt.alloc()), Ok(None));
 }

@@ -23,7 +23,7 @@ impl WideEnds {
         WideEnds { low: 0, high: 0 }
     }
 
-    /// The same interval, with ends of 128 bits.
+    /// This interval with ends of 128 bits.
     pub(crate) fn widened(ends: &Ends) -> WideEnds
         ensures { wide_ends result ≡ ends_of ends.now }
     {

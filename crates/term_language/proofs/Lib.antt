@@ -1,5 +1,6 @@
 pub mod Products
 pub mod FormValues
+pub mod Marks
 pub mod Layers
 pub mod Operations
 pub mod Conditions

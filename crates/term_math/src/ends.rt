@@ -20,7 +20,7 @@ pub struct Factor {
 }
 
 impl Factor {
-    /// The same number with 128 bits.
+    /// This number with 128 bits.
     pub fn widened(&self) -> Wide
         ensures { result.value ≡ self.now.k }
     {

@@ -1,6 +1,6 @@
 //! Intervals, marks, truths and linear forms as they are computed, each as its definition says: of sums and products, of quotients,
 //! remainders and sizes, of the least and the greatest of several, and of the elements of an array.
-//! Its tests stand in `term_tests`.
+//! Its tests stand in `tables/tests` and in `term_tests`.
 #![tactic(auto)]
 
 mod absolute;

@@ -66,7 +66,7 @@ fn cells_weight(root: &BoxView, cells: &[WideCoefficient]) -> u128
     sum
 }
 
-/// The same with a number of 64 bits.
+/// This coefficient with a number of 64 bits.
 fn narrowed(coefficient: &WideCoefficient) -> Coefficient
     requires small { unsigned_abs coefficient.now.k < 2 ^ 63 }
     ensures { result ≡ narrow coefficient.now }
@@ -110,7 +110,7 @@ impl WideForm {
         }
     }
 
-    /// The same form, with numbers of 64 bits.
+    /// This form with numbers of 64 bits.
     #[tactic(auto, using(crate::proofs::Weighing::narrow_cells))]
     pub fn narrowed(&self, alloc: Global) -> Result<Form, AllocError>
         requires small { mass_of (wide_form self.now) < 2 ^ 63 }
@@ -139,7 +139,7 @@ fn widened_cells(alloc: Global, cells: &[Coefficient]) -> Result<Vec<WideCoeffic
 }
 
 impl Form {
-    /// The same form, with numbers of 128 bits.
+    /// This form with numbers of 128 bits.
     #[tactic(auto, using(crate::proofs::Weighing::widen_cells))]
     pub fn widened(&self, alloc: Global) -> Result<WideForm, AllocError>
         ensures { IfOk result (λ wide. wide_form wide ≡ form_of self.now) }

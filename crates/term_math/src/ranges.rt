@@ -49,7 +49,7 @@ fn is_same(a: &i64, b: &i64) -> bool
     *a == *b
 }
 
-/// The same, where the number is looked for at one place first.
+/// Whether a set has a number, which is looked for at one place first.
 #[tactic(auto, using(crate::proofs::Covering::number_there))]
 fn has_number_at(set: &[i64], place: usize, number: &i64) -> bool
     ensures { result ≡ list_any (int_eq number.now) set.now }

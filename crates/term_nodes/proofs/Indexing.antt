@@ -3,12 +3,13 @@ use Rattle.std.proofs.Common.{◌≡◌, ℕ, suc, ◌<◌, ℤ, pos, Bool, ◌&
 use Rattle.std.specs.List.{filter}
 use Rattle.box_problem.specs.Box.{Box}
 use Rattle.term_language.specs.declared.answers.Defined.{Defined}
-use Rattle.term_language.specs.declared.answers.Defined.TheVariants.{Never, Maybe, Always}
+use Rattle.term_language.specs.declared.answers.Defined.TheVariants.{Never, Always}
 use Rattle.term_language.specs.Arrays.{Entry, indices, paired, is_covered, are_covered, lies_in}
 use Rattle.term_language.specs.Ends as ends
 use Rattle.term_language.specs.Marks.{both, all_marks}
 use Rattle.term_language.specs.Rules.{Reading, interval, mark, marks, intervals, item_ends, if_any, reached_mark}
 use Rattle.term_language.specs.Terms.{Item, Table}
+use Rattle.term_language.proofs.Marks.{both_always, both_grouped, both_never}
 use Rattle.term_math.specs.Kept.{items_of, sets_of, table_of}
 use Rattle.term_math.specs.declared.elements.Element.{Element}
 use Rattle.term_math.specs.Within.{Known, is_one, has_one, none_known, known_of, with_dimension, with_dimensions}
@@ -18,14 +19,9 @@ use Rattle.term_math.proofs.Indexed.{indexed_ends, indexed_mark, last_known, set
 use Rattle.term_math.proofs.Reaching.{one_test}
 use Rattle.term_nodes.specs.Seen.{Sight, element_sight, indexed_sight, known_sight}
 use Rattle.term_nodes.specs.Things.{Thing, no_table, term_at, terms_at}
-use Rattle.term_nodes.proofs.Ranges.{same_sight, both_always, both_grouped}
+use Rattle.term_nodes.proofs.Ranges.{same_sight}
 
 -- an array without elements
-both_never : (m : Defined) → both m Never ≡ Never
-both_never Never = refl
-both_never Maybe = refl
-both_never Always = refl
-
 unpaired : (lists : List (List ℤ)) (items : List Item) → items ≡ [] → paired lists items ≡ []
 unpaired [] items none = refl
 unpaired (xs ∷ lists) items none = ap (paired (xs ∷ lists)) none

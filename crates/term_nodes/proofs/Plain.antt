@@ -11,6 +11,7 @@ use Rattle.term_language.specs.Rules.{Reading, Near, Wide, form, atoms, mark, tr
 use Rattle.term_language.specs.Laws.{IsProper, Sharper}
 use Rattle.term_language.proofs.FormValues.{and_first, and_second}
 use Rattle.term_language.proofs.Layers.{IsClear}
+use Rattle.term_language.proofs.Marks.{is_always_of}
 use Rattle.term_language.proofs.Soundness.{read}
 use Rattle.term_language.proofs.Sharpening.{narrow}
 use Rattle.term_math.specs.Shown.{box_in, ends_of}
@@ -25,11 +26,6 @@ always_of : (m : Defined) → Sharper m Always → m ≡ Always
 always_of Never sharper = elim sharper [ ]
 always_of Maybe sharper = elim sharper [ ]
 always_of Always sharper = refl
-
-is_always_of : (m : Defined) → is_always m ≡ true → m ≡ Always
-is_always_of Never is = cc
-is_always_of Maybe is = cc
-is_always_of Always is = refl
 
 clear_sight : (a : ends.Ends) (m : Defined) → IsClear a → m ≡ Always → (◌≡◌ {A = Sight}) (record { ends = a; mark = m }) (record { ends = ends.exactly (pos 0); mark = Always })
 clear_sight a m clear always =

@@ -9,9 +9,9 @@ use Rattle.term_language.specs.Rules.{Reading, Near, Wide, form, forms, atoms, m
 use Rattle.term_language.specs.Sizes.{size}
 use Rattle.term_language.specs.Terms as rule
 use Rattle.term_language.specs.declared.answers.Defined.{Defined}
-use Rattle.term_language.specs.declared.answers.Defined.TheVariants.{Never, Maybe, Always}
 use Rattle.term_language.proofs.Bounds.{bounded_whole}
 use Rattle.term_language.proofs.Sharpening.{intervals_narrow}
+use Rattle.term_language.proofs.Marks.{both_always, both_grouped}
 use Rattle.term_language.proofs.Shared.{bounds_within}
 use Rattle.term_math.specs.Shown.{box_in}
 use Rattle.term_math.specs.declared.extremes.Extreme.{Extreme}
@@ -95,20 +95,6 @@ extreme_alone reading root b e t later plain r plain_is unmet is =
 abbrev pub taken : Reading → Box → Box → Extreme → ends.Ends → Defined → rule.Terms → Sight
 taken reading root b e a m rule.no_term = record { ends = a; mark = m }
 taken reading root b e a m (rule.term t later) = taken reading root b e (picked e a (interval reading root b t)) (both m (mark reading root b t)) later
-
-pub both_always : (m : Defined) → both m Always ≡ m
-both_always Never = refl
-both_always Maybe = refl
-both_always Always = refl
-
-pub both_grouped : (m n k : Defined) → both (both m n) k ≡ both m (both n k)
-both_grouped Never n k = refl
-both_grouped Maybe Never k = refl
-both_grouped Maybe Maybe Never = refl
-both_grouped Maybe Maybe Maybe = refl
-both_grouped Maybe Maybe Always = refl
-both_grouped Maybe Always k = refl
-both_grouped Always n k = refl
 
 taken_all : (reading : Reading) (root b : Box) (e : Extreme) (a : ends.Ends) (m : Defined) (ts : rule.Terms) → taken reading root b e a m ts
     ≡ record { ends = fold (picked e) a (intervals reading root b ts); mark = both m (all_marks (marks reading root b ts)) }

@@ -11,6 +11,7 @@ use Rattle.term_language.specs.Rules.{Reading, interval, mark, task_ends, task_m
 use Rattle.term_language.specs.declared.answers.Defined.{Defined}
 use Rattle.term_language.specs.declared.answers.Defined.TheVariants.{Always}
 use Rattle.term_language.specs.declared.answers.Truth.TheVariants.{False, Unknown, True}
+use Rattle.term_language.proofs.Marks.{both_grouped}
 use Rattle.term_language.proofs.Sharpening.{intervals_narrow}
 use Rattle.term_language.proofs.Tasks.{SoundEnds, sound_ends}
 use Rattle.term_math.specs.Shown.{box_in, ends_of}
@@ -27,7 +28,6 @@ use Rattle.term_nodes.specs.Built.{TasksBelow}
 use Rattle.term_nodes.specs.Seen.{reading_of, CanRead}
 use Rattle.term_nodes.specs.Tasks.{mark_seen, task_seen}
 use Rattle.term_nodes.specs.Things.{Thing, tasks_at, term_at, things}
-use Rattle.term_nodes.proofs.Ranges.{both_grouped}
 use Rattle.term_nodes.proofs.Ready.{small_term}
 
 -- the intervals of several tasks

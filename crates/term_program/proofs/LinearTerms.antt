@@ -1,14 +1,12 @@
 -- Terms of one cell, as they are kept.
-use Rattle.std.proofs.Common.{◌≡◌, ◌∙◌, ap, sym, refl, ℕ, ℤ, pos, Bool, true, false, ◌&&◌, List, [], ◌∷◌}
-use Rattle.std.proofs.lemmas.Bool.{and_parts}
+use Rattle.std.proofs.Common.{◌≡◌, ◌∙◌, ap, sym, refl, ℕ, ℤ, Bool, true, false, ◌&&◌, List, [], ◌∷◌}
 use Rattle.box_problem.specs.Box.{Box}
 use Rattle.term_language.specs.Forms as forms
 use Rattle.term_language.specs.Marks.{is_always}
-use Rattle.term_language.specs.Rules.{Near, Wide, form, mark}
-use Rattle.term_language.specs.Terms.{Term, Constant}
+use Rattle.term_language.specs.Rules.{Wide, form, mark}
 use Rattle.term_language.specs.declared.answers.Defined.{Defined}
-use Rattle.term_language.specs.declared.answers.Defined.TheVariants.{Never, Maybe, Always}
-use Rattle.term_language.proofs.FormValues.{and_first, and_second}
+use Rattle.term_language.proofs.FormValues.{and_second}
+use Rattle.term_language.proofs.Marks.{is_always_of}
 use Rattle.term_math.specs.Shown.{cells_of, form_of}
 use Rattle.term_math.specs.declared.forms.Coefficient as own
 use Rattle.term_math.specs.declared.forms.Form.{Form}
@@ -47,16 +45,11 @@ wide_at : (root : Box) (all : List Thing) (id : ℕ) (item : Item) → IsAt root
 wide_at root all id item at =
     ap (λ (f : built.Facts). f.wide_mark) at.kept ∙ ap (λ (t : Thing). mark Wide root root (term_in t)) (sym at.thing)
 
-always : (m : Defined) → is_always m ≡ true → m ≡ Always
-always Never is = cc
-always Maybe is = cc
-always Always is = refl
-
 pub one_there : (root : Box) (all : List Thing) (id : ℕ) (item : Item) (x : OneCell) → IsAt root all id item → true ≡ (item.facts.form.plain && is_always item.facts.wide_mark)
     → form_of item.facts.form ≡ form_of_one x → IsOneCell root (term_at all id) x
 one_there root all id item x at plain is = record {
   form = sym (form_at root all id item at) ∙ is;
-  mark = sym (wide_at root all id item at) ∙ always item.facts.wide_mark (and_second item.facts.form.plain (is_always item.facts.wide_mark) (sym plain));
+  mark = sym (wide_at root all id item at) ∙ is_always_of item.facts.wide_mark (and_second item.facts.form.plain (is_always item.facts.wide_mark) (sym plain));
 }
 
 pub several_there : (root : Box) (all : List Thing) (id : ℕ) (item : Item) → IsAt root all id item → is_one (form_of item.facts.form).cells ≡ false → has_one_cell root (term_at all id) ≡ false

@@ -243,7 +243,7 @@ pub fn refuted(program: &Program, reason: Reason, store: &BoxStore, best: Option
     program.closes(reason, &view_of(store), best)
 }
 
-/// The same with another interval for one cell.
+/// Whether a reason closes the box of a store with another interval for one cell, against the best value where there is one.
 pub fn refuted_in(
     program: &Program,
     reason: Reason,

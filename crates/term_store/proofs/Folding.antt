@@ -24,7 +24,7 @@ use Rattle.term_nodes.specs.declared.items.Item.{Item}
 use Rattle.term_nodes.specs.Things.{Thing, a_term, term_at, terms_at, things}
 use Rattle.term_nodes.specs.Built.{Facts, IsBuilt, facts_of}
 use Rattle.term_nodes.specs.Seen.{Sight, extreme_range}
-use Rattle.term_nodes.proofs.Ranges.{both_always, both_grouped}
+use Rattle.term_language.proofs.Marks.{both_always, both_grouped}
 use Rattle.term_nodes.proofs.Ready.{small_term, terms_proper}
 use Rattle.term_store.specs.Atoms.{of_folded, size_of_folded}
 

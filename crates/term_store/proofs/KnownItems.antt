@@ -27,7 +27,7 @@ use Rattle.term_language.proofs.ElementParts.{all_counted}
 use Rattle.term_language.proofs.Operations.{equal_tests}
 use Rattle.term_language.proofs.ElementPoints.{mem_append}
 use Rattle.term_math.proofs.Constants.{constant_intervals}
-use Rattle.term_nodes.proofs.Ranges.{both_always}
+use Rattle.term_language.proofs.Marks.{both_always}
 use Rattle.term_nodes.specs.Things.{a_term}
 use Rattle.term_nodes.specs.Built.{Facts, facts_of}
 use Rattle.term_store.specs.Atoms.{of_item}

@@ -157,15 +157,23 @@ fn marked(store: &TermStore, id: u32, low: i64, high: i64, mark: Defined) -> boo
     seen.ends.low == low && seen.ends.high == high && seen.mark == mark
 }
 
-/// Whether a term has this interval over the root, and is Always defined.
-fn lies(store: &TermStore, id: u32, low: i64, high: i64) -> bool
+/// What a row is about, a term, and its interval and its mark over the root.
+type SeenTerm = (&'static str, u32, (i64, i64), Defined);
+
+/// The first row whose term is seen otherwise.
+fn seen_otherwise(store: &TermStore, rows: &[SeenTerm]) -> Option<&'static str>
     requires sound { IsSoundStore store.now }
 {
-    marked(store, id, low, high, Defined::Always)
+    for (word, id, hull, mark) in rows {
+        if !marked(store, *id, hull.0, hull.1, *mark) {
+            return Some(*word);
+        }
+    }
+    None
 }
 
-/// The terms of x and y that are looked at, and their intervals.
-fn intervals(store: &mut TermStore) -> Result<bool, Fault>
+/// Which of some terms of x and y is seen otherwise.
+fn intervals(store: &mut TermStore) -> Result<Option<&'static str>, Fault>
     requires sound { IsSoundStore store.old }
     ensures sound { IsSoundStore store.new }
 {
@@ -176,17 +184,20 @@ fn intervals(store: &mut TermStore) -> Result<bool, Fault>
     let none = sum(store, x, true, x)?;
     let times = product(store, x, y)?;
     let never = product(store, none, times)?;
-    Ok(
-        lies(store, both, -12, 13)
-            && lies(store, difference, -11, 14)
-            && lies(store, none, 0, 0)
-            && lies(store, times, -45, 36)
-            && lies(store, never, 0, 0),
-    )
+    Ok(seen_otherwise(
+        store,
+        &[
+            ("a sum", both, (-12, 13), Defined::Always),
+            ("a difference", difference, (-11, 14), Defined::Always),
+            ("a cell without itself", none, (0, 0), Defined::Always),
+            ("a product", times, (-45, 36), Defined::Always),
+            ("a product with 0", never, (0, 0), Defined::Always),
+        ],
+    ))
 }
 
-/// What is made of x and y, and the intervals of it.
-fn made(store: &mut TermStore) -> Result<bool, Fault>
+/// Which of what is made of x and y is seen otherwise.
+fn made(store: &mut TermStore) -> Result<Option<&'static str>, Fault>
     requires sound { IsSoundStore store.old }
     ensures sound { IsSoundStore store.new }
 {
@@ -195,51 +206,69 @@ fn made(store: &mut TermStore) -> Result<bool, Fault>
     let (quotient, remainder) = divided(store, x)?;
     let size = size(store, x)?;
     let (least, greatest) = extremes(store, x, y)?;
-    Ok(
-        lies(store, quotient, -4, 3)
-            && lies(store, remainder, -3, 3)
-            && lies(store, size, 0, 9)
-            && lies(store, least, -7, 4)
-            && lies(store, greatest, -5, 9),
-    )
+    Ok(seen_otherwise(
+        store,
+        &[
+            ("a quotient", quotient, (-4, 3), Defined::Always),
+            ("a remainder", remainder, (-3, 3), Defined::Always),
+            ("a size", size, (0, 9), Defined::Always),
+            ("the least of both", least, (-7, 4), Defined::Always),
+            ("the greatest of both", greatest, (-5, 9), Defined::Always),
+        ],
+    ))
 }
 
 #[test]
 fn made_over_the_root(rt: HostRuntime) {
     let mut store = small(rt.alloc()).expect(&rt, "memory");
-    assert_eq!(rt; made(&mut store), Ok(true));
+    assert_eq!(rt; made(&mut store), Ok(None));
 }
 
-/// What is made of the number -7.
-fn folded(store: &mut TermStore) -> Result<bool, Fault>
+/// Which of what is made of the number -7 is seen otherwise.
+fn folded(store: &mut TermStore) -> Result<Option<&'static str>, Fault>
     requires sound { IsSoundStore store.old }
     ensures sound { IsSoundStore store.new }
 {
     let number = add_constant(store, -7)?;
     let (quotient, remainder) = divided(store, number)?;
     let (least, greatest) = extremes(store, quotient, remainder)?;
-    Ok(
-        lies(store, quotient, 3, 3)
-            && lies(store, remainder, -3, -3)
-            && lies(store, least, -3, -3)
-            && lies(store, greatest, 3, 3),
-    )
+    Ok(seen_otherwise(
+        store,
+        &[
+            ("a quotient", quotient, (3, 3), Defined::Always),
+            ("a remainder", remainder, (-3, -3), Defined::Always),
+            ("the least of both", least, (-3, -3), Defined::Always),
+            ("the greatest of both", greatest, (3, 3), Defined::Always),
+        ],
+    ))
 }
 
 #[test]
 fn numbers_fold(rt: HostRuntime) {
     let mut store = small(rt.alloc()).expect(&rt, "memory");
-    assert_eq!(rt; folded(&mut store), Ok(true));
+    assert_eq!(rt; folded(&mut store), Ok(None));
 }
 
 #[test]
 fn intervals_over_the_root(rt: HostRuntime) {
     let mut store = small(rt.alloc()).expect(&rt, "memory");
-    assert_eq!(rt; intervals(&mut store), Ok(true));
+    assert_eq!(rt; intervals(&mut store), Ok(None));
 }
 
-/// Comparisons of x and y, and what they are over the root.
-fn truths(store: &mut TermStore) -> Result<bool, Fault>
+/// The first row whose condition has another truth over the root.
+fn judged_otherwise(store: &TermStore, rows: &[(&'static str, u32, Truth)]) -> Option<&'static str>
+    requires sound { IsSoundStore store.now }
+{
+    for (word, id, truth) in rows {
+        if store.kleene(*id, &store.root()) != *truth {
+            return Some(*word);
+        }
+    }
+    None
+}
+
+/// Which comparison of x and y has another truth.
+fn truths(store: &mut TermStore) -> Result<Option<&'static str>, Fault>
     requires sound { IsSoundStore store.old }
     ensures sound { IsSoundStore store.new }
 {
@@ -248,18 +277,20 @@ fn truths(store: &mut TermStore) -> Result<bool, Fault>
     let less = compare(store, CmpOp::Lt, x, y)?;
     let same = compare(store, CmpOp::Le, x, x)?;
     let other = compare(store, CmpOp::Ne, y, y)?;
-    let view = store.root();
-    Ok(
-        store.kleene(less, &view) == Truth::Unknown
-            && store.kleene(same, &view) == Truth::True
-            && store.kleene(other, &view) == Truth::False,
-    )
+    Ok(judged_otherwise(
+        store,
+        &[
+            ("x < y", less, Truth::Unknown),
+            ("x <= x", same, Truth::True),
+            ("y != y", other, Truth::False),
+        ],
+    ))
 }
 
 #[test]
 fn truths_over_the_root(rt: HostRuntime) {
     let mut store = small(rt.alloc()).expect(&rt, "memory");
-    assert_eq!(rt; truths(&mut store), Ok(true));
+    assert_eq!(rt; truths(&mut store), Ok(None));
 }
 
 #[test]
@@ -270,13 +301,15 @@ fn refused_for_its_size(rt: HostRuntime) {
         "the greatest number"
     );
     match add_constant(&mut store, -(1 << 40) - 1) {
-        Err(Fault::Limit(excess)) => assert_eq!(rt; excess.counted, (1 << 40) + 1),
+        Err(Fault::Limit(excess)) => {
+            assert_eq!(rt; excess.counted, (1 << 40) + 1, "one below the least number")
+        }
         _ => assert!(rt; false, "a limit"),
     }
 }
 
-/// Whether equal constants are one node, and others are not.
-fn shared(store: &mut TermStore) -> Result<bool, Fault>
+/// What is wrong of equal constants, which are one node, and of others, which are not.
+fn shared(store: &mut TermStore) -> Result<Option<&'static str>, Fault>
     requires sound { IsSoundStore store.old }
     ensures sound { IsSoundStore store.new }
 {
@@ -284,13 +317,22 @@ fn shared(store: &mut TermStore) -> Result<bool, Fault>
     let other = add_constant(store, -5)?;
     let count = store.count();
     let again = add_constant(store, 5)?;
-    Ok(first == again && first != other && store.count() == count)
+    if first != again {
+        return Ok(Some("equal constants are two nodes"));
+    }
+    if first == other {
+        return Ok(Some("other constants are one node"));
+    }
+    if store.count() != count {
+        return Ok(Some("there is another node"));
+    }
+    Ok(None)
 }
 
 #[test]
 fn equal_constants_are_one_node(rt: HostRuntime) {
     let mut store = small(rt.alloc()).expect(&rt, "memory");
-    assert_eq!(rt; shared(&mut store), Ok(true));
+    assert_eq!(rt; shared(&mut store), Ok(None));
 }
 
 /// An array over 1 and 3.
@@ -332,8 +374,8 @@ fn element(store: &mut TermStore, table: u32, number: i64) -> Result<u32, Fault>
     Ok(id.0)
 }
 
-/// The elements at 1, at 3 and at 2, and how they are seen: 10, x, and nothing that is defined.
-fn elements(store: &mut TermStore, array: Table) -> Result<bool, Fault>
+/// Which of the elements at 1, at 3 and at 2 is not seen as 10, as x, or as nothing that is defined.
+fn elements(store: &mut TermStore, array: Table) -> Result<Option<&'static str>, Fault>
     requires sound { IsSoundStore store.old }
     requires proper { IsTable (table_of array) }
     ensures sound { IsSoundStore store.new }
@@ -342,11 +384,14 @@ fn elements(store: &mut TermStore, array: Table) -> Result<bool, Fault>
     let first = element(store, table, 1)?;
     let second = element(store, table, 3)?;
     let none = element(store, table, 2)?;
-    Ok(
-        lies(store, first, 10, 10)
-            && lies(store, second, -7, 9)
-            && marked(store, none, -7, 10, Defined::Never),
-    )
+    Ok(seen_otherwise(
+        store,
+        &[
+            ("a number", first, (10, 10), Defined::Always),
+            ("a cell", second, (-7, 9), Defined::Always),
+            ("no element", none, (-7, 10), Defined::Never),
+        ],
+    ))
 }
 
 /// An element of an array that has none.
@@ -364,7 +409,7 @@ fn element_of_none(store: &mut TermStore, array: Table) -> Result<bool, Fault>
 fn elements_over_the_root(rt: HostRuntime) {
     let mut store = small(rt.alloc()).expect(&rt, "memory");
     let array = pair(rt.alloc(), Element::Fixed(10), Element::Free(0)).expect(&rt, "memory");
-    assert_eq!(rt; elements(&mut store, array), Ok(true));
+    assert_eq!(rt; elements(&mut store, array), Ok(None));
     let array = empty(rt.alloc()).expect(&rt, "memory");
     assert_eq!(rt; element_of_none(&mut store, array), Ok(true));
 }
@@ -377,17 +422,21 @@ fn refused(outcome: Result<u32, Fault>) -> bool {
     }
 }
 
-/// Elements of an array that has a number of the size 2^40 + 1 at 3: that at 1 is there, the others are refused.
-fn large(store: &mut TermStore, array: Table) -> Result<bool, Fault>
+/// Which element of an array that has a number of the size 2^40 + 1 at 3 is not refused; that at 1 is there.
+fn large(store: &mut TermStore, array: Table) -> Result<Option<&'static str>, Fault>
     requires sound { IsSoundStore store.old }
     requires proper { IsTable (table_of array) }
     ensures sound { IsSoundStore store.new }
 {
     let table = add_table(store, array)?;
     element(store, table, 1)?;
-    let at_three = refused(element(store, table, 3));
-    let outside = refused(element(store, table, 2));
-    Ok(at_three && outside)
+    if !refused(element(store, table, 3)) {
+        return Ok(Some("the large number"));
+    }
+    if !refused(element(store, table, 2)) {
+        return Ok(Some("an element outside"));
+    }
+    Ok(None)
 }
 
 #[test]
@@ -395,7 +444,7 @@ fn elements_refused_for_their_size(rt: HostRuntime) {
     let mut store = small(rt.alloc()).expect(&rt, "memory");
     let most = Element::Fixed((1 << 40) + 1);
     let array = pair(rt.alloc(), Element::Fixed(10), most).expect(&rt, "memory");
-    assert_eq!(rt; large(&mut store, array), Ok(true));
+    assert_eq!(rt; large(&mut store, array), Ok(None));
 }
 
 mod arrays;

@@ -1,4 +1,4 @@
--- The same steps for slices of intervals.
+-- Steps of the loops over slices of intervals.
 use Rattle.std.proofs.Common.{◌≡◌, ℕ, suc, ◌+◌, ◌<◌, ◌≤◌, ℤ, int_le, Bool, true, false, List, [], ◌∷◌, length, get_or, drop, arith, refl, ap, sym, ◌∙◌}
 use Rattle.std.specs.List.{list_all, list_any}
 use Rattle.std.proofs.lemmas.List.{at_drop_more, at_drop_all}

@@ -1,5 +1,6 @@
 //! Windows of numbers and the intervals that lie in them, tasks whose numbers lie in intervals, and what both global conditions say of
 //! slices of such intervals: each as its definition says.
+//! Its tests stand in `tests`.
 #![tactic(auto)]
 
 mod crowds;

@@ -33,7 +33,8 @@ impl<'a> ConstantScope<'a> {
         self.range_inside(count, None, range)
     }
 
-    /// The same, inside the constant expression that begins at `whole`, to which the ends belong; with none, each of them is a constant place of its own.
+    /// The numbers of a range or a set inside the constant expression that begins at `whole`, to which the ends belong; with none, each of them is a
+    /// constant place of its own.
     pub fn range_inside(
         &self,
         count: &mut Count,

@@ -29,7 +29,7 @@ impl<'a> ConstantScope<'a> {
         }
     }
 
-    /// The same once more.
+    /// A copy of this scope.
     pub fn copy(&self) -> Result<ConstantScope<'a>, AllocError>
         ensures { IfOk result (λ known. known_in known ≡ known_in self.now) }
     {

@@ -473,7 +473,7 @@ impl<'a> ConstantScope<'a> {
     }
 }
 
-/// The same ends, unless there are too many numbers between them.
+/// Gives these ends back, unless there are too many numbers between them.
 fn checked_ends(ends: &Ends) -> Result<Ends, Fault>
     ensures { (count : ℕ) → Answers ends_in count result (spec.checked_between ends.now.lo ends.now.hi count) }
 {

@@ -1,4 +1,5 @@
 //! What the constraints of a text unfold to: the instances of hard constraints and of chance constraints, and the conditions that they stand for.
+//! Its tests stand in `tests`; whole texts are unfolded by those of `compile_tests`.
 #![tactic(auto)]
 
 mod calls;

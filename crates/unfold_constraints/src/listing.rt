@@ -39,7 +39,7 @@ pub fn instances(
     all_instances(&place, count, body)
 }
 
-/// The same, as a step.
+/// Lists the instances of constraints, as a step that counts what was evaluated.
 fn all_instances<'a>(
     place: &Place<'a, '_>,
     count: &mut Count,

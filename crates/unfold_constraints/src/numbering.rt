@@ -21,7 +21,7 @@ pub fn behind(first: u32, constraint: &Cons) -> Result<u32, AllocError>
     }
 }
 
-/// The same for constraints in order.
+/// The number behind those of the conditions of constraints in order.
 #[tactic(auto, using(sopl_ast::proofs::ConstraintTrees::constraints, crate::proofs::Parts::parts))]
 #[cycle(behind)]
 fn behind_all(first: u32, parts: &[Cons]) -> Result<u32, AllocError>

@@ -145,18 +145,18 @@ fn lists_conditions_in_text_order(rt: HostRuntime) -> Result<(), Fail> {
 #[test]
 fn judges_thresholds(rt: HostRuntime) -> Result<(), Fail> {
     let alloc = rt.alloc();
-    for (p, q, right) in [
-        (0, 1, true),
-        (1, 1, true),
-        (1048576, 1048576, true),
-        (-1, 1, false),
-        (2, 1, false),
-        (0, 0, false),
-        (1, 1048577, false),
+    for (word, p, q, right) in [
+        ("none of the weight", 0, 1, true),
+        ("all of the weight", 1, 1, true),
+        ("the greatest denominator", 1048576, 1048576, true),
+        ("less than none", -1, 1, false),
+        ("more than all", 2, 1, false),
+        ("a denominator of 0", 0, 0, false),
+        ("a denominator too large", 1, 1048577, false),
     ] {
         let body = alone(alloc, chance(alloc, p, q)?)?;
         let refusal = Refusal { code: 115, at: 44 };
-        assert_eq!(rt; is_refused(alloc, &body, &refusal), !right);
+        assert_eq!(rt; is_refused(alloc, &body, &refusal), !right, "{word}");
     }
     Ok(())
 }

@@ -42,7 +42,7 @@ impl<'a, 'b> Place<'a, 'b> {
         }
     }
 
-    /// The same for constraints, one behind the other.
+    /// Adds the instances of constraints, one behind the other.
     #[cycle(constraint)]
     pub fn constraints(
         &self,
@@ -62,7 +62,7 @@ impl<'a, 'b> Place<'a, 'b> {
         Ok(())
     }
 
-    /// The same for a constraint behind binders.
+    /// Adds the instances of a constraint behind binders.
     #[cycle(constraint)]
     fn forall(
         &self,
@@ -79,7 +79,7 @@ impl<'a, 'b> Place<'a, 'b> {
         self.over(count, over.as_slice(), &part, found)
     }
 
-    /// The same for each way in which binders take their values, the last one fastest.
+    /// Adds the instances of a part for each way in which binders take their values, the last one fastest.
     #[cycle(constraint)]
     fn over(
         &self,

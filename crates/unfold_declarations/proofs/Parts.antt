@@ -1,19 +1,13 @@
 -- The parts of a bracket, one by one.
-use Rattle.std.proofs.Common.{◌≡◌, refl, ap, ℕ, zero, suc, ◌<◌, ℤ, List, [], ◌∷◌, map, length, get_or, Option, arith}
+use Rattle.std.proofs.Common.{◌≡◌, refl, ap, ℕ, suc, ℤ, List, [], ◌∷◌, map, length, Option}
 use Rattle.sopl_ast.specs.declared.inits.Init.{Init}
 use Rattle.sopl_ast.specs.Inits.{init_tree}
 use Rattle.sopl_ast.specs.Whole.{InitTrees, no_init, init, inits, inits_list}
-use Rattle.sopl_ast.specs.WholeWeight.{weight_init, weight_inits}
+use Rattle.sopl_ast.proofs.InitWeights.{weight-part}
 use Rattle.sopl_ast.specs.Known.{Known}
 use Rattle.unfold_constants.specs.Evaluation.{done}
 use Rattle.sopl_ast.specs.Arrays.{Dimension}
 use Rattle.unfold_declarations.specs.Declaring.{Entry, parts_in}
-
--- an initial value weighs less than its list
-pub weight-part : (xs : List Init) (i : ℕ) (d : Init) → i < length xs → weight_init (init_tree (get_or xs i d)) < weight_inits (inits (map init_tree xs))
-weight-part [] i d h = absurd (omega arith)
-weight-part (x ∷ xs) zero d h = omega arith
-weight-part (x ∷ xs) (suc i) d h = omega (arith, weight-part xs i d (omega arith))
 
 -- no number is left, so nothing more is found
 pub no_number : (known : Known) (name : Option (List ℕ)) (ds : List Dimension) (index : List ℤ) (xs : InitTrees) (found : List Entry) (count : ℕ)

@@ -39,7 +39,7 @@ pub fn dimensions<'a>(
     listed_dimensions(alloc, known, count, dims)
 }
 
-/// The same, as a step.
+/// Lists the dimensions of an array, as a step that counts what was evaluated.
 pub(crate) fn listed_dimensions<'a>(
     alloc: Global,
     known: &ConstantScope<'a>,
@@ -130,7 +130,7 @@ impl<'a> IndexPrefix<'a> {
         })
     }
 
-    /// The same once more.
+    /// A copy of this prefix.
     fn copy(&self) -> Result<IndexPrefix<'a>, AllocError>
         ensures { IfOk result (λ prefix. prefix_in prefix ≡ prefix_in self.now) }
     {
@@ -141,7 +141,7 @@ impl<'a> IndexPrefix<'a> {
         })
     }
 
-    /// The same with one number more of a dimension, for which its name stands, if it has one.
+    /// This prefix with one number more of a dimension, for which its name stands, if it has one.
     pub(crate) fn longer(
         &self,
         name: Option<&'a Name>,

@@ -44,7 +44,7 @@ pub fn numbers_at<'a>(
     known.range(count, range)
 }
 
-/// The same numbers, unless they are more than a set may have.
+/// Gives these numbers back, unless they are more than a set may have.
 pub fn checked_numbers(numbers: Vec<i64>) -> Result<Vec<i64>, Fault>
     ensures { (count : ℕ) → Answers items count result (spec.reached (too_many 208 (length numbers.items)) numbers.items count) }
 {

@@ -80,7 +80,7 @@ fn part<'a>(
     }
 }
 
-/// The same for a bracket, which has a part for each number of a dimension.
+/// Adds the elements of a bracket, which has a part for each number of a dimension.
 #[tactic(auto, using(crate::proofs::Parts::parts))]
 #[cycle(part)]
 fn bracket<'a>(
@@ -105,7 +105,7 @@ fn bracket<'a>(
     parts_in(prefix, count, first, later, parts, found)
 }
 
-/// The same for the parts of a bracket, one for each number of a dimension.
+/// Adds the elements of the parts of a bracket, one for each number of a dimension.
 #[tactic(auto, using(crate::proofs::Parts::parts))]
 #[cycle(part)]
 fn parts_in<'a>(
@@ -133,7 +133,7 @@ fn parts_in<'a>(
     Ok(())
 }
 
-/// The same for one part of a bracket, and the number that it belongs to.
+/// Adds the elements of one part of a bracket, which belongs to this number.
 #[cycle(part)]
 fn part_at<'a>(
     prefix: &IndexPrefix<'a>,

@@ -14,7 +14,7 @@ pub enum NumberSet {
     Listed(Vec<i64>),
 }
 
-/// The same, where the numbers of a set are borrowed.
+/// The numbers of a range or of a set, as `NumberSet` has them, with the numbers of a set borrowed.
 #[derive(Clone, Copy, Debug)]
 pub enum Numbers<'a> {
     Between(Ends),

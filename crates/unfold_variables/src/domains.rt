@@ -75,7 +75,7 @@ fn between<'a>(
     Ok(Ends { lo, hi })
 }
 
-/// The same domain, which stands at a place, unless it is empty.
+/// Gives back a domain that stands at this place, unless it is empty.
 fn not_empty(at: usize, ends: &Ends) -> Result<Ends, Fault>
     ensures { (count : ℕ) → Answers ends_in count result (spec.not_empty at (ends_in ends.now) count) }
 {
@@ -83,7 +83,7 @@ fn not_empty(at: usize, ends: &Ends) -> Result<Ends, Fault>
     Ok(*ends)
 }
 
-/// The same domain, of which the lower end stands at a place, unless it is empty or too large.
+/// Gives back a domain whose lower end stands at this place, unless it is empty or too large.
 fn checked_domain(at: usize, ends: &Ends) -> Result<Ends, Fault>
     ensures { (count : ℕ) → Answers ends_in count result (spec.checked_domain at (ends_in ends.now) count) }
 {

@@ -1,4 +1,5 @@
 //! The decisions and the stochastic variables of declarations, one for each index of their array.
+//! Its tests stand in `tests`; whole texts are unfolded by those of `compile_tests`.
 #![tactic(auto)]
 
 mod arrays;

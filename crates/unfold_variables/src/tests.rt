@@ -33,20 +33,20 @@ fn arrayed(alloc: Global) -> Result<Vec<DecisionItem>, Fault> {
     ranged(alloc, dims.as_slice())
 }
 
-/// The same over these dimensions.
+/// The decisions of `dvar int x[..] in 0..i stage i` over these dimensions.
 fn ranged(alloc: Global, dims: &[Dim]) -> Result<Vec<DecisionItem>, Fault> {
     let hi = index(alloc, 24)?;
     let lo = Expr::literal(21, 0);
     staged(alloc, dims, &RangeText::Ends { lo, hi })
 }
 
-/// The same with this domain.
+/// The decisions of `dvar int x[..] in .. stage i` over these dimensions and with this domain.
 fn staged(alloc: Global, dims: &[Dim], range: &RangeText) -> Result<Vec<DecisionItem>, Fault> {
     let stage = index(alloc, 32)?;
     named(alloc, dims, range, &stage)
 }
 
-/// The same with this stage.
+/// The decisions of `dvar int x[..] in .. stage ..` over these dimensions, with this domain and this stage.
 fn named(
     alloc: Global,
     dims: &[Dim],
@@ -69,8 +69,16 @@ fn gives_each_index_its_decision(rt: HostRuntime) -> Result<(), Fail> {
         let Some(item) = found.as_slice().get(place) else {
             return Err(Fail::from("too few"));
         };
-        assert_eq!(rt; item.index.as_slice().first().copied(), Some(hi));
-        assert_eq!(rt; (item.lo, item.hi, i64::from(item.stage)), (0, hi, hi));
+        assert_eq!(rt;
+            item.index.as_slice().first().copied(),
+            Some(hi),
+            "the index {hi}"
+        );
+        assert_eq!(rt;
+            (item.lo, item.hi, i64::from(item.stage)),
+            (0, hi, hi),
+            "at the index {hi}"
+        );
     }
     Ok(())
 }
@@ -99,14 +107,14 @@ fn decision_stop(alloc: Global, name: &Name, lo: i64, hi: i64, k: i64) -> Option
 #[test]
 fn refuses_domains_and_stages(rt: HostRuntime) -> Result<(), Fail> {
     let name = Name::from_bytes(rt.alloc(), b"x")?;
-    for (lo, hi, k, want) in [
-        (0, 65535, 24, None),
-        (3, 2, 1, Some((111, 21))),
-        (0, 65536, 1, Some((203, 65537))),
-        (2, 2, 25, Some((114, 32))),
-        (2, 2, 0, Some((114, 32))),
+    for (word, lo, hi, k, want) in [
+        ("the largest domain and the last stage", 0, 65535, 24, None),
+        ("an empty domain", 3, 2, 1, Some((111, 21))),
+        ("a domain too large", 0, 65536, 1, Some((203, 65537))),
+        ("a stage too late", 2, 2, 25, Some((114, 32))),
+        ("the stage 0", 2, 2, 0, Some((114, 32))),
     ] {
-        assert_eq!(rt; decision_stop(rt.alloc(), &name, lo, hi, k), want);
+        assert_eq!(rt; decision_stop(rt.alloc(), &name, lo, hi, k), want, "{word}");
     }
     Ok(())
 }
@@ -128,7 +136,7 @@ fn stop_by_name(alloc: Global, table: &Table, name: &Name, range: Name) -> Optio
     stop(decisions(alloc, table, &mut count, name, &[], &range, None))
 }
 
-/// The same where `R` has these ends.
+/// What stops `dvar int x in R`, where `R` has these ends.
 fn named_stop(alloc: Global, name: &Name, lo: i64, hi: i64) -> Option<(u16, i128)> {
     let range = Name::from_bytes(alloc, b"R").ok()?;
     match table_of(alloc, &range, lo, hi) {
@@ -140,8 +148,11 @@ fn named_stop(alloc: Global, name: &Name, lo: i64, hi: i64) -> Option<(u16, i128
 #[test]
 fn takes_a_domain_by_its_name(rt: HostRuntime) -> Result<(), Fail> {
     let name = Name::from_bytes(rt.alloc(), b"x")?;
-    for (lo, hi, want) in [(2, 3, None), (3, 2, Some((111, 14)))] {
-        assert_eq!(rt; named_stop(rt.alloc(), &name, lo, hi), want);
+    for (word, lo, hi, want) in [
+        ("a range of two", 2, 3, None),
+        ("an empty range", 3, 2, Some((111, 14))),
+    ] {
+        assert_eq!(rt; named_stop(rt.alloc(), &name, lo, hi), want, "{word}");
     }
     Ok(())
 }
@@ -166,13 +177,18 @@ fn draw_stop(alloc: Global, name: &Name, v: i64, w: i64) -> Option<(u16, i128)> 
 #[test]
 fn refuses_distributions(rt: HostRuntime) -> Result<(), Fail> {
     let name = Name::from_bytes(rt.alloc(), b"d")?;
-    for (v, w, want) in [
-        (6, 1, None),
-        (7, 1, Some((113, 22))),
-        (6, 0, Some((113, 19))),
-        (7, -1, Some((113, 19))),
+    for (word, v, w, want) in [
+        ("two outcomes", 6, 1, None),
+        ("an outcome twice", 7, 1, Some((113, 22))),
+        ("a weight of 0", 6, 0, Some((113, 19))),
+        (
+            "a weight below 0 before an outcome twice",
+            7,
+            -1,
+            Some((113, 19)),
+        ),
     ] {
-        assert_eq!(rt; draw_stop(rt.alloc(), &name, v, w), want);
+        assert_eq!(rt; draw_stop(rt.alloc(), &name, v, w), want, "{word}");
     }
     Ok(())
 }

@@ -48,20 +48,24 @@ fn empty(alloc: Global) -> Result<Table, AllocError>
 #[test]
 fn elements_at_indices(rt: HostRuntime) {
     let table = grid(rt.alloc()).expect(&rt, "memory");
-    let cases: [(&[i64], Option<Element>); 10] = [
-        (&[1, 2], Some(Element::Fixed(12))),
-        (&[1, 5], Some(Element::Free(1))),
-        (&[3, 2], Some(Element::Fixed(32))),
-        (&[3, 7], Some(Element::Free(0))),
-        (&[2, 2], None),
-        (&[2, 1], None),
-        (&[3, 8], None),
-        (&[3], None),
-        (&[1, 2, 2], None),
-        (&[], None),
+    let cases: [(&str, &[i64], Option<Element>); 10] = [
+        ("the first number", &[1, 2], Some(Element::Fixed(12))),
+        ("the first cell", &[1, 5], Some(Element::Free(1))),
+        (
+            "a number of the last row",
+            &[3, 2],
+            Some(Element::Fixed(32)),
+        ),
+        ("the last cell", &[3, 7], Some(Element::Free(0))),
+        ("no such row", &[2, 2], None),
+        ("neither row nor column", &[2, 1], None),
+        ("no such column", &[3, 8], None),
+        ("one index", &[3], None),
+        ("three indices", &[1, 2, 2], None),
+        ("no index", &[], None),
     ];
-    for (index, want) in cases {
-        assert_eq!(rt; table.known(index), want);
+    for (word, index, want) in cases {
+        assert_eq!(rt; table.known(index), want, "{word}");
     }
 }
 
@@ -77,10 +81,11 @@ fn hulls_over_a_box(rt: HostRuntime) {
         cell: 0,
         ends: Ends { low: 40, high: 41 },
     };
-    assert_eq!(rt; table.hull(&view), Ends { low: -7, high: 35 });
+    assert_eq!(rt; table.hull(&view), Ends { low: -7, high: 35 }, "the box");
     assert_eq!(rt;
         table.hull(&view.replaced(&part)),
-        Ends { low: -7, high: 41 }
+        Ends { low: -7, high: 41 },
+        "a part of it"
     );
 }
 
@@ -92,24 +97,24 @@ fn nothing_in_an_empty_array(rt: HostRuntime) {
         highs: &[4],
         part: None,
     };
-    assert_eq!(rt; table.hull(&view), Ends { low: 0, high: 0 });
-    assert_eq!(rt; table.known(&[0]), None);
+    assert_eq!(rt; table.hull(&view), Ends { low: 0, high: 0 }, "the hull");
+    assert_eq!(rt; table.known(&[0]), None, "an element");
 }
 
 #[test]
 fn covered_intervals(rt: HostRuntime) {
-    let cases: [(i64, i64, &[i64], bool); 8] = [
-        (2, 2, &[2], true),
-        (2, 4, &[2, 3, 4], true),
-        (2, 4, &[4, 2, 3], true),
-        (2, 4, &[2, 4], false),
-        (2, 5, &[2, 3, 4], false),
-        (1, 4, &[2, 3, 4], false),
-        (-(1 << 41), 1 << 41, &[-(1 << 41)], false),
-        (0, 0, &[], false),
+    let cases: [(&str, i64, i64, &[i64], bool); 8] = [
+        ("one number", 2, 2, &[2], true),
+        ("three numbers", 2, 4, &[2, 3, 4], true),
+        ("three numbers in another order", 2, 4, &[4, 2, 3], true),
+        ("one in the middle left out", 2, 4, &[2, 4], false),
+        ("one at the top left out", 2, 5, &[2, 3, 4], false),
+        ("one at the bottom left out", 1, 4, &[2, 3, 4], false),
+        ("a long interval", -(1 << 41), 1 << 41, &[-(1 << 41)], false),
+        ("an empty set", 0, 0, &[], false),
     ];
-    for (low, high, set, want) in cases {
-        assert_eq!(rt; covered(&Ends { low, high }, set), want);
+    for (word, low, high, set, want) in cases {
+        assert_eq!(rt; covered(&Ends { low, high }, set), want, "{word}");
     }
 }
 
@@ -122,24 +127,36 @@ fn elements_within_intervals(rt: HostRuntime) {
         part: None,
     };
     let cases = [
-        ((1, 1), (2, 2), (12, 12), Defined::Always),
-        ((1, 1), (5, 5), (-7, 9), Defined::Always),
-        ((3, 3), (2, 5), (32, 35), Defined::Maybe),
-        ((3, 4), (2, 2), (32, 32), Defined::Maybe),
-        ((1, 3), (7, 7), (-5, 17), Defined::Maybe),
-        ((0, 9), (0, 9), (-7, 35), Defined::Maybe),
-        ((2, 2), (2, 7), (-7, 35), Defined::Never),
-        ((1, 1), (3, 4), (-7, 35), Defined::Never),
+        ("one number", (1, 1), (2, 2), (12, 12), Defined::Always),
+        ("one cell", (1, 1), (5, 5), (-7, 9), Defined::Always),
+        (
+            "columns with a gap",
+            (3, 3),
+            (2, 5),
+            (32, 35),
+            Defined::Maybe,
+        ),
+        (
+            "rows past the last",
+            (3, 4),
+            (2, 2),
+            (32, 32),
+            Defined::Maybe,
+        ),
+        ("rows with a gap", (1, 3), (7, 7), (-5, 17), Defined::Maybe),
+        ("all and more", (0, 9), (0, 9), (-7, 35), Defined::Maybe),
+        ("no row", (2, 2), (2, 7), (-7, 35), Defined::Never),
+        ("no column", (1, 1), (3, 4), (-7, 35), Defined::Never),
     ];
-    for (first, second, hull, mark) in cases {
+    for (word, first, second, hull, mark) in cases {
         let behind = Ranges::First(ends(second), &Ranges::End);
         let ranges = Ranges::First(ends(first), &behind);
         let indices = Indices::none()
             .with(&ends(second), Defined::Always, &[2, 5, 7])
             .with(&ends(first), Defined::Always, &[1, 3]);
         let within = table.within(&ranges, &indices, &view);
-        assert_eq!(rt; within.ends, ends(hull));
-        assert!(rt; within.mark == mark, "the mark");
+        assert_eq!(rt; within.ends, ends(hull), "{word}");
+        assert!(rt; within.mark == mark, "the mark of {word}");
     }
 }
 

@@ -161,30 +161,30 @@ fn lies(alloc: Global, link: Link, times: u32, number: i64) -> Result<bool, Faul
     Ok(is_number(&program, &store, number) && is_judged(&program, &store, truth))
 }
 
-const CHAINS: &[(Link, u32, i64)] = &[
-    (Link::Factor, 1, 1),
-    (Link::Factor, 2, -1),
-    (Link::Factor, 3, 1),
-    (Link::Divisor, 6, -1),
-    (Link::Modulus, 7, -1),
-    (Link::Mixed, 9, 1),
-    (Link::Factor, 200_000, -1),
-    (Link::Divisor, 200_001, 1),
-    (Link::Modulus, 200_000, -1),
-    (Link::Mixed, 100_001, 1),
+const CHAINS: &[(&str, Link, u32, i64)] = &[
+    ("one factor", Link::Factor, 1, 1),
+    ("two factors", Link::Factor, 2, -1),
+    ("three factors", Link::Factor, 3, 1),
+    ("six divisors", Link::Divisor, 6, -1),
+    ("seven moduli", Link::Modulus, 7, -1),
+    ("nine of both", Link::Mixed, 9, 1),
+    ("many factors", Link::Factor, 200_000, -1),
+    ("many divisors", Link::Divisor, 200_001, 1),
+    ("many moduli", Link::Modulus, 200_000, -1),
+    ("many of both", Link::Mixed, 100_001, 1),
 ];
 
-/// Whether each chain is its number.
-fn all_lie(alloc: Global) -> Result<bool, Fault> {
-    for (link, times, number) in CHAINS {
+/// The first row whose chain is another number.
+fn seen_otherwise(alloc: Global) -> Result<Option<&'static str>, Fault> {
+    for (word, link, times, number) in CHAINS {
         if !lies(alloc, *link, *times, *number)? {
-            return Ok(false);
+            return Ok(Some(*word));
         }
     }
-    Ok(true)
+    Ok(None)
 }
 
 #[test]
 fn long_chains(rt: HostRuntime) {
-    assert_eq!(rt; all_lie(rt.alloc()), Ok(true));
+    assert_eq!(rt; seen_otherwise(rt.alloc()), Ok(None));
 }

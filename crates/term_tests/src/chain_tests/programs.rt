@@ -168,21 +168,20 @@ const HARD: Reason = Reason::Hard {
 
 const CHANCE: Reason = Reason::Chance { instance: 0 };
 
-/// Whether each reason closes each of these boxes, or not.
-fn all_close(
-    program: &Program,
-    store: &BoxStore,
-    cases: &[(Reason, Option<i128>, (i64, i64), bool)],
-) -> bool
+/// What a row is about, a reason, what is best so far, the ends of a box, and whether the reason closes it.
+type Closing = (&'static str, Reason, Option<i128>, (i64, i64), bool);
+
+/// The first row whose reason closes its box otherwise.
+fn closed_otherwise(program: &Program, store: &BoxStore, rows: &[Closing]) -> Option<&'static str>
     requires made { IsMade program.now }
     requires root { store.now.box ≡ root_in program.now }
 {
-    for (reason, best, ends, want) in cases {
+    for (word, reason, best, ends, want) in rows {
         if closes(program, store, *reason, *best, *ends) != Some(*want) {
-            return false;
+            return Some(*word);
         }
     }
-    true
+    None
 }
 
 /// Whether the constraints of a program are linear comparisons.
@@ -197,74 +196,108 @@ fn all_linear(program: &Program) -> bool
     program.form(hard) == Form::Linear && program.form(chance) == Form::Linear
 }
 
-/// What closes boxes of a program that is to be as small as can be.
-fn minimized(alloc: Global) -> Result<bool, Fault> {
+/// What is wrong of a program that is to be as small as can be, and of what closes its boxes.
+fn minimized(alloc: Global) -> Result<Option<&'static str>, Fault> {
     let roots = one_root(alloc)?;
     let store = BoxStore::new(alloc, roots.as_slice())?;
     let program = program(alloc, roots.as_slice(), Direction::Minimize, false)?;
     let ends = goal_ends(&program, &store);
     if ends != (0, 27) || program.denominator() != 3 || !all_linear(&program) {
-        return Ok(false);
+        return Ok(Some("what is told of the program"));
     }
-    Ok(all_close(
+    Ok(closed_otherwise(
         &program,
         &store,
         &[
-            (HARD, None, (7, 9), true),
-            (HARD, None, (6, 9), false),
-            (CHANCE, None, (0, 1), true),
-            (CHANCE, None, (0, 2), false),
-            (Reason::Undefined { scenario: 0 }, None, (0, 9), false),
-            (Reason::Bound, Some(6), (2, 5), true),
-            (Reason::Bound, Some(6), (1, 5), false),
-            (Reason::Bound, None, (2, 5), false),
+            ("no point of a hard constraint", HARD, None, (7, 9), true),
+            ("one point of a hard constraint", HARD, None, (6, 9), false),
+            (
+                "one scenario of a chance constraint",
+                CHANCE,
+                None,
+                (0, 1),
+                true,
+            ),
+            (
+                "two scenarios of a chance constraint",
+                CHANCE,
+                None,
+                (0, 2),
+                false,
+            ),
+            (
+                "an objective that is defined",
+                Reason::Undefined { scenario: 0 },
+                None,
+                (0, 9),
+                false,
+            ),
+            ("nothing better", Reason::Bound, Some(6), (2, 5), true),
+            ("something better", Reason::Bound, Some(6), (1, 5), false),
+            ("nothing best so far", Reason::Bound, None, (2, 5), false),
         ],
     ))
 }
 
-/// What closes boxes of a program whose worst scenario is to be as great as can be.
-fn maximized(alloc: Global) -> Result<bool, Fault> {
+/// What is wrong of a program whose worst scenario is to be as great as can be, and of what closes its boxes.
+fn maximized(alloc: Global) -> Result<Option<&'static str>, Fault> {
     let roots = one_root(alloc)?;
     let store = BoxStore::new(alloc, roots.as_slice())?;
     let program = program(alloc, roots.as_slice(), Direction::Maximize, true)?;
     let ends = goal_ends(&program, &store);
     if ends != (0, 9) || program.denominator() != 1 {
-        return Ok(false);
+        return Ok(Some("what is told of the program"));
     }
-    Ok(all_close(
+    Ok(closed_otherwise(
         &program,
         &store,
         &[
-            (Reason::Bound, Some(5), (2, 5), true),
-            (Reason::Bound, Some(4), (2, 5), false),
-            (Reason::Chance { instance: 1 }, None, (0, 0), false),
+            ("nothing better", Reason::Bound, Some(5), (2, 5), true),
+            ("something better", Reason::Bound, Some(4), (2, 5), false),
+            (
+                "no such constraint",
+                Reason::Chance { instance: 1 },
+                None,
+                (0, 0),
+                false,
+            ),
         ],
     ))
 }
 
-/// What closes boxes of a program without an objective.
-fn without_objective(alloc: Global) -> Result<bool, Fault> {
+/// What is wrong of a program without an objective, and of what closes its boxes.
+fn without_objective(alloc: Global) -> Result<Option<&'static str>, Fault> {
     let roots = one_root(alloc)?;
     let store = BoxStore::new(alloc, roots.as_slice())?;
     let program = program(alloc, roots.as_slice(), Direction::Nothing, false)?;
     let ends = goal_ends(&program, &store);
     if ends != (0, 0) || program.denominator() != 1 {
-        return Ok(false);
+        return Ok(Some("what is told of the program"));
     }
-    Ok(all_close(&program, &store, &[(Reason::Bound, Some(0), (2, 5), true)]))
+    Ok(closed_otherwise(
+        &program,
+        &store,
+        &[(
+            "a point that was found",
+            Reason::Bound,
+            Some(0),
+            (2, 5),
+            true,
+        )],
+    ))
 }
 
 #[test]
 fn minimized_programs(rt: HostRuntime) {
-    assert_eq!(rt; minimized(rt.alloc()), Ok(true));
+    assert_eq!(rt; minimized(rt.alloc()), Ok(None));
 }
 
 #[test]
 fn maximized_programs(rt: HostRuntime) {
-    assert_eq!(rt; maximized(rt.alloc()), Ok(true));
+    assert_eq!(rt; maximized(rt.alloc()), Ok(None));
 }
 
 #[test]
 fn programs_without_objective(rt: HostRuntime) {
-    assert_eq!(rt; without_objective(rt.alloc()), Ok(true));
+    assert_eq!(rt; without_objective(rt.alloc()), Ok(None));
 }

@@ -128,25 +128,26 @@ fn lies(
     Ok(range.interval.lo == hull.0 && range.interval.hi == hull.1 && range.defined == mark)
 }
 
-const ELEMENTS: &[(At, (i64, i64), Defined)] = &[
-    (At::Number(1), (10, 10), Defined::Always),
-    (At::Number(3), (-7, 9), Defined::Always),
-    (At::Number(2), (-7, 10), Defined::Never),
-    (At::Y, (-7, 10), Defined::Maybe),
+/// What a row is about, an index, and the interval and the mark of the element there.
+const ELEMENTS: &[(&str, At, (i64, i64), Defined)] = &[
+    ("a number", At::Number(1), (10, 10), Defined::Always),
+    ("a cell", At::Number(3), (-7, 9), Defined::Always),
+    ("no element", At::Number(2), (-7, 10), Defined::Never),
+    ("an open index", At::Y, (-7, 10), Defined::Maybe),
 ];
 
-/// Whether each element is seen so.
-fn all_lie(alloc: Global, whole: bool) -> Result<bool, Fault> {
-    for (at, hull, mark) in ELEMENTS {
+/// The first row whose element is seen otherwise.
+fn seen_otherwise(alloc: Global, whole: bool) -> Result<Option<&'static str>, Fault> {
+    for (word, at, hull, mark) in ELEMENTS {
         if !lies(alloc, whole, *at, *hull, *mark)? {
-            return Ok(false);
+            return Ok(Some(*word));
         }
     }
-    Ok(true)
+    Ok(None)
 }
 
 #[test]
 fn elements_of_arrays(rt: HostRuntime) {
-    assert_eq!(rt; all_lie(rt.alloc(), true), Ok(true));
-    assert_eq!(rt; all_lie(rt.alloc(), false), Ok(true));
+    assert_eq!(rt; seen_otherwise(rt.alloc(), true), Ok(None), "as a whole");
+    assert_eq!(rt; seen_otherwise(rt.alloc(), false), Ok(None), "by its terms");
 }

@@ -111,33 +111,33 @@ fn lies(alloc: Global, made: Made, low: i64, high: i64) -> Result<bool, Fault> {
     Ok(range.interval.lo == low && range.interval.hi == high && range.defined == Defined::Always)
 }
 
-const TERMS: &[(Made, i64, i64)] = &[
-    (Made::Constant, -3, -3),
-    (Made::Cell, -5, 4),
-    (Made::Sum, -12, 13),
-    (Made::Difference, -11, 14),
-    (Made::Product, -45, 36),
-    (Made::Quotient, -4, 3),
-    (Made::Remainder, -3, 3),
-    (Made::Least, -7, 4),
-    (Made::Greatest, -5, 9),
-    (Made::Size, 0, 9),
-    (Made::Number, 0, 1),
+const TERMS: &[(&str, Made, i64, i64)] = &[
+    ("a number", Made::Constant, -3, -3),
+    ("a cell", Made::Cell, -5, 4),
+    ("a sum", Made::Sum, -12, 13),
+    ("a difference", Made::Difference, -11, 14),
+    ("a product", Made::Product, -45, 36),
+    ("a quotient", Made::Quotient, -4, 3),
+    ("a remainder", Made::Remainder, -3, 3),
+    ("the least of both", Made::Least, -7, 4),
+    ("the greatest of both", Made::Greatest, -5, 9),
+    ("a size", Made::Size, 0, 9),
+    ("a condition as a number", Made::Number, 0, 1),
 ];
 
-/// Whether each term has its interval.
-fn all_lie(alloc: Global) -> Result<bool, Fault> {
-    for (made, low, high) in TERMS {
+/// The first row whose term has another interval.
+fn seen_otherwise(alloc: Global) -> Result<Option<&'static str>, Fault> {
+    for (word, made, low, high) in TERMS {
         if !lies(alloc, *made, *low, *high)? {
-            return Ok(false);
+            return Ok(Some(*word));
         }
     }
-    Ok(true)
+    Ok(None)
 }
 
 #[test]
 fn terms_of_builders(rt: HostRuntime) {
-    assert_eq!(rt; all_lie(rt.alloc()), Ok(true));
+    assert_eq!(rt; seen_otherwise(rt.alloc()), Ok(None));
 }
 
 /// What is asked of x and y: that x is less than y, that x is x, and what is made of the two.
@@ -200,28 +200,28 @@ fn judged(alloc: Global, asked: Asked, truth: Truth) -> Result<bool, Fault> {
     Ok(kleene(&program, program.hard(0, 0), &store) == truth)
 }
 
-const CONDS: &[(Asked, Truth)] = &[
-    (Asked::Less, Truth::Unknown),
-    (Asked::Same, Truth::True),
-    (Asked::Not, Truth::False),
-    (Asked::All, Truth::Unknown),
-    (Asked::Any, Truth::True),
-    (Asked::Implies, Truth::Unknown),
+const CONDS: &[(&str, Asked, Truth)] = &[
+    ("x < y", Asked::Less, Truth::Unknown),
+    ("x <= x", Asked::Same, Truth::True),
+    ("not x <= x", Asked::Not, Truth::False),
+    ("x < y and x <= x", Asked::All, Truth::Unknown),
+    ("x < y or x <= x", Asked::Any, Truth::True),
+    ("x <= x implies x < y", Asked::Implies, Truth::Unknown),
 ];
 
-/// Whether each condition has its truth.
-fn all_judged(alloc: Global) -> Result<bool, Fault> {
-    for (asked, truth) in CONDS {
+/// The first row whose condition has another truth.
+fn judged_otherwise(alloc: Global) -> Result<Option<&'static str>, Fault> {
+    for (word, asked, truth) in CONDS {
         if !judged(alloc, *asked, *truth)? {
-            return Ok(false);
+            return Ok(Some(*word));
         }
     }
-    Ok(true)
+    Ok(None)
 }
 
 #[test]
 fn conditions_of_builders(rt: HostRuntime) {
-    assert_eq!(rt; all_judged(rt.alloc()), Ok(true));
+    assert_eq!(rt; judged_otherwise(rt.alloc()), Ok(None));
 }
 
 /// What a program tells of its condition that x is less than y: -7 <= x <= 9, -5 <= y <= 4.

@@ -125,28 +125,76 @@ fn differ(store: &mut TermStore, terms: &[TermId]) -> Result<Truth, Fault>
     Ok(store.kleene(id.0, &store.root()))
 }
 
-const DIFFERENT: &[(&[u32], Truth)] = &[
-    (&[], Truth::True),
-    (&[X], Truth::True),
-    (&[ONE, TWO, LATE], Truth::True),
-    (&[LATE, TWO, ONE], Truth::True),
-    (&[ONE, ALSO_ONE], Truth::False),
-    (&[ONE, LATE, ONE], Truth::False),
-    (&[EARLY, EARLY_TOO, EARLY_AS_WELL], Truth::False),
-    (&[X, EARLY, LATE, EARLY_TOO, EARLY_AS_WELL], Truth::False),
-    (&[ACROSS, EARLY, ONE, TWO], Truth::False),
-    (&[EARLY, EARLY_TOO, LATE], Truth::Unknown),
-    (&[X, EARLY, EARLY_TOO], Truth::Unknown),
-    (&[ACROSS, EARLY], Truth::Unknown),
-    (&[X, X], Truth::Unknown),
-    (&[TEN, ONE], Truth::True),
-    (&[TEN, TEN], Truth::False),
-    (&[MAYBE], Truth::Unknown),
-    (&[MAYBE, ONE], Truth::Unknown),
-    (&[MAYBE, TEN], Truth::False),
-    (&[MAYBE, ONE, ALSO_ONE], Truth::False),
-    (&[NEVER], Truth::False),
-    (&[ONE, NEVER, MAYBE], Truth::False),
+const DIFFERENT: &[(&str, &[u32], Truth)] = &[
+    ("no term", &[], Truth::True),
+    ("one term", &[X], Truth::True),
+    ("numbers apart", &[ONE, TWO, LATE], Truth::True),
+    (
+        "numbers apart in another order",
+        &[LATE, TWO, ONE],
+        Truth::True,
+    ),
+    ("two terms of one number", &[ONE, ALSO_ONE], Truth::False),
+    ("one term twice", &[ONE, LATE, ONE], Truth::False),
+    (
+        "three terms of two numbers",
+        &[EARLY, EARLY_TOO, EARLY_AS_WELL],
+        Truth::False,
+    ),
+    (
+        "three terms of two numbers among others",
+        &[X, EARLY, LATE, EARLY_TOO, EARLY_AS_WELL],
+        Truth::False,
+    ),
+    (
+        "one of two numbers that are both taken",
+        &[ACROSS, EARLY, ONE, TWO],
+        Truth::False,
+    ),
+    (
+        "two terms of two numbers",
+        &[EARLY, EARLY_TOO, LATE],
+        Truth::Unknown,
+    ),
+    (
+        "two terms of two numbers, and one of more",
+        &[X, EARLY, EARLY_TOO],
+        Truth::Unknown,
+    ),
+    (
+        "two terms that share a number",
+        &[ACROSS, EARLY],
+        Truth::Unknown,
+    ),
+    ("an open term twice", &[X, X], Truth::Unknown),
+    ("an element that is a number", &[TEN, ONE], Truth::True),
+    (
+        "an element that is a number twice",
+        &[TEN, TEN],
+        Truth::False,
+    ),
+    ("an element that may be undefined", &[MAYBE], Truth::Unknown),
+    (
+        "an element that may be undefined, and a number",
+        &[MAYBE, ONE],
+        Truth::Unknown,
+    ),
+    (
+        "an element that may be undefined, and its number",
+        &[MAYBE, TEN],
+        Truth::False,
+    ),
+    (
+        "an element that may be undefined, and one number twice",
+        &[MAYBE, ONE, ALSO_ONE],
+        Truth::False,
+    ),
+    ("an element that is never defined", &[NEVER], Truth::False),
+    (
+        "an element that is never defined, among others",
+        &[ONE, NEVER, MAYBE],
+        Truth::False,
+    ),
 ];
 
 /// Whether a list of terms differs so.
@@ -163,17 +211,17 @@ fn differs_so(
     Ok(differ(store, terms.as_slice())? == truth)
 }
 
-/// Whether each list of terms differs so.
-fn all_differ_so(alloc: Global, store: &mut TermStore) -> Result<bool, Fault>
+/// The first row whose terms differ otherwise.
+fn differ_otherwise(alloc: Global, store: &mut TermStore) -> Result<Option<&'static str>, Fault>
     requires sound { IsSoundStore store.old }
     ensures sound { IsSoundStore store.new }
 {
-    for (terms, truth) in DIFFERENT {
+    for (word, terms, truth) in DIFFERENT {
         if !differs_so(alloc, store, terms, *truth)? {
-            return Ok(false);
+            return Ok(Some(*word));
         }
     }
-    Ok(true)
+    Ok(None)
 }
 
 /// The store with these terms.
@@ -190,7 +238,7 @@ fn filled(alloc: Global) -> Result<TermStore, Fault>
 fn terms_that_differ(rt: HostRuntime) {
     let mut store = filled(rt.alloc()).expect(&rt, "memory");
     assert_eq!(rt; store.count(), TERMS);
-    assert_eq!(rt; all_differ_so(rt.alloc(), &mut store), Ok(true));
+    assert_eq!(rt; differ_otherwise(rt.alloc(), &mut store), Ok(None));
 }
 
 /// The start, the length and the demand of a task.
@@ -239,40 +287,146 @@ fn fit(store: &mut TermStore, tasks: &[Task], capacity: u32) -> Result<Truth, Fa
     Ok(store.kleene(id.0, &store.root()))
 }
 
-const FITTING: &[(&[TaskTerms], u32, Truth)] = &[
-    (&[], BELOW, Truth::False),
-    (&[], OPEN, Truth::Unknown),
-    (&[], ZERO, Truth::True),
-    (&[(ONE, TWO, ONE)], ONE, Truth::True),
-    (&[(ONE, TWO, TWO)], ONE, Truth::False),
-    (&[(ONE, TWO, ONE), (TWO, ONE, ONE)], ONE, Truth::False),
-    (&[(ONE, ONE, ONE), (TWO, ONE, ONE)], ONE, Truth::True),
+const FITTING: &[(&str, &[TaskTerms], u32, Truth)] = &[
+    ("no task, a capacity below 0", &[], BELOW, Truth::False),
     (
+        "no task, a capacity perhaps below 0",
+        &[],
+        OPEN,
+        Truth::Unknown,
+    ),
+    ("no task, no capacity", &[], ZERO, Truth::True),
+    ("one task", &[(ONE, TWO, ONE)], ONE, Truth::True),
+    (
+        "one task that asks for too much",
+        &[(ONE, TWO, TWO)],
+        ONE,
+        Truth::False,
+    ),
+    (
+        "two tasks that meet",
+        &[(ONE, TWO, ONE), (TWO, ONE, ONE)],
+        ONE,
+        Truth::False,
+    ),
+    (
+        "one task behind the other",
+        &[(ONE, ONE, ONE), (TWO, ONE, ONE)],
+        ONE,
+        Truth::True,
+    ),
+    (
+        "open starts that surely meet",
         &[(EARLY, TWO, ONE), (EARLY_TOO, TWO, ONE)],
         ONE,
         Truth::False,
     ),
-    (&[(EARLY, ONE, ONE), (ONE, ONE, ONE)], ONE, Truth::Unknown),
-    (&[(EARLY, ONE, ONE), (LATE, ONE, ONE)], ONE, Truth::True),
-    (&[(ONE, EARLY, ONE), (TWO, ONE, ONE)], ONE, Truth::Unknown),
-    (&[(ONE, EARLY, ONE), (LATE, ONE, ONE)], ONE, Truth::True),
-    (&[(ONE, ONE, EARLY)], ONE, Truth::Unknown),
-    (&[(ONE, ONE, TWO)], EARLY, Truth::Unknown),
-    (&[(ONE, ONE, LATE)], EARLY, Truth::False),
-    (&[(ONE, BELOW, ONE)], TWO, Truth::False),
-    (&[(ONE, ONE, BELOW)], TWO, Truth::False),
-    (&[(ONE, OPEN, ONE)], TWO, Truth::Unknown),
-    (&[(ONE, ONE, OPEN)], TWO, Truth::Unknown),
-    (&[(BELOW, TWO, ONE)], OPEN, Truth::False),
-    (&[(ONE, ZERO, TWO)], ZERO, Truth::True),
-    (&[(ONE, TWO, ZERO)], ZERO, Truth::True),
-    (&[(TEN, ONE, ONE), (X, ONE, ONE)], ONE, Truth::True),
-    (&[(MAYBE, ONE, ONE)], TWO, Truth::Unknown),
-    (&[(MAYBE, ONE, TWO)], ONE, Truth::False),
-    (&[(ONE, ONE, ONE)], MAYBE, Truth::Unknown),
-    (&[(NEVER, ONE, ONE)], TWO, Truth::False),
-    (&[(ONE, ONE, ONE), (ONE, NEVER, ONE)], TEN, Truth::False),
-    (&[], NEVER, Truth::False),
+    (
+        "an open start that may meet a task",
+        &[(EARLY, ONE, ONE), (ONE, ONE, ONE)],
+        ONE,
+        Truth::Unknown,
+    ),
+    (
+        "open starts that are apart",
+        &[(EARLY, ONE, ONE), (LATE, ONE, ONE)],
+        ONE,
+        Truth::True,
+    ),
+    (
+        "an open length that may meet a task",
+        &[(ONE, EARLY, ONE), (TWO, ONE, ONE)],
+        ONE,
+        Truth::Unknown,
+    ),
+    (
+        "an open length that ends before a task",
+        &[(ONE, EARLY, ONE), (LATE, ONE, ONE)],
+        ONE,
+        Truth::True,
+    ),
+    ("an open demand", &[(ONE, ONE, EARLY)], ONE, Truth::Unknown),
+    (
+        "an open capacity",
+        &[(ONE, ONE, TWO)],
+        EARLY,
+        Truth::Unknown,
+    ),
+    (
+        "a demand above an open capacity",
+        &[(ONE, ONE, LATE)],
+        EARLY,
+        Truth::False,
+    ),
+    ("a length below 0", &[(ONE, BELOW, ONE)], TWO, Truth::False),
+    ("a demand below 0", &[(ONE, ONE, BELOW)], TWO, Truth::False),
+    (
+        "a length perhaps below 0",
+        &[(ONE, OPEN, ONE)],
+        TWO,
+        Truth::Unknown,
+    ),
+    (
+        "a demand perhaps below 0",
+        &[(ONE, ONE, OPEN)],
+        TWO,
+        Truth::Unknown,
+    ),
+    (
+        "a start below 0, and no capacity",
+        &[(BELOW, TWO, ONE)],
+        OPEN,
+        Truth::False,
+    ),
+    (
+        "no length, and no capacity",
+        &[(ONE, ZERO, TWO)],
+        ZERO,
+        Truth::True,
+    ),
+    (
+        "no demand, and no capacity",
+        &[(ONE, TWO, ZERO)],
+        ZERO,
+        Truth::True,
+    ),
+    (
+        "a start that is an element",
+        &[(TEN, ONE, ONE), (X, ONE, ONE)],
+        ONE,
+        Truth::True,
+    ),
+    (
+        "a start that may be undefined",
+        &[(MAYBE, ONE, ONE)],
+        TWO,
+        Truth::Unknown,
+    ),
+    (
+        "a start that may be undefined, and too great a demand",
+        &[(MAYBE, ONE, TWO)],
+        ONE,
+        Truth::False,
+    ),
+    (
+        "a capacity that may be undefined",
+        &[(ONE, ONE, ONE)],
+        MAYBE,
+        Truth::Unknown,
+    ),
+    (
+        "a start that is never defined",
+        &[(NEVER, ONE, ONE)],
+        TWO,
+        Truth::False,
+    ),
+    (
+        "a length that is never defined",
+        &[(ONE, ONE, ONE), (ONE, NEVER, ONE)],
+        TEN,
+        Truth::False,
+    ),
+    ("a capacity that is never defined", &[], NEVER, Truth::False),
 ];
 
 /// Whether the tasks of a row fit so.
@@ -290,21 +444,21 @@ fn fits_so(
     Ok(fit(store, tasks.as_slice(), capacity)? == truth)
 }
 
-/// Whether each list of tasks fits so.
-fn all_fit_so(alloc: Global, store: &mut TermStore) -> Result<bool, Fault>
+/// The first row whose tasks fit otherwise.
+fn fit_otherwise(alloc: Global, store: &mut TermStore) -> Result<Option<&'static str>, Fault>
     requires sound { IsSoundStore store.old }
     ensures sound { IsSoundStore store.new }
 {
-    for (rows, capacity, truth) in FITTING {
+    for (word, rows, capacity, truth) in FITTING {
         if !fits_so(alloc, store, rows, *capacity, *truth)? {
-            return Ok(false);
+            return Ok(Some(*word));
         }
     }
-    Ok(true)
+    Ok(None)
 }
 
 #[test]
 fn tasks_that_fit(rt: HostRuntime) {
     let mut store = filled(rt.alloc()).expect(&rt, "memory");
-    assert_eq!(rt; all_fit_so(rt.alloc(), &mut store), Ok(true));
+    assert_eq!(rt; fit_otherwise(rt.alloc(), &mut store), Ok(None));
 }

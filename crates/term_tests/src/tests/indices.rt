@@ -5,7 +5,7 @@ ghost use Rattle.term_language.specs.Laws.{IsTable};
 ghost use Rattle.term_math.specs.Kept.{table_of};
 ghost use Rattle.term_store.specs.Stores.{IsSoundStore};
 
-use super::{add_cell, add_table, compare, empty, marked, pair};
+use super::{add_cell, add_table, compare, empty, marked, pair, seen_otherwise};
 use sopl_base::{CmpOp, Fault, Interval};
 use std::alloc::{AllocError, Global};
 use term_language::Defined;
@@ -139,81 +139,105 @@ fn seen(
     Ok(marked(store, id, hull.0, hull.1, mark))
 }
 
-/// Elements of 10 at 1 and x at 3, at cells.
-fn at_cells(store: &mut TermStore, array: Table) -> Result<bool, Fault>
+/// Which of the elements of 10 at 1 and x at 3, at cells, is seen otherwise.
+fn at_cells(store: &mut TermStore, array: Table) -> Result<Option<&'static str>, Fault>
     requires sound { IsSoundStore store.old }
     requires proper { IsTable (table_of array) }
     ensures sound { IsSoundStore store.new }
 {
     let table = add_table(store, array)?;
-    for (cell, hull, mark) in [
-        (1, (10, 10), Defined::Always),
-        (2, (-7, 10), Defined::Never),
-        (3, (10, 10), Defined::Maybe),
-        (4, (-7, 10), Defined::Maybe),
-        (5, (-7, 9), Defined::Maybe),
-        (6, (-7, 10), Defined::Never),
+    for (word, cell, hull, mark) in [
+        ("an index", 1, (10, 10), Defined::Always),
+        ("no index", 2, (-7, 10), Defined::Never),
+        ("an index and the gap", 3, (10, 10), Defined::Maybe),
+        ("both indices and more", 4, (-7, 10), Defined::Maybe),
+        ("the last index and more", 5, (-7, 9), Defined::Maybe),
+        ("all behind the last index", 6, (-7, 10), Defined::Never),
     ] {
         if !seen(store, table, cell, hull, mark)? {
-            return Ok(false);
+            return Ok(Some(word));
         }
     }
-    Ok(true)
+    Ok(None)
 }
 
-/// Elements of two dimensions, at cells.
-fn at_pairs(store: &mut TermStore, array: Table) -> Result<bool, Fault>
+/// Which of the elements of two dimensions, at cells, is seen otherwise.
+fn at_pairs(store: &mut TermStore, array: Table) -> Result<Option<&'static str>, Fault>
     requires sound { IsSoundStore store.old }
     requires proper { IsTable (table_of array) }
     ensures sound { IsSoundStore store.new }
 {
     let table = add_table(store, array)?;
-    for (row, column, hull, mark) in [
-        (3, 7, (-7, 23), Defined::Always),
-        (3, 2, (12, 22), Defined::Always),
-        (2, 7, (22, 23), Defined::Always),
-        (1, 5, (-7, 9), Defined::Maybe),
-        (4, 2, (12, 22), Defined::Maybe),
-        (3, 6, (-7, 23), Defined::Never),
+    for (word, row, column, hull, mark) in [
+        ("all rows and columns", 3, 7, (-7, 23), Defined::Always),
+        ("one column", 3, 2, (12, 22), Defined::Always),
+        ("one row", 2, 7, (22, 23), Defined::Always),
+        (
+            "one row, the last column and more",
+            1,
+            5,
+            (-7, 9),
+            Defined::Maybe,
+        ),
+        (
+            "all rows and more, one column",
+            4,
+            2,
+            (12, 22),
+            Defined::Maybe,
+        ),
+        ("all rows, no column", 3, 6, (-7, 23), Defined::Never),
     ] {
         let first = add_cell(store, row)?;
         let second = add_cell(store, column)?;
         let id = at_two(store, table, first, second)?;
         if !marked(store, id, hull.0, hull.1, mark) {
-            return Ok(false);
+            return Ok(Some(word));
         }
     }
-    Ok(true)
+    Ok(None)
 }
 
-/// Elements of three dimensions, two of which have one number, at cells.
-fn at_triples(store: &mut TermStore, array: Table) -> Result<bool, Fault>
+/// Which of the elements of three dimensions, two of which have one number, at cells, is seen otherwise.
+fn at_triples(store: &mut TermStore, array: Table) -> Result<Option<&'static str>, Fault>
     requires sound { IsSoundStore store.old }
     requires proper { IsTable (table_of array) }
     ensures sound { IsSoundStore store.new }
 {
     let table = add_table(store, array)?;
-    for (row, column, layer, hull, mark) in [
-        (3, 8, 9, (143, 243), Defined::Always),
-        (2, 8, 9, (243, 243), Defined::Always),
-        (4, 8, 9, (143, 243), Defined::Maybe),
-        (1, 6, 7, (143, 143), Defined::Maybe),
-        (3, 6, 2, (143, 243), Defined::Never),
-        (1, 7, 9, (143, 243), Defined::Never),
+    for (word, row, column, layer, hull, mark) in [
+        ("all rows", 3, 8, 9, (143, 243), Defined::Always),
+        ("one row", 2, 8, 9, (243, 243), Defined::Always),
+        ("all rows and more", 4, 8, 9, (143, 243), Defined::Maybe),
+        (
+            "one row, more columns and layers",
+            1,
+            6,
+            7,
+            (143, 143),
+            Defined::Maybe,
+        ),
+        ("no layer", 3, 6, 2, (143, 243), Defined::Never),
+        ("no column", 1, 7, 9, (143, 243), Defined::Never),
     ] {
         let first = add_cell(store, row)?;
         let second = add_cell(store, column)?;
         let third = add_cell(store, layer)?;
         let id = at_three(store, table, first, second, third)?;
         if !marked(store, id, hull.0, hull.1, mark) {
-            return Ok(false);
+            return Ok(Some(word));
         }
     }
-    Ok(true)
+    Ok(None)
 }
 
-/// An element at more indices than an array of one dimension has, one of an array of two at one index, and one of an array that has none.
-fn at_others(store: &mut TermStore, one: Table, two: Table, none: Table) -> Result<bool, Fault>
+/// Which element is seen otherwise: one at more indices than an array of one dimension has, one of an array of two at one index, or one of an array that has none.
+fn at_others(
+    store: &mut TermStore,
+    one: Table,
+    two: Table,
+    none: Table,
+) -> Result<Option<&'static str>, Fault>
     requires sound { IsSoundStore store.old }
     requires one { IsTable (table_of one) }
     requires two { IsTable (table_of two) }
@@ -226,16 +250,24 @@ fn at_others(store: &mut TermStore, one: Table, two: Table, none: Table) -> Resu
     let index = add_cell(store, 1)?;
     let more = at_two(store, one, index, index)?;
     let fewer = at_one(store, two, index)?;
-    let nowhere = seen(store, none, 3, (0, 0), Defined::Never)?;
-    Ok(
-        nowhere
-            && marked(store, more, -7, 10, Defined::Never)
-            && marked(store, fewer, -7, 23, Defined::Never),
-    )
+    let open = add_cell(store, 3)?;
+    let nowhere = at_one(store, none, open)?;
+    Ok(seen_otherwise(
+        store,
+        &[
+            ("an index too many", more, (-7, 10), Defined::Never),
+            ("an index too few", fewer, (-7, 23), Defined::Never),
+            ("an empty array", nowhere, (0, 0), Defined::Never),
+        ],
+    ))
 }
 
-/// Elements of 10 at 1 and x at 3, at elements of 3 at 1 and 1 at 3.
-fn at_elements(store: &mut TermStore, array: Table, inner: Table) -> Result<bool, Fault>
+/// Which of the elements of 10 at 1 and x at 3, at elements of 3 at 1 and 1 at 3, is seen otherwise.
+fn at_elements(
+    store: &mut TermStore,
+    array: Table,
+    inner: Table,
+) -> Result<Option<&'static str>, Fault>
     requires sound { IsSoundStore store.old }
     requires proper { IsTable (table_of array) }
     requires inner { IsTable (table_of inner) }
@@ -243,20 +275,20 @@ fn at_elements(store: &mut TermStore, array: Table, inner: Table) -> Result<bool
 {
     let outer = add_table(store, array)?;
     let inner = add_table(store, inner)?;
-    for (cell, hull, mark) in [
-        (1, (-7, 9), Defined::Always),
-        (2, (-7, 10), Defined::Never),
-        (3, (-7, 9), Defined::Maybe),
-        (4, (-7, 10), Defined::Maybe),
+    for (word, cell, hull, mark) in [
+        ("an index", 1, (-7, 9), Defined::Always),
+        ("no index", 2, (-7, 10), Defined::Never),
+        ("an index and the gap", 3, (-7, 9), Defined::Maybe),
+        ("both indices and more", 4, (-7, 10), Defined::Maybe),
     ] {
         let index = add_cell(store, cell)?;
         let element = at_one(store, inner, index)?;
         let id = at_one(store, outer, element)?;
         if !marked(store, id, hull.0, hull.1, mark) {
-            return Ok(false);
+            return Ok(Some(word));
         }
     }
-    Ok(true)
+    Ok(None)
 }
 
 /// The element at whether two cells are the same, as a number.
@@ -281,11 +313,11 @@ fn at_condition(store: &mut TermStore, array: Table) -> Result<bool, Fault>
 fn elements_at_cells(rt: HostRuntime) {
     let mut store = indexed(rt.alloc()).expect(&rt, "memory");
     let array = pair(rt.alloc(), Element::Fixed(10), Element::Free(0)).expect(&rt, "memory");
-    assert_eq!(rt; at_cells(&mut store, array), Ok(true));
+    assert_eq!(rt; at_cells(&mut store, array), Ok(None));
     let array = grid(rt.alloc()).expect(&rt, "memory");
-    assert_eq!(rt; at_pairs(&mut store, array), Ok(true));
+    assert_eq!(rt; at_pairs(&mut store, array), Ok(None));
     let array = row(rt.alloc()).expect(&rt, "memory");
-    assert_eq!(rt; at_triples(&mut store, array), Ok(true));
+    assert_eq!(rt; at_triples(&mut store, array), Ok(None));
 }
 
 #[test]
@@ -294,7 +326,7 @@ fn elements_at_other_dimensions(rt: HostRuntime) {
     let one = pair(rt.alloc(), Element::Fixed(10), Element::Free(0)).expect(&rt, "memory");
     let two = grid(rt.alloc()).expect(&rt, "memory");
     let none = empty(rt.alloc()).expect(&rt, "memory");
-    assert_eq!(rt; at_others(&mut store, one, two, none), Ok(true));
+    assert_eq!(rt; at_others(&mut store, one, two, none), Ok(None));
 }
 
 #[test]
@@ -302,7 +334,7 @@ fn elements_at_terms(rt: HostRuntime) {
     let mut store = indexed(rt.alloc()).expect(&rt, "memory");
     let array = pair(rt.alloc(), Element::Fixed(10), Element::Free(0)).expect(&rt, "memory");
     let inner = pair(rt.alloc(), Element::Fixed(3), Element::Fixed(1)).expect(&rt, "memory");
-    assert_eq!(rt; at_elements(&mut store, array, inner), Ok(true));
+    assert_eq!(rt; at_elements(&mut store, array, inner), Ok(None));
     let array = pair(rt.alloc(), Element::Fixed(10), Element::Free(0)).expect(&rt, "memory");
     assert_eq!(rt; at_condition(&mut store, array), Ok(true));
 }

@@ -42,28 +42,36 @@ fn of_cond(alloc: Global, store: &TermStore, id: u32, want: &[u32]) -> Result<bo
     Ok(cells.as_slice() == want)
 }
 
-/// Whether each of these terms mentions the cells beside it.
-fn all_terms(alloc: Global, store: &TermStore, cases: &[(u32, &[u32])]) -> Result<bool, Fault>
+/// The first row whose term mentions other cells.
+fn other_terms(
+    alloc: Global,
+    store: &TermStore,
+    rows: &[(&'static str, u32, &[u32])],
+) -> Result<Option<&'static str>, Fault>
     requires sound { IsSoundStore store.now }
 {
-    for (id, want) in cases {
+    for (word, id, want) in rows {
         if !of_term(alloc, store, *id, want)? {
-            return Ok(false);
+            return Ok(Some(*word));
         }
     }
-    Ok(true)
+    Ok(None)
 }
 
-/// Whether each of these conditions mentions the cells beside it.
-fn all_conds(alloc: Global, store: &TermStore, cases: &[(u32, &[u32])]) -> Result<bool, Fault>
+/// The first row whose condition mentions other cells.
+fn other_conds(
+    alloc: Global,
+    store: &TermStore,
+    rows: &[(&'static str, u32, &[u32])],
+) -> Result<Option<&'static str>, Fault>
     requires sound { IsSoundStore store.now }
 {
-    for (id, want) in cases {
+    for (word, id, want) in rows {
         if !of_cond(alloc, store, *id, want)? {
-            return Ok(false);
+            return Ok(Some(*word));
         }
     }
-    Ok(true)
+    Ok(None)
 }
 
 /// A condition as a number.
@@ -96,8 +104,8 @@ fn joined(store: &mut TermStore, way: char, a: u32, c: u32) -> Result<u32, Fault
     Ok(id.0)
 }
 
-/// Terms of the cells 3 and 1, and the cells that they mention, also where they cancel or a factor is 0.
-fn terms(alloc: Global, store: &mut TermStore) -> Result<bool, Fault>
+/// Which of some terms of the cells 3 and 1 mentions other cells, also where they cancel or a factor is 0.
+fn terms(alloc: Global, store: &mut TermStore) -> Result<Option<&'static str>, Fault>
     requires sound { IsSoundStore store.old }
     ensures sound { IsSoundStore store.new }
 {
@@ -112,29 +120,29 @@ fn terms(alloc: Global, store: &mut TermStore) -> Result<bool, Fault>
     let (least, greatest) = extremes(store, x, y)?;
     let less = compare(store, CmpOp::Lt, y, five)?;
     let truth = number(store, less)?;
-    all_terms(
+    other_terms(
         alloc,
         store,
         &[
-            (x, &[3]),
-            (five, &[]),
-            (difference, &[1, 3]),
-            (none, &[3]),
-            (times, &[1, 3]),
-            (quotient, &[3]),
-            (remainder, &[3]),
-            (size, &[1, 3]),
-            (least, &[1, 3]),
-            (greatest, &[1, 3]),
-            (truth, &[1]),
-            (less, &[]),
-            (4_000_000_000, &[]),
+            ("a cell", x, &[3]),
+            ("a number", five, &[]),
+            ("a difference", difference, &[1, 3]),
+            ("a cell without itself", none, &[3]),
+            ("a product with 0", times, &[1, 3]),
+            ("a quotient", quotient, &[3]),
+            ("a remainder", remainder, &[3]),
+            ("a size", size, &[1, 3]),
+            ("the least of both", least, &[1, 3]),
+            ("the greatest of both", greatest, &[1, 3]),
+            ("a condition as a number", truth, &[1]),
+            ("a condition", less, &[]),
+            ("no node", 4_000_000_000, &[]),
         ],
     )
 }
 
-/// Conditions on the cells 3, 1 and 2, and the cells that they mention.
-fn conds(alloc: Global, store: &mut TermStore) -> Result<bool, Fault>
+/// Which of some conditions on the cells 3, 1 and 2 mentions other cells.
+fn conds(alloc: Global, store: &mut TermStore) -> Result<Option<&'static str>, Fault>
     requires sound { IsSoundStore store.old }
     ensures sound { IsSoundStore store.new }
 {
@@ -147,24 +155,28 @@ fn conds(alloc: Global, store: &mut TermStore) -> Result<bool, Fault>
     let all = joined(store, '&', first, second)?;
     let any = joined(store, '|', second, second)?;
     let implies = joined(store, '>', not, second)?;
-    all_conds(
+    other_conds(
         alloc,
         store,
         &[
-            (first, &[1, 3]),
-            (second, &[2, 3]),
-            (not, &[1, 3]),
-            (all, &[1, 2, 3]),
-            (any, &[2, 3]),
-            (implies, &[1, 2, 3]),
-            (x, &[]),
-            (4_000_000_000, &[]),
+            ("a comparison", first, &[1, 3]),
+            ("another comparison", second, &[2, 3]),
+            ("not", not, &[1, 3]),
+            ("and", all, &[1, 2, 3]),
+            ("or", any, &[2, 3]),
+            ("an implication", implies, &[1, 2, 3]),
+            ("a term", x, &[]),
+            ("no node", 4_000_000_000, &[]),
         ],
     )
 }
 
-/// The elements at 1, at 3 and at 2 of an array over 1 and 3, and the cells that they mention.
-fn elements(alloc: Global, store: &mut TermStore, array: Table) -> Result<bool, Fault>
+/// Which of the elements at 1, at 3 and at 2 of an array over 1 and 3 mentions other cells.
+fn elements(
+    alloc: Global,
+    store: &mut TermStore,
+    array: Table,
+) -> Result<Option<&'static str>, Fault>
     requires sound { IsSoundStore store.old }
     requires proper { IsTable (table_of array) }
     ensures sound { IsSoundStore store.new }
@@ -173,18 +185,22 @@ fn elements(alloc: Global, store: &mut TermStore, array: Table) -> Result<bool, 
     let first = element(store, table, 1)?;
     let second = element(store, table, 3)?;
     let outside = element(store, table, 2)?;
-    all_terms(
+    other_terms(
         alloc,
         store,
-        &[(first, &[7]), (second, &[4]), (outside, &[4, 7])],
+        &[
+            ("the first element", first, &[7]),
+            ("the second element", second, &[4]),
+            ("no element", outside, &[4, 7]),
+        ],
     )
 }
 
 #[test]
 fn mentioned(rt: HostRuntime) {
     let mut store = small(rt.alloc()).expect(&rt, "memory");
-    assert_eq!(rt; terms(rt.alloc(), &mut store), Ok(true));
-    assert_eq!(rt; conds(rt.alloc(), &mut store), Ok(true));
+    assert_eq!(rt; terms(rt.alloc(), &mut store), Ok(None));
+    assert_eq!(rt; conds(rt.alloc(), &mut store), Ok(None));
     let array = pair(rt.alloc(), Element::Free(7), Element::Free(4)).expect(&rt, "memory");
-    assert_eq!(rt; elements(rt.alloc(), &mut store, array), Ok(true));
+    assert_eq!(rt; elements(rt.alloc(), &mut store, array), Ok(None));
 }
