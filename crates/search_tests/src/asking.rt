@@ -189,7 +189,7 @@ fn backward_calls(alloc: Global) -> Result<Vec<u32>, Fault> {
     Ok(calls_at_rest(alloc, &program, list)?)
 }
 
-/// The same after the first step of a crew.
+/// How often each one was asked by the first step of a crew.
 fn stepped_calls(alloc: Global) -> Result<Vec<u32>, SearchStop> {
     let Ok(program) = program_in(alloc, TEXT) else {
         return Err(SearchStop::NoMemory);
