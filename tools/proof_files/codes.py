@@ -2,7 +2,7 @@
 
 import re
 
-from families import filled, spelled
+from families import filled
 
 WIDTH = 180
 # where a constructor holds more parts than this, they stand below the head of their clause
@@ -43,7 +43,7 @@ def enumerated(kind, word, comment, names):
 
 
 def held(constructor):
-    return [kind for _, kind in constructor.variables] + [spelled(premise) for premise in constructor.premises]
+    return [kind for _, kind in constructor.variables] + constructor.premises
 
 
 def coder(kind):

@@ -1,58 +1,20 @@
-"""What stands in a file of definitions: its data types, each with its constructors. A term is a word or a list of terms; the
-parts of an infix form such as `e ∷ more` stand in one list, with the operator as a word."""
+"""What stands in a file of definitions: its data types, each with its constructors and the types of what they hold."""
 
 import re
-from dataclasses import dataclass, field
+from dataclasses import dataclass
 
 
 @dataclass
 class Constructor:
     name: str
     variables: list  # of (name, type as text), in order
-    premises: list  # of terms, in order
-    result: list  # the indices that it gives, behind the parameters
+    premises: list  # of types as text, in order: what it holds without a name
 
 
 @dataclass
 class Family:
     name: str
-    parameters: list  # names
-    indices: list  # types as text
-    constructors: list = field(default_factory=list)
-
-    def value_at(self):
-        """Where what is spelled stands among the indices: behind the first list of tokens."""
-        return self.indices.index("List Token") + 1
-
-
-def words(text):
-    return re.findall(r"[()]|[^\s()]+", text)
-
-
-def term(tokens):
-    """The terms up to a closing bracket, or to the end."""
-    found = []
-    while tokens and tokens[0] != ")":
-        word = tokens.pop(0)
-        if word == "(":
-            found.append(term(tokens))
-            tokens.pop(0)
-        else:
-            found.append(word)
-    return found
-
-
-def read(text):
-    return term(words(text))
-
-
-def shown(part):
-    """A term as text, in brackets where it is a list."""
-    return part if isinstance(part, str) else "(" + spelled(part) + ")"
-
-
-def spelled(parts):
-    return " ".join(shown(part) for part in parts)
+    constructors: list
 
 
 def pieces(text):
@@ -74,41 +36,28 @@ def binders(text):
     return found
 
 
-def constructor(text, family):
+def constructor(text):
     name, kind = text.split(" : ", 1)
-    parts = pieces(kind)
+    parts = pieces(kind)[:-1]
     variables = []
     while parts and re.match(r"\([^()]* : ", parts[0]):
         variables += binders(parts.pop(0))
-    result = read(parts[-1])[1 + len(family.parameters) :]
-    return Constructor(name, variables, [read(part) for part in parts[:-1]], result)
+    return Constructor(name, variables, parts)
 
 
 def families(path):
-    """The data types of a file in groups: those that are defined together stand in one."""
-    groups, texts, indent = [], [], 0
+    """The data types of a file, in order."""
+    found, indent = [], 0
     for line in path.read_text(encoding="utf-8").split("\n"):
         text = line.strip()
         depth = len(line) - len(line.lstrip())
-        head = re.match(r"pub data (\w+)((?: \(\w+ : \w+\))*) : (.*) where$", text)
+        head = re.match(r"pub data (\w+) : .* where$", text)
         if head:
-            parameters = [name for name, _ in binders(head.group(2))]
-            texts.append((Family(head.group(1), parameters, pieces(head.group(3))[:-1]), []))
-            if depth == 0:
-                groups.append([])
-            groups[-1].append(texts[-1][0])
+            found.append(Family(head.group(1), []))
             indent = depth
-        elif line == "mutual":
-            groups.append([])
-        elif texts and text and depth == indent + 2 and not text.startswith("--"):
-            texts[-1][1].append(text)
-        elif texts and text and depth > indent + 2:
-            texts[-1][1][-1] += " " + text
-        elif text and depth == 0 and groups:
-            indent = 1000
-    for family, constructors in texts:
-        family.constructors = [constructor(text, family) for text in constructors]
-    return [group for group in groups if group]
+        elif found and text and depth == indent + 2 and not text.startswith("--"):
+            found[-1].constructors.append(constructor(text))
+    return found
 
 
 def filled(units, indent, width, further=4):

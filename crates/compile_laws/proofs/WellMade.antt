@@ -1,21 +1,26 @@
 -- The problem in terms of a text is well made.
-use Rattle.std.proofs.Common.{◌≡◌, ◌∙◌, refl, sym, ap, subst, ℕ, ◌≤◌, ℤ, pos, ◌≤ℤ◌, Bool, false, List, [], ◌∷◌, length, map, Option, Some, None, IfSome, option_map}
+use Rattle.std.proofs.Common.{◌≡◌, ◌∙◌, ◌⊎◌, inl, inr, refl, sym, ap, subst, ℕ, ◌≤◌, ℤ, pos, ◌≤ℤ◌, Bool, true, false, List, [], ◌∷◌, length, map, Option, Some, None, IfSome, option_map}
 use Rattle.std.proofs.Math.Seq.{take-length}
 use Rattle.std.proofs.lemmas.List.{length-map}
 use Rattle.std.proofs.lemmas.Simd.{map-map}
 use Rattle.std.specs.List.{AllByRecursion}
+use Rattle.std.specs.Prelude.{nat_eq}
 use Rattle.sopl_base.specs.declared.direction.Direction.{Direction}
-use Rattle.sopl_base.specs.declared.direction.Direction.TheVariants.{Nothing}
+use Rattle.sopl_base.specs.declared.direction.Direction.TheVariants.{Minimize, Maximize, Nothing}
 use Rattle.sopl_ast.specs.declared.token.Token.{Token}
 use Rattle.sopl_ast.specs.declared.token.TokenKind.{TokenKind}
-use Rattle.sopl_ast.specs.declared.token.TokenKind.TheVariants as k
 use Rattle.sopl_ast.specs.Cells.{cells}
-use Rattle.sopl_ast.specs.Grammar.{goal_direction, MayBeGoal, no_goal, goal, IsModel, model}
 use Rattle.sopl_ast.specs.Instances.{Stochastic, Hard, Chance, Objective, Problem}
+use Rattle.sopl_ast.specs.KindSets.{kind_number}
+use Rattle.sopl_ast.specs.ModelRows.{direction_sign, goal_row, model_row, row}
+use Rattle.sopl_ast.specs.Nonterminals.{Model}
 use Rattle.sopl_ast.specs.Numbers as ast
+use Rattle.sopl_ast.specs.PhraseLanguage.{give, ◌makes◌}
 use Rattle.sopl_ast.specs.PlacedScenarios as placed
 use Rattle.sopl_ast.specs.PlacedScenarios.{without_places}
+use Rattle.sopl_ast.specs.RowSpelling.{IsTerminal, stands, lacking, IsSpelledAt}
 use Rattle.sopl_ast.specs.Scenarios.{Scenario, scenarios, total_weight}
+use Rattle.sopl_ast.specs.Terminals.{found_or, says}
 use Rattle.sopl_ast.specs.Unfolding.{objective_of, problem_of}
 use Rattle.sopl_ast.specs.Whole.{GoalTree, ModelTree}
 use Rattle.lang_laws.proofs.ScenarioLaws.{scenarios_agree, weights_sum}
@@ -41,20 +46,34 @@ use Rattle.compile_laws.proofs.Agreeing.{total_so}
 
 -- Directions.
 
-directed : (kind : TokenKind) (direction : Direction) → goal_direction kind ≡ Some direction → ¬ direction ≡ Nothing
-directed k.Minimize direction is none = absurd (cc)
-directed k.Maximize direction is none = absurd (cc)
-directed _ direction is none = absurd (cc)
+directed : (kind : TokenKind) (direction : Direction) → says direction_sign kind ≡ Some direction → ¬ direction ≡ Nothing
+directed kind direction is = by_tests (nat_eq 17 (kind_number kind)) (nat_eq 18 (kind_number kind)) is
+  where
+    by_tests : (minimize maximize : Bool) → found_or minimize Minimize (found_or maximize Maximize None) ≡ Some direction → ¬ direction ≡ Nothing
+    by_tests true maximize is none = absurd (cc)
+    by_tests false true is none = absurd (cc)
+    by_tests false false is none = absurd (cc)
+
+sign_directed : (ts : List Token) (x : ℕ × Direction) (r : List Token) → IsTerminal false direction_sign ts x r → ¬ x.1 ≡ Nothing
+sign_directed _ _ _ (stands u us direction is) = directed u.kind direction is
+sign_directed _ _ _ (lacking x is) = absurd (cc)
 
 abbrev IsDirected : GoalTree → Type 0
 IsDirected objective = ¬ objective.direction ≡ Nothing
 
-goal_directed : {cut : Bool} {n : ℕ} {ts : List Token} {objective : Option GoalTree} {r : List Token} → MayBeGoal cut n ts objective r → IfSome objective IsDirected
-goal_directed (no_goal _ _) = tt
-goal_directed (goal n u us direction worst vs m ws e xs ys r is measured opens weighed shut closes) = directed u.kind direction is
+goal_directed : (n : ℕ) (ts : List Token) (objective : GoalTree) (r : List Token) → IsSpelledAt false n goal_row ts objective r → IsDirected objective
+unfolding goal_row
+goal_directed n ts objective r is = subst IsDirected (sym is.1.1) (sign_directed ts is.0.0 is.1.0.0 is.1.0.1.0)
 
-model_directed : {n : ℕ} {ts : List Token} {whole : ModelTree} {r : List Token} → IsModel false n ts whole r → IfSome whole.goal IsDirected
-model_directed (model n ts decls us objective vs ws xs m ys body zs r declared asked subject to opens constraints closes) = goal_directed asked
+goals_directed : (n : ℕ) (ts : List Token) (objective : Option GoalTree) (r : List Token)
+    → IsSpelledAt false n (goal_row makes Some) ts objective r ⊎ IsSpelledAt false n (give None) ts objective r → IfSome objective IsDirected
+goals_directed n ts objective r (inl is) = subst (λ (o : Option GoalTree). IfSome o IsDirected) (sym is.1.1) (goal_directed n ts is.0 r is.1.0)
+goals_directed n ts objective r (inr is) = subst (λ (o : Option GoalTree). IfSome o IsDirected) (sym is.0) tt
+
+model_directed : (n : ℕ) (ts : List Token) (whole : ModelTree) (r : List Token) → IsSpelledAt false n (row Model) ts whole r → IfSome whole.goal IsDirected
+unfolding model_row
+model_directed n ts whole r is =
+    subst (λ (tree : ModelTree). IfSome tree.goal IsDirected) (sym is.1.1) (goals_directed n is.1.0.0 is.0.1.0 is.1.0.1.1.0 is.1.0.1.1.1.0)
 
 -- Weights.
 
@@ -112,7 +131,7 @@ problems_are_well_made whole from passes =
       goal =
           subst (λ (objective : Option Objective). IfSome (option_map (goal_terms problem) objective)
           (λ (g : GoalTerms). (length g.terms ≡ length (problem_terms problem).weights) × (¬ g.direction ≡ Nothing)))
-          (sym (objective_is whole)) (goal_is problem whole.goal (model_directed from.spelled.spelled));
+          (sym (objective_is whole)) (goal_is problem whole.goal (model_directed from.spelled.nesting from.tokens whole [] from.spelled.spelled));
       proper = problems_are_proper problem;
     }
   where

@@ -22,7 +22,7 @@ pub record Place : Type 0 where
   pub decisions : List Decision
   pub cells : List ℕ
 
--- the same place with other things known
+-- a place with other things known
 abbrev pub knowing : Place → Known → Place
 knowing place known = record place { known = known }
 

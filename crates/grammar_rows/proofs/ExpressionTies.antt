@@ -13,16 +13,16 @@ use Rattle.parse_grammar.specs.Heads as h
 use Rattle.parse_grammar.specs.Heads.{head, rest, place, is_mark}
 use Rattle.parse_grammar.specs.Phrases.{way}
 use Rattle.parse_grammar.specs.Reading.{Read, Way, ◌>>=◌, past, enter, chain}
-use Rattle.grammar_rows.specs.ExpressionRows.{factor_sign, term_sign, comparison_sign, extreme_sign, comparison_tree, conjunction_tree, disjunction_tree, implication_tree, product_tree, sum_tree}
-use Rattle.grammar_rows.specs.ExpressionRows.{range_closers, range_tree, literal_row, element_row, parentheses_row, absolute_row, extreme_row, all_different_row, cumulative_row, primary_row}
-use Rattle.grammar_rows.specs.ExpressionRows.{negative_row, total_row, operand_row, product_row, sum_row, comparison_row, negated_row, negation_row, conjunction_row, disjunction_row}
-use Rattle.grammar_rows.specs.ExpressionRows.{conclusion_row, expression_row, arguments_row, ends_row, range_row, binder_row, bound_row, bindings_row, summed_row, compared_row, task_row, tasks_row}
-use Rattle.grammar_rows.specs.KindSets.{only, first_kind, has_kind}
-use Rattle.grammar_rows.specs.Nonterminals as s
-use Rattle.grammar_rows.specs.PhraseLanguage.{Phrase, mapped, not_before, ◌or◌, ◌before◌, enclosed, operator, option, any, one_or_more}
+use Rattle.sopl_ast.specs.ExpressionRows.{factor_sign, term_sign, comparison_sign, extreme_sign, comparison_tree, conjunction_tree, disjunction_tree, implication_tree, product_tree, sum_tree}
+use Rattle.sopl_ast.specs.ExpressionRows.{range_closers, range_tree, literal_row, element_row, parentheses_row, absolute_row, extreme_row, all_different_row, cumulative_row, primary_row}
+use Rattle.sopl_ast.specs.ExpressionRows.{negative_row, total_row, operand_row, product_row, sum_row, comparison_row, negated_row, negation_row, conjunction_row, disjunction_row}
+use Rattle.sopl_ast.specs.ExpressionRows.{conclusion_row, expression_row, arguments_row, ends_row, range_row, binder_row, bound_row, bindings_row, summed_row, compared_row, task_row, tasks_row}
+use Rattle.sopl_ast.specs.KindSets.{only, first_kind, has_kind}
+use Rattle.sopl_ast.specs.Nonterminals as s
+use Rattle.sopl_ast.specs.PhraseLanguage.{Phrase, mapped, not_before, ◌or◌, ◌before◌, enclosed, operator, option, any, one_or_more}
 use Rattle.grammar_rows.specs.RowReading.{said, as_alone, as_other, by_second, pick, some_more, read_at}
 use Rattle.grammar_rows.specs.RowTests.{is_predictive}
-use Rattle.grammar_rows.specs.Terminals.{a_literal, a_name, kinds_of}
+use Rattle.sopl_ast.specs.Terminals.{a_literal, a_name, kinds_of}
 use Rattle.grammar_rows.proofs.ReadComplete.{AreToldApart}
 use Rattle.grammar_rows.proofs.ReadLists.{more_parts, chain_cons, items_read, next_operator, next_after, list_read, chain_read}
 use Rattle.grammar_rows.proofs.ReadMarks.{factor_said, term_said, comparison_said, extreme_said, is_there, range_ends, pick_said, pick_mark, as_function, missing_mark, known_mark, known_terminal}

@@ -4,15 +4,15 @@ use Rattle.std.proofs.lemmas.List.{append-nil}
 use Rattle.sopl_base.proofs.Booleans.{not_true}
 use Rattle.sopl_ast.specs.declared.token.Token.{Token}
 use Rattle.sopl_ast.specs.declared.token.TokenKind.{TokenKind}
-use Rattle.grammar_rows.specs.KindSets.{KindSet, first_kind, has_kind}
-use Rattle.grammar_rows.specs.ModelRows.{row}
-use Rattle.grammar_rows.specs.Nonterminals.{Nonterminal, ValueOf}
-use Rattle.grammar_rows.specs.PhraseLanguage.{Phrase, give, terminal, sequence, mapped, deepened, choice, repetition, not_before, lookahead, nullable, starts}
+use Rattle.sopl_ast.specs.KindSets.{KindSet, first_kind, has_kind}
+use Rattle.sopl_ast.specs.ModelRows.{row}
+use Rattle.sopl_ast.specs.Nonterminals.{Nonterminal, ValueOf}
+use Rattle.sopl_ast.specs.PhraseLanguage.{Phrase, give, terminal, sequence, mapped, deepened, choice, repetition, not_before, lookahead, nullable, starts}
 use Rattle.grammar_rows.specs.RowLaws.{TakesTokens, RowPrefixesGoOn}
 use Rattle.grammar_rows.specs.RowReading.{pick, sample_kind, sample_value}
-use Rattle.grammar_rows.specs.RowSpelling.{IsTerminal, stands, lacking, IsDeepened, deepens, lacking_nested, AreRepeated, none_more, one_more, alone, otherwise, Spellings, SpelledInside, IsSpelledAt}
+use Rattle.sopl_ast.specs.RowSpelling.{IsTerminal, stands, lacking, IsDeepened, deepens, lacking_nested, AreRepeated, none_more, one_more, alone, otherwise, Spellings, SpelledInside, IsSpelledAt}
 use Rattle.grammar_rows.specs.RowTests.{is_predictive, barred, sample_token, SampleText, sample_of, samples, is_fillable, kinds_within}
-use Rattle.grammar_rows.specs.Terminals.{Terminal, mark_of}
+use Rattle.sopl_ast.specs.Terminals.{Terminal, mark_of}
 use Rattle.grammar_rows.proofs.KindSetLaws.{both_true, within_none, sample_says}
 use Rattle.grammar_rows.proofs.Predictive.{row_is, row_fills, of_sequence, of_choice, of_repetition, of_not_before, of_lookahead}
 use Rattle.grammar_rows.proofs.TokensTaken.{takes_at, full_takes, repetition_takes, none_behind}

@@ -6,9 +6,9 @@ use Rattle.sopl_base.proofs.Booleans.{not_true}
 use Rattle.sopl_ast.specs.declared.token.Token.{Token}
 use Rattle.sopl_ast.specs.declared.token.TokenKind.{TokenKind}
 use Rattle.sopl_ast.specs.declared.token.TokenKind.TheVariants as k
-use Rattle.grammar_rows.specs.KindSets.{kind_number, first_kind, KindSet, has_kind, with_kind, kinds_without, all_kinds}
+use Rattle.sopl_ast.specs.KindSets.{kind_number, first_kind, KindSet, has_kind, with_kind, kinds_without, all_kinds}
 use Rattle.grammar_rows.specs.RowTests.{open_ends, kinds_within, kinds_apart}
-use Rattle.grammar_rows.specs.Terminals.{Terminal, one_of, a_literal, a_name, found_or, look_up, says, kinds_in, kinds_of}
+use Rattle.sopl_ast.specs.Terminals.{Terminal, one_of, a_literal, a_name, found_or, look_up, says, kinds_in, kinds_of}
 use Rattle.grammar_rows.specs.RowReading.{sample_kind, sample_value}
 
 pub both_true : (a b : Bool) → a && b ≡ true → (a ≡ true) × (b ≡ true)

@@ -13,11 +13,11 @@ mod LocalItems
 mod LocalSecond
 mod LocalRows
 mod OneValue
-mod FillingOut
-mod WholeRows
+pub mod FillingOut
+pub mod WholeRows
 mod ReadPlans
 mod ReadMarks
 mod ReadLists
 mod ExpressionTies
 mod ModelTies
-mod GrammarTies
+pub mod ModelReading

@@ -5,12 +5,12 @@ use Rattle.sopl_ast.specs.declared.token.Token.{Token}
 use Rattle.sopl_ast.specs.declared.token.TokenKind.{TokenKind}
 use Rattle.parse_grammar.specs.Heads.{head}
 use Rattle.parse_grammar.specs.Reading.{Stop, Syntax, Depth, Read, ◌>>=◌, absent, chain}
-use Rattle.grammar_rows.specs.KindSets.{KindSet, first_kind, has_kind}
-use Rattle.grammar_rows.specs.ModelRows.{row}
-use Rattle.grammar_rows.specs.Nonterminals.{Nonterminal, ValueOf}
+use Rattle.sopl_ast.specs.KindSets.{KindSet, first_kind, has_kind}
+use Rattle.sopl_ast.specs.ModelRows.{row}
+use Rattle.sopl_ast.specs.Nonterminals.{Nonterminal, ValueOf}
 use Rattle.grammar_rows.specs.RowLaws.{ReadEnd, got, stuck, sunk, end_at, ReadsAll}
 use Rattle.grammar_rows.specs.RowReading.{said, terminal_at, deepened_at, some_more, nested_read, read_at, sample_value, some_value}
-use Rattle.grammar_rows.specs.Terminals.{Terminal, mark_of, says}
+use Rattle.sopl_ast.specs.Terminals.{Terminal, mark_of, says}
 use Rattle.grammar_rows.proofs.KindSetLaws.{contra}
 use Rattle.grammar_rows.proofs.LocalReading as l
 use Rattle.grammar_rows.proofs.LocalReading.{same_first, same_said, head_append, end_map, AtLevel, ShowsToken, EndShows, at_le, at_map, at_down, shows_map, sunk_map, end_mapped}

@@ -5,10 +5,10 @@ use Rattle.sopl_ast.specs.declared.token.Token.{Token}
 use Rattle.sopl_ast.specs.declared.token.TokenKind.{TokenKind}
 use Rattle.parse_grammar.specs.Heads.{head, at_kind}
 use Rattle.parse_grammar.specs.Reading.{Read, ◌>>=◌}
-use Rattle.grammar_rows.specs.KindSets.{kind_number, first_kind}
+use Rattle.sopl_ast.specs.KindSets.{kind_number, first_kind}
 use Rattle.grammar_rows.specs.RowLaws.{ReadEnd, got, stuck, sunk, end_at, ReadsAll}
 use Rattle.grammar_rows.specs.RowReading.{said, and_then}
-use Rattle.grammar_rows.specs.Terminals.{Terminal, says}
+use Rattle.sopl_ast.specs.Terminals.{Terminal, says}
 use Rattle.grammar_rows.proofs.ReadNothing.{all_then, all_mapped}
 
 abbrev number_of_head : Option TokenKind → ℕ

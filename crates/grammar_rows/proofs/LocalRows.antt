@@ -2,10 +2,10 @@
 use Rattle.std.proofs.Common.{◌≡◌, refl, ap, subst, ◌∙◌, ℕ, zero, suc, ◌<◌, Bool, true, false, List, [], length, Ok, arith}
 use Rattle.sopl_ast.specs.declared.token.Token.{Token}
 use Rattle.parse_grammar.specs.Heads.{head}
-use Rattle.grammar_rows.specs.KindSets.{KindSet, first_kind, has_kind}
-use Rattle.grammar_rows.specs.ModelRows.{row}
-use Rattle.grammar_rows.specs.Nonterminals.{Nonterminal}
-use Rattle.grammar_rows.specs.PhraseLanguage.{Phrase, give, terminal, sequence, mapped, deepened, choice, repetition, not_before, lookahead, nullable, starts}
+use Rattle.sopl_ast.specs.KindSets.{KindSet, first_kind, has_kind}
+use Rattle.sopl_ast.specs.ModelRows.{row}
+use Rattle.sopl_ast.specs.Nonterminals.{Nonterminal}
+use Rattle.sopl_ast.specs.PhraseLanguage.{Phrase, give, terminal, sequence, mapped, deepened, choice, repetition, not_before, lookahead, nullable, starts}
 use Rattle.grammar_rows.specs.RowLaws.{RowsAreReadByKinds, got}
 use Rattle.grammar_rows.specs.RowReading.{pick, nested_read, read_at}
 use Rattle.grammar_rows.specs.RowTests.{is_predictive}

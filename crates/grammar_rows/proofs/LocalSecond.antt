@@ -3,11 +3,11 @@ use Rattle.std.proofs.Common.{◌≡◌, refl, sym, ap, ◌∙◌, ℕ, Bool, tr
 use Rattle.sopl_ast.specs.declared.token.Token.{Token}
 use Rattle.parse_grammar.specs.Heads.{head, rest, place}
 use Rattle.parse_grammar.specs.Reading.{Syntax, Depth, Read}
-use Rattle.grammar_rows.specs.KindSets.{KindSet, first_kind, has_kind}
-use Rattle.grammar_rows.specs.PhraseLanguage.{Phrase, lookahead}
+use Rattle.sopl_ast.specs.KindSets.{KindSet, first_kind, has_kind}
+use Rattle.sopl_ast.specs.PhraseLanguage.{Phrase, lookahead}
 use Rattle.grammar_rows.specs.RowLaws.{ReadEnd, got, stuck, sunk, end_at, ReadsAll}
 use Rattle.grammar_rows.specs.RowReading.{said, by_second, as_alone, as_other, pick, read_at}
-use Rattle.grammar_rows.specs.Terminals.{Terminal, says}
+use Rattle.sopl_ast.specs.Terminals.{Terminal, says}
 use Rattle.grammar_rows.proofs.LocalReading.{same_first, same_said, head_append, end_map, AtLevel, EndShows, at_map, at_same, shows_map, shows_whole, sunk_map, end_mapped}
 use Rattle.grammar_rows.proofs.LocalReading.{PhraseReader, LocalReading, mapped_local}
 use Rattle.grammar_rows.proofs.Predictive.{OfLookahead}

@@ -14,16 +14,16 @@ use Rattle.parse_grammar.specs.Heads.{head, rest, place, is_mark}
 use Rattle.parse_grammar.specs.Phrases as decl
 use Rattle.parse_grammar.specs.Phrases.{is_over, some_read, way}
 use Rattle.parse_grammar.specs.Reading.{Read, Way, ◌>>=◌, past, name}
-use Rattle.grammar_rows.specs.ExpressionRows.{bindings_row, expression_row, range_row, sum_row}
-use Rattle.grammar_rows.specs.KindSets.{only, first_kind, has_kind, kinds_but}
-use Rattle.grammar_rows.specs.ModelRows.{direction_sign, dim_tree, dim_row, dims_row, stage_row, init_list_row, init_row, inits_row, elements_row, outcome_row, outcomes_row, distribution_row}
-use Rattle.grammar_rows.specs.ModelRows.{integer_row, range_declaration_row, set_row, decision_row, stochastic_row, declaration_row, goal_row, chance_row, hard_row, forall_row, block_row}
-use Rattle.grammar_rows.specs.ModelRows.{constraint_row, quantified_row, constraints_row, body_row, model_row}
-use Rattle.grammar_rows.specs.Nonterminals as s
-use Rattle.grammar_rows.specs.PhraseLanguage.{Phrase, terminal, mapped, starts, ◌then◌, ◌makes◌, ◌before◌, ◌closed_by◌, ◌or◌, enclosed, option, any, one_or_more, place_of_mark}
+use Rattle.sopl_ast.specs.ExpressionRows.{bindings_row, expression_row, range_row, sum_row}
+use Rattle.sopl_ast.specs.KindSets.{only, first_kind, has_kind, kinds_but}
+use Rattle.sopl_ast.specs.ModelRows.{direction_sign, dim_tree, dim_row, dims_row, stage_row, init_list_row, init_row, inits_row, elements_row, outcome_row, outcomes_row, distribution_row}
+use Rattle.sopl_ast.specs.ModelRows.{integer_row, range_declaration_row, set_row, decision_row, stochastic_row, declaration_row, goal_row, chance_row, hard_row, forall_row, block_row}
+use Rattle.sopl_ast.specs.ModelRows.{constraint_row, quantified_row, constraints_row, body_row, model_row}
+use Rattle.sopl_ast.specs.Nonterminals as s
+use Rattle.sopl_ast.specs.PhraseLanguage.{Phrase, terminal, mapped, starts, ◌then◌, ◌makes◌, ◌before◌, ◌closed_by◌, ◌or◌, enclosed, option, any, one_or_more, place_of_mark}
 use Rattle.grammar_rows.specs.ReadersOfRows.{int_mark}
 use Rattle.grammar_rows.specs.RowReading.{said, as_alone, as_other, by_second, pick, some_more, read_at}
-use Rattle.grammar_rows.specs.Terminals.{a_name, kinds_of}
+use Rattle.sopl_ast.specs.Terminals.{a_name, kinds_of}
 use Rattle.grammar_rows.proofs.ExpressionTies as expr
 use Rattle.grammar_rows.proofs.ReadLists.{items_read, next_after, list_read, some_is, next_choice, next_last}
 use Rattle.grammar_rows.proofs.ReadMarks.{mark_first, direction_said, bracket_over, brace_over, pick_said, pick_mark, pick_not, as_function, a_mark, known_terminal, the_name, the_measure, past_same}

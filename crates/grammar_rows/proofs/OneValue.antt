@@ -1,12 +1,12 @@
 -- Tokens spell one value of a row at most, however deep they nest.
 use Rattle.std.proofs.Common.{◌≡◌, refl, sym, ap, ◌∙◌, ℕ, ◌+◌, ◌≤◌, true, false, List, [], Ok, arith}
 use Rattle.sopl_ast.specs.declared.token.Token.{Token}
-use Rattle.grammar_rows.specs.KindSets.{has_kind}
-use Rattle.grammar_rows.specs.ModelRows.{row}
-use Rattle.grammar_rows.specs.PhraseLanguage.{Phrase}
+use Rattle.sopl_ast.specs.KindSets.{has_kind}
+use Rattle.sopl_ast.specs.ModelRows.{row}
+use Rattle.sopl_ast.specs.PhraseLanguage.{Phrase}
 use Rattle.grammar_rows.specs.RowLaws.{RowsHaveOneValue, ReadEnd, got, stuck, sunk, end_at}
 use Rattle.grammar_rows.specs.RowReading.{read_at}
-use Rattle.grammar_rows.specs.RowSpelling.{IsSpelledAt}
+use Rattle.sopl_ast.specs.RowSpelling.{IsSpelledAt}
 use Rattle.grammar_rows.specs.RowTests.{continues, is_predictive}
 use Rattle.grammar_rows.proofs.LocalReading.{IsLocal, LocalReading, at_same, shows_whole}
 use Rattle.grammar_rows.proofs.LocalRows.{read_local}

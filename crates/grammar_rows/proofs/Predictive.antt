@@ -1,12 +1,12 @@
 -- What the test of a phrase says of its parts.
 use Rattle.std.proofs.Common.{◌≡◌, true, false, ◌&&◌, not}
 use Rattle.sopl_base.proofs.Booleans.{not_true}
-use Rattle.grammar_rows.specs.KindSets.{KindSet, has_kind}
-use Rattle.grammar_rows.specs.ModelRows.{row}
-use Rattle.grammar_rows.specs.Nonterminals.{Nonterminal}
-use Rattle.grammar_rows.specs.PhraseLanguage.{Phrase, sequence, choice, repetition, not_before, lookahead, nullable, starts}
+use Rattle.sopl_ast.specs.KindSets.{KindSet, has_kind}
+use Rattle.sopl_ast.specs.ModelRows.{row}
+use Rattle.sopl_ast.specs.Nonterminals.{Nonterminal}
+use Rattle.sopl_ast.specs.PhraseLanguage.{Phrase, sequence, choice, repetition, not_before, lookahead, nullable, starts}
 use Rattle.grammar_rows.specs.RowTests.{continues, goes_on, is_fillable, is_predictive, never_behind, kinds_within, kinds_apart}
-use Rattle.grammar_rows.specs.Terminals.{Terminal}
+use Rattle.sopl_ast.specs.Terminals.{Terminal}
 use Rattle.grammar_rows.proofs.KindSetLaws.{both_true}
 use Rattle.grammar_rows.proofs.RowsPass.{each_passes}
 

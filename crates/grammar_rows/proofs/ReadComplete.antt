@@ -4,14 +4,14 @@ use Rattle.std.proofs.lemmas.List.{append-nil}
 use Rattle.sopl_ast.specs.declared.token.Token.{Token}
 use Rattle.sopl_ast.specs.declared.token.TokenKind.{TokenKind}
 use Rattle.parse_grammar.specs.Reading.{Syntax, Read, Next, ◌>>=◌, chain}
-use Rattle.grammar_rows.specs.KindSets.{kind_number, KindSet, first_kind, has_kind}
-use Rattle.grammar_rows.specs.Nonterminals.{Nonterminal, ValueOf}
-use Rattle.grammar_rows.specs.PhraseLanguage.{Phrase, give, terminal, sequence, mapped, deepened, choice, repetition, not_before, lookahead, nullable, starts, when}
+use Rattle.sopl_ast.specs.KindSets.{kind_number, KindSet, first_kind, has_kind}
+use Rattle.sopl_ast.specs.Nonterminals.{Nonterminal, ValueOf}
+use Rattle.sopl_ast.specs.PhraseLanguage.{Phrase, give, terminal, sequence, mapped, deepened, choice, repetition, not_before, lookahead, nullable, starts, when}
 use Rattle.grammar_rows.specs.RowLaws.{ReadsAll, TakesTokens, takes, takes_none, lacks_all}
 use Rattle.grammar_rows.specs.RowReading.{NestedReaders, said, terminal_at, deepened_at, by_second, as_alone, as_other, pick, some_more, and_then, nested_read, read_at, sample_value, some_value}
-use Rattle.grammar_rows.specs.RowSpelling.{IsTerminal, stands, lacking, IsDeepened, deepens, lacking_nested, AreRepeated, none_more, one_more, alone, otherwise, SpelledInside, IsSpelledAt}
+use Rattle.sopl_ast.specs.RowSpelling.{IsTerminal, stands, lacking, IsDeepened, deepens, lacking_nested, AreRepeated, none_more, one_more, alone, otherwise, SpelledInside, IsSpelledAt}
 use Rattle.grammar_rows.specs.RowTests.{continues, goes_on, open_ends, is_predictive, kinds_within, kinds_apart}
-use Rattle.grammar_rows.specs.Terminals.{Terminal, mark_of, says}
+use Rattle.sopl_ast.specs.Terminals.{Terminal, mark_of, says}
 use Rattle.grammar_rows.proofs.KindSetLaws.{within_has, apart_back, none_left, none_right, without_none, closes}
 use Rattle.grammar_rows.proofs.Predictive.{OfLookahead, of_sequence, of_choice, of_repetition, of_not_before, of_lookahead}
 use Rattle.grammar_rows.proofs.ReadNothing.{none_read, all_mapped}

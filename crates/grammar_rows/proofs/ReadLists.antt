@@ -7,12 +7,12 @@ use Rattle.parse_grammar.specs.declared.marks.Mark.{Mark}
 use Rattle.parse_grammar.specs.Heads.{head, rest, kind_of, is_mark}
 use Rattle.parse_grammar.specs.Phrases.{some_read}
 use Rattle.parse_grammar.specs.Reading.{Read, Next, ◌>>=◌, chain}
-use Rattle.grammar_rows.specs.KindSets.{KindSet, only, first_kind, has_kind}
-use Rattle.grammar_rows.specs.PhraseLanguage.{Phrase, sequence, mapped, choice, repetition, starts, ◌before◌, operator, any, one_or_more}
+use Rattle.sopl_ast.specs.KindSets.{KindSet, only, first_kind, has_kind}
+use Rattle.sopl_ast.specs.PhraseLanguage.{Phrase, sequence, mapped, choice, repetition, starts, ◌before◌, operator, any, one_or_more}
 use Rattle.grammar_rows.specs.RowLaws.{end_at}
 use Rattle.grammar_rows.specs.RowReading.{said, pick, some_more, and_then, read_at}
 use Rattle.grammar_rows.specs.RowTests.{is_predictive}
-use Rattle.grammar_rows.specs.Terminals.{Terminal, kinds_of}
+use Rattle.sopl_ast.specs.Terminals.{Terminal, kinds_of}
 use Rattle.grammar_rows.proofs.LocalItems.{LocalItems, items_local, chain_stops}
 use Rattle.grammar_rows.proofs.LocalReading.{end_map, at_same, shows_whole}
 use Rattle.grammar_rows.proofs.LocalRows.{read_local, item_less}

@@ -4,7 +4,6 @@ use Rattle.std.specs.Prelude.{nat_eq}
 use Rattle.sopl_ast.specs.declared.token.Token.{Token}
 use Rattle.sopl_ast.specs.declared.token.TokenKind.{TokenKind}
 use Rattle.sopl_ast.specs.declared.token.TokenKind.TheVariants as k
-use Rattle.sopl_ast.specs.Grammar as g
 use Rattle.parse_grammar.specs.declared.marks.Mark.{Mark}
 use Rattle.parse_grammar.specs.declared.marks.Mark.TheVariants as m
 use Rattle.parse_grammar.specs.Heads as h
@@ -12,15 +11,15 @@ use Rattle.parse_grammar.specs.Heads.{head, rest, place, kind_of, is_mark}
 use Rattle.parse_grammar.specs.Phrases as phrases
 use Rattle.parse_grammar.specs.Phrases.{way, is_over, inner_of, deeper}
 use Rattle.parse_grammar.specs.Reading.{Stop, Syntax, Read, Inner, ◌>>=◌, past, passed, opening, opened, content_of, enter, name, name_at}
-use Rattle.grammar_rows.specs.ExpressionRows.{factor_sign, term_sign, comparison_sign, extreme_sign, range_closers}
-use Rattle.grammar_rows.specs.KindSets.{kind_number, KindSet, only, first_kind, has_kind, kinds_but}
-use Rattle.grammar_rows.specs.ModelRows.{row, direction_sign, measure_sign}
-use Rattle.grammar_rows.specs.Nonterminals as s
-use Rattle.grammar_rows.specs.Nonterminals.{Nonterminal, ValueOf}
-use Rattle.grammar_rows.specs.PhraseLanguage.{Phrase, terminal, deepened, place_of_mark, ◌before◌, ◌closed_by◌, enclosed, enclosed_at}
+use Rattle.sopl_ast.specs.ExpressionRows.{factor_sign, term_sign, comparison_sign, extreme_sign, range_closers}
+use Rattle.sopl_ast.specs.KindSets.{kind_number, KindSet, only, first_kind, has_kind, kinds_but}
+use Rattle.sopl_ast.specs.ModelRows.{row, direction_sign, measure_sign}
+use Rattle.sopl_ast.specs.Nonterminals as s
+use Rattle.sopl_ast.specs.Nonterminals.{Nonterminal, ValueOf}
+use Rattle.sopl_ast.specs.PhraseLanguage.{Phrase, terminal, deepened, place_of_mark, ◌before◌, ◌closed_by◌, enclosed, enclosed_at}
 use Rattle.grammar_rows.specs.ReadersOfRows.{int_mark, reader_of}
 use Rattle.grammar_rows.specs.RowReading.{said, terminal_at, deepened_at, pick, nested_read, read_at}
-use Rattle.grammar_rows.specs.Terminals.{Terminal, a_name, found_or, mark_of, says, kinds_of}
+use Rattle.sopl_ast.specs.Terminals.{Terminal, a_name, found_or, mark_of, says, kinds_of}
 use Rattle.grammar_rows.proofs.KindSetLaws.{terminal_has, terminal_lacks, none_ends, some_number}
 use Rattle.grammar_rows.proofs.ReadPlans.{chained, Plan, part, two_parts, other_value, PlanAt, known, known_then, known_value}
 
@@ -87,7 +86,7 @@ mark_said mark [] = sym (ap flag (no_mark mark))
 mark_said mark (u ∷ us) = mark_says mark u.kind
 
 -- what terminals are to the reader
-factor_says : (kind : TokenKind) → says factor_sign kind ≡ g.factor_operator kind
+factor_says : (kind : TokenKind) → says factor_sign kind ≡ h.factor_of_kind kind
 factor_says k.Star = refl
 factor_says kind = refl
 
@@ -96,7 +95,7 @@ unfolding h.factor_operator
 factor_said [] = refl
 factor_said (u ∷ us) = factor_says u.kind
 
-term_says : (kind : TokenKind) → says term_sign kind ≡ g.term_operator kind
+term_says : (kind : TokenKind) → says term_sign kind ≡ h.term_of_kind kind
 term_says k.Plus = refl
 term_says kind = refl
 
@@ -105,7 +104,7 @@ unfolding h.term_operator
 term_said [] = refl
 term_said (u ∷ us) = term_says u.kind
 
-comparison_says : (kind : TokenKind) → says comparison_sign kind ≡ g.comparison_operator kind
+comparison_says : (kind : TokenKind) → says comparison_sign kind ≡ h.comparison_of_kind kind
 comparison_says k.EqEq = refl
 comparison_says kind = refl
 
@@ -114,7 +113,7 @@ unfolding h.comparison_operator
 comparison_said [] = refl
 comparison_said (u ∷ us) = comparison_says u.kind
 
-extreme_says : (kind : TokenKind) → says extreme_sign kind ≡ g.extreme_function kind
+extreme_says : (kind : TokenKind) → says extreme_sign kind ≡ h.extreme_of_kind kind
 extreme_says k.Min = refl
 extreme_says kind = refl
 
@@ -123,7 +122,7 @@ unfolding h.extreme_function
 extreme_said [] = refl
 extreme_said (u ∷ us) = extreme_says u.kind
 
-direction_says : (kind : TokenKind) → says direction_sign kind ≡ g.goal_direction kind
+direction_says : (kind : TokenKind) → says direction_sign kind ≡ h.direction_of_kind kind
 direction_says k.Minimize = refl
 direction_says kind = refl
 
@@ -132,7 +131,7 @@ unfolding h.goal_direction
 direction_said [] = refl
 direction_said (u ∷ us) = direction_says u.kind
 
-measure_says : (kind : TokenKind) → says measure_sign kind ≡ g.goal_measure kind
+measure_says : (kind : TokenKind) → says measure_sign kind ≡ h.measure_of_kind kind
 measure_says k.Expected = refl
 measure_says kind = refl
 

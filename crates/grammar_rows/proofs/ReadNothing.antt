@@ -2,8 +2,8 @@
 use Rattle.std.proofs.Common.{◌≡◌, refl, ap, ◌∙◌, Bool, true, false, List, [], Ok, inr}
 use Rattle.sopl_ast.specs.declared.token.Token.{Token}
 use Rattle.parse_grammar.specs.Reading.{Read, ◌>>=◌}
-use Rattle.grammar_rows.specs.KindSets.{has_kind}
-use Rattle.grammar_rows.specs.PhraseLanguage.{Phrase, give, terminal, sequence, mapped, deepened, choice, repetition, not_before, lookahead}
+use Rattle.sopl_ast.specs.KindSets.{has_kind}
+use Rattle.sopl_ast.specs.PhraseLanguage.{Phrase, give, terminal, sequence, mapped, deepened, choice, repetition, not_before, lookahead}
 use Rattle.grammar_rows.specs.RowLaws.{ReadsAll}
 use Rattle.grammar_rows.specs.RowReading.{NestedReaders, and_then, pick, some_more, phrase_read, sample_value, some_value}
 use Rattle.grammar_rows.specs.RowTests.{is_predictive}

@@ -2,7 +2,7 @@
 use Rattle.std.proofs.Common.{◌≡◌, refl, sym, ap, ◌∙◌, ℕ, false, List, Result, Ok, Err}
 use Rattle.sopl_ast.specs.declared.token.Token.{Token}
 use Rattle.parse_grammar.specs.Reading.{Stop, Read, ◌>>=◌}
-use Rattle.grammar_rows.specs.PhraseLanguage.{Phrase, sequence, mapped}
+use Rattle.sopl_ast.specs.PhraseLanguage.{Phrase, sequence, mapped}
 use Rattle.grammar_rows.specs.RowReading.{and_then, read_at}
 
 -- another value of what is read

@@ -4,16 +4,16 @@ use Rattle.sopl_ast.specs.declared.token.Token.{Token}
 use Rattle.sopl_ast.specs.declared.token.TokenKind.{TokenKind}
 use Rattle.parse_grammar.specs.Heads.{rest}
 use Rattle.parse_grammar.specs.Reading.{Read}
-use Rattle.grammar_rows.specs.KindSets.{KindSet, first_kind, has_kind}
-use Rattle.grammar_rows.specs.ModelRows.{row}
-use Rattle.grammar_rows.specs.Nonterminals.{Nonterminal, ValueOf}
-use Rattle.grammar_rows.specs.PhraseLanguage.{Phrase, give, terminal, sequence, mapped, deepened, choice, repetition, not_before, lookahead, nullable, starts}
+use Rattle.sopl_ast.specs.KindSets.{KindSet, first_kind, has_kind}
+use Rattle.sopl_ast.specs.ModelRows.{row}
+use Rattle.sopl_ast.specs.Nonterminals.{Nonterminal, ValueOf}
+use Rattle.sopl_ast.specs.PhraseLanguage.{Phrase, give, terminal, sequence, mapped, deepened, choice, repetition, not_before, lookahead, nullable, starts}
 use Rattle.grammar_rows.specs.RowLaws.{TakesTokens, takes, takes_none, lacks_all}
 use Rattle.grammar_rows.specs.RowReading.{NestedReaders, said, terminal_at, deepened_at, by_second, as_alone, as_other, some_more, and_then, phrase_read, nested_read, read_at}
 use Rattle.grammar_rows.specs.RowReading.{sample_value, some_value}
-use Rattle.grammar_rows.specs.RowSpelling.{IsTerminal, stands, lacking, IsDeepened, deepens, lacking_nested, AreRepeated, IsEither, alone, otherwise, Spellings, IsSpelled, SpelledInside, IsSpelledAt}
+use Rattle.sopl_ast.specs.RowSpelling.{IsTerminal, stands, lacking, IsDeepened, deepens, lacking_nested, AreRepeated, IsEither, alone, otherwise, Spellings, IsSpelled, SpelledInside, IsSpelledAt}
 use Rattle.grammar_rows.specs.RowTests.{is_predictive, never_behind}
-use Rattle.grammar_rows.specs.Terminals.{Terminal, mark_of, says}
+use Rattle.sopl_ast.specs.Terminals.{Terminal, mark_of, says}
 use Rattle.grammar_rows.proofs.KindSetLaws.{contra, within_none}
 use Rattle.grammar_rows.proofs.Predictive.{row_is, of_sequence, of_choice, of_repetition, of_not_before, of_lookahead}
 use Rattle.grammar_rows.proofs.ReadSteps.{went, kept, not_absent, picked, next_sound, chain_sound}

@@ -3,9 +3,9 @@ use Rattle.std.proofs.Common.{◌≡◌, refl, sym, ap, subst, ◌∙◌, ℕ, z
 use Rattle.std.proofs.lemmas.List.{append-nil}
 use Rattle.sopl_ast.specs.declared.token.Token.{Token}
 use Rattle.parse_grammar.specs.Reading.{Stop, Read, Next, ◌>>=◌, absent, chain, chain_on}
-use Rattle.grammar_rows.specs.KindSets.{KindSet, first_kind, has_kind}
+use Rattle.sopl_ast.specs.KindSets.{KindSet, first_kind, has_kind}
 use Rattle.grammar_rows.specs.RowReading.{pick, some_more}
-use Rattle.grammar_rows.specs.RowSpelling.{AreRepeated, none_more, one_more}
+use Rattle.sopl_ast.specs.RowSpelling.{AreRepeated, none_more, one_more}
 
 -- what was read first, and how it went on
 pub record Went {A B : Type 0} (o : Result A Stop) (f : A → Result B Stop) (b : B) : Type 0 where

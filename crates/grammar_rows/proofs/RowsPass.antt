@@ -1,9 +1,9 @@
 -- Each row passes the test.
 use Rattle.std.proofs.Common.{◌≡◌, refl, true}
-use Rattle.grammar_rows.specs.ExpressionRows as expr
-use Rattle.grammar_rows.specs.ModelRows as model
-use Rattle.grammar_rows.specs.Nonterminals as s
-use Rattle.grammar_rows.specs.Nonterminals.{Nonterminal}
+use Rattle.sopl_ast.specs.ExpressionRows as expr
+use Rattle.sopl_ast.specs.ModelRows as model
+use Rattle.sopl_ast.specs.Nonterminals as s
+use Rattle.sopl_ast.specs.Nonterminals.{Nonterminal}
 use Rattle.grammar_rows.specs.RowTests.{row_passes}
 use Rattle.grammar_rows.specs.WrongRows.{WrongRowsFail}
 

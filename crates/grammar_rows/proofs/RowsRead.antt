@@ -1,6 +1,6 @@
 -- What is read of a row and what it spells.
 use Rattle.std.proofs.Common.{refl, ap, ◌∙◌, true, false, [], Ok}
-use Rattle.grammar_rows.specs.ModelRows.{row}
+use Rattle.sopl_ast.specs.ModelRows.{row}
 use Rattle.grammar_rows.specs.RowLaws.{ReadRowsAreSpelled, SpelledRowsAreRead, RowsMayBeMissing, RowsTakeTokens}
 use Rattle.grammar_rows.specs.RowReading.{nested_read}
 use Rattle.grammar_rows.proofs.Predictive.{row_is}

@@ -2,15 +2,15 @@
 use Rattle.std.proofs.Common.{◌≡◌, refl, sym, ap, subst, ◌∙◌, ℕ, zero, suc, ◌<◌, ◌≤◌, Bool, true, false, ◌&&◌, List, [], ◌++◌, length, arith, ◌⊎◌, inl, inr}
 use Rattle.sopl_ast.specs.declared.token.Token.{Token}
 use Rattle.sopl_ast.specs.declared.token.TokenKind.{TokenKind}
-use Rattle.grammar_rows.specs.KindSets.{KindSet, only, first_kind, has_kind}
-use Rattle.grammar_rows.specs.ModelRows.{row}
-use Rattle.grammar_rows.specs.Nonterminals.{Nonterminal, ValueOf}
-use Rattle.grammar_rows.specs.PhraseLanguage.{Phrase, give, terminal, sequence, mapped, deepened, choice, repetition, not_before, lookahead, nullable, starts, when}
+use Rattle.sopl_ast.specs.KindSets.{KindSet, only, first_kind, has_kind}
+use Rattle.sopl_ast.specs.ModelRows.{row}
+use Rattle.sopl_ast.specs.Nonterminals.{Nonterminal, ValueOf}
+use Rattle.sopl_ast.specs.PhraseLanguage.{Phrase, give, terminal, sequence, mapped, deepened, choice, repetition, not_before, lookahead, nullable, starts, when}
 use Rattle.grammar_rows.specs.RowLaws.{TakesTokens, takes, takes_none, lacks_all}
-use Rattle.grammar_rows.specs.RowSpelling.{IsTerminal, stands, lacking, IsDeepened, deepens, lacking_nested, AreRepeated, none_more, one_more, IsEither, alone, otherwise}
-use Rattle.grammar_rows.specs.RowSpelling.{Spellings, IsSpelled, SpelledInside, IsSpelledAt}
+use Rattle.sopl_ast.specs.RowSpelling.{IsTerminal, stands, lacking, IsDeepened, deepens, lacking_nested, AreRepeated, none_more, one_more, IsEither, alone, otherwise}
+use Rattle.sopl_ast.specs.RowSpelling.{Spellings, IsSpelled, SpelledInside, IsSpelledAt}
 use Rattle.grammar_rows.specs.RowTests.{is_predictive}
-use Rattle.grammar_rows.specs.Terminals.{Terminal, mark_of, kinds_of}
+use Rattle.sopl_ast.specs.Terminals.{Terminal, mark_of, kinds_of}
 use Rattle.grammar_rows.proofs.KindSetLaws.{contra, has_left, has_right, terminal_has}
 use Rattle.grammar_rows.proofs.Predictive.{row_is, of_sequence, of_choice, of_repetition, of_not_before, of_lookahead}
 

@@ -7,19 +7,19 @@ use Rattle.sopl_ast.specs.declared.token.TokenKind.TheVariants as k
 use Rattle.sopl_ast.specs.Tree as t
 use Rattle.sopl_ast.specs.Tree.{Tree, Node}
 use Rattle.parse_grammar.specs.Reading.{Syntax, Read, ◌>>=◌, absent, chain}
-use Rattle.grammar_rows.specs.ExpressionRows as expr
-use Rattle.grammar_rows.specs.ExpressionRows.{sum_row, ends_row, range_row, binder_row, range_closers, range_tree}
-use Rattle.grammar_rows.specs.KindSets.{kind_number, KindSet, only, first_kind, has_kind}
-use Rattle.grammar_rows.specs.ModelRows as model
-use Rattle.grammar_rows.specs.ModelRows.{row}
-use Rattle.grammar_rows.specs.Nonterminals as s
-use Rattle.grammar_rows.specs.Nonterminals.{Nonterminal}
-use Rattle.grammar_rows.specs.PhraseLanguage.{Phrase, give, terminal, sequence, mapped, deepened, choice, repetition, not_before, lookahead, ◌before◌}
+use Rattle.sopl_ast.specs.ExpressionRows as expr
+use Rattle.sopl_ast.specs.ExpressionRows.{sum_row, ends_row, range_row, binder_row, range_closers, range_tree}
+use Rattle.sopl_ast.specs.KindSets.{kind_number, KindSet, only, first_kind, has_kind}
+use Rattle.sopl_ast.specs.ModelRows as model
+use Rattle.sopl_ast.specs.ModelRows.{row}
+use Rattle.sopl_ast.specs.Nonterminals as s
+use Rattle.sopl_ast.specs.Nonterminals.{Nonterminal}
+use Rattle.sopl_ast.specs.PhraseLanguage.{Phrase, give, terminal, sequence, mapped, deepened, choice, repetition, not_before, lookahead, ◌before◌}
 use Rattle.grammar_rows.specs.RowLaws.{ReadsAll}
 use Rattle.grammar_rows.specs.RowReading.{terminal_at, and_then, as_alone, as_other, pick, nested_read, read_at}
-use Rattle.grammar_rows.specs.RowSpelling.{IsSpelledAt}
+use Rattle.sopl_ast.specs.RowSpelling.{IsSpelledAt}
 use Rattle.grammar_rows.specs.RowTests.{continues, goes_on, is_predictive}
-use Rattle.grammar_rows.specs.Terminals.{a_name, mark_of, says}
+use Rattle.sopl_ast.specs.Terminals.{a_name, mark_of, says}
 use Rattle.grammar_rows.proofs.KindSetLaws.{both_true, within_has, apart_has, within_none}
 use Rattle.grammar_rows.proofs.Predictive.{row_is, row_goes_on}
 use Rattle.grammar_rows.proofs.ReadComplete.{IsGiven, IsClearOf, over, clear, IsToldApart, AreToldApart, NestedComplete, complete}

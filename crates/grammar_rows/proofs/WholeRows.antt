@@ -2,15 +2,16 @@
 use Rattle.std.proofs.Common.{◌≡◌, refl, sym, ap, subst, ◌∙◌, ℕ, ◌+◌, ◌≤◌, Bool, true, false, List, [], ◌∷◌, ◌++◌, Some, None, Ok, append_assoc, arith}
 use Rattle.std.proofs.lemmas.List.{append-nil}
 use Rattle.sopl_ast.specs.declared.token.Token.{Token}
+use Rattle.sopl_ast.specs.Grammar.{IsPrefix}
+use Rattle.sopl_ast.specs.RowSpelling.{IsSpelledAt}
 use Rattle.sopl_ast.specs.Whole.{ModelTree}
 use Rattle.parse_grammar.specs.Heads.{head}
 use Rattle.parse_grammar.specs.Reading.{Read, Syntax, Depth}
-use Rattle.grammar_rows.specs.KindSets.{has_kind}
-use Rattle.grammar_rows.specs.ModelRows.{row}
-use Rattle.grammar_rows.specs.Nonterminals as s
+use Rattle.sopl_ast.specs.KindSets.{has_kind}
+use Rattle.sopl_ast.specs.ModelRows.{row}
+use Rattle.sopl_ast.specs.Nonterminals as s
 use Rattle.grammar_rows.specs.RowLaws.{ReadsAll, RowPrefixesAreClosed, TokensEndInRows, EndsInRows, spells, misplaced_at, too_deep_at, IsMisplacedInRows, IsTooDeepInRows, ReadEnd, got, stuck, sunk}
 use Rattle.grammar_rows.specs.RowReading.{read_at}
-use Rattle.grammar_rows.specs.RowSpelling.{IsSpelledAt, IsRowPrefix}
 use Rattle.grammar_rows.specs.RowTests.{continues}
 use Rattle.grammar_rows.proofs.LocalReading.{IsLocal, LocalReading}
 use Rattle.grammar_rows.proofs.LocalRows.{read_local}
@@ -42,24 +43,24 @@ model_sound cut n ts q e = read_sound cut n (row s.Model) (row_is s.Model) ts q 
 pub model_whole : (n m : ℕ) → n ≤ m → (ts : List Token) (whole : ModelTree) → IsSpelledAt false n (row s.Model) ts whole [] → ModelRead false m ts ≡ Ok (whole, [])
 model_whole n m le ts whole is = whole_read n m (row s.Model) (row_is s.Model) (row_apart s.Model) model_open le ts whole is
 
-pub prefix_of : (n : ℕ) (ts : List Token) → ReadsAll (ModelRead true n ts) → IsRowPrefix n ts
+pub prefix_of : (n : ℕ) (ts : List Token) → ReadsAll (ModelRead true n ts) → IsPrefix n ts
 prefix_of n ts o = record { whole = o.value; spelled = model_sound true n ts (o.value, []) o.read }
 
-pub prefix_read : (n : ℕ) (ts : List Token) → IsRowPrefix n ts → ReadsAll (ModelRead true n ts)
+pub prefix_read : (n : ℕ) (ts : List Token) → IsPrefix n ts → ReadsAll (ModelRead true n ts)
 prefix_read n ts f =
     let g = read_complete true n (row s.Model) (row_is s.Model) (row_apart s.Model) ts f.whole [] (over refl refl) f.spelled in
     record { value = g.value; read = g.read }
 
 -- where reading stopped at the end of the tokens, they are a prefix
-pub used_up : (n : ℕ) (ts : List Token) (end : ReadEnd ModelTree) → IsLocal ModelRead n ts end [] → IsRowPrefix n ts
-used_up n ts end l = subst (λ b. IsRowPrefix n b) (sym (l.all ∙ append-nil l.used)) (prefix_of n l.used (l.over n (omega arith)))
+pub used_up : (n : ℕ) (ts : List Token) (end : ReadEnd ModelTree) → IsLocal ModelRead n ts end [] → IsPrefix n ts
+used_up n ts end l = subst (λ b. IsPrefix n b) (sym (l.all ∙ append-nil l.used)) (prefix_of n l.used (l.over n (omega arith)))
 
 -- a prefix is read to its end: reading stops at no token of it
-pub not_before_end : {P : Type 0} (n : ℕ) (ts after : List Token) (end : ReadEnd ModelTree) (u : Token) (us : List Token) → IsLocal ModelRead n ts end (u ∷ us) → IsRowPrefix n (ts ++ after) → P
+pub not_before_end : {P : Type 0} (n : ℕ) (ts after : List Token) (end : ReadEnd ModelTree) (u : Token) (us : List Token) → IsLocal ModelRead n ts end (u ∷ us) → IsPrefix n (ts ++ after) → P
 not_before_end {P} n ts after end u us l prefix = by_end end l (all_read l.used l.all)
   where
     all_read : (used : List Token) → ts ≡ used ++ u ∷ us → ReadsAll (ModelRead true n (used ++ (u ∷ us ++ after)))
-    all_read used all = prefix_read n (used ++ (u ∷ us ++ after)) (subst (λ l. IsRowPrefix n l) (ap (λ l. l ++ after) all ∙ append_assoc used (u ∷ us) after) prefix)
+    all_read used all = prefix_read n (used ++ (u ∷ us ++ after)) (subst (λ l. IsPrefix n l) (ap (λ l. l ++ after) all ∙ append_assoc used (u ∷ us) after) prefix)
 
     by_end : (end : ReadEnd ModelTree) (l : IsLocal ModelRead n ts end (u ∷ us)) → ReadsAll (ModelRead true n (l.used ++ (u ∷ us ++ after))) → P
     by_end (got a) l o =
@@ -74,11 +75,11 @@ not_before_end {P} n ts after end u us l prefix = by_end end l (all_read l.used 
 pub row_prefixes_are_closed : RowPrefixesAreClosed
 row_prefixes_are_closed n before behind prefix = let x = model_local n before in by_left x.end x.left x.is
   where
-    by_left : (end : ReadEnd ModelTree) (left : List Token) → IsLocal ModelRead n before end left → IsRowPrefix n before
+    by_left : (end : ReadEnd ModelTree) (left : List Token) → IsLocal ModelRead n before end left → IsPrefix n before
     by_left end [] l = used_up n before end l
     by_left end (u ∷ us) l = not_before_end n before behind end u us l prefix
 
-misplaced : (n : ℕ) (ts left : List Token) → IsLocal ModelRead n ts stuck left → IsMisplacedInRows n ts left
+pub misplaced : (n : ℕ) (ts left : List Token) → IsLocal ModelRead n ts stuck left → IsMisplacedInRows n ts left
 misplaced n ts left l = record {
   used = l.used;
   all = l.all;
@@ -90,7 +91,7 @@ misplaced n ts left l = record {
 }
 
 -- a model was read, and a token stands behind it
-behind : (n : ℕ) (ts : List Token) (a : ModelTree) (u : Token) (us : List Token) → IsLocal ModelRead n ts (got a) (u ∷ us) → IsMisplacedInRows n ts (u ∷ us)
+pub behind : (n : ℕ) (ts : List Token) (a : ModelTree) (u : Token) (us : List Token) → IsLocal ModelRead n ts (got a) (u ∷ us) → IsMisplacedInRows n ts (u ∷ us)
 behind n ts a u us l = record {
   used = l.used;
   all = l.all;
@@ -102,7 +103,7 @@ behind n ts a u us l = record {
       let clash : Some u.kind ≡ None = sym same ∙ ap (λ (x : ModelTree × List Token). head x.1) both in absurd (cc);
 }
 
-too_deep : (n : ℕ) (ts left : List Token) → IsLocal ModelRead n ts sunk left → IsTooDeepInRows n ts left
+pub too_deep : (n : ℕ) (ts left : List Token) → IsLocal ModelRead n ts sunk left → IsTooDeepInRows n ts left
 too_deep n ts left l =
     let t = l.there refl in
     record {

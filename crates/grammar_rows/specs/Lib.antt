@@ -1,10 +1,3 @@
-pub mod KindSets
-pub mod Terminals
-pub mod Nonterminals
-pub mod PhraseLanguage
-pub mod ExpressionRows
-pub mod ModelRows
-pub mod RowSpelling
 pub mod RowReading
 pub mod RowTests
 pub mod WrongRows

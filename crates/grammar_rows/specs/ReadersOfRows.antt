@@ -6,8 +6,8 @@ use Rattle.parse_grammar.specs.Expressions.{arguments, bound, compared, expressi
 use Rattle.parse_grammar.specs.Heads.{place}
 use Rattle.parse_grammar.specs.Phrases.{constraints, dim, elements, init_list, outcomes, quantified, whole}
 use Rattle.parse_grammar.specs.Reading.{Read, Way, ◌>>=◌, past}
-use Rattle.grammar_rows.specs.Nonterminals as s
-use Rattle.grammar_rows.specs.Nonterminals.{Nonterminal, ValueOf}
+use Rattle.sopl_ast.specs.Nonterminals as s
+use Rattle.sopl_ast.specs.Nonterminals.{Nonterminal, ValueOf}
 
 -- the keyword of a set's type: its place
 abbrev pub int_mark : Way → List Token → Read ℕ

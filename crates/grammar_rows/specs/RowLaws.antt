@@ -1,19 +1,18 @@
 -- The laws of the rows.
-use Rattle.std.specs.Prelude.{◌≡◌, ◌↔◌, ℕ, ◌+◌, ◌<◌, Bool, true, false, List, [], ◌∷◌, ◌++◌, length, Ok, Err}
+use Rattle.std.specs.Prelude.{◌≡◌, ℕ, ◌+◌, ◌<◌, Bool, true, false, List, [], ◌∷◌, ◌++◌, length, Ok, Err}
 use Rattle.sopl_ast.specs.declared.token.Token.{Token}
-use Rattle.sopl_ast.specs.Grammar as g
-use Rattle.sopl_ast.specs.Grammar.{IsPrefix}
+use Rattle.sopl_ast.specs.Grammar.{SpellsIn, Spells, IsPrefix}
 use Rattle.sopl_ast.specs.Whole.{ModelTree}
 use Rattle.parse_grammar.specs.Heads.{head}
 use Rattle.parse_grammar.specs.Phrases.{way}
 use Rattle.parse_grammar.specs.Reading.{Syntax, Depth, Read}
-use Rattle.grammar_rows.specs.KindSets.{KindSet, first_kind, has_kind}
-use Rattle.grammar_rows.specs.ModelRows.{row}
-use Rattle.grammar_rows.specs.Nonterminals.{Nonterminal, ValueOf, Model}
-use Rattle.grammar_rows.specs.PhraseLanguage.{nullable, starts}
+use Rattle.sopl_ast.specs.KindSets.{KindSet, first_kind, has_kind}
+use Rattle.sopl_ast.specs.ModelRows.{row}
+use Rattle.sopl_ast.specs.Nonterminals.{Nonterminal, ValueOf}
+use Rattle.sopl_ast.specs.PhraseLanguage.{nullable, starts}
 use Rattle.grammar_rows.specs.ReadersOfRows.{reader_of}
 use Rattle.grammar_rows.specs.RowReading.{read_at}
-use Rattle.grammar_rows.specs.RowSpelling.{IsSpelledAt, RowsSpell, IsRowPrefix}
+use Rattle.sopl_ast.specs.RowSpelling.{IsSpelledAt}
 use Rattle.grammar_rows.specs.RowTests.{continues, row_passes}
 
 -- each row passes the test
@@ -94,14 +93,14 @@ RowPrefixesGoOn = (n : ℕ) (s : Nonterminal) (ts : List Token) (x : ValueOf s) 
 
 -- a prefix of a prefix is one
 abbrev pub RowPrefixesAreClosed : Type 0
-RowPrefixesAreClosed = (n : ℕ) (before behind : List Token) → IsRowPrefix n (before ++ behind) → IsRowPrefix n before
+RowPrefixesAreClosed = (n : ℕ) (before behind : List Token) → IsPrefix n (before ++ behind) → IsPrefix n before
 
 -- the tokens go along the rows up to some that are left, and with the first of those no model goes on
 pub record IsMisplacedInRows (n : ℕ) (ts left : List Token) : Type 0 where
   pub used : List Token
   pub all : ts ≡ used ++ left
-  pub prefix : IsRowPrefix n used
-  pub none : (others : List Token) (whole : ModelTree) → head others ≡ head left → RowsSpell (used ++ others) whole → ⊥
+  pub prefix : IsPrefix n used
+  pub none : (others : List Token) (whole : ModelTree) → head others ≡ head left → Spells (used ++ others) whole → ⊥
 
 -- the tokens go along the rows up to one that counts once too often
 pub record IsTooDeepInRows (n : ℕ) (ts left : List Token) : Type 0 where
@@ -110,14 +109,14 @@ pub record IsTooDeepInRows (n : ℕ) (ts left : List Token) : Type 0 where
   pub more : List Token
   pub all : ts ≡ used ++ token ∷ more
   pub at : left ≡ token ∷ more
-  pub prefix : IsRowPrefix n used
-  pub deeper : IsRowPrefix (n + 1) (used ++ token ∷ [])
-  pub over : IsRowPrefix n (used ++ token ∷ []) → ⊥
-  pub none : (others : List Token) (whole : ModelTree) → IsSpelledAt false n (row Model) (used ++ token ∷ others) whole [] → ⊥
+  pub prefix : IsPrefix n used
+  pub deeper : IsPrefix (n + 1) (used ++ token ∷ [])
+  pub over : IsPrefix n (used ++ token ∷ []) → ⊥
+  pub none : (others : List Token) (whole : ModelTree) → SpellsIn n (used ++ token ∷ others) whole → ⊥
 
 -- tokens spell a model, or they are refused at a place
 pub data EndsInRows (n : ℕ) (ts : List Token) : Type 0 where
-  spells : (whole : ModelTree) → IsSpelledAt false n (row Model) ts whole [] → EndsInRows n ts
+  spells : (whole : ModelTree) → SpellsIn n ts whole → EndsInRows n ts
   misplaced_at : (left : List Token) → IsMisplacedInRows n ts left → EndsInRows n ts
   too_deep_at : (left : List Token) → IsTooDeepInRows n ts left → EndsInRows n ts
 
@@ -128,12 +127,3 @@ TokensEndInRows = (n : ℕ) (ts : List Token) → EndsInRows n ts
 -- each row is read as by the function of the reader that reads it
 abbrev pub RowsAreReadAlike : Type 0
 RowsAreReadAlike = (n : ℕ) (s : Nonterminal) (ts : List Token) → read_at false n (row s) ts ≡ reader_of s (way false n) ts
-
--- the row of a model spells what the grammar spells, within each nesting and without any
-pub record RowsSpellTheGrammar : Type 0 where
-  pub within : (n : ℕ) (ts : List Token) (whole : ModelTree) → g.SpellsIn n ts whole ↔ IsSpelledAt false n (row Model) ts whole []
-  pub however_deep : (ts : List Token) (whole : ModelTree) → g.Spells ts whole ↔ RowsSpell ts whole
-
--- the prefixes of models are the same by the grammar and by the rows
-abbrev pub RowPrefixesAreTheGrammars : Type 0
-RowPrefixesAreTheGrammars = (n : ℕ) (ts : List Token) → IsPrefix n ts ↔ IsRowPrefix n ts

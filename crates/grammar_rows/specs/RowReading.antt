@@ -9,12 +9,12 @@ use Rattle.sopl_ast.specs.Whole.{HardTree}
 use Rattle.parse_grammar.specs.Expressions.{no_tree}
 use Rattle.parse_grammar.specs.Heads.{head, rest, place, at_kind}
 use Rattle.parse_grammar.specs.Reading.{Depth, Read, ◌>>=◌, absent, chain}
-use Rattle.grammar_rows.specs.KindSets.{KindSet, first_kind, has_kind}
-use Rattle.grammar_rows.specs.Terminals.{Terminal, one_of, a_literal, a_name, mark_of, says}
-use Rattle.grammar_rows.specs.Nonterminals as s
-use Rattle.grammar_rows.specs.Nonterminals.{Nonterminal, ValueOf}
-use Rattle.grammar_rows.specs.PhraseLanguage.{Phrase, give, terminal, sequence, mapped, deepened, choice, repetition, not_before, lookahead}
-use Rattle.grammar_rows.specs.ModelRows.{row}
+use Rattle.sopl_ast.specs.KindSets.{KindSet, first_kind, has_kind}
+use Rattle.sopl_ast.specs.Terminals.{Terminal, one_of, a_literal, a_name, mark_of, says}
+use Rattle.sopl_ast.specs.Nonterminals as s
+use Rattle.sopl_ast.specs.Nonterminals.{Nonterminal, ValueOf}
+use Rattle.sopl_ast.specs.PhraseLanguage.{Phrase, give, terminal, sequence, mapped, deepened, choice, repetition, not_before, lookahead}
+use Rattle.sopl_ast.specs.ModelRows.{row}
 
 -- some kind of token that is the terminal
 abbrev pub sample_kind : {X : Type 0} → Terminal X → TokenKind

@@ -4,14 +4,14 @@ use mathlib.Core.Logic.{inl}
 use Rattle.sopl_ast.specs.declared.token.Token.{Token}
 use Rattle.sopl_ast.specs.declared.token.TokenKind.{TokenKind}
 use Rattle.sopl_ast.specs.declared.token.TokenKind.TheVariants as k
-use Rattle.grammar_rows.specs.KindSets.{KindSet, only, first_kind, has_kind, kinds_without, kinds_but}
-use Rattle.grammar_rows.specs.Terminals.{kinds_of}
-use Rattle.grammar_rows.specs.Nonterminals as s
-use Rattle.grammar_rows.specs.Nonterminals.{Nonterminal, ValueOf}
-use Rattle.grammar_rows.specs.PhraseLanguage.{Phrase, give, terminal, sequence, mapped, deepened, choice, repetition, not_before, lookahead}
-use Rattle.grammar_rows.specs.PhraseLanguage.{nullable, starts, when}
-use Rattle.grammar_rows.specs.ExpressionRows.{factor_sign, term_sign, comparison_sign, range_closers}
-use Rattle.grammar_rows.specs.ModelRows.{row}
+use Rattle.sopl_ast.specs.KindSets.{KindSet, only, first_kind, has_kind, kinds_without, kinds_but}
+use Rattle.sopl_ast.specs.Terminals.{kinds_of}
+use Rattle.sopl_ast.specs.Nonterminals as s
+use Rattle.sopl_ast.specs.Nonterminals.{Nonterminal, ValueOf}
+use Rattle.sopl_ast.specs.PhraseLanguage.{Phrase, give, terminal, sequence, mapped, deepened, choice, repetition, not_before, lookahead}
+use Rattle.sopl_ast.specs.PhraseLanguage.{nullable, starts, when}
+use Rattle.sopl_ast.specs.ExpressionRows.{factor_sign, term_sign, comparison_sign, range_closers}
+use Rattle.sopl_ast.specs.ModelRows.{row}
 use Rattle.grammar_rows.specs.RowReading.{sample_kind, sample_value, some_value, pick}
 
 -- whether all of the first are in the second

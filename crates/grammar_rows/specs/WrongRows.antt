@@ -3,11 +3,11 @@ use Rattle.std.specs.Prelude.{◌≡◌, false, List}
 use Rattle.sopl_ast.specs.Lists.{BinderTree}
 use Rattle.sopl_ast.specs.Tree as t
 use Rattle.sopl_ast.specs.Tree.{Tree, Node}
-use Rattle.grammar_rows.specs.ExpressionRows.{element_row, parentheses_row, expression_row, bindings_row, product_row}
-use Rattle.grammar_rows.specs.Nonterminals as s
-use Rattle.grammar_rows.specs.PhraseLanguage.{Phrase, terminal, ◌then◌, ◌makes◌, ◌or◌, any}
+use Rattle.sopl_ast.specs.ExpressionRows.{element_row, parentheses_row, expression_row, bindings_row, product_row}
+use Rattle.sopl_ast.specs.Nonterminals as s
+use Rattle.sopl_ast.specs.PhraseLanguage.{Phrase, terminal, ◌then◌, ◌makes◌, ◌or◌, any}
 use Rattle.grammar_rows.specs.RowTests.{continues, goes_on, is_predictive, kinds_within}
-use Rattle.grammar_rows.specs.Terminals.{a_name}
+use Rattle.sopl_ast.specs.Terminals.{a_name}
 
 -- two alternatives that begin alike: a name, and a name with indices
 abbrev pub alike_row : Phrase Tree

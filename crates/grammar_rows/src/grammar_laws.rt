@@ -1,18 +1,18 @@
-//! The laws that tie the rows to the grammar and to its reader, as the contracts of empty functions.
+//! The laws of models and of the reader, as the contracts of empty functions.
 
-ghost use Rattle.grammar_rows.specs.RowLaws.{RowsAreReadAlike, RowsSpellTheGrammar, RowPrefixesAreTheGrammars};
+ghost use Rattle.std.specs.Prelude.{◌≡◌};
+ghost use Rattle.sopl_ast.specs.Grammar.{Spells};
+ghost use Rattle.sopl_ast.specs.Whole.{ModelTree};
+ghost use Rattle.grammar_rows.specs.RowLaws.{RowsAreReadAlike};
+
+use sopl_ast::Token;
+
+/// Tokens spell at most one model. It does nothing when it runs.
+pub fn one_model(tokens: &[Token])
+    ensures { (a b : ModelTree) → Spells tokens.now a → Spells tokens.now b → a ≡ b }
+{}
 
 /// Each row is read as by the function of the reader that reads it. It does nothing when it runs.
 pub fn rows_are_read_alike()
     ensures law { RowsAreReadAlike }
-{}
-
-/// The row of a model spells what the grammar spells, within each nesting and without any limit. It does nothing when it runs.
-pub fn rows_spell_the_grammar()
-    ensures law { RowsSpellTheGrammar }
-{}
-
-/// The prefixes of models are the same by the grammar and by the rows. It does nothing when it runs.
-pub fn row_prefixes_are_the_grammars()
-    ensures law { RowPrefixesAreTheGrammars }
 {}

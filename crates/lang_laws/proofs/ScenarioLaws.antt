@@ -151,7 +151,7 @@ alive (s ∷ ss) all places =
 pub scenarios_alive : ScenariosAlive
 scenarios_alive places ss all = alive ss all places
 
--- the same of the scenarios of the definitions
+-- some scenario is among those of the definitions
 pub some_scenario : (ss : List Stochastic) → All HasOutcomes ss → 0 < length (ast.scenarios ss)
 some_scenario ss all =
     subst (λ (found : List ast.Scenario). 0 < length found) (agree_after ss [])

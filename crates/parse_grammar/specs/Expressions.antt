@@ -3,10 +3,10 @@ use Rattle.std.specs.Prelude.{ℕ, ℤ, pos, Bool, true, false, List, [], ◌∷
 use Rattle.sopl_base.specs.declared.comparison.CmpOp.{CmpOp}
 use Rattle.sopl_ast.specs.declared.operators.MulOp.{MulOp}
 use Rattle.sopl_ast.specs.declared.token.Token.{Token}
-use Rattle.sopl_ast.specs.Grammar.{extreme_of}
+use Rattle.sopl_ast.specs.ExpressionRows.{element_of, extreme_of}
 use Rattle.sopl_ast.specs.Lists.{BinderTree, trees, terms, factors, binders}
 use Rattle.sopl_ast.specs.Tree as t
-use Rattle.sopl_ast.specs.Tree.{Tree, Shape, Range, Node, Named, Ends, place_of, shape_of}
+use Rattle.sopl_ast.specs.Tree.{Tree, Range, Node, Named, Ends, place_of, shape_of}
 use Rattle.parse_grammar.specs.declared.marks.Mark.TheVariants as m
 use Rattle.parse_grammar.specs.Heads as h
 use Rattle.parse_grammar.specs.Heads.{head, rest, place, is_mark}
@@ -36,11 +36,6 @@ next_index w ts = index_behind w ts (is_mark m.BracketOpen (head ts))
 -- indices one behind the other
 unfoldable pub indices : Way → List Token → Read (List Tree)
 indices w ts = chain (next_index w) (length ts) [] ts
-
--- a name alone, or an element by its indices
-abbrev pub element_of : List ℕ → List Tree → Shape
-element_of bytes [] = t.Name bytes
-element_of bytes (e ∷ more) = t.Index bytes (trees (e ∷ more))
 
 -- a name with its indices
 unfoldable pub element : Way → List ℕ → List Token → Read Tree

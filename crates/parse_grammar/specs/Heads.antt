@@ -1,9 +1,12 @@
 -- What stands first in a list of tokens: its first token's kind, and what a kind is to the reader.
 use Rattle.std.specs.Prelude.{ℕ, ℤ, Bool, true, false, List, [], ◌∷◌, Option, Some, None}
 use Rattle.sopl_base.specs.declared.comparison.CmpOp.{CmpOp}
+use Rattle.sopl_base.specs.declared.comparison.CmpOp.TheVariants.{Eq, Ne, Lt, Le, Gt, Ge}
 use Rattle.sopl_base.specs.declared.direction.Direction.{Direction}
-use Rattle.sopl_ast.specs.Grammar as g
+use Rattle.sopl_base.specs.declared.direction.Direction.TheVariants.{Minimize, Maximize}
+use Rattle.sopl_ast.specs.Terminals.{literal_value, name_bytes}
 use Rattle.sopl_ast.specs.declared.operators.MulOp.{MulOp}
+use Rattle.sopl_ast.specs.declared.operators.MulOp.TheVariants.{Times, Div, Mod}
 use Rattle.sopl_ast.specs.declared.token.Token.{Token}
 use Rattle.sopl_ast.specs.declared.token.TokenKind.{TokenKind}
 use Rattle.sopl_ast.specs.declared.token.TokenKind.TheVariants as k
@@ -30,15 +33,46 @@ abbrev pub at_kind : {A : Type 0} → (TokenKind → Option A) → Option TokenK
 at_kind f None = None
 at_kind f (Some kind) = f kind
 
--- the number of a literal
-abbrev pub literal_value : TokenKind → Option ℤ
-literal_value (k.Lit value) = Some value
-literal_value _ = None
+-- the operator of a chain of products that a kind is
+abbrev pub factor_of_kind : TokenKind → Option MulOp
+factor_of_kind k.Star = Some Times
+factor_of_kind k.Div = Some Div
+factor_of_kind k.Mod = Some Mod
+factor_of_kind _ = None
 
--- the bytes of a name
-abbrev pub name_bytes : TokenKind → Option (List ℕ)
-name_bytes (k.Name bytes) = Some bytes
-name_bytes _ = None
+-- that of a chain of sums: whether the next part is subtracted
+abbrev pub term_of_kind : TokenKind → Option Bool
+term_of_kind k.Plus = Some false
+term_of_kind k.Minus = Some true
+term_of_kind _ = None
+
+-- that of a comparison
+abbrev pub comparison_of_kind : TokenKind → Option CmpOp
+comparison_of_kind k.EqEq = Some Eq
+comparison_of_kind k.NotEq = Some Ne
+comparison_of_kind k.Less = Some Lt
+comparison_of_kind k.LessEq = Some Le
+comparison_of_kind k.Greater = Some Gt
+comparison_of_kind k.GreaterEq = Some Ge
+comparison_of_kind _ = None
+
+-- the function `min` or `max` that a kind is: whether it is the greatest of its arguments
+abbrev pub extreme_of_kind : TokenKind → Option Bool
+extreme_of_kind k.Min = Some false
+extreme_of_kind k.Max = Some true
+extreme_of_kind _ = None
+
+-- the direction that a kind says
+abbrev pub direction_of_kind : TokenKind → Option Direction
+direction_of_kind k.Minimize = Some Minimize
+direction_of_kind k.Maximize = Some Maximize
+direction_of_kind _ = None
+
+-- whether the worst scenario counts, or the expected value, as a kind says it
+abbrev pub measure_of_kind : TokenKind → Option Bool
+measure_of_kind k.Expected = Some false
+measure_of_kind k.Worst = Some true
+measure_of_kind _ = None
 
 -- whether a range by its name ends before this kind
 abbrev pub ends_range : TokenKind → Option Bool
@@ -59,27 +93,27 @@ named = at_kind name_bytes
 
 -- the operator of a chain of products
 unfoldable pub factor_operator : Option TokenKind → Option MulOp
-factor_operator = at_kind g.factor_operator
+factor_operator = at_kind factor_of_kind
 
 -- the operator of a chain of sums: whether the next part is subtracted
 unfoldable pub term_operator : Option TokenKind → Option Bool
-term_operator = at_kind g.term_operator
+term_operator = at_kind term_of_kind
 
 -- the operator of a comparison
 unfoldable pub comparison_operator : Option TokenKind → Option CmpOp
-comparison_operator = at_kind g.comparison_operator
+comparison_operator = at_kind comparison_of_kind
 
 -- `min` or `max`: whether it is the greatest
 unfoldable pub extreme_function : Option TokenKind → Option Bool
-extreme_function = at_kind g.extreme_function
+extreme_function = at_kind extreme_of_kind
 
 -- the direction of an objective
 unfoldable pub goal_direction : Option TokenKind → Option Direction
-goal_direction = at_kind g.goal_direction
+goal_direction = at_kind direction_of_kind
 
 -- whether the worst scenario counts, or the expected value
 unfoldable pub goal_measure : Option TokenKind → Option Bool
-goal_measure = at_kind g.goal_measure
+goal_measure = at_kind measure_of_kind
 
 -- whether a range by its name ends here
 unfoldable pub range_end : Option TokenKind → Option Bool

@@ -2,7 +2,7 @@
 use Rattle.std.specs.Prelude.{ℕ, zero, suc, Bool, true, false, List, [], ◌∷◌, length, Option, Some, None, Result, Ok, Err}
 use Rattle.sopl_base.specs.declared.direction.Direction.{Direction}
 use Rattle.sopl_ast.specs.declared.token.Token.{Token}
-use Rattle.sopl_ast.specs.Grammar.{range_place}
+use Rattle.sopl_ast.specs.ModelRows.{range_place}
 use Rattle.sopl_ast.specs.Lists.{BinderTree, trees, binders}
 use Rattle.sopl_ast.specs.Tree.{Tree}
 use Rattle.sopl_ast.specs.Whole.{DimTree, InitTree, One, Many, inits, Declaration, IntDecl, RangeDecl, SetDecl, DvarDecl, StochDecl, ConsTree, ForallTree, BlockTree, HardTree}

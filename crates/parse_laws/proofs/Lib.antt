@@ -1,4 +1,3 @@
-mod Going
 pub mod Prefixes
 mod TwoCuts
 pub mod PrefixOnce

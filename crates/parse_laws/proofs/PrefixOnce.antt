@@ -4,7 +4,8 @@ use Rattle.sopl_ast.specs.declared.token.Token.{Token}
 use Rattle.sopl_ast.specs.Grammar.{Spells, IsPrefix}
 use Rattle.sopl_ast.specs.Misspelled.{place_in, NoneGoesOn, IsMisplaced, IsTooDeep, misplaced, too_deep}
 use Rattle.sopl_lex.proofs.Meet.{same_refusal}
-use Rattle.parse_laws.specs.Misspelled.{PrefixesAreClosed, MisspelledOnce}
+use Rattle.grammar_rows.proofs.WholeRows.{row_prefixes_are_closed}
+use Rattle.parse_laws.specs.Misspelled.{MisspelledOnce}
 use Rattle.parse_laws.proofs.Prefixes.{prefixes_go_on}
 use Rattle.parse_laws.proofs.TwoCuts.{TwoCuts, at_one, sooner, later, same_first, two_cuts}
 
@@ -44,11 +45,11 @@ deep_stops tokens at is =
     }
 
 -- one place stands before another: then what stands before the other is a prefix, and none
-not_sooner : PrefixesAreClosed → (n : ℕ) (tokens : List Token) (a b : Stops n tokens) (u : Token) (us : List Token) → b.before ≡ a.before ++ u ∷ us
+not_sooner : (n : ℕ) (tokens : List Token) (a b : Stops n tokens) (u : Token) (us : List Token) → b.before ≡ a.before ++ u ∷ us
     → a.behind ≡ u ∷ us ++ b.behind → ⊥
-not_sooner closed n tokens a b u us one two =
+not_sooner n tokens a b u us one two =
     a.over u (us ++ b.behind) two
-    (closed n (a.before ++ u ∷ []) us
+    (row_prefixes_are_closed n (a.before ++ u ∷ []) us
     (subst (λ l. IsPrefix n l) (one ∙ sym (append_assoc a.before (u ∷ []) us)) b.prefix))
 
 -- two places of one list are one
@@ -56,13 +57,13 @@ record SamePlace (n : ℕ) (tokens : List Token) (a b : Stops n tokens) : Type 0
   before : a.before ≡ b.before
   behind : a.behind ≡ b.behind
 
-one_place : PrefixesAreClosed → (n : ℕ) (tokens : List Token) (a b : Stops n tokens) → SamePlace n tokens a b
-one_place closed n tokens a b = by_cuts (two_cuts a.before a.behind b.before b.behind (sym a.split ∙ b.split))
+one_place : (n : ℕ) (tokens : List Token) (a b : Stops n tokens) → SamePlace n tokens a b
+one_place n tokens a b = by_cuts (two_cuts a.before a.behind b.before b.behind (sym a.split ∙ b.split))
   where
     by_cuts : TwoCuts a.before a.behind b.before b.behind → SamePlace n tokens a b
     by_cuts (at_one one two) = record { before = one; behind = two }
-    by_cuts (sooner u us one two) = absurd (not_sooner closed n tokens a b u us one two)
-    by_cuts (later u us one two) = absurd (not_sooner closed n tokens b a u us one two)
+    by_cuts (sooner u us one two) = absurd (not_sooner n tokens a b u us one two)
+    by_cuts (later u us one two) = absurd (not_sooner n tokens b a u us one two)
 
 -- 104 and 103 never stand at one token
 not_both : (size : ℕ) (tokens : List Token) (at spot : ℕ) (a : IsMisplaced size tokens at) (b : IsTooDeep tokens spot)
@@ -71,15 +72,15 @@ unfolding misplaced_stops deep_stops
 not_both size tokens at spot a b same =
     no_prefix 65 b.before b.token b.behind (subst (λ l. NoneGoesOn b.before l) same.behind (subst (λ l. NoneGoesOn l a.behind) same.before a.stuck)) b.deeper
 
-pub misspelled_once : PrefixesAreClosed → MisspelledOnce
+pub misspelled_once : MisspelledOnce
 unfolding misplaced_stops deep_stops
-misspelled_once closed size tokens a b (misplaced one x) (misplaced two y) =
-    let same = one_place closed 64 tokens (misplaced_stops size tokens a.at x) (misplaced_stops size tokens b.at y) in
+misspelled_once size tokens a b (misplaced one x) (misplaced two y) =
+    let same = one_place 64 tokens (misplaced_stops size tokens a.at x) (misplaced_stops size tokens b.at y) in
     same_refusal a b (one ∙ sym two) (x.place ∙ ap (place_in size) same.behind ∙ sym y.place)
-misspelled_once closed size tokens a b (misplaced one x) (too_deep two y) =
-    absurd (not_both size tokens a.at b.at x y (one_place closed 64 tokens (misplaced_stops size tokens a.at x) (deep_stops tokens b.at y)))
-misspelled_once closed size tokens a b (too_deep one x) (misplaced two y) =
-    absurd (not_both size tokens b.at a.at y x (one_place closed 64 tokens (misplaced_stops size tokens b.at y) (deep_stops tokens a.at x)))
-misspelled_once closed size tokens a b (too_deep one x) (too_deep two y) =
-    let same = one_place closed 64 tokens (deep_stops tokens a.at x) (deep_stops tokens b.at y) in
+misspelled_once size tokens a b (misplaced one x) (too_deep two y) =
+    absurd (not_both size tokens a.at b.at x y (one_place 64 tokens (misplaced_stops size tokens a.at x) (deep_stops tokens b.at y)))
+misspelled_once size tokens a b (too_deep one x) (misplaced two y) =
+    absurd (not_both size tokens b.at a.at y x (one_place 64 tokens (misplaced_stops size tokens b.at y) (deep_stops tokens a.at x)))
+misspelled_once size tokens a b (too_deep one x) (too_deep two y) =
+    let same = one_place 64 tokens (deep_stops tokens a.at x) (deep_stops tokens b.at y) in
     same_refusal a b (one ∙ sym two) (x.place ∙ ap (place_in size) same.behind ∙ sym y.place)

@@ -3,7 +3,6 @@ use Rattle.std.proofs.Common.{◌≡◌, List, length, Result, Ok, Err, sym, sub
 use Rattle.sopl_base.specs.declared.fault.Refusal.{Refusal}
 use Rattle.sopl_ast.specs.declared.token.Token.{Token}
 use Rattle.sopl_lex.proofs.Meet.{lexes_one}
-use Rattle.parse_grammar.proofs.Prefixes.{prefix_of_prefix}
 use Rattle.sopl_ast.specs.Misspelled.{IsMisspelled}
 use Rattle.parse_laws.proofs.PrefixOnce.{misspelled_once}
 use Rattle.parse_laws.specs.RefusalLaws.{no_tokens, misspelled, OneRefusal}
@@ -28,5 +27,5 @@ one_refusal text a b (no_tokens one) (no_tokens two) = same_refusal a b (lexes_o
 one_refusal text a b (no_tokens one) (misspelled tokens two wrong) = absurd (never_both a tokens (lexes_one text (Err a) (Ok tokens) one two))
 one_refusal text a b (misspelled tokens one wrong) (no_tokens two) = absurd (never_both b tokens (lexes_one text (Err b) (Ok tokens) two one))
 one_refusal text a b (misspelled tokens one wrong) (misspelled others two error) =
-    misspelled_once prefix_of_prefix (length text) tokens a b wrong
+    misspelled_once (length text) tokens a b wrong
     (subst (λ l. IsMisspelled (length text) l b) (sym (same_tokens tokens others (lexes_one text (Ok tokens) (Ok others) one two))) error)

@@ -1,13 +1,8 @@
 -- Tokens that are misspelled.
-use Rattle.std.specs.Prelude.{◌≡◌, ℕ, List, ◌++◌}
+use Rattle.std.specs.Prelude.{◌≡◌, ℕ, List}
 use Rattle.sopl_base.specs.declared.fault.Refusal.{Refusal}
 use Rattle.sopl_ast.specs.declared.token.Token.{Token}
-use Rattle.sopl_ast.specs.Grammar.{IsPrefix}
 use Rattle.sopl_ast.specs.Misspelled.{IsMisspelled}
-
--- a prefix of a prefix is one
-abbrev pub PrefixesAreClosed : Type 0
-PrefixesAreClosed = (n : ℕ) (before behind : List Token) → IsPrefix n (before ++ behind) → IsPrefix n before
 
 -- tokens are refused by one code at one place at most
 abbrev pub MisspelledOnce : Type 0

@@ -10,6 +10,6 @@ pub record BeginsSomeModel (tokens : List Token) : Type 0 where
   pub whole : ModelTree
   pub spelled : Spells (tokens ++ others) whole
 
--- tokens that go along the productions up to where they end are the beginning of some model's tokens
+-- tokens that go along the rows up to where they end are the beginning of some model's tokens
 abbrev pub PrefixesGoOn : Type 0
 PrefixesGoOn = (n : ℕ) (tokens : List Token) → IsPrefix n tokens → BeginsSomeModel tokens

@@ -2,7 +2,7 @@
 
 ghost use Rattle.parse_laws.specs.PrefixLaws.{PrefixesGoOn};
 
-/// Tokens that go along the productions up to where they end are the beginning of some model's tokens. It does nothing when it runs.
+/// Tokens that go along the rows up to where they end are the beginning of some model's tokens. It does nothing when it runs.
 pub fn prefixes_go_on()
     ensures law { PrefixesGoOn }
 {}

@@ -3,6 +3,14 @@ pub mod Pieces
 pub mod Tokens
 pub mod Tree
 pub mod Whole
+-- What tokens spell: the rows of the grammar, and the language in which they are written
+pub mod KindSets
+pub mod Terminals
+pub mod Nonterminals
+pub mod PhraseLanguage
+pub mod ExpressionRows
+pub mod ModelRows
+pub mod RowSpelling
 pub mod Grammar
 pub mod Misspelled
 pub mod Origin

@@ -53,7 +53,7 @@ named_value place name index =
     or_else (known_value place.known name index)
     (or_else (seen_value name index place.stochastics place.scenario) (decided_value name index place))
 
--- the same place with other things known
+-- a place with other things known
 abbrev pub knowing : Place → Known → Place
 knowing place known = record place { known = known }
 

@@ -15,7 +15,7 @@ abbrev pub NoneGoesOn : List Token → List Token → Type 0
 NoneGoesOn before [] = (whole : ModelTree) → Spells before whole → ⊥
 NoneGoesOn before (u ∷ us) = (others : List Token) (whole : ModelTree) → Spells (before ++ u ∷ others) whole → ⊥
 
--- the tokens go along the productions up to a place, and with what stands there no model goes on
+-- the tokens go along the rows up to a place, and with what stands there no model goes on
 pub record IsMisplaced (length : ℕ) (tokens : List Token) (at : ℕ) : Type 0 where
   pub before : List Token
   pub behind : List Token
@@ -24,7 +24,7 @@ pub record IsMisplaced (length : ℕ) (tokens : List Token) (at : ℕ) : Type 0 
   pub prefix : IsPrefix max_nesting before
   pub stuck : NoneGoesOn before behind
 
--- the tokens go along the productions within the greatest nesting up to a token; with it they do so within one more, and not within the greatest
+-- the tokens go along the rows within the greatest nesting up to a token; with it they do so within one more, and not within the greatest
 pub record IsTooDeep (tokens : List Token) (at : ℕ) : Type 0 where
   pub before : List Token
   pub token : Token

@@ -36,7 +36,7 @@ met_within most count (Passed passed ∷ later) = Err (Limit passed)
 abbrev pub most_counted : ℕ
 most_counted = 262144
 
--- the same, with the greatest number that is allowed
+-- the first failure under the greatest number that is allowed
 abbrev pub first_failure : ℕ → List UnfoldEvent → Result ℕ Fault
 first_failure count events = met_within most_counted count events
 

@@ -2,7 +2,7 @@
 
 ghost use Rattle.std.specs.Prelude.{◌≡◌, IfOk};
 ghost use Rattle.sopl_ast.specs.Tree.{Node, Lit, Name as NameTree, Index, Neg, Add, Mul, Cmp, Not, And, Or, Implies, Sum, Abs, AllDifferent, Cumulative, place_of, shape_of};
-ghost use Rattle.sopl_ast.specs.Grammar.{extreme_of};
+ghost use Rattle.sopl_ast.specs.ExpressionRows.{extreme_of};
 ghost use Rattle.sopl_ast.specs.Lists.{trees, terms, factors, binders};
 ghost use Rattle.sopl_ast.specs.Whole.{ForallTree, BlockTree, HardTree, ChanceTree, conses};
 ghost use Rattle.sopl_ast.specs.Constraints.{cons_tree, cons_trees};

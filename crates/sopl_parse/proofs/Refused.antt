@@ -7,9 +7,7 @@ use Rattle.sopl_ast.specs.Misspelled.{misplaced, too_deep}
 use Rattle.sopl_ast.specs.Whole.{ModelTree}
 use Rattle.parse_grammar.specs.Phrases as phrase
 use Rattle.parse_grammar.specs.Reading.{Stop}
-use Rattle.parse_grammar.proofs.CompleteWhole.{model_read}
-use Rattle.parse_grammar.proofs.Refused.{misplaced_at, too_deep_at}
-use Rattle.parse_grammar.proofs.SoundWhole.{model_sound}
+use Rattle.grammar_rows.proofs.ModelReading.{misplaced_at, read_is_spelled, spelled_is_read, too_deep_at}
 use Rattle.parse_exprs.specs.ReaderAnswers.{Fails}
 use Rattle.sopl_parse.specs.Faults.{fault_of, IsSpellingFault}
 use Rattle.parse_exprs.specs.declared.reader.ParseStop.{ParseStop}
@@ -31,17 +29,17 @@ never_both a stop e = cc
 
 -- a model that is read is spelled
 pub read_spelled : (tokens : List Token) (tree : ModelTree) → phrase.model 64 tokens ≡ Ok tree → SpellsWithin tokens tree
-read_spelled tokens tree e = model_sound 64 tokens tree e
+read_spelled tokens tree e = read_is_spelled 64 tokens tree e
 
 -- a model that is spelled is the one that is read
 pub read_only : (tokens : List Token) (tree other : ModelTree) → phrase.model 64 tokens ≡ Ok tree → SpellsWithin tokens other → tree ≡ other
-read_only tokens tree other e is = same_model tree other (sym e ∙ model_read 64 tokens other is)
+read_only tokens tree other e is = same_model tree other (sym e ∙ spelled_is_read 64 tokens other is)
 
 -- where a model is spelled, the reader halts only where memory runs out
 pub halts_only : (tokens : List Token) (length : ℕ) (h : ParseStop) (other : ModelTree) → Fails h (phrase.model 64 tokens) → SpellsWithin tokens other
     → fault_of length h ≡ fault.NoMemory
-halts_only tokens length (halt.Syntax left) other e is = absurd (never_both other (Stop.Syntax left.now) (sym (model_read 64 tokens other is) ∙ e))
-halts_only tokens length (halt.Depth left) other e is = absurd (never_both other (Stop.Depth left.now) (sym (model_read 64 tokens other is) ∙ e))
+halts_only tokens length (halt.Syntax left) other e is = absurd (never_both other (Stop.Syntax left.now) (sym (spelled_is_read 64 tokens other is) ∙ e))
+halts_only tokens length (halt.Depth left) other e is = absurd (never_both other (Stop.Depth left.now) (sym (spelled_is_read 64 tokens other is) ∙ e))
 halts_only tokens length halt.NoMemory other e is = refl
 
 -- the fault says where the tokens go wrong

@@ -1,7 +1,7 @@
 //! Stages and dimensions of declarations.
 
 ghost use Rattle.std.specs.Prelude.{◌≡◌, false, [], ◌∷◌, length, option_map, option_copied};
-ghost use Rattle.sopl_ast.specs.Grammar.{range_place as range_place_of};
+ghost use Rattle.sopl_ast.specs.ModelRows.{range_place as range_place_of};
 ghost use Rattle.sopl_ast.specs.Ranges.{range_of};
 ghost use Rattle.parse_grammar.specs.Reading.{chain as chain_of};
 ghost use Rattle.parse_grammar.specs.Phrases as phrase;

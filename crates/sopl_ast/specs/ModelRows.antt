@@ -4,19 +4,18 @@ use mathlib.Core.Logic.{inl, inr}
 use Rattle.sopl_base.specs.declared.direction.Direction.{Direction}
 use Rattle.sopl_base.specs.declared.direction.Direction.TheVariants.{Minimize, Maximize}
 use Rattle.sopl_ast.specs.declared.token.TokenKind.TheVariants as k
-use Rattle.sopl_ast.specs.Grammar.{range_place}
 use Rattle.sopl_ast.specs.Lists.{BinderTree, trees, binders}
-use Rattle.sopl_ast.specs.Tree.{Tree, Range}
+use Rattle.sopl_ast.specs.Tree.{Tree, Range, Named, Ends, place_of}
 use Rattle.sopl_ast.specs.Whole.{DimTree, InitTree, One, Many, inits, Declaration, IntDecl, RangeDecl, SetDecl, DvarDecl, StochDecl}
 use Rattle.sopl_ast.specs.Whole.{ConsTree, ForallTree, BlockTree, HardTree, ChanceTree, conses, GoalTree, ModelTree}
-use Rattle.grammar_rows.specs.KindSets.{only}
-use Rattle.grammar_rows.specs.Terminals.{Terminal, one_of, a_name}
-use Rattle.grammar_rows.specs.Nonterminals as s
-use Rattle.grammar_rows.specs.Nonterminals.{Nonterminal, ValueOf}
-use Rattle.grammar_rows.specs.PhraseLanguage.{Phrase, terminal, deepened, lookahead, ◌then◌, ◌makes◌, ◌before◌, ◌closed_by◌, ◌or◌}
-use Rattle.grammar_rows.specs.PhraseLanguage.{place_of_mark, enclosed, enclosed_at, option, any, any_until, one_or_more, unless_closed}
-use Rattle.grammar_rows.specs.ExpressionRows.{expression_row, negation_row, operand_row, sum_row, summed_row, arguments_row, compared_row}
-use Rattle.grammar_rows.specs.ExpressionRows.{task_row, tasks_row, range_row, bound_row, bindings_row}
+use Rattle.sopl_ast.specs.KindSets.{only}
+use Rattle.sopl_ast.specs.Terminals.{Terminal, one_of, a_name}
+use Rattle.sopl_ast.specs.Nonterminals as s
+use Rattle.sopl_ast.specs.Nonterminals.{Nonterminal, ValueOf}
+use Rattle.sopl_ast.specs.PhraseLanguage.{Phrase, terminal, deepened, lookahead, ◌then◌, ◌makes◌, ◌before◌, ◌closed_by◌, ◌or◌}
+use Rattle.sopl_ast.specs.PhraseLanguage.{place_of_mark, enclosed, enclosed_at, option, any, any_until, one_or_more, unless_closed}
+use Rattle.sopl_ast.specs.ExpressionRows.{expression_row, negation_row, operand_row, sum_row, summed_row, arguments_row, compared_row}
+use Rattle.sopl_ast.specs.ExpressionRows.{task_row, tasks_row, range_row, bound_row, bindings_row}
 
 -- "minimize" | "maximize"
 abbrev pub direction_sign : Terminal Direction
@@ -25,6 +24,11 @@ direction_sign = one_of k.Minimize Minimize ((k.Maximize, Maximize) ∷ [])
 -- "expected" | "worst", and whether the worst scenario counts
 abbrev pub measure_sign : Terminal Bool
 measure_sign = one_of k.Expected false ((k.Worst, true) ∷ [])
+
+-- the place of a range: that of its name, or of its lower end
+abbrev pub range_place : Range → ℕ
+range_place (Named bytes at) = at
+range_place (Ends lo hi) = place_of lo
 
 -- a dimension with a name that goes over it, or without
 abbrev pub dim_tree : ((ℕ × List ℕ) × Range) ⊎ Range → DimTree

@@ -1,9 +1,9 @@
 -- The language in which rows are written: nine ways to build a phrase, and the forms in which the rows use them.
 use Rattle.std.specs.Prelude.{ℕ, Bool, true, false, ◌&&◌, List, [], ◌∷◌, ◌++◌, Option, Some, None, ◌⊎◌}
 use Rattle.sopl_ast.specs.declared.token.TokenKind.{TokenKind}
-use Rattle.grammar_rows.specs.KindSets.{KindSet, only, kinds_but}
-use Rattle.grammar_rows.specs.Nonterminals.{Nonterminal, ValueOf}
-use Rattle.grammar_rows.specs.Terminals.{Terminal, mark_of, kinds_of}
+use Rattle.sopl_ast.specs.KindSets.{KindSet, only, kinds_but}
+use Rattle.sopl_ast.specs.Nonterminals.{Nonterminal, ValueOf}
+use Rattle.sopl_ast.specs.Terminals.{Terminal, mark_of, kinds_of}
 
 infixr 30 ◌then◌
 infixr 30 ◌before◌

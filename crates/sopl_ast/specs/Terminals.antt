@@ -1,14 +1,24 @@
 -- Terminals: what one token may say.
 use Rattle.std.specs.Prelude.{ℕ, ℤ, nat_eq, Bool, true, false, List, [], ◌∷◌, Option, Some, None}
 use Rattle.sopl_ast.specs.declared.token.TokenKind.{TokenKind}
-use Rattle.parse_grammar.specs.Heads.{literal_value, name_bytes}
-use Rattle.grammar_rows.specs.KindSets.{kind_number, KindSet}
+use Rattle.sopl_ast.specs.declared.token.TokenKind.TheVariants as k
+use Rattle.sopl_ast.specs.KindSets.{kind_number, KindSet}
 
 -- a terminal, by what it says: one of some kinds, each with what it says; a literal, which says its value; or a name, which says its bytes
 pub data Terminal : Type 0 → Type 1 where
   one_of : {X : Type 0} → TokenKind → X → List (TokenKind × X) → Terminal X
   a_literal : Terminal ℤ
   a_name : Terminal (List ℕ)
+
+-- the value of a literal
+abbrev pub literal_value : TokenKind → Option ℤ
+literal_value (k.Lit value) = Some value
+literal_value _ = None
+
+-- the bytes of a name
+abbrev pub name_bytes : TokenKind → Option (List ℕ)
+name_bytes (k.Name bytes) = Some bytes
+name_bytes _ = None
 
 -- a keyword or a symbol, which says nothing more
 abbrev pub mark_of : TokenKind → Terminal (Unit {0})

@@ -7,16 +7,14 @@ use Rattle.sopl_base.specs.declared.comparison.CmpOp.TheVariants.{Eq, Ne, Lt, Le
 use Rattle.sopl_ast.specs.declared.operators.MulOp.{MulOp}
 use Rattle.sopl_ast.specs.declared.operators.MulOp.TheVariants.{Times, Div, Mod}
 use Rattle.sopl_ast.specs.declared.token.TokenKind.TheVariants as k
-use Rattle.sopl_ast.specs.Grammar.{extreme_of}
 use Rattle.sopl_ast.specs.Lists.{BinderTree, trees, terms, factors, binders}
 use Rattle.sopl_ast.specs.Tree as t
-use Rattle.sopl_ast.specs.Tree.{Tree, Range, Node, Named, Ends, place_of, shape_of}
-use Rattle.parse_grammar.specs.Expressions.{element_of}
-use Rattle.grammar_rows.specs.KindSets.{KindSet, kind_number}
-use Rattle.grammar_rows.specs.Terminals.{Terminal, one_of, a_literal, a_name, kinds_of}
-use Rattle.grammar_rows.specs.Nonterminals as s
-use Rattle.grammar_rows.specs.PhraseLanguage.{Phrase, give, terminal, deepened, not_before, lookahead, ◌then◌, ◌makes◌, ◌before◌, ◌or◌}
-use Rattle.grammar_rows.specs.PhraseLanguage.{place_of_mark, enclosed, enclosed_at, operator, option, any, one_or_more}
+use Rattle.sopl_ast.specs.Tree.{Tree, Trees, Shape, Range, Node, Named, Ends, place_of, shape_of}
+use Rattle.sopl_ast.specs.KindSets.{KindSet, kind_number}
+use Rattle.sopl_ast.specs.Terminals.{Terminal, one_of, a_literal, a_name, kinds_of}
+use Rattle.sopl_ast.specs.Nonterminals as s
+use Rattle.sopl_ast.specs.PhraseLanguage.{Phrase, give, terminal, deepened, not_before, lookahead, ◌then◌, ◌makes◌, ◌before◌, ◌or◌}
+use Rattle.sopl_ast.specs.PhraseLanguage.{place_of_mark, enclosed, enclosed_at, operator, option, any, one_or_more}
 
 -- "*" | "div" | "mod"
 abbrev pub factor_sign : Terminal MulOp
@@ -33,6 +31,16 @@ comparison_sign = one_of k.EqEq Eq ((k.NotEq, Ne) ∷ (k.Less, Lt) ∷ (k.LessEq
 -- "min" | "max", and whether it is the greatest
 abbrev pub extreme_sign : Terminal Bool
 extreme_sign = one_of k.Min false ((k.Max, true) ∷ [])
+
+-- a name alone, or an element by its indices
+abbrev pub element_of : List ℕ → List Tree → Shape
+element_of bytes [] = t.Name bytes
+element_of bytes (e ∷ more) = t.Index bytes (trees (e ∷ more))
+
+-- the least or the greatest of these
+abbrev pub extreme_of : Bool → Trees → Shape
+extreme_of false = t.Least
+extreme_of true = t.Greatest
 
 -- a chain of products, or its one part
 abbrev pub product_tree : Tree × List (MulOp × Tree) → Tree

@@ -1,15 +1,15 @@
 -- What a phrase spells: the tokens begin with its spelling, it has a value, and these tokens are left.
 -- `cut` says whether the tokens may end too early: where they do, what is still missing counts as spelled, whatever it is.
+-- The kinds that a choice, a repetition and a lookahead have are for the reader alone: what is spelled does not depend on them.
 use Rattle.std.specs.Prelude.{◌≡◌, ◌⊎◌, ℕ, zero, suc, Bool, true, false, List, [], ◌∷◌, Some}
 use mathlib.Core.Logic.{inl, inr}
 use Rattle.sopl_ast.specs.declared.token.Token.{Token}
 use Rattle.sopl_ast.specs.declared.token.TokenKind.{TokenKind}
-use Rattle.sopl_ast.specs.Whole.{ModelTree}
-use Rattle.grammar_rows.specs.KindSets.{first_kind, has_kind}
-use Rattle.grammar_rows.specs.Terminals.{Terminal, mark_of, says}
-use Rattle.grammar_rows.specs.Nonterminals.{Nonterminal, ValueOf, Model}
-use Rattle.grammar_rows.specs.PhraseLanguage.{Phrase, give, terminal, sequence, mapped, deepened, choice, repetition, not_before, lookahead}
-use Rattle.grammar_rows.specs.ModelRows.{row}
+use Rattle.sopl_ast.specs.KindSets.{first_kind, has_kind}
+use Rattle.sopl_ast.specs.Terminals.{Terminal, mark_of, says}
+use Rattle.sopl_ast.specs.Nonterminals.{Nonterminal, ValueOf}
+use Rattle.sopl_ast.specs.PhraseLanguage.{Phrase, give, terminal, sequence, mapped, deepened, choice, repetition, not_before, lookahead}
+use Rattle.sopl_ast.specs.ModelRows.{row}
 
 -- tokens, a value that is spelled at their front, and those that are left
 abbrev pub SpellsFrom : Type 0 → Type 1
@@ -64,13 +64,3 @@ SpelledInside cut (suc n) s ts x r = IsSpelled cut (SpelledInside cut n) (row s)
 -- the tokens begin with the phrase, and never are more nestings open than this
 abbrev pub IsSpelledAt : Bool → ℕ → {A : Type 0} → Phrase A → SpellsFrom A
 IsSpelledAt cut n p ts x r = IsSpelled cut (SpelledInside cut n) p ts x r
-
--- the tokens spell the model, however deep they nest
-pub record RowsSpell (tokens : List Token) (whole : ModelTree) : Type 0 where
-  pub nesting : ℕ
-  pub spelled : IsSpelledAt false nesting (row Model) tokens whole []
-
--- the tokens go along the rows up to where they end, and never are more nestings open than this
-pub record IsRowPrefix (n : ℕ) (tokens : List Token) : Type 0 where
-  pub whole : ModelTree
-  pub spelled : IsSpelledAt true n (row Model) tokens whole []
