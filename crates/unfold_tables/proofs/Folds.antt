@@ -85,7 +85,7 @@ module _ (capacity : ℤ) (ts : List TaskNumbers) (all : List n.Task) (is : map 
   pub sound_fit : (b f : Bool) → b ≡ sound → b ≡ true → f ≡ fit → f ≡ are_within capacity all
   sound_fit b f p q r = r ∙ sym (whole ∙ ap (λ c. c && fit) (sym p ∙ q))
 
--- the same tasks, and the same capacity
+-- equal tasks under an equal capacity fit alike
 pub same_fit : {a b : ℤ} {ts us : List TaskNumbers} → a ≡ b → ts ≡ us
     → list_all (λ t. int_le (demanded (task_in t).start (map task_in ts)) a) ts ≡ list_all (λ t. int_le (demanded (task_in t).start (map task_in us)) b) us
 same_fit least is = λ i. list_all (λ t. int_le (demanded (task_in t).start (map task_in (is i))) (least i)) (is i)

@@ -7,3 +7,4 @@ mod Upward
 mod Prefixes
 mod TooMany
 mod Named
+mod Sweeping

@@ -3,9 +3,11 @@
 #![tactic(auto)]
 
 mod borrows;
+mod changes;
 mod counts;
 mod elements;
 mod entries;
+mod levels;
 mod listed;
 mod lists;
 mod numbers;

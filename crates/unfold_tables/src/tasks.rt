@@ -1,10 +1,11 @@
 //! Tasks that share a capacity.
 
-ghost use Rattle.std.specs.Prelude.{◌≡◌, ◌<◌, [], ◌∷◌, length, map, int_le, IfOk, IfSome, IfNone};
+ghost use Rattle.std.specs.Prelude.{◌≡◌, ◌<◌, [], ◌∷◌, length, map, IfOk, IfSome, IfNone};
 ghost use Rattle.std.specs.List.{list_all};
 ghost use Rattle.sopl_ast.specs.Numbers as spec;
 ghost use Rattle.unfold_tables.specs.Tables.{task_in, tasks_of as tasks_in};
 
+use crate::levels::all_fit;
 use crate::numbers::with_number;
 use sopl_base::Wide;
 use std::alloc::{AllocError, Global};
@@ -43,7 +44,7 @@ impl TaskNumbers {
 
 /// What tasks ask for together at a time.
 #[tactic(auto, using(crate::proofs::Folds::demands))]
-fn demanded(time: i64, tasks: &[TaskNumbers]) -> Wide
+pub(crate) fn demanded(time: i64, tasks: &[TaskNumbers]) -> Wide
     ensures { result.value ≡ spec.demanded time (map task_in tasks.now) }
 {
     let mut total = Wide::of(0);
@@ -51,13 +52,6 @@ fn demanded(time: i64, tasks: &[TaskNumbers]) -> Wide
         total = with_number(total, false, task.asked(time));
     }
     total
-}
-
-/// Whether at the start of each task those that run then ask for the capacity at most.
-fn all_fit(capacity: i64, tasks: &[TaskNumbers]) -> bool
-    ensures { result ≡ list_all (λ task. int_le (spec.demanded (task_in task).start (map task_in tasks.now)) capacity) tasks.now }
-{
-    tasks.iter().all(|task| demanded(task.start, tasks).value <= i128::from(capacity))
 }
 
 /// Whether all tasks are sound.
@@ -112,5 +106,7 @@ pub fn are_within(alloc: Global, capacity: i64, numbers: &[i64]) -> Result<bool,
     if !all_sound(tasks.as_slice()) {
         return Ok(false);
     }
-    Ok(all_fit(capacity, tasks.as_slice()))
+    let most = Wide::of(capacity);
+    let all = all_fit(alloc, &most, tasks.as_slice())?;
+    Ok(all)
 }

@@ -15,5 +15,6 @@ pub returns : goal.returns
 returns c =
     sound_fit c.args.capacity c.as_slice.result.now _ (ap (map task_in) c.as_slice.ensures.value
     ∙ c.in_ok-tasks.ensures) (ap (λ z. int_lt z (pos 0)) (sym (to_z-of_z w64 c.args.capacity c.ranges.capacity)) ∙ c.if-capacity-lt0.false) c.all_sound.result
-    c.all_fit.result
-    c.all_sound.ensures c.if-not-all_sound.false (c.all_fit.ensures ∙ same_fit (to_z-of_z w64 c.args.capacity c.ranges.capacity) (c.as_slice-2.ensures.value ∙ sym c.as_slice.ensures.value))
+    _
+    c.all_sound.ensures c.if-not-all_sound.false (c.in_ok-all.ensures
+    ∙ same_fit (c.of-most.ensures.same ∙ to_z-of_z w64 c.args.capacity c.ranges.capacity) (c.as_slice-2.ensures.value ∙ sym c.as_slice.ensures.value))
