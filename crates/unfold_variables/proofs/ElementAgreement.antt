@@ -99,6 +99,12 @@ agree_outcomes (pair ∷ later) known keys earlier same found =
     (agree_outcomes later known (insert_key int_cmp keys (value_or_zero known pair.0)) (earlier ++ value_or_zero known pair.0 ∷ [])
     (same_more keys earlier (value_or_zero known pair.0) same) (found ++ outcome_of known pair ∷ []))))
 
+-- a domain and a stage
+pub agree_parts : (known : Known) (range : Range) (e : Option Tree)
+    → Agrees (s.decision_parts known range e) (domain_events known range ++ stage_events known e) (Some (domain_of known range, stage_of known e))
+agree_parts known range e =
+    agree_next _ (domain_of known range) (agree_domain known range) (agree_last (λ k. (domain_of known range, k)) (agree_stage known e))
+
 -- the decision at an index
 pub agree_decision : (name : List ℕ) (range : Range) (e : Option Tree) (known : Known) (index : List ℤ)
     → Agrees (s.decision known name range e index) (domain_events known range ++ stage_events known e)

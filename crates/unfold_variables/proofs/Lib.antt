@@ -3,3 +3,4 @@ pub mod Results
 pub mod Repeated
 pub mod ElementAgreement
 pub mod ArrayAgreement
+pub mod EqualDecisions

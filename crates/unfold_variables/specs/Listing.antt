@@ -65,6 +65,10 @@ outcomes known earlier found [] = done found
 outcomes known earlier found (pair ∷ later) =
     outcome known earlier pair >>= (λ o. outcomes known (insert_key int_cmp earlier o.value) (found ++ o ∷ []) later)
 
+-- a domain and a stage
+abbrev pub decision_parts : Known → Range → Option Tree → Step ((ℤ × ℤ) × ℕ)
+decision_parts known range e = domain known range >>= (λ ends. stage known e >>= (λ k. done (ends, k)))
+
 -- the decision at an index
 abbrev pub decision : Known → List ℕ → Range → Option Tree → List ℤ → Step Decision
 decision known name range e index =

@@ -38,7 +38,7 @@ impl Element<DecisionItem> for DecisionArray<'_> {
 }
 
 /// The decision at an index.
-fn decision(
+pub(crate) fn decision(
     prefix: &IndexPrefix<'_>,
     name: &Name,
     domain: &Ends,

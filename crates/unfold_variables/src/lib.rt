@@ -7,6 +7,7 @@ mod calls;
 mod distributions;
 mod domains;
 mod elements;
+mod equal_decisions;
 mod items;
 #[cfg(test)]
 mod tests;

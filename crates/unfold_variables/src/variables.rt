@@ -9,6 +9,7 @@ ghost use Rattle.unfold_tables.specs.Walks.{Walks};
 
 use crate::arrays::array;
 use crate::elements::{DecisionArray, StochArray};
+use crate::equal_decisions::decision_array;
 use crate::items::{DecisionItem, StochItem};
 use sopl_ast::{Dim, Expr, Name, RangeText};
 use sopl_base::Fault;
@@ -34,7 +35,7 @@ pub fn decisions(
 {
     let known = ConstantScope::new(alloc, table);
     let element = DecisionArray { name, range, stage };
-    array(alloc, &known, count, dims, &element)
+    decision_array(alloc, &known, count, dims, &element)
 }
 
 /// The stochastic variables of a declaration, in lexicographic order of their indices.

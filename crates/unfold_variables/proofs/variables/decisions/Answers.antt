@@ -10,13 +10,13 @@ use Rattle.unfold_variables.proofs.variables.decisions.Goals as goal
 
 pub returns-clause-met : goal.returns-clause-met
 returns-clause-met c =
-    walks_so items _ _ c.array.result
+    walks_so items _ _ c.decision_array.result
     (agree_decisions (table_known c.args.table.now) c.args.name.now c.args.dims.now (range_of c.args.range.now) (option_map (λ (e : Bor Tree). e.now) c.args.stage))
-    (rw c.new-known.ensures at c.array.ensures)
+    (rw c.new-known.ensures at c.decision_array.ensures)
 
 pub returns-clause-stated : goal.returns-clause-stated
 returns-clause-stated c =
-    value_is items _ c.array.result
-    (worth_so items _ _ c.array.result
+    value_is items _ c.decision_array.result
+    (worth_so items _ _ c.decision_array.result
     (agree_decisions (table_known c.args.table.now) c.args.name.now c.args.dims.now (range_of c.args.range.now) (option_map (λ (e : Bor Tree). e.now) c.args.stage))
-    (rw c.new-known.ensures at c.array.ensures))
+    (rw c.new-known.ensures at c.decision_array.ensures))
