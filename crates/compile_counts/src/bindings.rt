@@ -26,7 +26,7 @@ pub fn all_places<'a>(
     ensures places { IfOk result (λ found. map known_in found.items ≡ all_bindings (known_in known.now) (binders over.now)) }
 {
     let mut found = Vec::new(alloc);
-    let mut choices = BinderWalk::new(known)?;
+    let mut choices = BinderWalk::new(known, over.len())?;
     enter(&mut found, &mut choices, whole, over)?;
     'choices: while choices.advance()? {
         enter(&mut found, &mut choices, whole, over)?;

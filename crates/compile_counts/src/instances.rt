@@ -21,8 +21,9 @@ pub fn known_at<'a>(
 ) -> Result<ConstantScope<'a>, AllocError>
     ensures known { IfOk result (λ known. known_in known ≡ placed (table_known table.now) env.now) }
 {
-    let mut known = ConstantScope::new(alloc, table);
-    'bound: for binding in env.as_slice() {
+    let bound = env.as_slice();
+    let mut known = ConstantScope::for_names(alloc, table, bound.len());
+    'bound: for binding in bound {
         known.bind(&binding.0, binding.1)?;
     }
     Ok(known)

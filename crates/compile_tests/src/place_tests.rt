@@ -67,6 +67,8 @@ binders of `forall`: subject to { forall(i in 1..2, j in i..2) i <= j; } -> i1j1
 a set in order: {int} S = {9, 2, 5}; subject to { forall(i in S) sum(j in 1..2) (i * j) >= 0; } -> i2j1; i2j2; | i5j1; i5j2; | i9j1; i9j2; |
 a range by the number of another binder: {int} S = {9, 2, 5}; range R = 3..4; int n = 8; subject to { sum(r in R, s in S, t in n..n + r - 3) t >= 0; } -> r3s2t8; r3s5t8; r3s9t8; r4s2t8; r4s2t9; r4s5t8; r4s5t9; r4s9t8; r4s9t9; |
 elements as ends: int a[i in 1..3] = 2 - i; subject to { forall(i in 1..3) sum(j in a[i]..1) j == i; } -> i1j1; | i2j0; i2j1; | i3j-1; i3j0; i3j1; |
+ten binders, the last over the first two: subject to { sum(a in 1..2, b in a..2, c in 3..3, d in 4..4, e in 5..5, f in 6..6, g in 7..7, h in 8..8, i in 9..9, j in a..b) j >= 0; } -> a1b1c3d4e5f6g7h8i9j1; a1b2c3d4e5f6g7h8i9j1; a1b2c3d4e5f6g7h8i9j2; a2b2c3d4e5f6g7h8i9j2; |
+nine binders around one, over the first two: subject to { forall(a in 1..2, b in a..2, c in 3..3, d in 4..4, e in 5..5, f in 6..6, g in 7..7, h in 8..8, i in b..2) sum(j in a..i) j >= 0; } -> a1b1c3d4e5f6g7h8i1j1; | a1b1c3d4e5f6g7h8i2j1; a1b1c3d4e5f6g7h8i2j2; | a1b2c3d4e5f6g7h8i2j1; a1b2c3d4e5f6g7h8i2j2; | a2b2c3d4e5f6g7h8i2j2; |
 `forall` in `forall`: subject to { forall(i in 1..2) { sum(j in 1..i) j >= 0; forall(k in i..2) { sum(j in k..k) j >= i; } } } -> i1j1; | i1k1j1; | i1k2j2; | i2j1; i2j2; | i2k2j2; |
 ";
 

@@ -8,3 +8,5 @@ pub mod Body
 pub mod TraversalAgreement
 pub mod Growing
 pub mod Outcomes
+mod Copying
+mod Placing

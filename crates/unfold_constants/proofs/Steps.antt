@@ -17,7 +17,7 @@ At (Err f) outcome v = outcome ≡ Err f
 pub record Agrees {A : Type 0} (step : Step A) (events : List UnfoldEvent) (v : Option A) : Type 0 where
   pub at : (count : ℕ) → At (first_failure count events) (step count) v
 
--- the same occurrences, the same value
+-- a step that agrees with occurrences agrees with equal ones
 pub agree_events : {A : Type 0} {s : Step A} {ms ns : List UnfoldEvent} {v : Option A} → ms ≡ ns → Agrees s ms v → Agrees s ns v
 agree_events {A} {s} {ms} {ns} {v} is a = subst (λ events. Agrees s events v) is a
 

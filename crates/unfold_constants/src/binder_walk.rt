@@ -25,13 +25,13 @@ pub struct BinderWalk<'a> {
 }
 
 impl<'a> BinderWalk<'a> {
-    /// Where no name is open.
-    pub fn new(known: &ConstantScope<'a>) -> Result<BinderWalk<'a>, AllocError>
+    /// Where no name is open, and so many are to be.
+    pub fn new(known: &ConstantScope<'a>, names: usize) -> Result<BinderWalk<'a>, AllocError>
         ensures here { IfOk result (λ choices. known_in choices.here ≡ known_in known.now) }
         ensures opened { IfOk result (λ choices. open_in choices ≡ []) }
     {
         Ok(BinderWalk {
-            here: known.copy()?,
+            here: known.copy_for(names)?,
             open: Vec::new(known.alloc),
         })
     }

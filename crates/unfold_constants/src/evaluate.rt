@@ -380,7 +380,7 @@ impl<'a> ConstantScope<'a> {
         ensures { Answers (λ u. found.new.items) count.new.counted result
             (spec.over (known_in self.now) body.now.whole (binders over.now) (each_of body.now.whole (map now_of body.now.parts.now)) found.old.items count.old.counted) }
     {
-        let mut choices = BinderWalk::new(self)?;
+        let mut choices = BinderWalk::new(self, over.len())?;
         ConstantScope::enter(&mut choices, count, over, body, found)?;
         'choices: while choices.advance()? {
             count.add()?;

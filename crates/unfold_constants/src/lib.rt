@@ -7,6 +7,7 @@ mod constant_places;
 mod constant_scope;
 mod evaluate;
 mod refusals;
+mod scopes;
 mod walk;
 
 pub use binder_walk::BinderWalk;

@@ -147,7 +147,7 @@ impl<'a> ConstantScope<'a> {
         ensures { Answers (λ u. u) count.new.counted result
             (spec.over (known_in self.now) (binders over.now) (spec.walk_body (map now_of body.now)) count.old.counted) }
     {
-        let mut choices = BinderWalk::new(self)?;
+        let mut choices = BinderWalk::new(self, over.len())?;
         ConstantScope::walk_inside(&mut choices, count, over, body)?;
         'choices: while choices.advance()? {
             count.add()?;

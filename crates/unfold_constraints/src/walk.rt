@@ -91,7 +91,7 @@ impl<'a, 'b> Place<'a, 'b> {
         ensures { Answers (λ u. found_in found.new) count.new.counted result
             (spec.over (known_in self.now.known.now) (binders over.now) (spec.part part.now.first (cons_tree part.now.constraint.now)) (found_in found.old) count.old.counted) }
     {
-        let mut choices = BinderWalk::new(self.known)?;
+        let mut choices = BinderWalk::new(self.known, over.len())?;
         Place::enter(self.alloc, &mut choices, count, over, part, found)?;
         'choices: while choices.advance()? {
             count.add()?;

@@ -7,4 +7,4 @@ use Rattle.compile_counts.proofs.Copied.{bound_further}
 use Rattle.compile_counts.proofs.instances.known_at.Given as goal
 
 abbrev pub invariant-bound : goal.invariant-bound
-invariant-bound l = bound_further (known_in l.known) (drop l.binding-index l.binding-items) ≡ placed (table_known l.table) l.env
+invariant-bound l = bound_further (known_in l.known) (drop l.binding-index l.bound) ≡ placed (table_known l.table) l.env
