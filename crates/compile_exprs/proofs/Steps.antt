@@ -150,7 +150,7 @@ pub operated : (setting : Scenarios) (work : Lowering) (id : ℕ) (new : NewTerm
     → operand_subterms t ≡ subterms (term_at (things_of work) id) → HasOperands setting work work new t
 operated setting work id new t ready operand is all = record { extends = extends_not setting work ready; is = is; small = ap (first_large (root_in setting)) all ∙ operand.small }
 
--- the same terms
+-- a list of terms under an equal list of numbers
 pub same_terms : (setting : Scenarios) (before work : Lowering) (given ids : List TermId) (ts : Terms) → given ≡ ids → AreTerms setting before work ids ts → AreTerms setting before work given ts
 same_terms setting before work given ids ts same are = subst (λ l. AreTerms setting before work l ts) (sym same) are
 

@@ -26,10 +26,7 @@ fn empty_array(alloc: Global) -> Result<Table, AllocError>
 {
     let mut sets = Vec::new(alloc);
     sets.push(Vec::new(alloc))?;
-    Ok(Table {
-        sets,
-        elements: Vec::new(alloc),
-    })
+    Ok(Table::of(sets, Vec::new(alloc)))
 }
 
 /// Adds what is never defined: an element of an array that has none.

@@ -178,7 +178,7 @@ impl NumberedScenario<'_, '_> {
     {
         let sets = copied(alloc, array.sets.as_slice())?;
         let elements = self.elements(alloc, array.origins.as_slice())?;
-        Ok(Table { sets, elements })
+        Ok(Table::of(sets, elements))
     }
 
     /// The numbers and cells that values are, by where they come from.

@@ -63,7 +63,7 @@ impl Builder {
     {
         let elements = self.elements_of(items)?;
         let sets = copied(self.draft.alloc, sets)?;
-        self.array(Table { sets, elements })
+        self.array(Table::of(sets, elements))
     }
 
     /// An array by its sets and its elements, which are numbers and cells as they are: no term is added, so no size is measured.

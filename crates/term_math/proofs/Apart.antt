@@ -42,6 +42,9 @@ table_is table sets is complete apart = record {
 pub empty_is : (table : Table) (set : Vec ℤ Global) → table.sets.items ≡ set ∷ [] → set.items ≡ [] → length table.elements.items ≡ 0 → IsTable (table_of table)
 empty_is table set sets numbers none = table_is table ([] ∷ []) (ap sets_of sets ∙ ap (λ (s : List ℤ). s ∷ []) numbers) none refl
 
+pub turned_is : (table : Table) (set : Vec ℤ Global) → table.sets.items ≡ set ∷ [] → set.items ≡ pos 3 ∷ pos 1 ∷ [] → length table.elements.items ≡ 2 → IsTable (table_of table)
+turned_is table set sets numbers two = table_is table ((pos 3 ∷ pos 1 ∷ []) ∷ []) (ap sets_of sets ∙ ap (λ (s : List ℤ). s ∷ []) numbers) two refl
+
 pub grid_is : (table : Table) (rows columns : Vec ℤ Global) → table.sets.items ≡ rows ∷ columns ∷ [] → rows.items ≡ pos 1 ∷ pos 3 ∷ [] → columns.items ≡ pos 2 ∷ pos 5 ∷ pos 7 ∷ []
     → length table.elements.items ≡ 6 → IsTable (table_of table)
 grid_is table rows columns sets first second six =

@@ -16,3 +16,5 @@ pub mod Distinct
 pub mod Apart
 pub mod Narrow
 pub mod Indexed
+pub mod Ascents
+pub mod Lacking

@@ -35,7 +35,7 @@ pub sum_room : (root : Box) (xs : List WideCoefficient) (i : ℕ) (x : WideCoeff
     → cells_weight root (wide_cells (drop (i + 1) xs)) + unsigned_abs x.k * weight_of (cell_ends root x.cell) < 2 ^ 127
 sum_room root xs i x room below at = omega (arith, room, next_weight root xs i x below at, drop_lighter root i xs)
 
--- the same for a loop that counts down
+-- there is room for one weight more, in a loop that counts down
 pub times_back : (root : Box) (xs : List WideCoefficient) (i : ℕ) (d : WideCoefficient) → cells_weight root (wide_cells xs) < 2 ^ 127 → 0 < i → i ≤ length xs
     → unsigned_abs (get_or xs (i - 1) d).k * weight_of (cell_ends root (get_or xs (i - 1) d).cell) < 2 ^ 127
 times_back root xs i d room positive most =

@@ -109,7 +109,7 @@ pub room_for_cells : (f g : Form) (factor : ℤ) → mass_of f + unsigned_abs fa
 room_for_cells f g factor room =
     omega (arith, spread_left (unsigned_abs factor) (unsigned_abs g.constant) (mass g.cells), room)
 
--- the same for a loop that counts down
+-- there is room for one coefficient more, in a loop that counts down
 pub room_back : (factor : ℤ) (base : List Coefficient) (xs : List own.Coefficient) (i : ℕ) (d : own.Coefficient) → 0 < i → i ≤ length xs
     → mass base + unsigned_abs factor * mass (cells_of xs) < 2 ^ 127 → mass (combined factor base (cells_of (drop i xs))) + unsigned_abs (factor *ℤ (get_or xs (i - 1) d).k) < 2 ^ 127
 room_back factor base xs i d positive most room =

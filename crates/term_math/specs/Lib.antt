@@ -1,6 +1,7 @@
 pub mod Shown
 pub mod Sums
 pub mod Made
+pub mod Ascending
 pub mod Kept
 pub mod Within
 pub mod Sights

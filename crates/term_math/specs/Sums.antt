@@ -49,7 +49,7 @@ mass_of f = unsigned_abs f.constant + mass f.cells
 abbrev pub weight_in : Box → Form → ℕ
 weight_in root f = unsigned_abs f.constant + cells_weight root f.cells
 
--- the same as it is kept with 64 bits
+-- a coefficient as it is kept, with 64 bits
 abbrev pub narrow : WideCoefficient → own.Coefficient
 narrow c = record { cell = c.cell; k = c.k }
 

@@ -1,6 +1,6 @@
 -- The elements of an array whose indices lie within intervals.
-use Rattle.std.specs.Prelude.{◌≡◌, ℤ, Bool, true, false, ◌&&◌, List, [], ◌∷◌, map, Option, Some, None, option_map, if◌then◌else◌}
-use Rattle.std.specs.List.{filter}
+use Rattle.std.specs.Prelude.{◌≡◌, ℤ, Bool, true, false, ◌&&◌, ◌||◌, not, List, [], ◌∷◌, map, Option, Some, None, option_map, if◌then◌else◌}
+use Rattle.std.specs.List.{filter, list_any}
 use Rattle.box_problem.specs.Box.{Box}
 use Rattle.term_language.specs.Arrays.{Entry, indices, paired, lies_in, is_covered}
 use Rattle.term_language.specs.Ends.{Ends, has, hull, hull_of}
@@ -46,6 +46,12 @@ wide_sets (set ∷ sets) = if is_one set then wide_sets sets else set ∷ wide_s
 abbrev pub IsWideFirst : List (List ℤ) → Type 0
 IsWideFirst [] = Unit
 IsWideFirst (set ∷ sets) = is_one set ≡ false
+
+-- one of the intervals has no number of the set beside it
+abbrev pub lacks : List Ends → List (List ℤ) → Bool
+lacks [] sets = false
+lacks (r ∷ rs) [] = false
+lacks (r ∷ rs) (set ∷ sets) = not (list_any (has r) set) || lacks rs sets
 
 -- an interval has the number of a set of one number
 abbrev pub has_one : Ends → List ℤ → Bool

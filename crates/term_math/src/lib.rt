@@ -4,6 +4,8 @@
 #![tactic(auto)]
 
 mod absolute;
+mod arrays;
+mod ascending;
 mod combinations;
 mod divisions;
 mod elements;

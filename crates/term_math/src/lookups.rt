@@ -1,9 +1,11 @@
 //! The element at an index, one dimension after the other.
 
-ghost use Rattle.std.specs.Prelude.{◌≡◌, ◌<◌, ◌*◌, AllPairs, ℕ, [], ◌∷◌, length, option_map};
+ghost use Rattle.std.specs.Prelude.{◌≡◌, ◌<◌, ◌*◌, AllPairs, ℕ, [], ◌∷◌, length, option_map, true};
 ghost use Rattle.term_language.specs.Arrays.{item_in, paired};
+ghost use Rattle.term_math.specs.Ascending.{ascends};
 ghost use Rattle.term_math.specs.Kept.{block, item_of, items_of};
 
+use crate::ascending::is_missing;
 use crate::elements::Element;
 
 /// The elements at the indices that begin with a number, if the set has it, where their count is given.
@@ -65,7 +67,13 @@ pub(crate) fn width(elements: &[Element], set: &[i64]) -> usize
 /// The elements at the indices that begin with a number, if the set has it: each number of the set has equally many, and where there are
 /// any, no number stands twice in it.
 #[tactic(auto, using(crate::proofs::Blocks::no_numbers, crate::proofs::Blocks::divided_count))]
-pub(crate) fn part<'a>(elements: &'a [Element], set: &[i64], number: &i64) -> Option<&'a [Element]>
+pub(crate) fn part<'a>(
+    elements: &'a [Element],
+    set: &[i64],
+    number: &i64,
+    ascending: bool,
+) -> Option<&'a [Element]>
+    requires ascends { ascending ≡ true → ascends set.now ≡ true }
     requires distinct { 0 < length elements.now → AllPairs (λ p q. ¬ p ≡ q) set.now }
     ensures { (width : ℕ) → length elements.now ≡ length set.now * width → option_map (λ found. found.now) result ≡ block number.now set.now width elements.now }
 {
@@ -73,6 +81,9 @@ pub(crate) fn part<'a>(elements: &'a [Element], set: &[i64], number: &i64) -> Op
         return None;
     }
     if elements.len() % set.len() != 0 {
+        return None;
+    }
+    if is_missing(set, ascending, number) {
         return None;
     }
     halved(elements, set, elements.len() / set.len(), number)

@@ -1,16 +1,18 @@
 //! The elements of an array whose indices lie within intervals.
 
-ghost use Rattle.std.specs.Prelude.{◌≡◌, ◌+ℤ◌, ◌<ℤ◌, ◌&&◌, pos, [], None, Some, if◌then◌else◌, length, option_map};
-ghost use Rattle.std.specs.List.{list_any};
+ghost use Rattle.std.specs.Prelude.{◌≡◌, ◌+ℤ◌, ◌<ℤ◌, ◌&&◌, pos, true, [], None, Some, if◌then◌else◌, length, option_map};
+ghost use Rattle.std.specs.List.{list_all, list_any};
 ghost use Rattle.std.specs.Ordering.{int_eq};
 ghost use Rattle.term_language.specs.Arrays as arrays;
 ghost use Rattle.term_language.specs.Ends as intervals;
 ghost use Rattle.term_language.specs.Marks as marks;
 ghost use Rattle.term_language.specs.declared.answers.Defined.TheVariants.{Always, Maybe};
+ghost use Rattle.term_math.specs.Ascending.{ascends};
 ghost use Rattle.term_math.specs.Shown.{box_in, ends_of};
 ghost use Rattle.term_math.specs.Kept.{items_of, sets_of, table_of};
-ghost use Rattle.term_math.specs.Within.{IsWideFirst, allowed_ends, grown, has_one, joined, known_of, none_known, ranges_of, reached_ends, seen_ends, seen_mark, wide_sets};
+ghost use Rattle.term_math.specs.Within.{IsWideFirst, allowed_ends, grown, has_one, joined, known_of, lacks, none_known, ranges_of, reached_ends, seen_ends, seen_mark, wide_sets};
 
+use crate::ascending::{has_none, is_missing};
 use crate::elements::Element;
 use crate::ends::Ends;
 use crate::lookups::width;
@@ -35,10 +37,14 @@ fn has(ends: &Ends, number: &i64) -> bool
     ends.low <= *number && *number <= ends.high
 }
 
-/// Whether a set has a number.
-fn has_number(set: &[i64], number: &i64) -> bool
+/// Whether a set has a number: where it ascends, halving tells that it has not.
+fn has_number(set: &[i64], ascending: bool, number: &i64) -> bool
+    requires ascends { ascending ≡ true → ascends set.now ≡ true }
     ensures { result ≡ list_any (int_eq number.now) set.now }
 {
+    if is_missing(set, ascending, number) {
+        return false;
+    }
     set.iter().any(|here| *number == *here)
 }
 
@@ -51,7 +57,8 @@ fn is_same(a: &i64, b: &i64) -> bool
 
 /// Whether a set has a number, which is looked for at one place first.
 #[tactic(auto, using(crate::proofs::Covering::number_there))]
-fn has_number_at(set: &[i64], place: usize, number: &i64) -> bool
+fn has_number_at(set: &[i64], ascending: bool, place: usize, number: &i64) -> bool
+    requires ascends { ascending ≡ true → ascends set.now ≡ true }
     ensures { result ≡ list_any (int_eq number.now) set.now }
 {
     if place < set.len() {
@@ -59,7 +66,7 @@ fn has_number_at(set: &[i64], place: usize, number: &i64) -> bool
             return true;
         }
     }
-    has_number(set, number)
+    has_number(set, ascending, number)
 }
 
 /// The place of a number in a set that ascends; where it does not, any.
@@ -83,12 +90,13 @@ fn behind_first(ends: &Ends) -> Ends
 
 /// Whether each number of an interval is in a set.
 #[tactic(auto, using(crate::proofs::Covering::next_covered, crate::proofs::Covering::not_covered, crate::proofs::Covering::last_covered))]
-pub fn covered(ends: &Ends, set: &[i64]) -> bool
+pub fn covered(ends: &Ends, set: &[i64], ascending: bool) -> bool
+    requires ascends { ascending ≡ true → ascends set.now ≡ true }
     ensures { result ≡ arrays.is_covered (ends_of ends.now) set.now }
 {
     let mut left = *ends;
     let mut place = place_in(set, &left.low);
-    while has_number_at(set, place, &left.low) {
+    while has_number_at(set, ascending, place, &left.low) {
         if left.low >= left.high {
             return true;
         }
@@ -174,6 +182,24 @@ fn reached(
     hull
 }
 
+/// Whether it is told that the interval of some index has no number of its set, where the sets of two numbers or more ascend.
+fn is_lacking(ranges: &Ranges, sets: &[Vec<i64>]) -> bool
+    requires ascend { list_all ascends (wide_sets (sets_of sets.now)) ≡ true }
+    ensures { result ≡ true → lacks (ranges_of ranges.now) (wide_sets (sets_of sets.now)) ≡ true }
+{
+    let wide = from_wide(sets);
+    let Ranges::First(ends, later) = ranges else {
+        return false;
+    };
+    let Some((set, behind)) = wide.split_first() else {
+        return false;
+    };
+    if has_none(ends, set.as_slice()) {
+        return true;
+    }
+    is_lacking(later, behind)
+}
+
 /// Whether an interval has the number of a set that has one alone.
 fn allows(ends: &Ends, set: &[i64]) -> bool
     ensures { result ≡ has_one (ends_of ends.now) set.now }
@@ -207,13 +233,14 @@ impl Indices {
     }
 
     /// Whether an index more has only numbers of its set, as the others have.
-    fn covered_with(&self, ends: &Ends, set: &[i64]) -> bool
+    fn covered_with(&self, ends: &Ends, set: &[i64], ascending: bool) -> bool
+        requires ascends { ascending ≡ true → ascends set.now ≡ true }
         ensures { result ≡ (arrays.is_covered (ends_of ends.now) set.now && self.now.covered) }
     {
         if !self.covered {
             return false;
         }
-        covered(ends, set)
+        covered(ends, set, ascending)
     }
 
     /// Whether an index more may have the number of its set, if that is one alone, as the others may.
@@ -236,27 +263,41 @@ impl Indices {
         both(self.mark, Defined::Maybe)
     }
 
-    /// With an index in front, of which the interval, the mark and the set are given.
-    pub fn with(&self, ends: &Ends, mark: Defined, set: &[i64]) -> Indices
+    /// With an index in front, of which the interval, the mark and the set are given, and whether it is known that this ascends.
+    pub fn with(&self, ends: &Ends, mark: Defined, set: &[i64], ascending: bool) -> Indices
+        requires ascends { ascending ≡ true → ascends set.now ≡ true }
         ensures mark { result.mark ≡ marks.both mark self.now.mark }
         ensures covered { result.covered ≡ (arrays.is_covered (ends_of ends.now) set.now && self.now.covered) }
         ensures allowed { result.allowed ≡ (has_one (ends_of ends.now) set.now && self.now.allowed) }
     {
         Indices {
             mark: both(mark, self.mark),
-            covered: self.covered_with(ends, set),
+            covered: self.covered_with(ends, set, ascending),
             allowed: self.allowed_with(ends, set),
         }
     }
 }
 
 impl Table {
+    /// Whether it is told that the interval of some index has no number of its set; of sets that do not ascend nothing is told.
+    fn is_barred(&self, ranges: &Ranges) -> bool
+        ensures { result ≡ true → lacks (ranges_of ranges.now) (wide_sets (table_of self.now).sets) ≡ true }
+    {
+        if !self.ascending {
+            return false;
+        }
+        is_lacking(ranges, self.sets.as_slice())
+    }
+
     /// The elements that the intervals of indices allow over a box, of which this is known: their hull, if there are any.
     fn allowed_hull(&self, ranges: &Ranges, indices: &Indices, view: &BoxView) -> Option<Ends>
         requires complete { length (table_of self.now).items ≡ length (arrays.indices (table_of self.now).sets) }
         ensures { option_map ends_of result ≡ grown None (allowed_ends (box_in view.now) (table_of self.now) (Some (known_of indices.now (ranges_of ranges.now)))) }
     {
         if !indices.allowed {
+            return None;
+        }
+        if self.is_barred(ranges) {
             return None;
         }
         reached(

@@ -1,6 +1,7 @@
 -- The indices of an element, from the last one to the first.
-use Rattle.std.proofs.Common.{◌≡◌, ℕ, suc, ◌<◌, ℤ, pos, Bool, ◌&&◌, List, [], ◌∷◌, ◌++◌, map, length, Some, None, Vec, Global, if◌then◌else◌, arith, refl, ap, sym, ◌∙◌}
+use Rattle.std.proofs.Common.{◌≡◌, ℕ, suc, ◌<◌, ℤ, pos, Bool, true, ◌&&◌, List, [], ◌∷◌, ◌++◌, map, length, Some, None, Vec, Global, if◌then◌else◌, arith, refl, ap, sym, ◌∙◌}
 use Rattle.std.specs.List.{filter}
+use Rattle.std.proofs.lemmas.Bool.{and_from}
 use Rattle.box_problem.specs.Box.{Box}
 use Rattle.term_language.specs.declared.answers.Defined.{Defined}
 use Rattle.term_language.specs.declared.answers.Defined.TheVariants.{Never, Always}
@@ -9,7 +10,9 @@ use Rattle.term_language.specs.Ends as ends
 use Rattle.term_language.specs.Marks.{both, all_marks}
 use Rattle.term_language.specs.Rules.{Reading, interval, mark, marks, intervals, item_ends, if_any, reached_mark}
 use Rattle.term_language.specs.Terms.{Item, Table}
+use Rattle.term_language.proofs.FormValues.{and_first, and_second}
 use Rattle.term_language.proofs.Marks.{both_always, both_grouped, both_never}
+use Rattle.term_math.specs.Ascending.{all_ascend, ascends}
 use Rattle.term_math.specs.Kept.{items_of, sets_of, table_of}
 use Rattle.term_math.specs.declared.elements.Element.{Element}
 use Rattle.term_math.specs.Within.{Known, is_one, has_one, none_known, known_of, with_dimension, with_dimensions}
@@ -52,6 +55,15 @@ no_items_there b t table m es a s found none zero is =
 sets_behind : (xs : List (Vec ℤ Global)) (x : Vec ℤ Global) → sets_of (xs ++ x ∷ []) ≡ sets_of xs ++ x.items ∷ []
 sets_behind [] x = refl
 sets_behind (y ∷ xs) x = ap (λ (ys : List (List ℤ)). y.items ∷ ys) (sets_behind xs x)
+
+pub last_ascends : (sets ss : List (Vec ℤ Global)) (set : Vec ℤ Global) → sets ≡ ss ++ set ∷ [] → all_ascend sets ≡ true → (all_ascend ss ≡ true) × (ascends set.items ≡ true)
+last_ascends sets ss set is up = parts ss (sym (ap all_ascend is) ∙ up)
+  where
+    parts : (xs : List (Vec ℤ Global)) → all_ascend (xs ++ set ∷ []) ≡ true → (all_ascend xs ≡ true) × (ascends set.items ≡ true)
+    parts [] all = (refl, and_first (ascends set.items) true all)
+    parts (x ∷ xs) all =
+        let later = parts xs (and_second (ascends x.items) (all_ascend (xs ++ set ∷ [])) all) in
+        (and_from (ascends x.items) (all_ascend xs) (and_first (ascends x.items) (all_ascend (xs ++ set ∷ [])) all) later.0, later.1)
 
 intervals_behind : (reading : Reading) (root b : Box) (all : List Thing) (xs : List ℕ) (x : ℕ) → intervals reading root b (terms_at all (xs ++ x ∷ []))
     ≡ intervals reading root b (terms_at all xs) ++ interval reading root b (term_at all x) ∷ []

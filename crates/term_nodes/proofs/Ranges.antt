@@ -65,7 +65,7 @@ pub operation_alone : (reading : Reading) (root b : Box) (op : Operation) (t : r
 operation_alone reading root b op t plain a m plain_is unmet is marked =
     operation_seen reading root b op t plain a m plain_is (is ∙ ap (λ (f : Bool). unless_folded f (made op (interval reading root b t))) (sym unmet)) marked
 
--- the same for the least and the greatest
+-- whether the least or the greatest of terms is folded
 extreme_folds : (root : Box) (e : Extreme) (t : rule.Term) (later : rule.Terms) → (form root (extreme_term e t later)).plain
     ≡ folds (form root t ∷ forms root later) (both (mark Near root root t) (all_marks (marks Near root root later)))
 extreme_folds root e t later =

@@ -102,7 +102,7 @@ cond_below limit [] i x below there at = omega (arith, there)
 cond_below limit (y ∷ ys) zero x below there at = subst (λ (p : ℕ). p < limit) (sym at) below.0
 cond_below limit (y ∷ ys) (suc i) x below there at = cond_below limit ys i x below.1 (omega (arith, there)) at
 
--- the same for loops that count down
+-- a number of the list is below the limit, in a loop that counts down
 pub cond_back : (limit : ℕ) (xs : List ℕ) (i d : ℕ) → AllBelow limit xs → 0 < i → i ≤ length xs → get_or xs (i - 1) d < limit
 cond_back limit xs i d below positive most =
     let there : i - 1 < length xs = omega (arith, positive, most) in

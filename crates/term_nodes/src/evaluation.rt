@@ -1,12 +1,13 @@
 //! What terms and conditions are over a box.
 
-ghost use Rattle.std.specs.Prelude.{◌≡◌, ◌<◌, ◌≤◌, [], length, negsuc};
+ghost use Rattle.std.specs.Prelude.{◌≡◌, ◌<◌, ◌≤◌, true, [], length, negsuc};
 ghost use Rattle.term_language.specs.Arrays as arrays;
 ghost use Rattle.term_language.specs.Ends as ends;
 ghost use Rattle.term_language.specs.Forms as forms;
 ghost use Rattle.term_language.specs.Marks as marks;
 ghost use Rattle.term_language.specs.Rules as rule;
 ghost use Rattle.term_language.specs.Terms as term;
+ghost use Rattle.term_math.specs.Ascending.{all_ascend};
 ghost use Rattle.term_math.specs.Shown.{box_in, ends_of, form_of};
 ghost use Rattle.term_math.specs.Kept.{sets_of, table_of};
 ghost use Rattle.term_math.specs.Within.{known_of, ranges_of, with_dimensions};
@@ -394,6 +395,7 @@ impl<'a> Evaluator<'a> {
         requires exists { limit ≤ length self.now.items.now }
         requires below { AllBelow limit at.now }
         requires complete { length (table_of found.now).items ≡ length (arrays.indices (table_of found.now).sets) }
+        requires ascend { found.now.ascending ≡ true → all_ascend sets.now ≡ true }
         ensures { sight_of result ≡ indexed_sight (reading_of self.now) (box_in self.now.root) (box_in self.now.view) (table_of found.now) (terms_at (things self.now.items.now) at.now)
             (sets_of sets.now) indices.now.mark (known_of indices.now (ranges_of behind.now)) }
     {
@@ -405,7 +407,7 @@ impl<'a> Evaluator<'a> {
                 return AbstractValue::never(found.hull(&self.view));
             };
             let range = self.range(*last);
-            let more = known.with(&range.ends, range.mark, set.as_slice());
+            let more = known.with(&range.ends, range.mark, set.as_slice(), found.ascending);
             if set.len() != 1 {
                 let ranges = Ranges::First(range.ends, &*behind);
                 return self.indexed(limit, found, before, others, &more, &ranges);

@@ -344,7 +344,7 @@ fn pair(alloc: Global, first: Element, second: Element) -> Result<Table, AllocEr
     let mut sets = Vec::new(alloc);
     sets.push(set)?;
     let elements = Vec::from_slice(alloc, &[first, second])?;
-    Ok(Table { sets, elements })
+    Ok(Table::of(sets, elements))
 }
 
 /// An array with an index set that is empty.
@@ -354,10 +354,7 @@ fn empty(alloc: Global) -> Result<Table, AllocError>
 {
     let mut sets = Vec::new(alloc);
     sets.push(Vec::new(alloc))?;
-    Ok(Table {
-        sets,
-        elements: Vec::new(alloc),
-    })
+    Ok(Table::of(sets, Vec::new(alloc)))
 }
 
 /// The element of an array at a number.

@@ -3,8 +3,9 @@ ghost use Rattle.term_language.specs.Laws.{IsTable};
 ghost use Rattle.term_math.specs.Kept.{table_of};
 
 use super::*;
+use crate::ascending::is_ascending;
 use crate::ranges::{Indices, Ranges, covered};
-use crate::views::Part;
+use crate::views::{BoxView, Part};
 use std::alloc::{AllocError, Global};
 use term_language::Defined;
 
@@ -29,7 +30,7 @@ fn grid(alloc: Global) -> Result<Table, AllocError>
             Element::Free(0),
         ],
     )?;
-    Ok(Table { sets, elements })
+    Ok(Table::of(sets, elements))
 }
 
 /// An array with an index set that is empty.
@@ -39,10 +40,34 @@ fn empty(alloc: Global) -> Result<Table, AllocError>
 {
     let mut sets = Vec::new(alloc);
     sets.push(Vec::new(alloc))?;
-    Ok(Table {
-        sets,
-        elements: Vec::new(alloc),
-    })
+    Ok(Table::of(sets, Vec::new(alloc)))
+}
+
+/// An array over 3 and 1, which do not ascend.
+#[tactic(auto, using(crate::proofs::Apart::turned_is))]
+fn turned(alloc: Global) -> Result<Table, AllocError>
+    ensures proper { IfOk result (λ table. IsTable (table_of table)) }
+{
+    let set = Vec::from_slice(alloc, &[3, 1])?;
+    let mut sets = Vec::new(alloc);
+    sets.push(set)?;
+    let elements = Vec::from_slice(alloc, &[Element::Fixed(30), Element::Fixed(10)])?;
+    Ok(Table::of(sets, elements))
+}
+
+#[test]
+fn elements_over_numbers_that_do_not_ascend(rt: HostRuntime) {
+    let table = turned(rt.alloc()).expect(&rt, "memory");
+    let view = BoxView {
+        lows: &[],
+        highs: &[],
+        part: None,
+    };
+    assert!(rt; !table.ascending);
+    assert_eq!(rt; table.known(&[1]), Some(Element::Fixed(10)), "the last");
+    assert_eq!(rt; table.known(&[3]), Some(Element::Fixed(30)), "the first");
+    assert_eq!(rt; table.known(&[2]), None, "no such number");
+    assert_eq!(rt; table.hull(&view), Ends { low: 10, high: 30 }, "the hull");
 }
 
 #[test]
@@ -114,7 +139,11 @@ fn covered_intervals(rt: HostRuntime) {
         ("an empty set", 0, 0, &[], false),
     ];
     for (word, low, high, set, want) in cases {
-        assert_eq!(rt; covered(&Ends { low, high }, set), want, "{word}");
+        assert_eq!(rt;
+            covered(&Ends { low, high }, set, is_ascending(set)),
+            want,
+            "{word}"
+        );
     }
 }
 
@@ -148,12 +177,19 @@ fn elements_within_intervals(rt: HostRuntime) {
         ("no row", (2, 2), (2, 7), (-7, 35), Defined::Never),
         ("no column", (1, 1), (3, 4), (-7, 35), Defined::Never),
     ];
+    let rows: &[i64] = &[1, 3];
+    let columns: &[i64] = &[2, 5, 7];
     for (word, first, second, hull, mark) in cases {
         let behind = Ranges::First(ends(second), &Ranges::End);
         let ranges = Ranges::First(ends(first), &behind);
         let indices = Indices::none()
-            .with(&ends(second), Defined::Always, &[2, 5, 7])
-            .with(&ends(first), Defined::Always, &[1, 3]);
+            .with(
+                &ends(second),
+                Defined::Always,
+                columns,
+                is_ascending(columns),
+            )
+            .with(&ends(first), Defined::Always, rows, is_ascending(rows));
         let within = table.within(&ranges, &indices, &view);
         assert_eq!(rt; within.ends, ends(hull), "{word}");
         assert!(rt; within.mark == mark, "the mark of {word}");

@@ -84,7 +84,7 @@ fn grid(alloc: Global) -> Result<Table, AllocError>
             Element::Fixed(23),
         ],
     )?;
-    Ok(Table { sets, elements })
+    Ok(Table::of(sets, elements))
 }
 
 /// The element of an array of three dimensions.
@@ -120,7 +120,7 @@ fn row(alloc: Global) -> Result<Table, AllocError>
     sets.push(columns)?;
     sets.push(layers)?;
     let elements = Vec::from_slice(alloc, &[Element::Fixed(143), Element::Fixed(243)])?;
-    Ok(Table { sets, elements })
+    Ok(Table::of(sets, elements))
 }
 
 /// Whether an element has this interval and this mark over the root.

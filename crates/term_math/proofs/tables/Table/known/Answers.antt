@@ -1,6 +1,8 @@
 use Rattle.std.proofs.Common.{◌≡◌, ℕ, ◌+◌, ◌*◌, ◌<◌, ℤ, List, ◌∷◌, Vec, Global, length, get_or, drop, ap, arith, rules, subst, sym, ◌∙◌}
 use Rattle.term_language.specs.Arrays.{indices, item_in, paired}
+use Rattle.term_math.specs.Ascending.{ascends}
 use Rattle.term_math.specs.Kept.{block, items_of, sets_of}
+use Rattle.term_math.proofs.Ascents.{ascends_at}
 use Rattle.term_math.proofs.Distinct.{Differ, behind_differs, block_some, dimension_differs}
 use Rattle.term_math.proofs.Blocks.{block_length, found_number, missing_number, part_complete}
 use Rattle.term_math.proofs.tables.Table.known.Goals as goal
@@ -59,6 +61,7 @@ part-requires c =
     let below : i < length xs = subst (λ (ys : List (Vec ℤ Global)). i < length ys) c.deref-set-items.ensures.value c.loop-set-test.true in
     let at : set ≡ get_or xs i set = subst (λ (ys : List (Vec ℤ Global)). set ≡ get_or ys i set) c.deref-set-items.ensures.value c.set-item.is in
     record {
+      ascends = λ up. ap ascends c.as_slice.ensures.value ∙ ascends_at xs i set below at (c.args.self.now.ascend up);
       distinct = λ some.
           subst (λ (s : List ℤ). Differ s) (sym c.as_slice.ensures.value)
           (dimension_differs (length c.loop-set.elements.now) xs i set below at c.loop-set.invariant.1 c.loop-set.invariant.2 some);

@@ -17,9 +17,10 @@ use Rattle.term_nodes.proofs.Plain.{plain_seen}
 use Rattle.term_nodes.proofs.Ready.{difference_seen, times_seen, sum_seen}
 use Rattle.term_nodes.proofs.Ranges.{extreme_folded, extreme_alone}
 use Rattle.term_nodes.proofs.Elements.{below_last, complete_table, element_plain, element_alone}
-use Rattle.term_nodes.proofs.Indexing.{indexed_whole, next_narrow, no_items_there}
+use Rattle.term_nodes.proofs.Indexing.{indexed_whole, last_ascends, next_narrow, no_items_there}
 use Rattle.term_language.specs.Arrays.{is_covered}
 use Rattle.term_language.specs.Ends.{Ends}
+use Rattle.term_math.specs.Ascending.{all_ascend, ascends}
 use Rattle.term_math.specs.Kept.{table_of}
 use Rattle.term_math.specs.Within.{has_one, ranges_of}
 use Rattle.term_nodes.proofs.evaluation.Evaluator.+seen.Goals as goal
@@ -84,13 +85,48 @@ element-element_range-range-requires t c =
 
 pub element_range-indexed-requires : goal.element_range-indexed-requires
 element_range-indexed-requires t c =
-    let few : Fits w64 (length c.args.at.now) = search rules in
-    (omega (arith, few), (c.requires.ready, (c.requires.exists, (c.requires.below, complete_table c.args.self.now c.args.table c.in-Some.found.now c.requires.ready c.in-Some.ensures.some))))
+    let few : Fits w64 (length c.args.at.now) = search rules in (
+      omega (arith, few),
+      (
+        c.requires.ready,
+        (
+          c.requires.exists,
+          (
+            c.requires.below,
+            (
+              complete_table c.args.self.now c.args.table c.in-Some.found.now c.requires.ready c.in-Some.ensures.some,
+              λ up. ap all_ascend c.as_slice.ensures.value ∙ c.in-Some.found.now.ascend up,
+            ),
+          ),
+        ),
+      ),
+    )
 
 pub indexed-indexed-requires : goal.indexed-indexed-requires
 indexed-indexed-requires t c =
-    let below = below_last c.args.limit c.in-Some.before.now c.in-Some.last.now (subst (AllBelow c.args.limit) c.in-Some.ensures.cases.0 c.loop-last.invariant.1.0) in
-    (omega (arith, c.in-Some.ensures.cases.1, c.loop-last.invariant.1.1), (c.requires.ready, (c.requires.exists, (below.0, c.requires.complete))))
+    let below = below_last c.args.limit c.in-Some.before.now c.in-Some.last.now (subst (AllBelow c.args.limit) c.in-Some.ensures.cases.0 c.loop-last.invariant.1.0) in (
+      omega (arith, c.in-Some.ensures.cases.1, c.loop-last.invariant.1.1),
+      (
+        c.requires.ready,
+        (
+          c.requires.exists,
+          (
+            below.0,
+            (
+              c.requires.complete,
+              λ up. (last_ascends c.loop-last.dimensions.now c.in-Some-split_last.others.now c.in-Some-split_last.set.now c.in-Some-split_last.ensures.cases.0 (c.loop-last.invariant.2 up)).0,
+            ),
+          ),
+        ),
+      ),
+    )
+
+pub indexed-with-more-requires : goal.indexed-with-more-requires
+indexed-with-more-requires t c = record {
+  ascends = λ up.
+      ap ascends c.as_slice.ensures.value
+      ∙ (last_ascends c.loop-last.dimensions.now c.in-Some-split_last.others.now c.in-Some-split_last.set.now c.in-Some-split_last.ensures.cases.0 (c.loop-last.invariant.2 up)).1;
+}
 
 pub indexed-loop-last-preserved : goal.indexed-loop-last-preserved
 indexed-loop-last-preserved t c =
@@ -106,6 +142,7 @@ indexed-loop-last-preserved t c =
           (c.with-more.ensures.allowed ∙ ap (λ (xs : List ℤ). has_one r xs && c.loop-last.known.allowed) c.as_slice.ensures.value) one
           ∙ c.loop-last.invariant.0,
       (below.0, omega (arith, c.in-Some.ensures.cases.1, c.loop-last.invariant.1.1)),
+      λ up. (last_ascends c.loop-last.dimensions.now c.in-Some-split_last.others.now c.in-Some-split_last.set.now c.in-Some-split_last.ensures.cases.0 (c.loop-last.invariant.2 up)).0,
     )
 
 pub element_range-returns-then-is_empty : goal.element_range-returns-then-is_empty

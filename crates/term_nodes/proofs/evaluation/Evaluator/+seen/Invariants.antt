@@ -1,8 +1,9 @@
-use Rattle.std.proofs.Common.{◌≡◌, ℕ, ◌+◌, ◌*◌, ◌^◌, ◌≤◌, drop, length}
+use Rattle.std.proofs.Common.{◌≡◌, ℕ, ◌+◌, ◌*◌, ◌^◌, ◌≤◌, drop, length, true}
 use Rattle.term_language.specs.Rules as rule
 use Rattle.term_math.specs.Shown.{box_in, ends_of}
 use Rattle.term_nodes.specs.Things.{conds_at, parts_at, term_at, terms_at, things}
 use Rattle.term_nodes.specs.Seen.{indexed_sight, reading_of, sight_of, sum_sight}
+use Rattle.term_math.specs.Ascending.{all_ascend}
 use Rattle.term_math.specs.Kept.{sets_of, table_of}
 use Rattle.term_math.specs.Within.{known_of, ranges_of}
 use Rattle.term_language.specs.Globals.{always_differ, are_apart}
@@ -59,6 +60,7 @@ invariant-indexed-loop-last l =
     ≡ indexed_sight (reading_of l.self) (box_in l.self.root) (box_in l.self.view) (table_of l.found) (terms_at (things l.self.items.now) l.at) (sets_of l.sets) l.indices.mark
     (known_of l.indices (ranges_of l.behind)))
     × (AllBelow l.limit l.left × (length l.left ≤ length l.at))
+    × (l.found.ascending ≡ true → all_ascend l.dimensions ≡ true)
 
 abbrev pub decreases-extreme : goal.decreases-extreme
 decreases-extreme l = wide * l.limit + 1

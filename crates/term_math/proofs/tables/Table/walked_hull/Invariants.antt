@@ -4,7 +4,7 @@ use Rattle.term_language.specs.Ends.{hull, hull_of}
 use Rattle.term_language.specs.Rules.{item_ends}
 use Rattle.term_math.specs.Shown.{box_in, ends_of}
 use Rattle.term_math.specs.Kept.{items_of}
-use Rattle.term_math.proofs.tables.Table.hull.Given as goal
+use Rattle.term_math.proofs.tables.Table.walked_hull.Given as goal
 
 abbrev pub invariant-loop-element : goal.invariant-loop-element
 invariant-loop-element l =
