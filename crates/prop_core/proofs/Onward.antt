@@ -38,7 +38,8 @@ agree_on cells cell b c agree without = record {
   highs = λ k has. agree.highs k (λ same. without (subst (Contains cells) same has));
 }
 
-has_or_not : (xs : List ℕ) (k : ℕ) → Contains xs k ⊎ (¬ Contains xs k)
+-- whether a list has a number
+pub has_or_not : (xs : List ℕ) (k : ℕ) → Contains xs k ⊎ (¬ Contains xs k)
 has_or_not [] k = inr (λ has. absurd (omega (arith, has.1)))
 has_or_not (x ∷ xs) k =
     elim (cases_eq x k) [

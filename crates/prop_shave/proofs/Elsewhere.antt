@@ -1,29 +1,11 @@
 -- Cells that a list does not have.
-use Rattle.std.proofs.Common.{◌≡◌, ◌⊎◌, inl, inr, ℕ, ℤ, pos, List, [], ◌∷◌, arith, ap, subst}
+use Rattle.std.proofs.Common.{◌≡◌, ℕ, ℤ, pos, List, ap, subst}
 use Rattle.std.specs.List.{Contains}
-use Rattle.std.proofs.lemmas.Bool.{cases_eq}
 use Rattle.std.proofs.lemmas.List.{get_or-set_other}
-use Rattle.std.proofs.lemmas.List.Elements.{Contains-append_cases, Contains-append_right}
-use Rattle.sopl_base.proofs.Lists.{contains_one}
 use Rattle.box_problem.specs.Box.{Box, high, low, with_high, with_low}
 use Rattle.term_language.specs.Ends.{cell_ends, ends}
 use Rattle.term_language.specs.MentionLaws.{BoxesAgree}
 use Rattle.term_problem.proofs.Reasons.{all_of}
-
--- whether a list has a cell
-pub has_or_not : (cells : List ℕ) (cell : ℕ) → Contains cells cell ⊎ (¬ Contains cells cell)
-has_or_not [] cell = inr (λ own. absurd (omega (arith, own.1)))
-has_or_not (x ∷ cells) cell =
-    elim (cases_eq x cell) [
-      | inl same ↦ inl (0, omega arith, same)
-      | inr other ↦
-          elim (has_or_not cells cell) [
-            | inl there ↦ inl (Contains-append_right (x ∷ []) cells cell there)
-            | inr nowhere ↦
-                inr
-                (λ own. elim (Contains-append_cases (x ∷ []) cells cell own) [ inl here ↦ other (contains_one x cell here) | inr there ↦ nowhere there ])
-          ]
-    ]
 
 -- another end of a cell that is not there
 other_cell : (cells : List ℕ) (cell n : ℕ) → ¬ Contains cells cell → Contains cells n → ¬ n ≡ cell

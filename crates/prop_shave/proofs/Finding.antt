@@ -19,6 +19,7 @@ use Rattle.term_problem.specs.Reasons.{reason_mentions}
 use Rattle.term_problem.proofs.Reasons.{reasons_agree}
 use Rattle.term_program.specs.Programs.{no_better, problem_in, root_in, with_interval}
 use Rattle.term_program.proofs.Ending.{closes_by}
+use Rattle.prop_core.proofs.Onward.{has_or_not}
 use Rattle.prop_core.proofs.Rising.{for_each, itself}
 use Rattle.prop_shave.specs.declared.probes.Probe.{Probe}
 use Rattle.prop_shave.specs.Opened.{AreOpen, IsOpen, IsWhole}
@@ -30,7 +31,7 @@ use Rattle.prop_shave.proofs.Ending.{end_with}
 use Rattle.prop_shave.proofs.Opening.{open_by}
 use Rattle.prop_shave.proofs.Reaching.{still_better}
 use Rattle.prop_shave.proofs.Surely.{sure_open}
-use Rattle.prop_shave.proofs.Elsewhere.{agree_high, agree_low, has_or_not}
+use Rattle.prop_shave.proofs.Elsewhere.{agree_high, agree_low}
 
 pub found_dead : (q : Probe) → closes q q.store.now.box ≡ true → Closes (box_problem_of q.program.now) (q.reason ∷ []) q.best q.store.now.box q.reason
 unfolding box_problem_of

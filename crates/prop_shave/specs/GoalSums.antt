@@ -29,7 +29,7 @@ worse_end Nothing a = pos 0
 abbrev pub part_over : Direction → Box → List Thing → Box → Atom → ℤ
 part_over direction root all b a = better_end direction (scaled a.k (interval Near root b (term_at all a.term)))
 
--- the same of the part with a number
+-- the better end over a box of the part with a number
 abbrev pub part_at : Program → List Atom → Box → ℕ → ℤ
 part_at program atoms b number =
     option_map_or (part_over (direction_in (problem_in program)) (root_in program) (things_in program) b) (slice_get atoms number) (pos 0)
