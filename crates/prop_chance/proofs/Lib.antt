@@ -3,3 +3,4 @@ pub mod Reached
 pub mod Conditions
 pub mod Objectives
 pub mod Defined
+pub mod KeptWeights

@@ -16,10 +16,10 @@ use Rattle.box_problem.specs.BoxProblem.{BoxProblem}
 use Rattle.box_problem.specs.Rightness.{IsRight, Quiets}
 use Rattle.term_language.specs.Terms.{Term}
 use Rattle.term_language.specs.Mentions.{mentions}
+use Rattle.prop_core.proofs.Onward.{has_or_not}
 use Rattle.prop_shave.specs.declared.probes.Probe.{Probe}
 use Rattle.prop_shave.specs.Opened.{IsOpen, IsWhole}
 use Rattle.prop_shave.specs.Probes.{HasAll, closes}
-use Rattle.prop_shave.proofs.Elsewhere.{has_or_not}
 use Rattle.prop_shave.proofs.Finding.{found_quiet}
 use Rattle.term_program.specs.Stated.{box_problem_of}
 use Rattle.term_problem.specs.Objective.{better_end, goal_ends}

@@ -3,7 +3,7 @@
 ghost use Rattle.std.specs.Prelude.{◌≡◌, ◌<◌, ◌∷◌, [], get_or, length, map, IfNone, IfOk, IfSome};
 ghost use Rattle.prop_shave.specs.ChanceKnown.{AreTruths};
 ghost use Rattle.sopl_base.specs.declared.reason.Reason.TheVariants as reason;
-ghost use Rattle.box_problem.specs.Box.{Inside};
+ghost use Rattle.box_problem.specs.Box.{Box, Inside};
 ghost use Rattle.box_problem.specs.Rightness.{IsRight, Quiets};
 ghost use Rattle.prop_shave.specs.Opened.{IsOpen, IsWhole};
 ghost use Rattle.prop_shave.specs.Probes.{HasAll, IsAsked, closes};
@@ -12,26 +12,31 @@ ghost use Rattle.term_program.specs.Stated.{box_problem_of};
 ghost use Rattle.prop_core.specs.Findings.{Finds};
 ghost use Rattle.term_problem.specs.Reasons.{reason_mentions};
 ghost use Rattle.term_program.specs.Programs.{IsMade, problem_in, root_in};
-ghost use Rattle.prop_chance.specs.Chances.{Fits, numbers_in, reasons_of};
+ghost use Rattle.prop_chance.specs.Chances.{Fits, InStep, reasons_of};
+ghost use Rattle.prop_chance.specs.KeptWeights.{numbers_in};
 
 use crate::cell_sets::{listed, put_all};
+use crate::kept_weight::KeptWeight;
+use crate::resting::{rested_by, rests_at};
 use box_store::BoxStore;
-use prop_core::{Finding, Propagator};
-use prop_shave::{ChanceDelta, Probe, TouchedScenarios, Truths, is_too_little, scenarios_touching};
+use prop_core::{Finding, Propagator, Watching};
+use prop_shave::{ChanceDelta, Probe, TouchedScenarios, is_too_little, scenarios_touching};
 use sopl_base::{Reason, Step, Wide};
 use std::alloc::{AllocError, Global};
 use std::collections::BTreeSet;
 use term_program::Program;
 
 /// Narrows a box for one chance constraint: both ends of each cell that one of its conditions mentions are tried, and as many values are removed
-/// there as doubled and then halved steps reach. The truth of the condition over the box is computed once in each scenario; for an end of a cell only the
-/// scenarios are weighed anew in which the condition mentions the cell, and none where the others and those in which it is True are enough.
+/// there as doubled and then halved steps reach. The truth of the condition in each scenario is kept, and computed anew where it mentions a cell that was
+/// touched; for an end of a cell only the scenarios are weighed anew in which the condition mentions the cell, and none where the others and those in which it
+/// is True are enough. As long as no cell is touched, it rests without being asked against the best value against which it has rested.
 #[derive(Drop)]
 pub struct Chance {
     instance: u32,
     cells: Vec<u32>,
-    touched: Vec<TouchedScenarios>,
-    truths: Truths,
+    mentioning: Vec<TouchedScenarios>,
+    weight: KeptWeight,
+    rested: Option<Option<i128>>,
 }
 
 /// The cells that the conditions of a chance constraint mention, in ascending order.
@@ -73,28 +78,24 @@ fn touched_scenarios(
 
 impl Chance {
     /// The propagator of a chance constraint.
+    #[tactic(auto, using(crate::proofs::KeptWeights::step_unknown))]
     pub fn new(alloc: Global, program: &Program, instance: u32) -> Result<Chance, AllocError>
         requires made { IsMade program.now }
         requires instance { instance < length (problem_in program.now).chances }
         ensures reasons { IfOk result (λ made. reasons_of made ≡ reason.Chance instance ∷ []) }
         ensures fits { IfOk result (λ made. Fits made program.now) }
+        ensures in_step { IfOk result (λ made. (b : Box) → InStep made program.now b) }
     {
         let cells = chance_cells(alloc, program, instance)?;
-        let touched = touched_scenarios(alloc, program, instance, cells.as_slice())?;
-        let truths = Truths::new(alloc, program.scenarios() as usize)?;
+        let mentioning = touched_scenarios(alloc, program, instance, cells.as_slice())?;
+        let weight = KeptWeight::new(alloc, program.scenarios() as usize, cells.len())?;
         Ok(Chance {
             instance,
             cells,
-            touched,
-            truths,
+            mentioning,
+            weight,
+            rested: None,
         })
-    }
-
-    /// The cells that its conditions mention, in ascending order.
-    pub fn cells(&self) -> &[u32]
-        ensures { result.now ≡ self.now.cells.items }
-    {
-        self.cells.as_slice()
     }
 
     /// The one reason for which it narrows boxes.
@@ -113,7 +114,7 @@ impl Chance {
         requires reason { probe.now.reason ≡ reason.Chance self.now.instance }
         requires whole { IsWhole probe.now }
         requires left { left.value ≡ left_over (root_in probe.now.program.now) (problem_in probe.now.program.now) self.now.instance probe.now.store.now.box }
-        requires truths { AreTruths (root_in probe.now.program.now) (problem_in probe.now.program.now) self.now.instance probe.now.store.now.box self.now.truths.list.items }
+        requires truths { AreTruths (root_in probe.now.program.now) (problem_in probe.now.program.now) self.now.instance probe.now.store.now.box self.now.weight.truths.list.items }
         requires exists { at < length self.now.cells.items }
         ensures right { IfSome result (IsRight (box_problem_of probe.now.program.now) probe.now.best probe.now.store.now.box) }
         ensures own_reason { IfSome result (λ step. step.reason ≡ probe.now.reason) }
@@ -124,8 +125,8 @@ impl Chance {
             instance: self.instance,
             cell,
             left,
-            truths: self.truths.list.as_slice(),
-            scenarios: self.touched[at].numbers.as_slice(),
+            truths: self.weight.truths.list.as_slice(),
+            scenarios: self.mentioning[at].numbers.as_slice(),
         };
         let known = Probe {
             program: probe.program,
@@ -146,7 +147,7 @@ impl Chance {
         requires reason { probe.now.reason ≡ reason.Chance self.now.instance }
         requires whole { IsWhole probe.now }
         requires left { left.value ≡ left_over (root_in probe.now.program.now) (problem_in probe.now.program.now) self.now.instance probe.now.store.now.box }
-        requires truths { AreTruths (root_in probe.now.program.now) (problem_in probe.now.program.now) self.now.instance probe.now.store.now.box self.now.truths.list.items }
+        requires truths { AreTruths (root_in probe.now.program.now) (problem_in probe.now.program.now) self.now.instance probe.now.store.now.box self.now.weight.truths.list.items }
         ensures right { IfSome result (IsRight (box_problem_of probe.now.program.now) probe.now.best probe.now.store.now.box) }
         ensures own_reason { IfSome result (λ step. step.reason ≡ probe.now.reason) }
         ensures none { IfNone result (Quiets (box_problem_of probe.now.program.now) (probe.now.reason ∷ []) probe.now.best probe.now.store.now.box) }
@@ -177,7 +178,7 @@ impl Chance {
         requires asked { IsAsked probe.now }
         requires reason { probe.now.reason ≡ reason.Chance self.now.instance }
         requires left { left.value ≡ left_over (root_in probe.now.program.now) (problem_in probe.now.program.now) self.now.instance probe.now.store.now.box }
-        requires truths { AreTruths (root_in probe.now.program.now) (problem_in probe.now.program.now) self.now.instance probe.now.store.now.box self.now.truths.list.items }
+        requires truths { AreTruths (root_in probe.now.program.now) (problem_in probe.now.program.now) self.now.instance probe.now.store.now.box self.now.weight.truths.list.items }
         ensures finds { Finds (box_problem_of probe.now.program.now) (probe.now.reason ∷ []) probe.now.best probe.now.store.now.box result }
     {
         if self.is_closed_by(probe, left) {
@@ -195,7 +196,7 @@ impl Chance {
         requires asked { IsAsked probe.now }
         requires reason { probe.now.reason ≡ reason.Chance self.now.instance }
         requires left { IfSome left (λ w. w.value ≡ left_over (root_in probe.now.program.now) (problem_in probe.now.program.now) self.now.instance probe.now.store.now.box) }
-        requires truths { IfSome left (λ w. AreTruths (root_in probe.now.program.now) (problem_in probe.now.program.now) self.now.instance probe.now.store.now.box self.now.truths.list.items) }
+        requires truths { IfSome left (λ w. AreTruths (root_in probe.now.program.now) (problem_in probe.now.program.now) self.now.instance probe.now.store.now.box self.now.weight.truths.list.items) }
         ensures finds { Finds (box_problem_of probe.now.program.now) (probe.now.reason ∷ []) probe.now.best probe.now.store.now.box result }
     {
         match left {
@@ -215,7 +216,7 @@ impl Chance {
         requires fits { Fits self.now program.now }
         requires inside { Inside store.now.box (root_in program.now) }
         requires left { IfSome left (λ w. w.value ≡ left_over (root_in program.now) (problem_in program.now) self.now.instance store.now.box) }
-        requires truths { IfSome left (λ w. AreTruths (root_in program.now) (problem_in program.now) self.now.instance store.now.box self.now.truths.list.items) }
+        requires truths { IfSome left (λ w. AreTruths (root_in program.now) (problem_in program.now) self.now.instance store.now.box self.now.weight.truths.list.items) }
         ensures finds { Finds (box_problem_of program.now) (reasons_of self.now) best store.now.box result }
     {
         let probe = Probe {
@@ -239,10 +240,48 @@ impl Propagator for Chance {
 
     ghost fits = { Fits };
 
-    ghost in_step = { λ _ _ _. Unit {0} };
+    ghost in_step = { InStep };
 
     fn revise(&mut self, program: &Program, store: &BoxStore, best: Option<i128>) -> Finding {
-        let left = self.truths.look(program, self.instance, store);
-        self.found(program, store, best, left)
+        let left = self.weight.left_anew(program, self.instance, store);
+        let finding = self.found(program, store, best, left);
+        self.rested = rested_by(&finding, best);
+        finding
     }
+}
+
+impl Watching for Chance {
+    ghost use Rattle.prop_chance.specs.Deciding.{chance_looks, chance_steps};
+
+    ghost watches = { λ chance. chance.cells.items };
+
+    fn watched_cells(&self) -> &[u32] {
+        self.cells.as_slice()
+    }
+
+    fn touched(&mut self, cell: u32) {
+        self.rested = None;
+        self.weight.tell(cell);
+    }
+
+    #[tactic(auto, using(prop_core::proofs::Rested::quiet_again))]
+    fn revise_kept(&mut self, program: &Program, store: &BoxStore, best: Option<i128>) -> Finding {
+        if rests_at(self.rested, best) {
+            return Finding::Quiet;
+        }
+        let left = self.weight.left_kept(
+            program,
+            self.instance,
+            store,
+            self.cells.as_slice(),
+            self.mentioning.as_slice(),
+        );
+        let finding = self.found(program, store, best, left);
+        self.rested = rested_by(&finding, best);
+        finding
+    }
+
+    ghost steps_agree = { λ m p b c fits b_in c_in agree step. chance_steps m p b c fits b_in c_in agree step };
+
+    ghost reasons_agree = { λ m p fits. chance_looks m p fits };
 }

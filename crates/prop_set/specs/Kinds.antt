@@ -1,5 +1,5 @@
 -- What a propagator of any kind stands for.
-use Rattle.std.specs.Prelude.{ℕ, ℤ, List, [], ◌∷◌, ◌++◌, Option, length, map}
+use Rattle.std.specs.Prelude.{ℕ, List, [], ◌∷◌, ◌++◌, length, map}
 use Rattle.std.specs.List.{flat_map}
 use Rattle.sopl_base.specs.declared.reason.Reason.{Reason}
 use Rattle.sopl_base.specs.declared.reason.Reason.TheVariants as reason
@@ -24,10 +24,10 @@ reasons_of (kind.Linear p) = linear.reasons_of p.member
 reasons_of (kind.AllDiff p) = different.reasons_of p.member
 reasons_of (kind.Cumul p) = cumulative.reasons_of p.member
 reasons_of (kind.AnyTerm p) = terms.reasons_of p.member
-reasons_of (kind.Chance p) = chances.reasons_of p.member
+reasons_of (kind.Chance p) = chances.reasons_of p
 reasons_of (kind.Goal p) = goals.reasons_of p.member
 
--- the cells that it watches, and the best value against which it has rested, as long as it is not touched
+-- the cells that it watches
 abbrev pub watches_of : AnyProp → List ℕ
 watches_of (kind.Linear p) = p.cells.items
 watches_of (kind.AllDiff p) = p.cells.items
@@ -36,30 +36,23 @@ watches_of (kind.AnyTerm p) = p.cells.items
 watches_of (kind.Chance p) = p.cells.items
 watches_of (kind.Goal p) = p.cells.items
 
-abbrev pub rested_in : AnyProp → Option (Option ℤ)
-rested_in (kind.Linear p) = p.rested
-rested_in (kind.AllDiff p) = p.rested
-rested_in (kind.Cumul p) = p.rested
-rested_in (kind.AnyTerm p) = p.rested
-rested_in (kind.Chance p) = p.rested
-rested_in (kind.Goal p) = p.rested
-
--- what is asked where it does not rest was made for the program, or might have been
-abbrev pub MemberFits : AnyProp → Program → Type 0
-MemberFits (kind.Linear p) program = linear.Fits p.member program
-MemberFits (kind.AllDiff p) program = different.Fits p.member program
-MemberFits (kind.Cumul p) program = cumulative.Fits p.member program
-MemberFits (kind.AnyTerm p) program = terms.Fits p.member program
-MemberFits (kind.Chance p) program = chances.Fits p.member program
-MemberFits (kind.Goal p) program = goals.Fits p.member program
-
--- and its reasons look at the watched cells alone
+-- it was made for a program, or might have been, and its reasons look at the watched cells alone
 abbrev pub Fits : AnyProp → Program → Type 0
-Fits p program = FitsAndLooksAt (MemberFits p program) (box_problem_of program) (reasons_of p) (watches_of p)
+Fits (kind.Linear p) program = FitsAndLooksAt (linear.Fits p.member program) (box_problem_of program) (linear.reasons_of p.member) p.cells.items
+Fits (kind.AllDiff p) program = FitsAndLooksAt (different.Fits p.member program) (box_problem_of program) (different.reasons_of p.member) p.cells.items
+Fits (kind.Cumul p) program = FitsAndLooksAt (cumulative.Fits p.member program) (box_problem_of program) (cumulative.reasons_of p.member) p.cells.items
+Fits (kind.AnyTerm p) program = FitsAndLooksAt (terms.Fits p.member program) (box_problem_of program) (terms.reasons_of p.member) p.cells.items
+Fits (kind.Chance p) program = chances.Fits p program
+Fits (kind.Goal p) program = FitsAndLooksAt (goals.Fits p.member program) (box_problem_of program) (goals.reasons_of p.member) p.cells.items
 
--- it rests on a box, if it has rested
+-- it rests on a box, if it has rested; and what it keeps is right for it
 abbrev pub IsInStep : AnyProp → Program → Box → Type 0
-IsInStep p program b = HasRested (box_problem_of program) (reasons_of p) (rested_in p) b
+IsInStep (kind.Linear p) program b = HasRested (box_problem_of program) (linear.reasons_of p.member) p.rested b
+IsInStep (kind.AllDiff p) program b = HasRested (box_problem_of program) (different.reasons_of p.member) p.rested b
+IsInStep (kind.Cumul p) program b = HasRested (box_problem_of program) (cumulative.reasons_of p.member) p.rested b
+IsInStep (kind.AnyTerm p) program b = HasRested (box_problem_of program) (terms.reasons_of p.member) p.rested b
+IsInStep (kind.Chance p) program b = chances.InStep p program b
+IsInStep (kind.Goal p) program b = HasRested (box_problem_of program) (goals.reasons_of p.member) p.rested b
 
 -- a hard constraint in each scenario, and all of them
 abbrev pub instance_reasons : ProblemTerms → ℕ → List Reason

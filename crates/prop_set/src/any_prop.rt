@@ -20,7 +20,7 @@ pub enum AnyProp {
     AllDiff(Resting<AllDiff>),
     Cumul(Resting<Cumul>),
     AnyTerm(Resting<AnyTerm>),
-    Chance(Resting<Chance>),
+    Chance(Chance),
     Goal(Resting<Goal>),
 }
 
@@ -48,8 +48,7 @@ impl Propagator for AnyProp {
 }
 
 impl Watching for AnyProp {
-    ghost use Rattle.prop_core.specs.Alike.{rested_alike};
-    ghost use Rattle.prop_set.specs.Kinds.{rested_in};
+    ghost use Rattle.prop_set.specs.Agreeing.{looks_alike, steps_alike};
 
     ghost watches = { watches_of };
 
@@ -86,7 +85,7 @@ impl Watching for AnyProp {
         }
     }
 
-    ghost steps_agree = { λ m p b c fits b_in c_in agree rested. rested_alike (box_problem_of p) (reasons_of m) (watches_of m) (rested_in m) b c fits.looks b_in c_in agree rested };
+    ghost steps_agree = { λ m p b c fits b_in c_in agree step. steps_alike m p b c fits b_in c_in agree step };
 
-    ghost reasons_agree = { λ m p fits. fits.looks };
+    ghost reasons_agree = { λ m p fits. looks_alike m p fits };
 }

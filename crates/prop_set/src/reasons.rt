@@ -25,8 +25,7 @@ fn chance_prop(alloc: Global, program: &Program, instance: u32) -> Result<AnyPro
     ensures in_step { IfOk result (λ made. (b : Box) → IsInStep made program.now b) }
 {
     let member = Chance::new(alloc, program, instance)?;
-    let cells = Vec::from_slice(alloc, member.cells())?;
-    Ok(AnyProp::Chance(Resting::new(member, cells)))
+    Ok(AnyProp::Chance(member))
 }
 
 /// The propagator of the objective.

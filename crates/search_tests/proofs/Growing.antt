@@ -25,7 +25,7 @@ kept_twice a b c first second = record {
   worst = second.worst ∙ first.worst;
 }
 
--- the same cells are there
+-- a cell that is there stays there
 pub cells_kept : (a b : Builder) (cell : ℕ) → IsKept a b → cell < length (root_built a).lows → cell < length (root_built b).lows
 cells_kept a b cell kept there = subst (λ (root : Box). cell < length root.lows) (sym kept.root) there
 

@@ -3,3 +3,4 @@ pub mod Resting
 pub mod ProgramResting
 pub mod Counting
 pub mod Posing
+pub mod GoingBack

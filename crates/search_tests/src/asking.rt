@@ -44,8 +44,7 @@ impl Propagator for CountingProp {
 }
 
 impl Watching for CountingProp {
-    ghost use Rattle.prop_core.specs.Alike.{rested_alike};
-    ghost use Rattle.prop_set.specs.Kinds.{rested_in};
+    ghost use Rattle.prop_set.specs.Agreeing.{looks_alike, steps_alike};
 
     ghost watches = { λ counting. watches_of counting.prop };
 
@@ -62,9 +61,9 @@ impl Watching for CountingProp {
         self.prop.revise_kept(program, store, best)
     }
 
-    ghost steps_agree = { λ m p b c fits b_in c_in agree rested. rested_alike (box_problem_of p) (reasons_of m.prop) (watches_of m.prop) (rested_in m.prop) b c fits.looks b_in c_in agree rested };
+    ghost steps_agree = { λ m p b c fits b_in c_in agree step. steps_alike m.prop p b c fits b_in c_in agree step };
 
-    ghost reasons_agree = { λ m p fits. fits.looks };
+    ghost reasons_agree = { λ m p fits. looks_alike m.prop p fits };
 }
 
 impl SearchProblem for CountingProp {

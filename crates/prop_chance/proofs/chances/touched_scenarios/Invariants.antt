@@ -1,7 +1,7 @@
 use Rattle.std.proofs.Common.{◌≡◌, map, take}
 use Rattle.prop_shave.specs.ChanceSums.{touched_by}
 use Rattle.term_program.specs.Programs.{problem_in, root_in}
-use Rattle.prop_chance.specs.Chances.{numbers_in}
+use Rattle.prop_chance.specs.KeptWeights.{numbers_in}
 use Rattle.prop_chance.proofs.chances.touched_scenarios.Given as goal
 
 abbrev pub invariant-cells : goal.invariant-cells

@@ -23,5 +23,5 @@ finding_by-requires-clause-left c =
 pub finding_by-requires-clause-truths : goal.finding_by-requires-clause-truths
 finding_by-requires-clause-truths c =
     let q = c.args.probe.now in
-    subst (λ o. IfSome o (λ w. AreTruths (root_in q.program.now) (problem_in q.program.now) c.args.self.now.instance q.store.now.box c.args.self.now.truths.list.items)) c.in-Some.is
+    subst (λ o. IfSome o (λ w. AreTruths (root_in q.program.now) (problem_in q.program.now) c.args.self.now.instance q.store.now.box c.args.self.now.weight.truths.list.items)) c.in-Some.is
     c.requires.truths

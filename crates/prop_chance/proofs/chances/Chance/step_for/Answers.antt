@@ -2,7 +2,7 @@ use Rattle.std.proofs.Common.{◌∙◌, ap, subst, sym}
 use Rattle.prop_shave.specs.ChanceKnown.{AreTruths}
 use Rattle.prop_shave.specs.ChanceSums.{touched_by}
 use Rattle.term_program.specs.Programs.{problem_in, root_in}
-use Rattle.prop_chance.specs.Chances.{numbers_in}
+use Rattle.prop_chance.specs.KeptWeights.{numbers_in}
 use Rattle.prop_chance.proofs.Conditions.{list_at}
 use Rattle.prop_chance.proofs.chances.Chance.step_for.Goals as goal
 
@@ -22,7 +22,7 @@ step_at-requires-clause-asked c =
           scenarios =
               c.as_slice-2.ensures.value
               ∙ ap numbers_in c.index.ensures
-              ∙ list_at numbers_in touched c.args.self.now.touched.items c.args.self.now.cells.items c.args.at c.index-cell.result.now c.index.result.now c.requires.fits.touched c.requires.exists
+              ∙ list_at numbers_in touched c.args.self.now.mentioning.items c.args.self.now.cells.items c.args.at c.index-cell.result.now c.index.result.now c.requires.fits.touched c.requires.exists
               ∙ ap touched (sym c.index-cell.ensures);
         };
       };
