@@ -63,7 +63,7 @@ claim_of_text text problem rows claim solved right =
     (claims_are_true solved.model rows claim (text_unfolded text problem solved)
     (subst (λ (p : Problem). Accepted (searched_problem p) rows claim) (sym solved.accepted.stated) right))
 
--- the same bytes are read in one way
+-- bytes that are read in one way are not read in another
 module _ (readings_are_unique : ReadingsAreUnique) where
   not_both : (bytes : List ℕ) (rows : List Row) (claim : Footer) (code line : ℕ) → IsReading bytes (read rows claim) → IsReading bytes (refused code line) → ⊥
   unfolding IsRead

@@ -114,7 +114,7 @@ module _ (wanted : Option Request) (stock : Option Stock) (old : Option (List (L
       by_stock None read = tt
       by_stock (Some s) read = taken_whole command most more (text_of s request.model) (subst (IsTaken command) (same ∙ read) taken)
 
--- the same where the answer's sink failed
+-- files that are begun stay so where the answer's sink failed
 write_begun : (stock : Option Stock) (old new : Option (List (List ℕ))) (request : Option Request) (status : Status) → BeginsFiles stock old new request status
     → BeginsFiles stock old new request WriteFault
 write_begun stock old new _ _ (no_file request status none is) = no_file request WriteFault none is

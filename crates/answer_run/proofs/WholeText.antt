@@ -128,7 +128,7 @@ module _ (wanted : Option Request) (stock : Option Stock) (before now : ℕ) (ol
         (subst (λ b. IsCut b request.plan command request.log old new) read cut))
 
     module _ (slice : List ℕ) (same : slice ≡ bytes) (read : IfSome stock (λ s. bytes ≡ cut_at (Some most) (text_of s request.model))) where
-      -- the same of a reply that was made of so many bytes
+      -- a reply that was made of so many bytes is one of the text
       pub reply_made : (plan : SearchPlan) → plan ≡ request.plan → (result : Result Reply SearchStop)
           → IfOk result (λ reply. Replies slice plan command request.log old new reply.status (string_bytes reply.line))
           → IfOk result (Replied wanted stock before now old new)

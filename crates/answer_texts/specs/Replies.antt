@@ -47,9 +47,9 @@ IsFaultOn text command fault.NoMemory = Unit {0}
 pub data Ends (text : List ℕ) (budget : ℕ) : Command → Status → Type 0 where
   -- the text is accepted, and its terms pass no limit
   solved : (detail : Detail) (problem : Problem) → SolvedText text problem → Ends text budget (Solve detail) Done
-  -- the same, where a search may want more nodes
+  -- the text is accepted, its terms pass no limit, and a search may want more nodes
   bounded_text : (detail : Detail) (problem : Problem) → SolvedText text problem → budget < most_nodes problem → Ends text budget (Solve detail) Bounded
-  -- the same
+  -- the text is accepted, its terms pass no limit, and its tree is asked for
   shown : (problem : Problem) → SolvedText text problem → Ends text budget Tree Done
   -- the text is refused
   refused_text : (command : Command) (refusal : Refusal) → IsRefusedOn text refusal command → Ends text budget command Refused

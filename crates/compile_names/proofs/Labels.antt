@@ -34,7 +34,7 @@ decided_label = label_more decided_name
 pub decided_labels : (ds : List Decision) (k : ℕ) (names : List (Bor (List ℕ))) → length ds ≤ k → map now_of names ++ map decided_name (drop k ds) ≡ map now_of names
 decided_labels = labels_end decided_name
 
--- the same names
+-- names are grouped as equal names are
 pub grouped_either : {E : Type 0} (result : Result Names E) (names others : List (List ℕ)) → names ≡ others → IfOk result (λ grouped. IsGrouped grouped names)
     → IfOk result (λ grouped. IsGrouped grouped others)
 grouped_either result names others same grouped = subst (λ l. IfOk result (λ g. IsGrouped g l)) same grouped

@@ -31,7 +31,7 @@ abbrev pub wide_in_word : List ℕ → Option ℤ
 wide_in_word [] = option_and_then (positive_within (2 ^ 127)) (size_in_word [])
 wide_in_word (byte ∷ bytes) = if byte == 45 then option_and_then (negative_within (2 ^ 127)) (size_in_word bytes) else option_and_then (positive_within (2 ^ 127)) (size_in_word (byte ∷ bytes))
 
--- the same, where it has 64 bits
+-- a whole number that 64 bits hold
 abbrev pub within_64 : ℤ → Option ℤ
 within_64 value = if int_le (neg_ℤ (pos (2 ^ 63))) value && int_lt value (pos (2 ^ 63)) then Some value else None
 

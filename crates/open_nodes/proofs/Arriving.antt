@@ -107,7 +107,7 @@ met_above root f walk downs split at cuts named top meets = record {
 pub there : (root : Box) (f : ℕ → Box) (walk : BoxWalk) (split : SplitNode) → IsGoing root f walk [] split → walk.store.box ≡ final_box root split
 there root f walk split going = going.box ∙ sym (ap (top_box root) going.chain)
 
--- the same, as a list of references is gone through
+-- the splits that a list of references points to
 abbrev pub pointed : List (Bor SplitNode) → List SplitNode
 pointed refs = map (λ (r : Bor SplitNode). r.now) refs
 

@@ -7,7 +7,7 @@ use Rattle.open_nodes.specs.declared.seats.Seats.{Seats}
 abbrev pub lists_of : Seats → List (List OpenNode)
 lists_of seats = map (λ (seat : Seat). seat.nodes.items) seats.seats.items
 
--- the same is said of nodes and of what else stands in the lists of seats
+-- the members of all lists, one list after the other: the nodes of the seats, and what else stands in their lists
 abbrev pub all_nodes : {A : Type 0} → List (List A) → List A
 all_nodes [] = []
 all_nodes (xs ∷ lists) = xs ++ all_nodes lists

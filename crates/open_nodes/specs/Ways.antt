@@ -43,7 +43,7 @@ abbrev pub parent_of : Side → Held-SplitNode-above → Option Parent
 parent_of side None' = None
 parent_of side (Some' p n) = Some (record { node = node_number n; side = side })
 
--- the same, of the split above as it was given
+-- the parent of a row, by the split above as it was given
 abbrev pub given_parent : Side → Option SplitNode → Option Parent
 given_parent side None = None
 given_parent side (Some split) = Some (record { node = node_number split; side = side })

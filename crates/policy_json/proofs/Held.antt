@@ -69,7 +69,7 @@ shown_same ds ss policy later stage seen shown is =
     let P : Data → Type 0 = λ d. IfSome (held_node_at ds ss policy later stage seen) (λ node. d ≡ node) in
     subst P (sym is) (node_same ds ss policy later stage seen)
 
--- the same of the outermost node
+-- the outermost node is shown as it is kept
 pub shown_outermost : (ds : List Decision) (ss : List Stochastic) (policy : Policy) (shown : Data) → shown ≡ outermost_node ds ss policy
     → IfSome (held_outermost ds ss policy) (λ node. shown ≡ node)
 shown_outermost ds ss policy shown is = shown_same ds ss policy (last_stage ds - 1) 1 [] shown is

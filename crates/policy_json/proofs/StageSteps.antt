@@ -39,7 +39,7 @@ shown_more v f from n i old new x at so_far next made =
     ap (map v) made
     ∙ (map-append v old (x ∷ []) ∙ ((λ j. so_far j ++ next j ∷ []) ∙ sym (map-range_with_len_more f from n i at)))
 
--- the same behind what is shown from a number on
+-- a run of values that are shown from a number on is longer by one
 pub run_more : {X Y : Type 0} (v : X → Y) (f : ℕ → Y) (first n : ℕ) (old new : List X) (x : X) → first ≤ n → map v old ≡ map f (range_with_len first (n - first))
     → v x ≡ f n → new ≡ old ++ x ∷ [] → map v new ≡ map f (range_with_len first (n + 1 - first))
 run_more v f first n old new x order so_far next made =

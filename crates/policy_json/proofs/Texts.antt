@@ -41,7 +41,7 @@ MembersAreTold later ms ns = (r s : List ℕ) → members_text later ms ++ r ≡
 cancel : (x a b r s : List ℕ) → (x ++ a) ++ r ≡ (x ++ b) ++ s → a ++ r ≡ b ++ s
 cancel x a b r s is = append_cancel_left x (a ++ r) (b ++ s) (sym (append_assoc x a r) ∙ is ∙ append_assoc x b s)
 
--- the same data, what is told by its items, and what is told by its members
+-- data are told alike by themselves, by their items and by their members
 pub told_self : (d : Data) → AreTold d d
 told_self d r s is = (refl, append_cancel_left (compact_text d) r s is)
 

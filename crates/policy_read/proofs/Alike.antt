@@ -19,7 +19,7 @@ alike_short test (f ∷ fs) (d ∷ ds) differ = by_test (test f d) (alike_short 
     by_test true is = is
     by_test false is = refl
 
--- the same for values of which the data are views
+-- tests of values of which the data are views
 module _ {A : Type 0} (view : A → Data) (test : Data → Data → Bool) (fs ds : List A) (i : ℕ) where
   abbrev pub left : ℕ → Bool
   left j = alike test (drop j (map view fs)) (drop j (map view ds))

@@ -17,7 +17,7 @@ module _ {B : Type 0} (make : Data → Data → List B) where
       by_length (inl few) = ap (λ xs. pairwise make xs (drop i ds)) (drop_all i fs few)
       by_length (inr few) = ap (pairwise make (drop i fs)) (drop_all i ds few) ∙ none_left (drop i fs)
 
-  -- the same for values of which the data are views
+  -- pairs of values of which the data are views
   module _ {A : Type 0} (view : A → Data) (fs ds : List A) (i : ℕ) (old new : List B) where
     abbrev pub left : ℕ → List B
     left j = pairwise make (drop j (map view fs)) (drop j (map view ds))

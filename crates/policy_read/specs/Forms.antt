@@ -19,7 +19,7 @@ pub record Facing : Type 0 where
 abbrev pub facing : Data → Data → Facing
 facing form given = record { form = form; given = given }
 
--- the same, as the program keeps it
+-- a node of the form and what the text has, as the program keeps them
 abbrev pub facing_in : declared.Facing → Facing
 facing_in h = facing (view h.form.now) (view h.given.now)
 

@@ -28,7 +28,7 @@ pub data PolicyReading : Type 0 where
   Differs : ℕ → PolicyReading
   Outside : ℕ → PolicyReading
 
--- the same, as the program keeps it
+-- what a text says of a policy, as the program keeps it
 abbrev pub policy_reading : kept.PolicyReading → PolicyReading
 policy_reading (declared.Point values) = Point values.items
 policy_reading declared.NoJson = NoJson

@@ -29,7 +29,7 @@ number_exists name index n (l ∷ labels) j found = by_test (is_at name index l.
 same_pos : (m n : ℕ) → pos m ≡ pos n → m ≡ n
 same_pos m n is = ap unsigned_abs is
 
--- the same number, as a whole number and as it is
+-- a number is told by the whole number that it is
 pub same_number : (a b : Option ℕ) → option_map pos a ≡ option_map pos b → a ≡ b
 same_number None None same = refl
 same_number None (Some n) same = absurd (none-some (pos n) same)

@@ -224,7 +224,7 @@ module _ (program : Program) (mine : Reason) (d : Difference) (v : Option ℤ) (
             ∙ (open_at opened whole cell).at_high exists) reason own;
       }
 
--- the same of the box of a store
+-- what is found in the box of a store
 module _ (program : Program) (mine : Reason) (d : Difference) (v : Option ℤ) (b : Box) (tells : TellsOf program mine d) (seen : box_of d ≡ b) (inside : Inside b (root_in program)) where
   there : Inside (box_of d) (root_in program)
   there = subst (λ (x : Box). Inside x (root_in program)) (sym seen) inside

@@ -8,7 +8,7 @@ use Rattle.prop_shave.specs.Ends.{IsWide, highest, lowest}
 use Rattle.term_math.specs.Shown.{ends_of}
 use Rattle.prop_linear.specs.declared.turns.Turn.{Turn}
 
--- the same at another end
+-- a turn at another end
 abbrev pub with_end : Turn → CellEnd → Turn
 with_end t end = record { op = t.op; k = t.k; others = t.others; end = end }
 

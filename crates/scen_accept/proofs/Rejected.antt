@@ -18,7 +18,7 @@ use Rattle.sopl_ast.specs.Instances.{Problem}
 use Rattle.sopl_ast.specs.UnfoldEvents.{first_failure}
 use Rattle.sopl_ast.specs.Unfolding.{problem_of, text_events}
 use Rattle.sopl_lex.proofs.Meet.{lexes_one, same_refusal}
-use Rattle.parse_grammar.proofs.Stops.{spells_one}
+use Rattle.grammar_rows.proofs.ModelReading.{spells_one}
 use Rattle.parse_laws.specs.RefusalLaws as unread
 use Rattle.parse_laws.proofs.RefusalOnce.{one_refusal}
 use Rattle.scen_accept.specs.Laws.{TextsEndOnce}

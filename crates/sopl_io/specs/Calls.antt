@@ -44,7 +44,7 @@ pub record StopsAtFailure {T E : Type 0} (before now : Outcomes) (result : Resul
   pub all : OnOk result (AllSucceeded before now)
   pub last : OnErr result (LastFailed before now)
 
--- the same, where some errors alone mean that a call failed
+-- of the calls that were made the last one failed where the result is one of some errors, and no other
 pub record StopsWhere (failure : Type 0) (before now : Outcomes) : Type 0 where
   pub all : ¬ failure → AllSucceeded before now
   pub last : failure → LastFailed before now

@@ -37,7 +37,7 @@ climb_next levels values nodes now_values now_nodes (suc left) node linked some 
     below : (n m : ℕ) → suc n < m → n < m
     below n m is = omega (arith, is)
 
--- the same, where the node was read
+-- a climb goes on over a node that was read
 pub climb_more : (levels : List (List Node)) (values : List ℤ) (nodes : List ℕ) (now_values next_values : List ℤ) (now_nodes next_nodes : List ℕ) (left node parent : ℕ)
     (level d : List Node) → IsLinked levels → 0 < left → level ≡ get_or levels left d → parent ≡ (get_or level node root).parent
     → next_values ≡ now_values ++ (get_or level node root).value ∷ [] → next_nodes ≡ now_nodes ++ node ∷ []

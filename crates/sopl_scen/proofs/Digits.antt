@@ -88,7 +88,7 @@ pub record AreBits (d : Decision) (b : ℕ) : Type 0 where
   pub enough : unsigned_abs (d.hi -ℤ d.lo) < 2 ^ b
   pub least : d.lo <ℤ d.hi → 2 ^ b ≤ 2 * unsigned_abs (d.hi -ℤ d.lo)
 
--- the same, where the ends were read so
+-- the bits of a decision of which the code read both ends
 pub bits_read : (d : Decision) (lo hi : ℤ) (b : ℕ) → lo ≡ d.lo → hi ≡ d.hi → (lo ≡ hi → b ≡ 0) → unsigned_abs (hi -ℤ lo) < 2 ^ b
     → (lo <ℤ hi → 2 ^ b ≤ 2 * unsigned_abs (hi -ℤ lo)) → AreBits d b
 bits_read d lo hi b low high none enough least =

@@ -157,7 +157,7 @@ step_breaks_off problem plan old before mid now seat is broken =
     (subst (AppendsPrefix mid now) (append_assoc old.gather.kept (text_of (row_lines (length rows) broken.row)) (ended (footer_line claims.Infeasible)))
     (prefix_of_first mid now (old.gather.kept ++ text_of (row_lines (length rows) broken.row)) (ended (footer_line claims.Infeasible)) broken.took)))
 
--- the same, where the rule of the brancher is kept in another place
+-- a search stays one where the rule of its brancher is kept in another place
 pub still_search : (problem : BoxProblem) (plan : SearchPlan) (asked : Option Rule) (frontier : Frontier) (before now : Option (List ℕ)) → asked ≡ plan.asked
     → IsRunning problem plan frontier before now → IsSearchOf problem asked frontier
 still_search problem plan asked frontier before now same is = record {

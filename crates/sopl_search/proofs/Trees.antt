@@ -186,7 +186,7 @@ close_logs_nothing problem plan frontier before mid now is some keeps =
     (omega (arith, some, is.keeps.kept.counted, length-append is.rows []))
     (All-nil RowFits) tt (0, kept_appends mid now keeps)
 
--- the same over what the last call of a search gives
+-- what is logged, by what the last call of a search gives
 pub all_logged : (problem : BoxProblem) (plan : SearchPlan) (frontier : Frontier) (before mid now : Option (List ℕ)) (result : Result Outcome SearchStop) → IsRunning problem plan frontier before mid
     → IsPosed problem → 0 < frontier.finished → frontier.finished < 2 ^ 64 → (0 < frontier.open_count → frontier.finished ≡ plan.budget)
     → IfOk result (IsClosed problem frontier mid now) → IfOk result (λ outcome. IsLogged problem plan outcome before now)

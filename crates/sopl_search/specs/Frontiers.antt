@@ -148,7 +148,7 @@ pub record IsBegun (root : Box) (seats : ℕ) (frontier : Frontier) : Type 0 whe
   pub none_kept : frontier.gather.kept ≡ []
   pub walk : StandsAtRoot root frontier.walk
 
--- the same, where the rows are those that so many steps of a plan have finished, and what a sink took since the search began, with what is kept for it, are the
+-- a search that runs: the rows are those that so many steps of a plan have finished, and what a sink took since the search began, with what is kept for it, are the
 -- first line of a log and their lines
 pub record IsRunning (problem : BoxProblem) (plan : SearchPlan) (frontier : Frontier) (before now : Option (List ℕ)) : Type 0 where
   pub stands : Stands problem frontier

@@ -25,7 +25,7 @@ entered_lookup (e ∷ es) name =
     choice seen (pointwise nat_eq name e.0.items) e.1 (lookup (λ key. pointwise nat_eq name key.items) es)
     ∙ (λ i. cond (nat_list_eq_equiv.symm name e.0.items i) (Some (seen e.1)) (entered_lookup es name i))
 
--- the same bytes stand before any name alike
+-- equal bytes stand before any name alike
 same_before : (a b name : List ℕ) → bytes_eq a b ≡ true → bytes_eq b name ≡ bytes_eq a name
 same_before a b name h = sym (nat_list_eq_equiv.congr a b name h)
 

@@ -105,7 +105,7 @@ pub product_passes : (z : ℤ) → saturate_signed w128 z ≤ℤ pos (2 ^ 126) �
 product_passes (pos n) most = omega (arith, ints, most)
 product_passes (negsuc n) most = omega (arith, ints)
 
--- the same for a loop that counts down
+-- the sum takes one weight more, in a loop that counts down
 total_back : (ws : List ℤ) (i : ℕ) (w sum : ℤ) → AreWeights ws → 0 < i → i ≤ length ws → w ≡ get_or ws (i - 1) (pos 0) → sum ≡ total (drop i ws) → unsigned_abs w + unsigned_abs sum < 2 ^ 127
 total_back ws i w sum are positive most at is =
     let there : i - 1 < length ws = omega (arith, positive, most) in

@@ -18,7 +18,7 @@ ends lo hi = record { low = lo; high = hi }
 abbrev pub has : Ends → ℤ → Bool
 has a z = int_le a.low z && int_le z a.high
 
--- the same, as a fact
+-- a number lies in the interval, as a fact
 pub record Lies (z : ℤ) (a : Ends) : Type 0 where
   pub from_low : a.low ≤ℤ z
   pub to_high : z ≤ℤ a.high

@@ -28,7 +28,7 @@ pub record ListsTerms (all : List Thing) (condition : Cond) (ids : List TermId) 
   pub terms : terms_at all (term_ids ids) ≡ global_terms condition
   pub exist : AllBelow (length all) (term_ids ids)
 
--- the same of a node, whatever stands at the numbers of its terms
+-- a list of just the terms of a node, whatever stands at their numbers
 pub record ListsNode (node : Node) (ids : List TermId) : Type 0 where
   pub terms : (all : List Thing) → terms_at all (term_ids ids) ≡ global_terms (cond_in (thing_of all node))
   pub below : (id : ℕ) → IsBelow id node → AllBelow id (term_ids ids)

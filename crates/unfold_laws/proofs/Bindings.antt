@@ -54,7 +54,7 @@ given_by Q keeps (binder name at range more) known each held is =
       all.2,
     )
 
--- the same of the list of all environments
+-- what holds where names are bound holds of each environment in the list of all
 pub all_given : (Q : Known → Type 0) → ((name : List ℕ) (n : ℤ) (here : Known) → Q here → Q (with_bound name n here))
     → (bs : Binders) (known : Known) (each : Known → List UnfoldEvent) → Q known → NothingFails (binding_events known None bs each)
     → AllByRecursion (λ here. Q here × NothingFails (each here)) (all_bindings known bs)

@@ -1,23 +1,28 @@
 -- The decisions and the stochastic variables of a text have names of the form of names.
-use Rattle.std.proofs.Common.{◌≡◌, refl, subst, ℕ, ℤ, Bool, true, false, ◌&&◌, List, [], ◌∷◌, ◌++◌, map, Option, IsTrue}
+use Rattle.std.proofs.Common.{◌≡◌, refl, sym, subst, ℕ, ℤ, Bool, true, false, ◌&&◌, List, [], ◌∷◌, map, Option, Some, IsTrue}
 use Rattle.std.specs.List.{AllByRecursion, list_all}
 use Rattle.sopl_base.proofs.Lists.{all_append}
 use Rattle.sopl_ast.specs.declared.token.Token.{Token}
+use Rattle.sopl_ast.specs.declared.token.TokenKind.{TokenKind}
 use Rattle.sopl_ast.specs.declared.token.TokenKind.TheVariants as k
 use Rattle.sopl_ast.specs.Tree.{Tree, Range}
 use Rattle.sopl_ast.specs.Whole.{DimTree, Declaration, IntDecl, RangeDecl, SetDecl, DvarDecl, StochDecl, ModelTree}
 use Rattle.sopl_ast.specs.Known.{Known}
 use Rattle.sopl_ast.specs.Pieces.{is_word}
 use Rattle.sopl_ast.specs.Origin.{HasForm}
-use Rattle.sopl_ast.specs.Grammar.{IsName, name_token, name_missing, IsVariable, variable, IsDeclaration, decision, stochastic, AreDeclarations}
-use Rattle.sopl_ast.specs.Grammar.{no_declaration, declaration, IsModel, model}
+use Rattle.sopl_ast.specs.ExpressionRows.{range_row}
+use Rattle.sopl_ast.specs.ModelRows.{integer_row, range_declaration_row, set_row, decision_row, stochastic_row, declaration_row, dims_row, distribution_row, stage_row, model_row, row}
+use Rattle.sopl_ast.specs.Nonterminals.{Model}
+use Rattle.sopl_ast.specs.PhraseLanguage.{Phrase, terminal, place_of_mark, ◌then◌, ◌before◌, ◌closed_by◌}
+use Rattle.sopl_ast.specs.RowSpelling.{IsTerminal, stands, lacking, AreRepeated, none_more, one_more, IsSpelled, SpelledInside, IsSpelledAt}
+use Rattle.sopl_ast.specs.Terminals.{a_name, name_bytes}
 use Rattle.sopl_ast.specs.Instances.{Decision, Stochastic, names_in}
 use Rattle.sopl_ast.specs.Arrays.{dimensions_of, indices, with_index}
 use Rattle.sopl_ast.specs.Declarations.{Declared, nothing_declared, domain_of, outcome_of, stage_of, decisions_of, stochastics_of, behind, behind_all}
 use Rattle.sopl_ast.specs.Unfolding.{problem_of}
 use Rattle.unfold_laws.proofs.Stages.{all_by_stage}
 use Rattle.unfold_laws.specs.Laws.{IsWord, HasWord, NamesAreWords}
-use Rattle.unfold_laws.proofs.Behind.{Formed, formed_mark, formed_declaration}
+use Rattle.unfold_laws.proofs.Behind.{Formed, formed_behind, after_mark, one_of_five}
 
 -- the name of a variable that is declared has the form of one
 abbrev IsNamed : Declaration → Type 0
@@ -25,25 +30,61 @@ IsNamed (DvarDecl name at dims over stage) = IsWord name
 IsNamed (StochDecl name at dims dist stage) = IsWord name
 IsNamed declared = Unit {0}
 
-name_word : (ts : List Token) (bytes : List ℕ) (at : ℕ) (r : List Token) → IsName false ts bytes at r → Formed ts → IsWord bytes
-name_word _ _ _ _ (name_token u us bytes is) f = subst HasForm is f.0
-name_word _ _ _ _ (name_missing bytes at is) f = absurd (cc)
+-- a name has the form of one
+kind_word : (kind : TokenKind) (bytes : List ℕ) → name_bytes kind ≡ Some bytes → HasForm kind → IsWord bytes
+kind_word (k.Name name) bytes is f = let same : name ≡ bytes = cc in subst IsWord same f
+kind_word _ bytes is f = absurd (cc)
 
-variable_word : (n : ℕ) (ts : List Token) (bytes : List ℕ) (at : ℕ) (dims : List DimTree) (r : List Token) → IsVariable false n ts bytes at dims r → Formed ts → IsWord bytes
-variable_word _ _ _ _ _ _ (variable n ts us bytes at vs dims ws r i1 i2 i3 i4) f = name_word us bytes at vs i2 (formed_mark k.Int ts us i1 f)
+name_word : (ts : List Token) (x : ℕ × List ℕ) (r : List Token) → IsTerminal false a_name ts x r → Formed ts → IsWord x.1
+name_word _ _ _ (stands u us bytes is) f = kind_word u.kind bytes is f.0
+name_word _ _ _ (lacking x is) f = absurd (cc)
 
-declaration_named : (n : ℕ) (ts : List Token) (d : Declaration) (r : List Token) → IsDeclaration false n ts d r → Formed ts → IsNamed d
-declaration_named _ _ _ _ (decision n u us bytes at dims vs over ws stage xs r i1 i2 i3 i4 i5) f = variable_word n us bytes at dims vs i2 f.1
-declaration_named _ _ _ _ (stochastic n u us bytes at dims vs dist ws stage xs r i1 i2 i3 i4 i5) f = variable_word n us bytes at dims vs i2 f.1
-declaration_named _ _ _ _ _ f = tt
+-- the name of a variable, behind its keyword and `int`
+variable_word : (n : ℕ) (kind : TokenKind) {A : Type 0} (p : Phrase A) (ts : List Token) (x : (ℕ × List ℕ) × A) (r : List Token)
+    → IsSpelledAt false n (kind before k.Int before terminal a_name then p) ts x r → Formed ts → IsWord x.0.1
+variable_word n kind p ts x r is f =
+    let one = after_mark n kind (k.Int before terminal a_name then p) ts x r is in
+    let two = after_mark n k.Int (terminal a_name then p) one.tokens x r one.spelled in
+    name_word two.tokens x.0 two.spelled.0 two.spelled.1.0
+    (formed_behind n (place_of_mark k.Int) one.tokens two.at two.tokens two.mark (formed_behind n (place_of_mark kind) ts one.at one.tokens one.mark f))
 
-declarations_named : (n : ℕ) (ts : List Token) (ds : List Declaration) (r : List Token) → AreDeclarations false n ts ds r → Formed ts → AllByRecursion IsNamed ds
-declarations_named _ _ _ _ (no_declaration n r) f = tt
-declarations_named _ _ _ _ (declaration n ts d us more r first others) f =
-    (declaration_named n ts d us first f, declarations_named n us more r others (formed_declaration n ts d us first f))
+integer_named : (n : ℕ) (ts : List Token) (d : Declaration) (r : List Token) → IsSpelledAt false n integer_row ts d r → IsNamed d
+unfolding integer_row
+integer_named n ts d r is = subst IsNamed (sym is.1.1) tt
 
-model_named : (n : ℕ) (ts : List Token) (whole : ModelTree) (r : List Token) → IsModel false n ts whole r → Formed ts → AllByRecursion IsNamed whole.decls
-model_named _ _ _ _ (model n ts decls us objective vs ws xs m ys body zs r declared asked subject to opens constraints closes) f = declarations_named n ts decls us declared f
+range_named : (n : ℕ) (ts : List Token) (d : Declaration) (r : List Token) → IsSpelledAt false n range_declaration_row ts d r → IsNamed d
+unfolding range_declaration_row
+range_named n ts d r is = subst IsNamed (sym is.1.1) tt
+
+set_named : (n : ℕ) (ts : List Token) (d : Declaration) (r : List Token) → IsSpelledAt false n set_row ts d r → IsNamed d
+unfolding set_row
+set_named n ts d r is = subst IsNamed (sym is.1.1) tt
+
+decision_named : (n : ℕ) (ts : List Token) (d : Declaration) (r : List Token) → IsSpelledAt false n decision_row ts d r → Formed ts → IsNamed d
+unfolding decision_row
+decision_named n ts d r is f =
+    subst IsNamed (sym is.1.1) (variable_word n k.Dvar (dims_row then k.Inside before range_row then stage_row closed_by k.Semi) ts is.0 r is.1.0 f)
+
+stochastic_named : (n : ℕ) (ts : List Token) (d : Declaration) (r : List Token) → IsSpelledAt false n stochastic_row ts d r → Formed ts → IsNamed d
+unfolding stochastic_row
+stochastic_named n ts d r is f =
+    subst IsNamed (sym is.1.1) (variable_word n k.Stoch (dims_row then k.Inside before distribution_row then stage_row closed_by k.Semi) ts is.0 r is.1.0 f)
+
+declaration_named : (n : ℕ) (ts : List Token) (d : Declaration) (r : List Token) → IsSpelledAt false n declaration_row ts d r → Formed ts → IsNamed d
+unfolding declaration_row
+declaration_named n ts d r is f =
+    one_of_five is (integer_named n ts d r) (range_named n ts d r) (set_named n ts d r) (λ i. decision_named n ts d r i f) (λ i. stochastic_named n ts d r i f)
+
+declarations_named : (n : ℕ) (ts : List Token) (ds : List Declaration) (r : List Token) → AreRepeated (IsSpelled false (SpelledInside false n) declaration_row) ts ds r → Formed ts
+    → AllByRecursion IsNamed ds
+declarations_named n _ _ _ (none_more r) f = tt
+declarations_named n _ _ _ (one_more ts d us more r first others) f =
+    (declaration_named n ts d us first f, declarations_named n us more r others (formed_behind n declaration_row ts d us first f))
+
+model_named : (n : ℕ) (ts : List Token) (whole : ModelTree) (r : List Token) → IsSpelledAt false n (row Model) ts whole r → Formed ts → AllByRecursion IsNamed whole.decls
+unfolding model_row
+model_named n ts whole r is f =
+    subst (λ (tree : ModelTree). AllByRecursion IsNamed tree.decls) (sym is.1.1) (declarations_named n ts is.0.0 is.1.0.0 is.1.0.1.0 f)
 
 decisions_made : (known : Known) (name : List ℕ) (dims : List DimTree) (over : Range) (stage : Option Tree) → IsWord name → (is : List (List ℤ))
     → AllByRecursion (λ (d : Decision). IsWord d.name)
