@@ -1,6 +1,6 @@
 -- Right steps.
 use Rattle.std.proofs.Common.{◌≡◌, inl, inr, ◌<◌, ℤ, List, [], ◌∷◌, ◌++◌, Option, Some, None, IfSome, arith, refl, sym, ap, subst, ◌∙◌}
-use Rattle.std.proofs.lemmas.List.{append_assoc, append-nil}
+use Rattle.std.proofs.lemmas.List.{append_assoc}
 use Rattle.std.proofs.lemmas.Int.{ints, by_lt_z}
 use Rattle.sopl_base.specs.declared.direction.Direction.{Direction}
 use Rattle.sopl_base.specs.declared.direction.Direction.TheVariants.{Minimize, Maximize, Nothing}
@@ -51,10 +51,6 @@ pub right_append : (problem : BoxProblem) (v : Option ℤ) (b : Box) (steps more
 right_append problem v b [] more right later = later
 right_append problem v b (s ∷ steps) more right later =
     (right.0, right_append problem v (after_step b s) steps more right.1 later)
-
--- no steps, one step, and steps behind steps are added
-pub appended_none : (problem : BoxProblem) (v : Option ℤ) (b : Box) (steps : List Step) → Appended problem v b steps steps b
-appended_none problem v b steps = record { more = []; added = sym (append-nil steps); right = tt; leads = refl }
 
 pub appended_step : (problem : BoxProblem) (v : Option ℤ) (b : Box) (steps : List Step) (s : Step) → IsRight problem v b s → Appended problem v b steps (steps ++ s ∷ []) (after_step b s)
 appended_step problem v b steps s right = record { more = s ∷ []; added = refl; right = (right, tt); leads = refl }

@@ -9,11 +9,6 @@ abbrev pub or_found : {A : Type 0} → Option A → Option A → Option A
 or_found None other = other
 or_found (Some x) other = Some x
 
-found_on : {A : Type 0} (first : Bool) (x : A) (found rest rest_with : Option A) → or_found rest_with found ≡ rest
-    → or_found (if first then Some x else rest_with) found ≡ (if first then Some x else rest)
-found_on true x found rest rest_with is = refl
-found_on false x found rest rest_with is = is
-
 or_none : {A : Type 0} (first : Bool) (x : A) (found : Option A) → or_found (if first then Some x else None) found ≡ (if first then Some x else found)
 or_none true x found = refl
 or_none false x found = refl
@@ -32,9 +27,6 @@ found_more p (y ∷ xs) x found =
 
 -- the rule of the first of a name is that of the first pair with it
 module _ {A : Type 0} (label : A → List ℕ) (rule : A → Rule) where
-  pair : A → List ℕ × Rule
-  pair x = (label x, rule x)
-
   pub chosen_named : (name : List ℕ) (xs : List A) → option_map rule (find (λ x. bytes_eq (label x) name) xs) ≡ chosen_rule (map (λ x. (label x, rule x)) xs) (Some name)
   chosen_named name [] = refl
   chosen_named name (x ∷ xs) = either (bytes_eq (label x) name) x (find (λ y. bytes_eq (label y) name) xs) (find (λ (k : List ℕ × Rule). bytes_eq k.0 name) (map (λ y. (label y, rule y)) xs)) (chosen_named name xs)

@@ -1,17 +1,14 @@
 -- Instances of constraints, and the objective.
-use Rattle.std.proofs.Common.{◌≡◌, refl, sym, ap, subst, ◌∙◌, ℕ, ◌+◌, ◌<◌, ℤ, List, [], ◌∷◌, map, length, get_or, drop, Some, None, IfSome, option_map, Result, Ok, Err, IfOk}
-use Rattle.std.specs.Borrow.{Bor}
+use Rattle.std.proofs.Common.{◌≡◌, refl, sym, ap, subst, ◌∙◌, ℕ, ◌+◌, ◌<◌, List, [], ◌∷◌, length, get_or, drop, Some, None, IfSome, option_map, Result, Ok, Err, IfOk}
 use Rattle.std.specs.Prelude.{slice_get}
-use Rattle.std.specs.List.{AllByRecursion, sum_by}
+use Rattle.std.specs.List.{AllByRecursion}
 use Rattle.std.specs.Option.{option_map_or}
 use Rattle.std.proofs.lemmas.List.{at_drop_more}
-use Rattle.std.proofs.lemmas.Option.{slice_get_within, slice_get_read, slice_get-map}
 use Rattle.sopl_ast.specs.Tree.{Tree}
 use Rattle.sopl_ast.specs.Known.{Binding, Known}
-use Rattle.sopl_ast.specs.Instances.{Hard, Chance, Objective, Problem}
+use Rattle.sopl_ast.specs.Instances.{Hard, Chance, Objective}
 use Rattle.sopl_ast.specs.UnfoldEvents.{expression_events}
-use Rattle.sopl_ast.specs.References.{now_of}
-use Rattle.sopl_ast.specs.TermNodes.{nodes, objective_nodes, scenario_nodes}
+use Rattle.sopl_ast.specs.TermNodes.{nodes, objective_nodes}
 use Rattle.sopl_ast.specs.Unfolding.{objective_of, problem_of, text_events}
 use Rattle.sopl_ast.specs.Whole.{GoalTree, ModelTree}
 use Rattle.unfold_laws.specs.Conditions.{placed, IsMet, IsThreshold}
@@ -19,24 +16,14 @@ use Rattle.unfold_laws.specs.Passing.{NothingFails}
 use Rattle.unfold_laws.proofs.Conditions.{hards_are_met, chances_are_met, objective_is_met}
 use Rattle.compile_counts.specs.Walked.{IsWalked}
 use Rattle.compile_counts.proofs.Walking.{expressions_are_walked}
-use Rattle.compile_counts.specs.Counted.{capped, nodes_at}
 
 module _ (known here : Known) (conditions : List Tree) (text : ℕ) (bound : List Binding) (is : IsMet known conditions text bound) (at : here ≡ placed known bound) where
-  -- it is there
-  pub met_below : text < length conditions
-  met_below = slice_get_within conditions text is.condition is.stands
-
   -- its binders and divisors pass
   pub met_walked : (e : Tree) → slice_get conditions text ≡ Some e → IsWalked None here e
   met_walked e there =
       let same : Some is.condition ≡ Some e = sym is.stands ∙ there in
       subst (λ k. IsWalked None k e) (sym at)
       (subst (λ o. IfSome o (λ t. IsWalked None (placed known bound) t)) same (expressions_are_walked is.condition None (placed known bound) is.passes))
-
-  -- its nodes
-  pub met_nodes : (e : Tree) (n : ℤ) → slice_get conditions text ≡ Some e → n ≡ capped (nodes here e) → n ≡ capped (nodes_at known conditions text bound)
-  met_nodes e n there counted =
-      counted ∙ ap (λ k. capped (nodes k e)) at ∙ ap capped (sym (ap (λ o. option_map_or (nodes (placed known bound)) o 0) there))
 
 -- what holds of chance constraints beside their thresholds
 pub chances_met : (known : Known) (conditions : List Tree) (chances : List Chance)
@@ -63,16 +50,6 @@ chances_ready model known conditions chances passes knows lists is =
     (subst (λ cs. AllByRecursion (λ (c : Chance). IsMet known cs c.text c.bound) (problem_of model).chances) (sym lists)
     (subst (λ k. AllByRecursion (λ (c : Chance). IsMet k (problem_of model).conditions c.text c.bound) (problem_of model).chances) (sym knows)
     (chances_met (problem_of model).known (problem_of model).conditions (problem_of model).chances (chances_are_met model passes))))
-
--- the nodes of all instances and of the objective
-pub all_counted : (problem : Problem) (known : Known) (conditions : List Tree) (hards : List Hard) (chances : List Chance)
-    → known ≡ problem.known → conditions ≡ problem.conditions → hards ≡ problem.hards → chances ≡ problem.chances
-    → sum_by (λ (h : Hard). nodes_at known conditions h.text h.bound) hards
-    + (sum_by (λ (c : Chance). nodes_at known conditions c.text c.bound) chances + objective_nodes problem)
-    ≡ scenario_nodes problem
-all_counted problem known conditions hards chances knows lists hs cs =
-    λ i. sum_by (λ (h : Hard). nodes_at (knows i) (lists i) h.text h.bound) (hs i)
-    + (sum_by (λ (c : Chance). nodes_at (knows i) (lists i) c.text c.bound) (cs i) + objective_nodes problem)
 
 -- the objective of a model
 goal_is : (model : ModelTree) → (problem_of model).objective ≡ option_map objective_of model.goal

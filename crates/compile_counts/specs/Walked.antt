@@ -7,7 +7,7 @@ use Rattle.sopl_ast.specs.Tree as t
 use Rattle.sopl_ast.specs.Tree.{Tree, Shape, Trees, Terms, Factors, Binders, Node, no_tree, tree, no_term, term, no_factor, factor, no_binder, binder, place_of}
 use Rattle.sopl_ast.specs.Known.{Known, with_bound}
 use Rattle.sopl_ast.specs.Constants.{numbers_in, all_bindings}
-use Rattle.sopl_ast.specs.UnfoldEvents.{UnfoldEvent, constant_events, expression_events, divisor_events, range_events, binding_events}
+use Rattle.sopl_ast.specs.UnfoldEvents.{UnfoldEvent, binding_events, divisor_events, events_in, range_events}
 use Rattle.unfold_laws.specs.Passing.{NothingFails}
 
 -- the ranges of binders pass, each for all ways in which those before it take their values; they belong to the constant expression that begins at
@@ -17,11 +17,6 @@ AreMet known whole no_binder = Unit {0}
 AreMet known whole (binder name at range more) =
     NothingFails (range_events known whole range)
     × AllByRecursion (λ number. AreMet (with_bound name number known) whole more) (numbers_in known range)
-
--- what is met in an expression: in a part of the constant expression that begins at `whole`, or with none in a part of a constraint or an objective
-abbrev pub met_in : Option ℕ → Known → Tree → List UnfoldEvent
-met_in None known e = expression_events known e
-met_in (Some whole) known e = constant_events known whole e
 
 -- a divisor passes; inside a constant expression it is a part like others
 abbrev pub IsDivisor : Option ℕ → Known → MulOp → Tree → Type 0
@@ -47,7 +42,7 @@ abbrev mutual
   ShapeIsWalked whole known (t.Lit z) = Unit {0}
   ShapeIsWalked whole known (t.Name name) = Unit {0}
   ShapeIsWalked whole known (t.Index name es) = AreWalked whole known es
-  ShapeIsWalked whole known (t.Neg e) = IsWalked whole known e
+  ShapeIsWalked whole known (t.Call f e) = IsWalked whole known e
   ShapeIsWalked whole known (t.Add parts) = TermsAreWalked whole known parts
   ShapeIsWalked whole known (t.Mul first others) = IsWalked whole known first × FactorsAreWalked whole known others
   ShapeIsWalked whole known (t.Cmp op a b) = IsWalked whole known a × IsWalked whole known b
@@ -56,9 +51,7 @@ abbrev mutual
   ShapeIsWalked whole known (t.Or es) = AreWalked whole known es
   ShapeIsWalked whole known (t.Implies a b) = IsWalked whole known a × IsWalked whole known b
   ShapeIsWalked whole known (t.Sum bs e) = AreMet known whole bs × AllByRecursion (λ here. IsWalked whole here e) (all_bindings known bs)
-  ShapeIsWalked whole known (t.Least es) = AreWalked whole known es
-  ShapeIsWalked whole known (t.Greatest es) = AreWalked whole known es
-  ShapeIsWalked whole known (t.Abs e) = IsWalked whole known e
+  ShapeIsWalked whole known (t.Selected which es) = AreWalked whole known es
   ShapeIsWalked whole known (t.AllDifferent bs e) = AreMet known whole bs × AllByRecursion (λ here. IsWalked whole here e) (all_bindings known bs)
   ShapeIsWalked whole known (t.Cumulative bs start duration demand capacity) =
       AreMet known whole bs
@@ -95,4 +88,4 @@ BodiesPass =
 
 -- all binders and divisors inside an expression pass where a way through it does
 abbrev pub ExpressionsAreWalked : Type 0
-ExpressionsAreWalked = (e : Tree) (whole : Option ℕ) (known : Known) → NothingFails (met_in whole known e) → IsWalked whole known e
+ExpressionsAreWalked = (e : Tree) (whole : Option ℕ) (known : Known) → NothingFails (events_in whole known e) → IsWalked whole known e

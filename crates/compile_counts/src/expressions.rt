@@ -42,15 +42,11 @@ pub(crate) fn nodes_of<'a>(
 {
     match &e.kind {
         Kind::Lit(_) | Kind::Name(_) => Ok(Nodes::one()),
-        Kind::Index(_, parts)
-        | Kind::And(parts)
-        | Kind::Or(parts)
-        | Kind::Least(parts)
-        | Kind::Greatest(parts) => {
+        Kind::Index(_, parts) | Kind::And(parts) | Kind::Or(parts) | Kind::Selected(_, parts) => {
             let inside = nodes_of_all(alloc, known, whole, parts.as_slice())?;
             Ok(inside.with_operator())
         }
-        Kind::Neg(part) | Kind::Not(part) | Kind::Abs(part) => {
+        Kind::Call(_, part) | Kind::Not(part) => {
             Ok(nodes_of(alloc, known, whole, part)?.with_operator())
         }
         Kind::Add(parts) => {

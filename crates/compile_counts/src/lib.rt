@@ -1,6 +1,6 @@
 //! The places that binders give and the numbers that stand as divisors, in a text whose unfolding nothing stops; and how many term nodes
 //! such a text has, before any term is made.
-//! Its tests stand in `tests` and in `compile_tests`.
+//! Its tests stand in `ground_tests` and in `compile_tests`.
 #![tactic(auto)]
 
 mod bindings;
@@ -11,8 +11,6 @@ mod instance_counts;
 mod instances;
 mod laws;
 mod limit;
-#[cfg(test)]
-mod tests;
 
 pub use bindings::all_places;
 pub use constants::divisor;

@@ -1,4 +1,3 @@
-mod Building
 mod Extremes
 mod Loops
 mod Parts

@@ -9,11 +9,11 @@ use Rattle.term_language.specs.Terms as c
 use Rattle.term_language.specs.Terms.{Term, Terms, Cond, Tasks}
 use Rattle.compile_laws.specs.Instances.{TaskTerms}
 use Rattle.compile_names.specs.declared.setting.Scenarios.{Scenarios}
-use Rattle.compile_laws.specs.Measured.{IsSizeFault, Measures, first_large, large_excess}
+use Rattle.compile_laws.specs.Measured.{Measures, first_large, large_excess}
 use Rattle.compile_laws.specs.Subterms.{all_subterms, condition_subterms, subterms}
-use Rattle.compile_laws.proofs.Measuring.{at_once, faults_end, faults_in_turn, none_large}
+use Rattle.compile_laws.proofs.Measuring.{at_once, none_large}
 use Rattle.compile_scene.specs.Scenes.{root_in}
-use Rattle.compile_scene.specs.Works.{Extends, IsReady, Stands, things_of}
+use Rattle.compile_scene.specs.Works.{IsReady, Stands, things_of}
 use Rattle.compile_scene.specs.declared.work.Lowering.{Lowering}
 use Rattle.compile_scene.proofs.Growing.{extended, extends_not, extends_twice, grows_twice, stands_grows}
 use Rattle.sopl_term.specs.Built.{Grows, task_ids, HasAddedCond, HasAddedTerm, built, root_built}
@@ -29,8 +29,8 @@ use Rattle.term_store.specs.declared.additions.NewCond.TheVariants as new
 use Rattle.term_store.specs.declared.additions.NewTerm.{NewTerm}
 use Rattle.term_store.specs.declared.ids.CondId.{CondId}
 use Rattle.term_store.specs.declared.ids.TermId.{TermId}
-use Rattle.compile_exprs.specs.Made.{AreTasks, AreTerms, AreThere, HasCondOperands, HasOperands, IsMade, IsOperand, IsTask, MakesCond, MakesTerm, operand_subterms, subterms_of_task}
-use Rattle.compile_exprs.proofs.Sizes.{AreSmall, both_small}
+use Rattle.compile_exprs.specs.Made.{SizesFail, AreTasks, AreTerms, AreThere, HasCondOperands, HasOperands, IsMade, IsOperand, IsTask, Makes, MakesTerm, operand_subterms}
+use Rattle.compile_exprs.proofs.Sizes.{fails_first, fails_later, AreSmall, both_small}
 
 -- Tasks stay where more is added.
 
@@ -97,11 +97,8 @@ operands_all (c.Constant z) = refl
 operands_all (c.Cell cell) = refl
 operands_all (c.Sum parts) = refl
 operands_all (c.Product a b) = sym (append_assoc (subterms a) (subterms b) (c.Product a b ∷ []))
-operands_all (c.Quotient a divisor) = refl
-operands_all (c.Remainder a divisor) = refl
-operands_all (c.Least a later) = sym (append_assoc (subterms a) (all_subterms later) (c.Least a later ∷ []))
-operands_all (c.Greatest a later) = sym (append_assoc (subterms a) (all_subterms later) (c.Greatest a later ∷ []))
-operands_all (c.Size a) = refl
+operands_all (c.Made how a) = refl
+operands_all (c.Selected which a later) = sym (append_assoc (subterms a) (all_subterms later) (c.Selected which a later ∷ []))
 operands_all (c.Element table indices) = refl
 operands_all (c.Number cond) = refl
 
@@ -115,9 +112,9 @@ term_made setting before mid b new t (Ok id) o added = record {
       (subst (λ x. AreSmall (root_in setting) (x ∷ [])) o.is (one_measured setting mid (new_term (things_of mid) new) (Ok id) added.adds.measured o.extends.ready));
 }
 term_made setting before mid b new t (Err fault) o added =
-    subst (λ l. IsSizeFault (root_in setting) l fault) (sym (operands_all t))
-    (faults_in_turn (root_in setting) (operand_subterms t) (t ∷ []) fault o.small
-    (subst (λ x. IsSizeFault (root_in setting) (x ∷ []) fault) o.is (one_measured setting mid (new_term (things_of mid) new) (Err fault) added.adds.measured o.extends.ready)))
+    subst (λ l. SizesFail (root_in setting) l fault) (sym (operands_all t))
+    (fails_later (root_in setting) (operand_subterms t) (t ∷ []) fault o.small
+    (subst (λ x. SizesFail (root_in setting) (x ∷ []) fault) o.is (record { large = one_measured setting mid (new_term (things_of mid) new) (Err fault) added.adds.measured o.extends.ready })))
 
 pub cond_made : (setting : Scenarios) (before mid : Lowering) (b : Builder) (new : NewCond) (t : Cond) (id : CondId) → HasCondOperands setting before mid new t → HasAddedCond mid.builder b new (Ok id)
     → IsMade setting before (record mid { builder = b }) id.0 (a_cond t) (condition_subterms t)
@@ -155,17 +152,11 @@ pub same_terms : (setting : Scenarios) (before work : Lowering) (given ids : Lis
 same_terms setting before work given ids ts same are = subst (λ l. AreTerms setting before work l ts) (sym same) are
 
 -- one of the terms in what is added is too large
-pub term_fails : (setting : Scenarios) (before after : Lowering) (t : Term) (fault : Fault) (r : Result TermId Fault) → r ≡ Err fault → IsSizeFault (root_in setting) (operand_subterms t) fault
+pub term_fails : (setting : Scenarios) (before after : Lowering) (t : Term) (fault : Fault) (r : Result TermId Fault) → r ≡ Err fault → SizesFail (root_in setting) (operand_subterms t) fault
     → MakesTerm setting before after t r
 term_fails setting before after t fault r failed large =
     subst (MakesTerm setting before after t) (sym failed)
-    (subst (λ l. IsSizeFault (root_in setting) l fault) (sym (operands_all t)) (faults_end (root_in setting) (operand_subterms t) (t ∷ []) fault large))
-
--- what was added behind other things
-pub made_behind : (setting : Scenarios) (before mid after : Lowering) (t : Term) (r : Result TermId Fault) → Extends setting before mid → MakesTerm setting mid after t r
-    → MakesTerm setting before after t r
-made_behind setting before mid after t (Ok id) extends made = record { extends = extends_twice setting before mid after extends made.extends; stands = made.stands; small = made.small }
-made_behind setting before mid after t (Err fault) extends made = made
+    (subst (λ l. SizesFail (root_in setting) l fault) (sym (operands_all t)) (fails_first (root_in setting) (operand_subterms t) (t ∷ []) fault large))
 
 -- two sides of a comparison or of an implication, and tasks with their capacity
 pub compared : (setting : Scenarios) (before mid work : Lowering) (op : CmpOp) (left right : TermId) (a b : Term) → IsMade setting before mid left.0 (a_term a) (subterms a)
@@ -218,44 +209,20 @@ task_made setting before first second after a b d x y z start duration demand =
       small = both_small (root_in setting) (subterms x) (subterms y ++ subterms z) start.small (both_small (root_in setting) (subterms y) (subterms z) duration.small demand.small);
     }
 
--- the first of its terms is too large, or the second, or the third
-pub start_large : (root : Box) (x : TaskTerms) (fault : Fault) → IsSizeFault root (subterms x.start) fault → IsSizeFault root (subterms_of_task x) fault
-start_large root x fault large = faults_end root (subterms x.start) (subterms x.duration ++ subterms x.demand) fault large
-
-pub duration_large : (root : Box) (x : TaskTerms) (fault : Fault) → AreSmall root (subterms x.start) → IsSizeFault root (subterms x.duration) fault → IsSizeFault root (subterms_of_task x) fault
-duration_large root x fault small large =
-    faults_in_turn root (subterms x.start) (subterms x.duration ++ subterms x.demand) fault small (faults_end root (subterms x.duration) (subterms x.demand) fault large)
-
-pub demand_large : (root : Box) (x : TaskTerms) (fault : Fault) → AreSmall root (subterms x.start) → AreSmall root (subterms x.duration) → IsSizeFault root (subterms x.demand) fault
-    → IsSizeFault root (subterms_of_task x) fault
-demand_large root x fault small more large =
-    faults_in_turn root (subterms x.start) (subterms x.duration ++ subterms x.demand) fault small (faults_in_turn root (subterms x.duration) (subterms x.demand) fault more large)
-
 -- What a call says of what it made, clause by clause.
+module _ {A : Type 0} (IsIt : A → Type 0) (root : Box) (sizes : List Term) where
+  pub extends_so : {Q : Type 0} (r : Result A Fault) → Makes IsIt root sizes r → ((x : A) → IsIt x → Q) → OnOk r Q
+  extends_so (Ok x) made so = so x made
+  extends_so (Err fault) made so = tt
 
-pub term_extends : (setting : Scenarios) (before after : Lowering) (t : Term) (r : Result TermId Fault) → MakesTerm setting before after t r → OnOk r (Extends setting before after)
-term_extends setting before after t (Ok id) made = made.extends
-term_extends setting before after t (Err fault) made = tt
+  pub stands_so : {P : A → Type 0} (r : Result A Fault) → Makes IsIt root sizes r → ((x : A) → IsIt x → P x) → IfOk r P
+  stands_so (Ok x) made so = so x made
+  stands_so (Err fault) made so = tt
 
-pub term_stands : (setting : Scenarios) (before after : Lowering) (t : Term) (r : Result TermId Fault) → MakesTerm setting before after t r
-    → IfOk r (λ (id : TermId). Stands (things_of after) id.0 (a_term t))
-term_stands setting before after t (Ok id) made = made.stands
-term_stands setting before after t (Err fault) made = tt
+  pub measured_so : (r : Result A Fault) → Makes IsIt root sizes r → ((x : A) → IsIt x → AreSmall root sizes) → Measures root sizes r
+  measured_so (Ok x) made so = so x made
+  measured_so (Err fault) made so = made.large
 
-pub term_measured : (setting : Scenarios) (before after : Lowering) (t : Term) (r : Result TermId Fault) → MakesTerm setting before after t r → Measures (root_in setting) (subterms t) r
-term_measured setting before after t (Ok id) made = made.small
-term_measured setting before after t (Err fault) made = made
-
-pub cond_extends : (setting : Scenarios) (before after : Lowering) (t : Cond) (r : Result CondId Fault) → MakesCond setting before after t r → OnOk r (Extends setting before after)
-cond_extends setting before after t (Ok id) made = made.extends
-cond_extends setting before after t (Err fault) made = tt
-
-pub cond_stands : (setting : Scenarios) (before after : Lowering) (t : Cond) (r : Result CondId Fault) → MakesCond setting before after t r
-    → IfOk r (λ (id : CondId). Stands (things_of after) id.0 (a_cond t))
-cond_stands setting before after t (Ok id) made = made.stands
-cond_stands setting before after t (Err fault) made = tt
-
-pub cond_measured : (setting : Scenarios) (before after : Lowering) (t : Cond) (r : Result CondId Fault) → MakesCond setting before after t r
-    → Measures (root_in setting) (condition_subterms t) r
-cond_measured setting before after t (Ok id) made = made.small
-cond_measured setting before after t (Err fault) made = made
+  -- it ends with a fault that these sizes give
+  pub exits : (r : Result A Fault) (fault : Fault) → r ≡ Err fault → SizesFail root sizes fault → Makes IsIt root sizes r
+  exits r fault failed large = subst (Makes IsIt root sizes) (sym failed) large

@@ -1,4 +1,3 @@
 pub mod Over
 -- For proofs alone: nothing is to be believed here
-pub mod Buildable
 pub mod Made

@@ -3,8 +3,10 @@ use Rattle.std.specs.Prelude.{◌≡◌, ◌<◌, ℕ, Bool, List, [], ◌∷◌
 use Rattle.std.specs.declared.alloc.Global.{Global}
 use Rattle.std.specs.declared.vec.Vec.{Vec}
 use Rattle.sopl_base.specs.declared.fault.Fault.{Fault}
+use Rattle.box_problem.specs.Box.{Box}
 use Rattle.term_language.specs.Terms as c
 use Rattle.term_language.specs.Terms.{Term, Terms, Parts, Cond, Conds, Tasks}
+use Rattle.compile_counts.specs.Walked.{IsWalked}
 use Rattle.compile_laws.specs.Instances.{TaskTerms}
 use Rattle.compile_names.specs.declared.setting.Scenarios.{Scenarios}
 use Rattle.compile_laws.specs.Measured.{IsSizeFault, first_large}
@@ -26,7 +28,6 @@ use Rattle.term_store.specs.declared.ids.CondId.{CondId}
 use Rattle.term_store.specs.declared.ids.TermId.{TermId}
 use Rattle.unfold_constants.specs.declared.constant_scope.ConstantScope.{ConstantScope}
 use Rattle.unfold_tables.specs.Tables.{table_known}
-use Rattle.compile_exprs.specs.Buildable.{IsBuildable}
 use Rattle.compile_exprs.specs.Over.{IsOver}
 
 -- a scenario that there is, and a place in its text
@@ -39,13 +40,13 @@ pub record AreThere (work : Lowering) (ids : List TermId) : Type 0 where
   pub building : IsBuilding work.builder
   pub exist : AllBelow (length (things_of work)) (term_ids ids)
 
--- a place in a text where an expression may be built, and one where a task may be
+-- a place in a text at which an expression passes, and one at which a task does
 abbrev pub IsBody : Scenarios → Tree → place.Known → Type 0
-IsBody setting e here = (here.constants ≡ (table_known setting.table.now).constants) × IsBuildable here e
+IsBody setting e here = (here.constants ≡ (table_known setting.table.now).constants) × IsWalked None here e
 
 abbrev pub IsTaskBody : Scenarios → Tree → Tree → Tree → place.Known → Type 0
 IsTaskBody setting start duration demand here =
-    (here.constants ≡ (table_known setting.table.now).constants) × IsBuildable here start × IsBuildable here duration × IsBuildable here demand
+    (here.constants ≡ (table_known setting.table.now).constants) × (IsWalked None here start × IsWalked None here duration × IsWalked None here demand)
 
 -- a task by the numbers of its terms: the numbers, its terms, and the terms in these
 abbrev pub numbers_of : TermId × TermId × TermId → List ℕ
@@ -63,14 +64,23 @@ pub record IsMade (setting : Scenarios) (before after : Lowering) (id : ℕ) (th
   pub stands : Stands (things_of after) id thing
   pub small : first_large (root_in setting) sizes ≡ None
 
--- a term was added, or one in it is too large
+-- a fault that the sizes of these terms give
+pub record SizesFail (root : Box) (sizes : List Term) (fault : Fault) : Type 0 where
+  pub large : IsSizeFault root sizes fault
+
+-- a call made this, or one of these terms is too large
+abbrev pub Makes : {A : Type 0} → (A → Type 0) → Box → List Term → Result A Fault → Type 0
+Makes IsIt root sizes (Ok x) = IsIt x
+Makes IsIt root sizes (Err fault) = SizesFail root sizes fault
+
+-- a term was added
 abbrev pub MakesTerm : Scenarios → Lowering → Lowering → Term → Result TermId Fault → Type 0
-MakesTerm setting before after t (Ok id) = IsMade setting before after id.0 (a_term t) (subterms t)
-MakesTerm setting before after t (Err fault) = IsSizeFault (root_in setting) (subterms t) fault
+MakesTerm setting before after t r =
+    Makes (λ (id : TermId). IsMade setting before after id.0 (a_term t) (subterms t)) (root_in setting) (subterms t) r
 
 abbrev pub MakesCond : Scenarios → Lowering → Lowering → Cond → Result CondId Fault → Type 0
-MakesCond setting before after t (Ok id) = IsMade setting before after id.0 (a_cond t) (condition_subterms t)
-MakesCond setting before after t (Err fault) = IsSizeFault (root_in setting) (condition_subterms t) fault
+MakesCond setting before after t r =
+    Makes (λ (id : CondId). IsMade setting before after id.0 (a_cond t) (condition_subterms t)) (root_in setting) (condition_subterms t) r
 
 -- terms were added
 pub record AreTerms (setting : Scenarios) (before after : Lowering) (ids : List TermId) (ts : Terms) : Type 0 where
@@ -104,26 +114,26 @@ pub record AreTasks (setting : Scenarios) (before after : Lowering) (ids : List 
   pub are : tasks_at (things_of after) (task_ids ids) ≡ ts
   pub small : first_large (root_in setting) (task_subterms ts) ≡ None
 
--- or a term in them is too large
+-- a call does so
 abbrev pub MakesTerms : Scenarios → Lowering → Lowering → Terms → Result (Vec TermId Global) Fault → Type 0
-MakesTerms setting before after ts (Ok ids) = AreTerms setting before after ids.items ts
-MakesTerms setting before after ts (Err fault) = IsSizeFault (root_in setting) (all_subterms ts) fault
+MakesTerms setting before after ts r =
+    Makes (λ (ids : Vec TermId Global). AreTerms setting before after ids.items ts) (root_in setting) (all_subterms ts) r
 
 abbrev pub MakesConds : Scenarios → Lowering → Lowering → Conds → Result (Vec CondId Global) Fault → Type 0
-MakesConds setting before after ts (Ok ids) = AreConds setting before after ids.items ts
-MakesConds setting before after ts (Err fault) = IsSizeFault (root_in setting) (all_condition_subterms ts) fault
+MakesConds setting before after ts r =
+    Makes (λ (ids : Vec CondId Global). AreConds setting before after ids.items ts) (root_in setting) (all_condition_subterms ts) r
 
 abbrev pub MakesParts : Scenarios → Lowering → Lowering → Parts → Result (Vec (Bool × TermId) Global) Fault → Type 0
-MakesParts setting before after ts (Ok ids) = AreParts setting before after ids.items ts
-MakesParts setting before after ts (Err fault) = IsSizeFault (root_in setting) (part_subterms ts) fault
+MakesParts setting before after ts r =
+    Makes (λ (ids : Vec (Bool × TermId) Global). AreParts setting before after ids.items ts) (root_in setting) (part_subterms ts) r
 
 abbrev pub MakesTask : Scenarios → Lowering → Lowering → TaskTerms → Result (TermId × TermId × TermId) Fault → Type 0
-MakesTask setting before after x (Ok id) = IsTask setting before after id x
-MakesTask setting before after x (Err fault) = IsSizeFault (root_in setting) (subterms_of_task x) fault
+MakesTask setting before after x r =
+    Makes (λ (id : TermId × TermId × TermId). IsTask setting before after id x) (root_in setting) (subterms_of_task x) r
 
 abbrev pub MakesTasks : Scenarios → Lowering → Lowering → Tasks → Result (Vec (TermId × TermId × TermId) Global) Fault → Type 0
-MakesTasks setting before after ts (Ok ids) = AreTasks setting before after ids.items ts
-MakesTasks setting before after ts (Err fault) = IsSizeFault (root_in setting) (task_subterms ts) fault
+MakesTasks setting before after ts r =
+    Makes (λ (ids : Vec (TermId × TermId × TermId) Global). AreTasks setting before after ids.items ts) (root_in setting) (task_subterms ts) r
 
 -- a term by its number, which is not too large, nor is one in it
 pub record IsOperand (setting : Scenarios) (work : Lowering) (id : ℕ) : Type 0 where
@@ -136,11 +146,8 @@ operand_subterms (c.Constant z) = []
 operand_subterms (c.Cell cell) = []
 operand_subterms (c.Sum parts) = part_subterms parts
 operand_subterms (c.Product a b) = subterms a ++ subterms b
-operand_subterms (c.Quotient a divisor) = subterms a
-operand_subterms (c.Remainder a divisor) = subterms a
-operand_subterms (c.Least a later) = subterms a ++ all_subterms later
-operand_subterms (c.Greatest a later) = subterms a ++ all_subterms later
-operand_subterms (c.Size a) = subterms a
+operand_subterms (c.Made how a) = subterms a
+operand_subterms (c.Selected which a later) = subterms a ++ all_subterms later
 operand_subterms (c.Element table indices) = all_subterms indices
 operand_subterms (c.Number cond) = condition_subterms cond
 

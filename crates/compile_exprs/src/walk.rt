@@ -1,10 +1,9 @@
 //! The walk over an expression.
 
-ghost use Rattle.std.specs.Prelude.{◌≡◌, ◌<◌, None, map};
+ghost use Rattle.std.specs.Prelude.{◌<◌, None, map};
 ghost use Rattle.std.specs.List.{AllByRecursion};
-ghost use Rattle.compile_counts.specs.Walked.{AreMet};
+ghost use Rattle.compile_counts.specs.Walked.{AreMet, AreWalked, FactorsAreWalked, IsDivisor, IsWalked, TermsAreWalked, whole_of};
 ghost use Rattle.term_language.specs.Terms as c;
-ghost use Rattle.compile_exprs.specs.Buildable.{AreBuildable, FactorIsBuildable, FactorsAreBuildable, IsBuildable, TermsAreBuildable};
 ghost use Rattle.compile_exprs.specs.Made.{IsBody, IsOperand, IsPlaced, IsTaskBody, MakesCond, MakesConds, MakesParts, MakesTask, MakesTasks, MakesTerm, MakesTerms};
 ghost use Rattle.compile_laws.specs.Instances.{chain_instance, conditions, instance, instances, places, product_instance, shape_instance, tasks_of, terms_of};
 ghost use Rattle.sopl_scen.specs.Layout.{count_in};
@@ -18,15 +17,15 @@ ghost use Rattle.term_nodes.specs.Things.{term_at};
 ghost use Rattle.unfold_constants.specs.Here.{known_in};
 
 use crate::adding::{add_cond, add_term};
-use crate::chains::{added_up, extreme};
+use crate::chains::{added_up, called, extreme};
 use crate::elements::{element, named};
-use crate::lists::{listed, listed_part};
+use crate::lists::listed;
 use compile_counts::{all_places, divisor};
 use compile_scene::{Lowering, NumberedScenario};
 use sopl_ast::{Binders, Expr, Factors, Kind, MulOp, Name};
 use sopl_base::{CmpOp, Fault};
 use sopl_term::{CondId, NewCond, NewTerm, TermId};
-use term_math::{Divisor, Extreme, Operation};
+use term_math::{Divisor, Operation};
 use unfold_constants::{ConstantScope, TaskText};
 
 /// Adds the term of an expression; a condition is a number.
@@ -39,16 +38,16 @@ pub(crate) fn term<'a>(
 ) -> Result<TermId, Fault>
     requires ready { IsReady scene.now.setting.now work.old }
     requires placed { IsPlaced scene.now known.now }
-    requires buildable { IsBuildable (known_in known.now) e.now }
+    requires walked { IsWalked None (known_in known.now) e.now }
     ensures made { MakesTerm scene.now.setting.now work.old work.new (instance (place_of scene.now (known_in known.now)) e.now).term result }
 {
     match &e.kind {
         Kind::Lit(value) => add_term(work, &NewTerm::Constant(*value)),
         Kind::Name(name) => named(scene, known, work, name),
         Kind::Index(name, at) => indexed(scene, known, work, name, at.as_slice()),
-        Kind::Neg(part) => {
+        Kind::Call(function, part) => {
             let id = term(scene, known, work, part)?;
-            add_term(work, &NewTerm::Sum(&[(true, id)]))
+            called(work, *function, id)
         }
         Kind::Add(parts) => {
             let ids = chain(scene, known, work, parts.as_slice())?;
@@ -59,17 +58,9 @@ pub(crate) fn term<'a>(
             let ids = behind(scene, known, work, over, part)?;
             added_up(work, ids.as_slice())
         }
-        Kind::Least(parts) => {
+        Kind::Selected(which, parts) => {
             let ids = terms(scene, known, work, parts.as_slice())?;
-            extreme(scene, work, Extreme::Least, ids.as_slice())
-        }
-        Kind::Greatest(parts) => {
-            let ids = terms(scene, known, work, parts.as_slice())?;
-            extreme(scene, work, Extreme::Greatest, ids.as_slice())
-        }
-        Kind::Abs(part) => {
-            let id = term(scene, known, work, part)?;
-            add_term(work, &NewTerm::Operation(Operation::Size, id))
+            extreme(scene, work, *which, ids.as_slice())
         }
         Kind::Cmp(_, _, _)
         | Kind::Not(_)
@@ -94,7 +85,7 @@ pub(crate) fn condition<'a>(
 ) -> Result<CondId, Fault>
     requires ready { IsReady scene.now.setting.now work.old }
     requires placed { IsPlaced scene.now known.now }
-    requires buildable { IsBuildable (known_in known.now) e.now }
+    requires walked { IsWalked None (known_in known.now) e.now }
     ensures made { MakesCond scene.now.setting.now work.old work.new (instance (place_of scene.now (known_in known.now)) e.now).cond result }
 {
     match &e.kind {
@@ -127,13 +118,11 @@ pub(crate) fn condition<'a>(
         Kind::Lit(_)
         | Kind::Name(_)
         | Kind::Index(_, _)
-        | Kind::Neg(_)
+        | Kind::Call(_, _)
         | Kind::Add(_)
         | Kind::Mul(_)
         | Kind::Sum(_, _)
-        | Kind::Least(_)
-        | Kind::Greatest(_)
-        | Kind::Abs(_) => add_cond(work, &NewCond::Any(&[])),
+        | Kind::Selected(_, _) => add_cond(work, &NewCond::Any(&[])),
     }
 }
 
@@ -149,8 +138,8 @@ fn comparison<'a>(
 ) -> Result<CondId, Fault>
     requires ready { IsReady scene.now.setting.now work.old }
     requires placed { IsPlaced scene.now known.now }
-    requires left { IsBuildable (known_in known.now) a.now }
-    requires right { IsBuildable (known_in known.now) b.now }
+    requires left { IsWalked None (known_in known.now) a.now }
+    requires right { IsWalked None (known_in known.now) b.now }
     ensures made { MakesCond scene.now.setting.now work.old work.new
         (c.Compare op (instance (place_of scene.now (known_in known.now)) a.now).term (instance (place_of scene.now (known_in known.now)) b.now).term) result }
 {
@@ -170,8 +159,8 @@ fn implication<'a>(
 ) -> Result<CondId, Fault>
     requires ready { IsReady scene.now.setting.now work.old }
     requires placed { IsPlaced scene.now known.now }
-    requires left { IsBuildable (known_in known.now) a.now }
-    requires right { IsBuildable (known_in known.now) b.now }
+    requires left { IsWalked None (known_in known.now) a.now }
+    requires right { IsWalked None (known_in known.now) b.now }
     ensures made { MakesCond scene.now.setting.now work.old work.new
         (c.Implies (instance (place_of scene.now (known_in known.now)) a.now).cond (instance (place_of scene.now (known_in known.now)) b.now).cond) result }
 {
@@ -191,7 +180,7 @@ fn indexed<'a>(
 ) -> Result<TermId, Fault>
     requires ready { IsReady scene.now.setting.now work.old }
     requires placed { IsPlaced scene.now known.now }
-    requires buildable { AreBuildable (known_in known.now) (trees at.now) }
+    requires walked { AreWalked None (known_in known.now) (trees at.now) }
     ensures made { MakesTerm scene.now.setting.now work.old work.new (shape_instance (place_of scene.now (known_in known.now)) (t.Index name.now (trees at.now))).term result }
 {
     if at.is_empty() {
@@ -211,7 +200,7 @@ fn terms<'a>(
 ) -> Result<Vec<TermId>, Fault>
     requires ready { IsReady scene.now.setting.now work.old }
     requires placed { IsPlaced scene.now known.now }
-    requires buildable { AreBuildable (known_in known.now) (trees parts.now) }
+    requires walked { AreWalked None (known_in known.now) (trees parts.now) }
     ensures made { MakesTerms scene.now.setting.now work.old work.new (instances (place_of scene.now (known_in known.now)) (trees parts.now)) result }
 {
     let mut ids = Vec::new(work.alloc);
@@ -232,7 +221,7 @@ fn conditions<'a>(
 ) -> Result<Vec<CondId>, Fault>
     requires ready { IsReady scene.now.setting.now work.old }
     requires placed { IsPlaced scene.now known.now }
-    requires buildable { AreBuildable (known_in known.now) (trees parts.now) }
+    requires walked { AreWalked None (known_in known.now) (trees parts.now) }
     ensures made { MakesConds scene.now.setting.now work.old work.new (conditions (place_of scene.now (known_in known.now)) (trees parts.now)) result }
 {
     let mut ids = Vec::new(work.alloc);
@@ -253,13 +242,13 @@ fn chain<'a>(
 ) -> Result<Vec<(bool, TermId)>, Fault>
     requires ready { IsReady scene.now.setting.now work.old }
     requires placed { IsPlaced scene.now known.now }
-    requires buildable { TermsAreBuildable (known_in known.now) (terms parts.now) }
+    requires walked { TermsAreWalked None (known_in known.now) (terms parts.now) }
     ensures made { MakesParts scene.now.setting.now work.old work.new (chain_instance (place_of scene.now (known_in known.now)) (terms parts.now)) result }
 {
     let mut ids = Vec::new(work.alloc);
     'parts: for part in parts {
         let id = term(scene, known, work, &part.1)?;
-        listed_part(&mut ids, part.0, id)?;
+        listed(&mut ids, (part.0, id))?;
     }
     Ok(ids)
 }
@@ -274,8 +263,8 @@ fn product<'a>(
 ) -> Result<TermId, Fault>
     requires ready { IsReady scene.now.setting.now work.old }
     requires placed { IsPlaced scene.now known.now }
-    requires first { IsBuildable (known_in known.now) parts.now.first }
-    requires others { FactorsAreBuildable (known_in known.now) (factors parts.now.others) }
+    requires first { IsWalked None (known_in known.now) parts.now.first }
+    requires others { FactorsAreWalked None (known_in known.now) (factors parts.now.others) }
     ensures made { MakesTerm scene.now.setting.now work.old work.new
         (product_instance (place_of scene.now (known_in known.now)) (instance (place_of scene.now (known_in known.now)) parts.now.first).term (factors parts.now.others)) result }
 {
@@ -295,7 +284,7 @@ fn multiply<'a>(
     requires ready { IsReady scene.now.setting.now work.old }
     requires placed { IsPlaced scene.now known.now }
     requires operand { IsOperand scene.now.setting.now work.old first.0 }
-    requires buildable { FactorsAreBuildable (known_in known.now) (factors parts.now) }
+    requires walked { FactorsAreWalked None (known_in known.now) (factors parts.now) }
     ensures made { MakesTerm scene.now.setting.now work.old work.new
         (product_instance (place_of scene.now (known_in known.now)) (term_at (things_of work.old) first.0) (factors parts.now)) result }
 {
@@ -318,7 +307,8 @@ fn factor<'a>(
     requires ready { IsReady scene.now.setting.now work.old }
     requires placed { IsPlaced scene.now known.now }
     requires operand { IsOperand scene.now.setting.now work.old before.0 }
-    requires buildable { FactorIsBuildable (known_in known.now) part.now.0 part.now.1 }
+    requires divides { IsDivisor None (known_in known.now) part.now.0 part.now.1 }
+    requires walked { IsWalked (whole_of None part.now.0 part.now.1) (known_in known.now) part.now.1 }
     ensures made { MakesTerm scene.now.setting.now work.old work.new
         (product_instance (place_of scene.now (known_in known.now)) (term_at (things_of work.old) before.0) (t.factor part.now.0 part.now.1 t.no_factor)) result }
 {
@@ -352,7 +342,7 @@ fn behind<'a>(
     requires ready { IsReady scene.now.setting.now work.old }
     requires placed { IsPlaced scene.now known.now }
     requires met { AreMet (known_in known.now) None (binders over.now) }
-    requires bodies { AllByRecursion (λ (here : place.Known). (here.constants ≡ (known_in known.now).constants) × IsBuildable here e.now) (all_bindings (known_in known.now) (binders over.now)) }
+    requires bodies { AllByRecursion (λ (here : place.Known). IsWalked None here e.now) (all_bindings (known_in known.now) (binders over.now)) }
     ensures made { MakesTerms scene.now.setting.now work.old work.new
         (terms_of (map (λ here. (instance here e.now).term) (places (place_of scene.now (known_in known.now)) (binders over.now)))) result }
 {
@@ -396,10 +386,9 @@ fn scheduled<'a>(
     requires placed { IsPlaced scene.now known.now }
     requires met { AreMet (known_in known.now) None (binders over.now) }
     requires bodies { AllByRecursion
-        (λ (here : place.Known). (here.constants ≡ (known_in known.now).constants) × IsBuildable here task.now.start.now × IsBuildable here task.now.duration.now
-        × IsBuildable here task.now.demand.now)
+        (λ (here : place.Known). IsWalked None here task.now.start.now × IsWalked None here task.now.duration.now × IsWalked None here task.now.demand.now)
         (all_bindings (known_in known.now) (binders over.now)) }
-    requires most { IsBuildable (known_in known.now) most.now }
+    requires most { IsWalked None (known_in known.now) most.now }
     ensures made { MakesCond scene.now.setting.now work.old work.new
         (c.Cumulative
         (tasks_of (map (λ here. record { start = (instance here task.now.start.now).term; duration = (instance here task.now.duration.now).term; demand = (instance here task.now.demand.now).term })
@@ -424,8 +413,7 @@ fn tasks_behind<'a>(
     requires placed { IsPlaced scene.now known.now }
     requires met { AreMet (known_in known.now) None (binders over.now) }
     requires bodies { AllByRecursion
-        (λ (here : place.Known). (here.constants ≡ (known_in known.now).constants) × IsBuildable here task.now.start.now × IsBuildable here task.now.duration.now
-        × IsBuildable here task.now.demand.now)
+        (λ (here : place.Known). IsWalked None here task.now.start.now × IsWalked None here task.now.duration.now × IsWalked None here task.now.demand.now)
         (all_bindings (known_in known.now) (binders over.now)) }
     ensures made { MakesTasks scene.now.setting.now work.old work.new
         (tasks_of (map (λ here. record { start = (instance here task.now.start.now).term; duration = (instance here task.now.duration.now).term; demand = (instance here task.now.demand.now).term })
@@ -471,9 +459,9 @@ fn one_task<'a>(
 ) -> Result<(TermId, TermId, TermId), Fault>
     requires ready { IsReady scene.now.setting.now work.old }
     requires placed { IsPlaced scene.now known.now }
-    requires start { IsBuildable (known_in known.now) task.now.start.now }
-    requires duration { IsBuildable (known_in known.now) task.now.duration.now }
-    requires demand { IsBuildable (known_in known.now) task.now.demand.now }
+    requires start { IsWalked None (known_in known.now) task.now.start.now }
+    requires duration { IsWalked None (known_in known.now) task.now.duration.now }
+    requires demand { IsWalked None (known_in known.now) task.now.demand.now }
     ensures made { MakesTask scene.now.setting.now work.old work.new
         (record {
           start = (instance (place_of scene.now (known_in known.now)) task.now.start.now).term;

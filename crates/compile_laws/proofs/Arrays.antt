@@ -1,13 +1,12 @@
 -- The array of elements whose indices are all that some sets have, in whatever order, has these elements and no others.
-use Rattle.std.proofs.Common.{◌≡◌, ◌∙◌, refl, sym, ap, subst, arith, ℕ, zero, suc, ◌+◌, ◌<◌, ℤ, pos, ◌<ℤ◌, Bool, true, false, ◌||◌, List, [], ◌∷◌, length, map, get_or, ◌⊎◌, inl}
+use Rattle.std.proofs.Common.{◌≡◌, ◌∙◌, refl, sym, ap, subst, arith, ℕ, zero, suc, ◌+◌, ◌<◌, ℤ, pos, Bool, true, false, ◌||◌, List, [], ◌∷◌, length, map, get_or, ◌⊎◌, inl}
 use Rattle.std.proofs.Common.{inr, Option, Some, None, if◌then◌else◌}
 use Rattle.std.specs.BTreeSet.{insert_key}
-use Rattle.std.specs.Cmp.{int_ranks}
 use Rattle.std.specs.List.{fold, list_any, range_with_len}
 use Rattle.std.specs.Option.{unwrap_or}
-use Rattle.std.specs.Ordering.{int_cmp, match_ordering, MatchOrdering}
-use Rattle.std.specs.declared.cmp.Ordering.{Ordering}
-use Rattle.std.specs.declared.cmp.Ordering.TheVariants.{Less, Equal, Greater}
+use Rattle.std.specs.Ordering.{int_cmp}
+use Rattle.sopl_base.proofs.Booleans.{impossible}
+use Rattle.lang_laws.proofs.Holding.{from_inserted, to_inserted}
 use Rattle.policy_tree.proofs.Members.{In, In-map, from_map, In-flat_map, from_flat_map}
 use Rattle.term_language.specs.Terms.{Item, Fixed}
 use Rattle.term_language.specs.Arrays.{Entry, indices, item_in, paired, same_index}
@@ -63,43 +62,13 @@ from_indices index (s ∷ sets) h =
 
 -- Sets of numbers.
 
-in_inserted : (k : ℤ) (xs : List ℤ) (x : ℤ) → (k ≡ x) ⊎ In x xs → In x (insert_key int_cmp xs k)
-in_inserted k [] x (inl e) = inl e
-in_inserted k [] x (inr h) = absurd h
-in_inserted k (y ∷ ys) x h = placed (int_cmp k y) (int_ranks k y) h (in_inserted k ys x)
-  where
-    placed : (o : Ordering) → MatchOrdering o (k <ℤ y) (k ≡ y) (y <ℤ k) → (k ≡ x) ⊎ In x (y ∷ ys) → ((k ≡ x) ⊎ In x ys → In x (insert_key int_cmp ys k))
-        → In x (match_ordering o (k ∷ y ∷ ys) (y ∷ ys) (y ∷ insert_key int_cmp ys k))
-    placed Less is (inl e) later = inl e
-    placed Less is (inr g) later = inr g
-    placed Equal is (inl e) later = inl (sym is ∙ e)
-    placed Equal is (inr g) later = g
-    placed Greater is (inl e) later = inr (later (inl e))
-    placed Greater is (inr (inl e)) later = inl e
-    placed Greater is (inr (inr g)) later = inr (later (inr g))
-
-from_inserted : (k : ℤ) (xs : List ℤ) (x : ℤ) → In x (insert_key int_cmp xs k) → (k ≡ x) ⊎ In x xs
-from_inserted k [] x h = h
-from_inserted k (y ∷ ys) x h = placed (int_cmp k y) h (from_inserted k ys x)
-  where
-    behind : (k ≡ x) ⊎ In x ys → (k ≡ x) ⊎ In x (y ∷ ys)
-    behind (inl e) = inl e
-    behind (inr r) = inr (inr r)
-
-    placed : (o : Ordering) → In x (match_ordering o (k ∷ y ∷ ys) (y ∷ ys) (y ∷ insert_key int_cmp ys k)) → (In x (insert_key int_cmp ys k) → (k ≡ x) ⊎ In x ys)
-        → (k ≡ x) ⊎ In x (y ∷ ys)
-    placed Less g later = g
-    placed Equal g later = inr g
-    placed Greater (inl e) later = inr (inl e)
-    placed Greater (inr g) later = behind (later g)
-
 in_kept : (zs xs : List ℤ) (x : ℤ) → In x xs → In x (fold (insert_key int_cmp) xs zs)
 in_kept [] xs x h = h
-in_kept (z ∷ zs) xs x h = in_kept zs (insert_key int_cmp xs z) x (in_inserted z xs x (inr h))
+in_kept (z ∷ zs) xs x h = in_kept zs (insert_key int_cmp xs z) x (to_inserted z xs x (inr h))
 
 in_set : (zs xs : List ℤ) (x : ℤ) → In x zs → In x (fold (insert_key int_cmp) xs zs)
 in_set [] xs x h = absurd h
-in_set (z ∷ zs) xs x (inl e) = in_kept zs (insert_key int_cmp xs z) x (in_inserted z xs x (inl e))
+in_set (z ∷ zs) xs x (inl e) = in_kept zs (insert_key int_cmp xs z) x (to_inserted z xs x (inl e))
 in_set (z ∷ zs) xs x (inr h) = in_set zs (insert_key int_cmp xs z) x h
 
 from_set : (zs xs : List ℤ) (x : ℤ) → In x (fold (insert_key int_cmp) xs zs) → In x xs ⊎ In x zs
@@ -234,9 +203,6 @@ full_array sets (e ∷ es) full index =
         (subst (AreIn index) (ap (columns is 0) (long index sets (are index h)) ∙ sym own_is)
         (in_columns is index h 0 index (λ k below. ap (λ n. get_or index n (pos 0)) (omega arith))))
 
-    true_false : true ≡ false → ⊥
-    true_false h = cc
-
     by_item : (o : Option Item) → ((item : Item) × (o ≡ Some item)) → Some (unwrap_or o (Fixed (pos 0))) ≡ o
     by_item None found = absurd (cc)
     by_item (Some item) found = refl
@@ -245,4 +211,4 @@ full_array sets (e ∷ es) full index =
         → (if b then Some (unwrap_or (item_in (e ∷ es) index) (Fixed (pos 0))) else None) ≡ item_in (e ∷ es) index
     by_test true is_there o found = by_item (item_in (e ∷ es) index) (full.there index (inside (from_listed (indices own) index is_there)))
     by_test false is_there None found = sym found
-    by_test false is_there (Some item) found = absurd (true_false (sym (listed (indices own) index (outside (found_in (e ∷ es) index item found))) ∙ is_there))
+    by_test false is_there (Some item) found = absurd (impossible (sym (listed (indices own) index (outside (found_in (e ∷ es) index item found))) ∙ is_there))

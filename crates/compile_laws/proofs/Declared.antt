@@ -9,7 +9,7 @@ use Rattle.sopl_ast.specs.Whole.{DimTree, Declaration, IntDecl, RangeDecl, SetDe
 use Rattle.sopl_ast.specs.Known.{Constant}
 use Rattle.sopl_ast.specs.Mistakes as mistake
 use Rattle.sopl_ast.specs.Mistakes.{Entity, Variable, RangeName, SetName, Scope, entity_of, known_name, wrong_depths, first_of, bind_dims, of_dims, of_init, of_declaration}
-use Rattle.sopl_ast.specs.Mistakes.{declare, of_declarations, declare_all}
+use Rattle.sopl_ast.specs.Mistakes.{declare, no_names, of_declarations, declare_all}
 use Rattle.sopl_ast.specs.Instances.{Decision, Stochastic}
 use Rattle.sopl_ast.specs.Arrays as ast
 use Rattle.sopl_ast.specs.Arrays.{Dimension, dimensions_of, dimension_events, with_index}
@@ -164,10 +164,10 @@ owned_behind_all (d ∷ ds) scope found name right passes owned =
     owned_behind_all ds (declare d scope) (behind d found) name rights.1 both.1 (owned_behind d scope found name rights.0 both.0 owned)
 
 -- before the first declaration no name has an element
-nothing_owned : (name : List ℕ) → IsOwned (entity_of [] name) (all_named name nothing_declared)
+nothing_owned : (name : List ℕ) → IsOwned (entity_of no_names name) (all_named name nothing_declared)
 nothing_owned name =
     record { sets = [] ∷ []; exact = record { all = λ index h. absurd h; only = λ index h. absurd h }; absent = λ none index h. absurd h }
 
-pub declared_owned : (ds : List Declaration) (name : List ℕ) → of_declarations [] ds ≡ [] → NothingFails (declarations_events nothing_declared ds)
-    → IsOwned (entity_of (declare_all ds []) name) (all_named name (behind_all ds nothing_declared))
-declared_owned ds name right passes = owned_behind_all ds [] nothing_declared name right passes (nothing_owned name)
+pub declared_owned : (ds : List Declaration) (name : List ℕ) → of_declarations no_names ds ≡ [] → NothingFails (declarations_events nothing_declared ds)
+    → IsOwned (entity_of (declare_all ds no_names) name) (all_named name (behind_all ds nothing_declared))
+declared_owned ds name right passes = owned_behind_all ds no_names nothing_declared name right passes (nothing_owned name)

@@ -17,11 +17,6 @@ same_turned [] (y ∷ ys) = refl
 same_turned (x ∷ xs) [] = refl
 same_turned (x ∷ xs) (y ∷ ys) = λ i. equal_turned x y i && same_turned xs ys i
 
--- a choice between two tests in a row
-choose_both : {A : Type 0} (a b : Bool) (x y : A) → (if a && b then x else y) ≡ (if a then (if b then x else y) else y)
-choose_both true b x y = refl
-choose_both false b x y = refl
-
 -- one more element of a name
 more : (name : List ℕ) (index own : List ℤ) (b : Bool) (item : Item) (rest : List Entry) (found : Option ℤ) (z : ℤ) → item ≡ Fixed z
     → item_in rest index ≡ option_map Fixed found

@@ -2,9 +2,12 @@
 use Rattle.std.proofs.Common.{◌≡◌, ◌∙◌, refl, sym, ap, subst, ℕ, ℤ, pos, ◌+ℤ◌, ◌*ℤ◌, Bool, true, false, not, ◌&&◌, ◌||◌, List, [], ◌∷◌, ◌++◌, map, Option, Some, None, option_map}
 use Rattle.std.proofs.Common.{option_and_then, if◌then◌else◌}
 use Rattle.std.specs.List.{AllByRecursion, fold}
-use Rattle.std.specs.Int.{int_min, int_max}
-use Rattle.std.specs.Int.RustNames.{int_div, int_rem}
+use Rattle.sopl_base.specs.Extremes.{chosen_by}
 use Rattle.std.specs.Ordering.{int_eq}
+use Rattle.sopl_base.specs.declared.extreme.Extreme.{Extreme}
+use Rattle.sopl_ast.specs.declared.operators.Function.{Function}
+use Rattle.sopl_ast.specs.declared.operators.Function.TheVariants.{Negative, Size}
+use Rattle.sopl_ast.specs.declared.operators.MulOp.{MulOp}
 use Rattle.sopl_ast.specs.declared.operators.MulOp.TheVariants.{Times, Div, Mod}
 use Rattle.sopl_ast.specs.Tree as t
 use Rattle.sopl_ast.specs.Tree.{Tree, Shape, Trees, Factors, Binders, Node, no_tree, tree, no_factor, factor}
@@ -16,12 +19,15 @@ use Rattle.sopl_ast.specs.Constants.{all_bindings}
 use Rattle.sopl_ast.specs.Meanings as meant
 use Rattle.sopl_ast.specs.Meanings.{meaning, named_value, seen_value, decided_value, defined_values, fit}
 use Rattle.term_language.specs.Terms as c
+use Rattle.term_language.specs.declared.made.Operation.{Operation}
+use Rattle.term_language.specs.declared.made.Operation.TheVariants as unary
+use Rattle.term_language.specs.declared.made.Divisor.{Divisor}
 use Rattle.term_language.specs.Arrays.{Entry, item_in, item_at}
-use Rattle.term_language.specs.Ends.{size_of}
+use Rattle.term_language.specs.Ends.{size_of, made_of}
 use Rattle.term_language.specs.Forms.{sign}
 use Rattle.term_language.specs.Values.{TaskValues, all_distinct, compares, do_fit, holds_of, value, values, sum_value, holds, all_hold, any_holds, all_task_values, item_value, both_of}
 use Rattle.compile_laws.specs.Instances.{Place, TaskTerms, knowing, places, bound_elements, constant_elements, seen_elements, decided_elements, elements, table_of, undefined}
-use Rattle.compile_laws.specs.Instances.{item_term, named_term, terms_of, sum_of, tasks_of, extreme_of, divided, instance, shape_instance, instances, conditions, chain_instance}
+use Rattle.compile_laws.specs.Instances.{item_term, named_term, terms_of, sum_of, tasks_of, function_of, extreme_of, divided, instance, shape_instance, instances, conditions, chain_instance}
 use Rattle.compile_laws.specs.Instances.{product_instance}
 use Rattle.compile_laws.specs.Laws.{IsArray, AreArrays, Agrees, Means, InstancesMean}
 use Rattle.compile_laws.proofs.Agreeing.{truth_number, compared_so, part_so, negated_so, added_so, different_so, task_values, fit_so}
@@ -125,54 +131,38 @@ element_means place other point a arrays name (Some x) (Some xs) = indexed_is pl
 
 -- Operations.
 
-quotient_means : (point : List ℤ) (before : c.Term) (b : Option ℤ) → value point before ≡ b → (d : Option ℤ) → value point (divided c.Quotient before d) ≡ meant.divided Div b d
-quotient_means point before None is None = refl
-quotient_means point before (Some x) is None = refl
-quotient_means point before b is (Some z) = by_test (int_eq z (pos 0))
+called_means : (f : Function) (point : List ℤ) (a : c.Term) (v : Option ℤ) → value point a ≡ v → value point (function_of f a) ≡ option_map (ast.called f) v
+called_means Negative point a v is = ap (λ o. both_of (λ x y. sign true *ℤ x +ℤ y) o (Some (pos 0))) is ∙ negated_so v
+called_means Size point a v is = ap (option_map size_of) is
+
+-- a division by a number that is there, and by none
+module _ (how : MulOp) (make : Divisor → Operation)
+    (law : (x z : ℤ) → ◌≡◌ {A = Option ℤ} (if int_eq z (pos 0) then None else Some (made_of (make (record { number = z })) x)) (ast.applied how x z))
+    (point : List ℤ) (before : c.Term) where
+  pub divided_means : (b : Option ℤ) → value point before ≡ b → (d : Option ℤ) → value point (divided make before d) ≡ meant.divided how b d
+  divided_means None is None = refl
+  divided_means (Some x) is None = refl
+  divided_means b is (Some z) = by_test (int_eq z (pos 0)) ∙ (λ i. option_and_then (λ x. law x z i) b)
+    where
+      by_some : (b : Option ℤ) → option_map (made_of (make (record { number = z }))) b
+          ≡ option_and_then (λ x. if false then None else Some (made_of (make (record { number = z })) x)) b
+      by_some None = refl
+      by_some (Some x) = refl
+
+      none_some : (b : Option ℤ) → None ≡ option_and_then (λ x. if true then None else Some (made_of (make (record { number = z })) x)) b
+      none_some None = refl
+      none_some (Some x) = refl
+
+      by_test : (t : Bool) → value point (if t then undefined else c.Made (make (record { number = z })) before)
+          ≡ option_and_then (λ x. if t then None else Some (made_of (make (record { number = z })) x)) b
+      by_test true = none_some b
+      by_test false = ap (option_map (made_of (make (record { number = z })))) is ∙ by_some b
+
+extreme_means : (which : Extreme) (point : List ℤ) (ts : c.Terms) → value point (extreme_of which ts) ≡ option_and_then (ast.extreme (chosen_by which)) (values point ts)
+extreme_means which point c.no_term = refl
+extreme_means which point (c.term x later) = by_values (value point x) (values point later)
   where
-    by_some : (b : Option ℤ) → option_map (λ x. int_div x z) b ≡ option_and_then (λ x. if false then None else Some (int_div x z)) b
-    by_some None = refl
-    by_some (Some x) = refl
-
-    none_some : (b : Option ℤ) → None ≡ option_and_then (λ x. if true then None else Some (int_div x z)) b
-    none_some None = refl
-    none_some (Some x) = refl
-
-    by_test : (t : Bool) → value point (if t then undefined else c.Quotient before z) ≡ option_and_then (λ x. if t then None else Some (int_div x z)) b
-    by_test true = none_some b
-    by_test false = ap (option_map (λ x. int_div x z)) is ∙ by_some b
-
-remainder_means : (point : List ℤ) (before : c.Term) (b : Option ℤ) → value point before ≡ b → (d : Option ℤ) → value point (divided c.Remainder before d) ≡ meant.divided Mod b d
-remainder_means point before None is None = refl
-remainder_means point before (Some x) is None = refl
-remainder_means point before b is (Some z) = by_test (int_eq z (pos 0))
-  where
-    by_some : (b : Option ℤ) → option_map (λ x. int_rem x z) b ≡ option_and_then (λ x. if false then None else Some (int_rem x z)) b
-    by_some None = refl
-    by_some (Some x) = refl
-
-    none_some : (b : Option ℤ) → None ≡ option_and_then (λ x. if true then None else Some (int_rem x z)) b
-    none_some None = refl
-    none_some (Some x) = refl
-
-    by_test : (t : Bool) → value point (if t then undefined else c.Remainder before z) ≡ option_and_then (λ x. if t then None else Some (int_rem x z)) b
-    by_test true = none_some b
-    by_test false = ap (option_map (λ x. int_rem x z)) is ∙ by_some b
-
-least_means : (point : List ℤ) (ts : c.Terms) → value point (extreme_of c.Least ts) ≡ option_and_then (ast.extreme int_min) (values point ts)
-least_means point c.no_term = refl
-least_means point (c.term x later) = by_values (value point x) (values point later)
-  where
-    by_values : (a : Option ℤ) (b : Option (List ℤ)) → both_of (λ x xs. fold int_min x xs) a b ≡ option_and_then (ast.extreme int_min) (both_of (λ x xs. x ∷ xs) a b)
-    by_values None b = refl
-    by_values (Some x) None = refl
-    by_values (Some x) (Some xs) = refl
-
-greatest_means : (point : List ℤ) (ts : c.Terms) → value point (extreme_of c.Greatest ts) ≡ option_and_then (ast.extreme int_max) (values point ts)
-greatest_means point c.no_term = refl
-greatest_means point (c.term x later) = by_values (value point x) (values point later)
-  where
-    by_values : (a : Option ℤ) (b : Option (List ℤ)) → both_of (λ x xs. fold int_max x xs) a b ≡ option_and_then (ast.extreme int_max) (both_of (λ x xs. x ∷ xs) a b)
+    by_values : (a : Option ℤ) (b : Option (List ℤ)) → both_of (λ x xs. fold (chosen_by which) x xs) a b ≡ option_and_then (ast.extreme (chosen_by which)) (both_of (λ x xs. x ∷ xs) a b)
     by_values None b = refl
     by_values (Some x) None = refl
     by_values (Some x) (Some xs) = refl
@@ -280,9 +270,8 @@ mutual
       (ap (λ o. option_map (item_value point) (option_and_then (item_at (table_of (elements place name))) o))
       (λ i. both_of (λ x xs. x ∷ xs) ((means place other point a arrays e).value i) (all_means place other point a arrays es i))
       ∙ element_means place other point a arrays name (meaning other e).value (defined_values other es))
-  shape_means place other point a arrays (t.Neg e) =
-      number_means point _ _
-      (ap (λ o. both_of (λ x y. sign true *ℤ x +ℤ y) o (Some (pos 0))) (means place other point a arrays e).value ∙ negated_so (meaning other e).value)
+  shape_means place other point a arrays (t.Call f e) =
+      number_means point _ _ (called_means f point (instance place e).term (meaning other e).value (means place other point a arrays e).value)
   shape_means place other point a arrays (t.Add parts) = number_means point _ _ (chain_means place other point a arrays parts)
   shape_means place other point a arrays (t.Mul first others) =
       number_means point _ _ (product_means place other point a arrays (instance place first).term (meaning other first).value (means place other point a arrays first).value others)
@@ -301,11 +290,8 @@ mutual
       (each_place (λ k. IsValue point (knowing place k) (meant.knowing other k) e) place (all_bindings place.known bs) (constants_kept place.known.constants bs place.known refl)
       (λ k same. (means (knowing place k) (meant.knowing other k) point (knowing_agrees place other point a k) (knowing_arrays place arrays k same) e).value))
       ∙ ap (λ ks. option_map ast.total (all_of (λ here. (meaning here e).value) (map (meant.knowing other) ks))) (sym (same_bindings place other point a bs)))
-  shape_means place other point a arrays (t.Least es) =
-      number_means point _ _ (least_means point (instances place es) ∙ ap (option_and_then (ast.extreme int_min)) (all_means place other point a arrays es))
-  shape_means place other point a arrays (t.Greatest es) =
-      number_means point _ _ (greatest_means point (instances place es) ∙ ap (option_and_then (ast.extreme int_max)) (all_means place other point a arrays es))
-  shape_means place other point a arrays (t.Abs e) = number_means point _ _ (ap (option_map size_of) (means place other point a arrays e).value)
+  shape_means place other point a arrays (t.Selected which es) =
+      number_means point _ _ (extreme_means which point (instances place es) ∙ ap (option_and_then (ast.extreme (chosen_by which))) (all_means place other point a arrays es))
   shape_means place other point a arrays (t.AllDifferent bs e) =
       condition_means point _ _
       (ap (holds_of all_distinct)
@@ -356,11 +342,11 @@ mutual
       product_means place other point a arrays (c.Product before (instance place e).term) (ast.both_of ◌*ℤ◌ b (meaning other e).value)
       (λ i. both_of (λ x y. x *ℤ y) (is i) ((means place other point a arrays e).value i)) later
   product_means place other point a arrays before b is (factor Div e later) =
-      product_means place other point a arrays (divided c.Quotient before (constant.value place.known e)) (meant.divided Div b (constant.value other.known e))
-      (quotient_means point before b is (constant.value place.known e) ∙ ap (λ (k : Known). meant.divided Div b (constant.value k e)) (sym a.known)) later
+      product_means place other point a arrays (divided unary.Quotient before (constant.value place.known e)) (meant.divided Div b (constant.value other.known e))
+      (divided_means Div unary.Quotient (λ x z. refl) point before b is (constant.value place.known e) ∙ ap (λ (k : Known). meant.divided Div b (constant.value k e)) (sym a.known)) later
   product_means place other point a arrays before b is (factor Mod e later) =
-      product_means place other point a arrays (divided c.Remainder before (constant.value place.known e)) (meant.divided Mod b (constant.value other.known e))
-      (remainder_means point before b is (constant.value place.known e) ∙ ap (λ (k : Known). meant.divided Mod b (constant.value k e)) (sym a.known)) later
+      product_means place other point a arrays (divided unary.Remainder before (constant.value place.known e)) (meant.divided Mod b (constant.value other.known e))
+      (divided_means Mod unary.Remainder (λ x z. refl) point before b is (constant.value place.known e) ∙ ap (λ (k : Known). meant.divided Mod b (constant.value k e)) (sym a.known)) later
 
 pub instances_mean : InstancesMean
 instances_mean = means

@@ -3,6 +3,9 @@ use Rattle.std.proofs.Common.{ℕ, ℤ, pos, Bool, true, false, List, [], ◌∷
 use Rattle.std.specs.List.{AllByRecursion}
 use Rattle.std.specs.Option.{option_map_or}
 use Rattle.std.specs.Ordering.{int_eq}
+use Rattle.sopl_base.specs.declared.extreme.Extreme.{Extreme}
+use Rattle.sopl_ast.specs.declared.operators.Function.{Function}
+use Rattle.sopl_ast.specs.declared.operators.Function.TheVariants.{Negative, Size}
 use Rattle.sopl_ast.specs.declared.operators.MulOp.TheVariants.{Times, Div, Mod}
 use Rattle.sopl_ast.specs.Tree as t
 use Rattle.sopl_ast.specs.Tree.{Tree, Shape, Trees, Factors, Node, no_tree, tree, no_factor, factor}
@@ -11,9 +14,12 @@ use Rattle.sopl_ast.specs.Constants as constant
 use Rattle.sopl_ast.specs.Instances.{Chance, Hard, Objective, Problem}
 use Rattle.sopl_ast.specs.Scenarios.{Scenario, scenarios}
 use Rattle.term_language.specs.Terms as c
+use Rattle.term_language.specs.declared.made.Operation.{Operation}
+use Rattle.term_language.specs.declared.made.Operation.TheVariants as unary
+use Rattle.term_language.specs.declared.made.Divisor.{Divisor}
 use Rattle.term_language.specs.Arrays.{item_in}
 use Rattle.term_language.specs.Laws.{IsProper, AreProper, AreProperParts, AreProperTasks, AreProperConds, IsProperCond}
-use Rattle.compile_laws.specs.Instances.{Place, TaskTerms, places, bound_elements, elements, undefined, item_term, named_term, terms_of, sum_of, tasks_of, extreme_of, divided}
+use Rattle.compile_laws.specs.Instances.{Place, TaskTerms, places, bound_elements, elements, undefined, item_term, named_term, terms_of, sum_of, tasks_of, function_of, extreme_of, divided}
 use Rattle.compile_laws.specs.Instances.{number, condition, instance, shape_instance, instances, conditions, chain_instance, product_instance}
 use Rattle.term_problem.specs.Problems.{ChanceTerms, GoalTerms}
 use Rattle.compile_laws.specs.Whole.{place_at, condition_at, hard_terms, chance_terms, goal_terms}
@@ -50,27 +56,19 @@ tasks_proper : (f : Place → TaskTerms) → ((here : Place) → IsProper (f her
 tasks_proper f each [] = tt
 tasks_proper f each (p ∷ ps) = let is = each p in (is.0, is.1, is.2, tasks_proper f each ps)
 
-least_proper : (ts : c.Terms) → AreProper ts → IsProper (extreme_of c.Least ts)
-least_proper c.no_term are = undefined_proper
-least_proper (c.term first later) are = are
+extreme_proper : (which : Extreme) (ts : c.Terms) → AreProper ts → IsProper (extreme_of which ts)
+extreme_proper which c.no_term are = undefined_proper
+extreme_proper which (c.term first later) are = are
 
-greatest_proper : (ts : c.Terms) → AreProper ts → IsProper (extreme_of c.Greatest ts)
-greatest_proper c.no_term are = undefined_proper
-greatest_proper (c.term first later) are = are
+called_proper : (f : Function) (a : c.Term) → IsProper a → IsProper (function_of f a)
+called_proper Negative a is = (is, tt)
+called_proper Size a is = is
 
-quotient_proper : (a : c.Term) → IsProper a → (d : Option ℤ) → IsProper (divided c.Quotient a d)
-quotient_proper a is None = undefined_proper
-quotient_proper a is (Some z) = by_test (int_eq z (pos 0))
+pub divided_proper : (make : Divisor → Operation) (a : c.Term) → IsProper a → (d : Option ℤ) → IsProper (divided make a d)
+divided_proper make a is None = undefined_proper
+divided_proper make a is (Some z) = by_test (int_eq z (pos 0))
   where
-    by_test : (b : Bool) → IsProper (if b then undefined else c.Quotient a z)
-    by_test true = undefined_proper
-    by_test false = is
-
-remainder_proper : (a : c.Term) → IsProper a → (d : Option ℤ) → IsProper (divided c.Remainder a d)
-remainder_proper a is None = undefined_proper
-remainder_proper a is (Some z) = by_test (int_eq z (pos 0))
-  where
-    by_test : (b : Bool) → IsProper (if b then undefined else c.Remainder a z)
+    by_test : (b : Bool) → IsProper (if b then undefined else c.Made (make (record { number = z })) a)
     by_test true = undefined_proper
     by_test false = is
 
@@ -83,7 +81,7 @@ mutual
   shape_proper (t.Name name) place = number_proper (named_term place name) (named_proper place name)
   shape_proper (t.Index name no_tree) place = number_proper (named_term place name) (named_proper place name)
   shape_proper (t.Index name (tree e es)) place = number_proper _ ((tables_are_sound (elements place name)).1, ((proper e place).term, all_proper es place))
-  shape_proper (t.Neg e) place = number_proper _ ((proper e place).term, tt)
+  shape_proper (t.Call f e) place = number_proper _ (called_proper f (instance place e).term (proper e place).term)
   shape_proper (t.Add parts) place = number_proper _ (chain_proper parts place)
   shape_proper (t.Mul first others) place = number_proper _ (product_proper others place (instance place first).term (proper first place).term)
   shape_proper (t.Cmp op a b) place = condition_proper _ ((proper a place).term, (proper b place).term)
@@ -92,9 +90,7 @@ mutual
   shape_proper (t.Or es) place = condition_proper _ (conditions_proper es place)
   shape_proper (t.Implies a b) place = condition_proper _ ((proper a place).cond, (proper b place).cond)
   shape_proper (t.Sum bs e) place = number_proper _ (sum_proper (λ here. (instance here e).term) (λ here. (proper e here).term) (places place bs))
-  shape_proper (t.Least es) place = number_proper _ (least_proper (instances place es) (all_proper es place))
-  shape_proper (t.Greatest es) place = number_proper _ (greatest_proper (instances place es) (all_proper es place))
-  shape_proper (t.Abs e) place = number_proper _ (proper e place).term
+  shape_proper (t.Selected which es) place = number_proper _ (extreme_proper which (instances place es) (all_proper es place))
   shape_proper (t.AllDifferent bs e) place = condition_proper _ (terms_proper (λ here. (instance here e).term) (λ here. (proper e here).term) (places place bs))
   shape_proper (t.Cumulative bs start duration demand capacity) place =
       condition_proper _ (
@@ -119,9 +115,9 @@ mutual
   product_proper no_factor place before is = is
   product_proper (factor Times e later) place before is = product_proper later place (c.Product before (instance place e).term) (is, (proper e place).term)
   product_proper (factor Div e later) place before is =
-      product_proper later place (divided c.Quotient before (constant.value place.known e)) (quotient_proper before is (constant.value place.known e))
+      product_proper later place (divided unary.Quotient before (constant.value place.known e)) (divided_proper unary.Quotient before is (constant.value place.known e))
   product_proper (factor Mod e later) place before is =
-      product_proper later place (divided c.Remainder before (constant.value place.known e)) (remainder_proper before is (constant.value place.known e))
+      product_proper later place (divided unary.Remainder before (constant.value place.known e)) (divided_proper unary.Remainder before is (constant.value place.known e))
 
 pub instances_are_proper : InstancesAreProper
 instances_are_proper place e = proper e place

@@ -5,6 +5,7 @@ use Rattle.std.proofs.lemmas.Slice.Eq.{bytes_eq-Decides}
 use Rattle.std.specs.List.{AllByRecursion}
 use Rattle.std.specs.Option.{unwrap_or}
 use Rattle.std.specs.Str.{bytes_eq}
+use Rattle.sopl_base.proofs.Booleans.{impossible}
 use Rattle.sopl_base.proofs.Lists.{bytes_same}
 use Rattle.sopl_base.proofs.Tests.{nat_untest}
 use Rattle.sopl_ast.specs.declared.operators.MulOp.TheVariants.{Times, Div, Mod}
@@ -17,8 +18,9 @@ use Rattle.sopl_ast.specs.Mentions.{mentions, shape_mentions, some_mentions, som
 use Rattle.sopl_ast.specs.Tree as t
 use Rattle.sopl_ast.specs.Tree.{Tree, Shape, Trees, Factors, Node, no_tree, tree, no_factor, factor}
 use Rattle.term_language.specs.Terms as c
+use Rattle.term_language.specs.declared.made.Operation.TheVariants as unary
 use Rattle.term_language.specs.Arrays.{Entry, item_in}
-use Rattle.compile_laws.specs.Instances.{Instance, Place, TaskTerms, bound_elements, chain_instance, condition, conditions, constant_elements, decided_elements, divided, extreme_of}
+use Rattle.compile_laws.specs.Instances.{Instance, Place, TaskTerms, bound_elements, function_of, chain_instance, condition, conditions, constant_elements, decided_elements, divided, extreme_of}
 use Rattle.compile_laws.specs.Instances.{instance, instances, item_term, knowing, named_term, number, product_instance, seen_elements, shape_instance, sum_of, table_of, tasks_of, terms_of}
 use Rattle.compile_laws.specs.Repeating.{AgreeOn, InstancesRepeat, IsBy, IsPast}
 use Rattle.compile_laws.specs.Whole.{numbers_from}
@@ -83,7 +85,7 @@ module _ (ss : List Stochastic) (ds : List Decision) (v w : List ℤ) (m n : Lis
         let first = same e (left_of (λ n. mentions n e) (λ n. some_mentions n es) inside) known in
         let later = all_same es (right_of (λ n. mentions n e) (λ n. some_mentions n es) inside) known in
         λ i. number (c.Element (table_of (constant_elements name known.constants ++ here i)) (c.term (first i).term (later i)))
-    shape_same (t.Neg e) all known = ap (λ (x : Instance). number (c.Sum (c.part true x.term c.no_part))) (same e all known)
+    shape_same (t.Call f e) all known = ap (λ (x : Instance). number (function_of f x.term)) (same e all known)
     shape_same (t.Add parts) all known = ap (λ x. number (c.Sum x)) (chain_same parts all known)
     shape_same (t.Mul first others) all known =
         ap number
@@ -102,9 +104,7 @@ module _ (ss : List Stochastic) (ds : List Decision) (v w : List ℤ) (m n : Lis
         λ i. condition (c.Implies (left i).cond (right i).cond)
     shape_same (t.Sum bs e) all known =
         ap (λ xs. number (c.Sum (sum_of xs))) (each_same known e (same e (right_of (λ n. some_binder_mentions n bs) (λ n. mentions n e) all)) (all_bindings known bs))
-    shape_same (t.Least es) all known = ap (λ xs. number (extreme_of c.Least xs)) (all_same es all known)
-    shape_same (t.Greatest es) all known = ap (λ xs. number (extreme_of c.Greatest xs)) (all_same es all known)
-    shape_same (t.Abs e) all known = ap (λ (x : Instance). number (c.Size x.term)) (same e all known)
+    shape_same (t.Selected which es) all known = ap (λ xs. number (extreme_of which xs)) (all_same es all known)
     shape_same (t.AllDifferent bs e) all known =
         ap (λ xs. condition (c.AllDifferent (terms_of xs))) (each_same known e (same e (right_of (λ n. some_binder_mentions n bs) (λ n. mentions n e) all)) (all_bindings known bs))
     shape_same (t.Cumulative bs start duration demand capacity) all known =
@@ -148,11 +148,11 @@ module _ (ss : List Stochastic) (ds : List Decision) (v w : List ℤ) (m n : Lis
         product_same later (right_of (λ n. mentions n e) (λ n. some_factor_mentions n later) all) known (c.Product before (instance (one known) e).term)
         (c.Product mine (instance (other known) e).term) (λ i. c.Product (is i) (first i).term)
     product_same (factor Div e later) all known before mine is =
-        product_same later (right_of (λ n. mentions n e) (λ n. some_factor_mentions n later) all) known (divided c.Quotient before (constant.value known e))
-        (divided c.Quotient mine (constant.value known e)) (ap (λ x. divided c.Quotient x (constant.value known e)) is)
+        product_same later (right_of (λ n. mentions n e) (λ n. some_factor_mentions n later) all) known (divided unary.Quotient before (constant.value known e))
+        (divided unary.Quotient mine (constant.value known e)) (ap (λ x. divided unary.Quotient x (constant.value known e)) is)
     product_same (factor Mod e later) all known before mine is =
-        product_same later (right_of (λ n. mentions n e) (λ n. some_factor_mentions n later) all) known (divided c.Remainder before (constant.value known e))
-        (divided c.Remainder mine (constant.value known e)) (ap (λ x. divided c.Remainder x (constant.value known e)) is)
+        product_same later (right_of (λ n. mentions n e) (λ n. some_factor_mentions n later) all) known (divided unary.Remainder before (constant.value known e))
+        (divided unary.Remainder mine (constant.value known e)) (ap (λ x. divided unary.Remainder x (constant.value known e)) is)
 
 -- Values and histories that agree.
 
@@ -167,11 +167,8 @@ module _ (e : Tree) (stage : ℕ) (name : List ℕ) (there : mentions name e ≡
   pub differs : (other : List ℕ) → mentions other e ≡ false → bytes_eq name other ≡ false
   differs other apart = by (bytes_eq name other) refl
     where
-      true_false : true ≡ false → ⊥
-      true_false is = cc
-
       by : (b : Bool) → bytes_eq name other ≡ b → b ≡ false
-      by true same = absurd (true_false (sym there ∙ ap (λ n. mentions n e) ((bytes_eq-Decides name other).0 same) ∙ apart))
+      by true same = absurd (impossible (sym there ∙ ap (λ n. mentions n e) ((bytes_eq-Decides name other).0 same) ∙ apart))
       by false apart = refl
 
   seen_late : (ss : List Stochastic) (v w : List ℤ) → length v ≡ length w → AllByRecursion (IsPast e stage) ss → seen_elements name ss v ≡ seen_elements name ss w

@@ -7,7 +7,7 @@ use Rattle.std.specs.List.{AllByRecursion, range_with_len}
 use Rattle.std.specs.Str.{bytes_eq}
 use Rattle.sopl_ast.specs.Whole.{conses}
 use Rattle.sopl_ast.specs.Known.{Constant}
-use Rattle.sopl_ast.specs.Mistakes.{Entity, entity_of, declare_all, of_declarations, of_goal, of_constraints}
+use Rattle.sopl_ast.specs.Mistakes.{Entity, entity_of, no_names, declare_all, of_declarations, of_goal, of_constraints}
 use Rattle.sopl_ast.specs.Instances.{Decision, Outcome, Stochastic}
 use Rattle.sopl_ast.specs.Scenarios.{Scenario, scenarios, preceded_by}
 use Rattle.sopl_ast.specs.Declarations.{Declared, nothing_declared, behind_all}
@@ -171,6 +171,6 @@ pub arrays_stand : ArraysStand
 unfolding problem_of
 arrays_stand model typed passes bound s numbers valued numbered name =
     let declared = text_parts model passes in
-    let right = none_both (of_declarations [] model.decls) (of_goal (declare_all model.decls []) model.goal ++ of_constraints (declare_all model.decls []) (conses model.body)) typed in
-    array_of_name (behind_all model.decls nothing_declared) name (entity_of (declare_all model.decls []) name)
+    let right = none_both (of_declarations no_names model.decls) (of_goal (declare_all model.decls no_names) model.goal ++ of_constraints (declare_all model.decls no_names) (conses model.body)) typed in
+    array_of_name (behind_all model.decls nothing_declared) name (entity_of (declare_all model.decls no_names) name)
     (declared_owned model.decls name right.0 declared.0) (declared_bounded model.decls declared.0).stochastics s.values numbers valued numbered

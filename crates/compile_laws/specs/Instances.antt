@@ -4,6 +4,9 @@ use Rattle.std.specs.BTreeSet.{insert_key}
 use Rattle.std.specs.List.{fold, range_with_len}
 use Rattle.std.specs.Ordering.{int_cmp, int_eq}
 use Rattle.std.specs.Str.{bytes_eq}
+use Rattle.sopl_base.specs.declared.extreme.Extreme.{Extreme}
+use Rattle.sopl_ast.specs.declared.operators.Function.{Function}
+use Rattle.sopl_ast.specs.declared.operators.Function.TheVariants.{Negative, Size}
 use Rattle.sopl_ast.specs.declared.operators.MulOp.TheVariants.{Times, Div, Mod}
 use Rattle.sopl_ast.specs.Tree as t
 use Rattle.sopl_ast.specs.Tree.{Tree, Shape, Trees, Factors, Binders, Node, no_tree, tree, no_factor, factor}
@@ -11,6 +14,9 @@ use Rattle.sopl_ast.specs.Known.{Binding, Constant, Known}
 use Rattle.sopl_ast.specs.Constants.{value, all_bindings}
 use Rattle.sopl_ast.specs.Instances.{Decision, Stochastic}
 use Rattle.term_language.specs.Terms as c
+use Rattle.term_language.specs.declared.made.Operation.{Operation}
+use Rattle.term_language.specs.declared.made.Operation.TheVariants as unary
+use Rattle.term_language.specs.declared.made.Divisor.{Divisor}
 use Rattle.term_language.specs.Arrays.{Entry, indices, item_in}
 
 -- where an expression is instantiated: what is known, the stochastic variables and the values that the scenario gives them, the decisions and the
@@ -113,15 +119,20 @@ abbrev pub tasks_of : List TaskTerms → c.Tasks
 tasks_of [] = c.no_task
 tasks_of (x ∷ later) = c.task x.start x.duration x.demand (tasks_of later)
 
--- one of at least one
-abbrev pub extreme_of : (c.Term → c.Terms → c.Term) → c.Terms → c.Term
-extreme_of make c.no_term = undefined
-extreme_of make (c.term first later) = make first later
+-- the function of a number: a negative is a sum
+abbrev pub function_of : Function → c.Term → c.Term
+function_of Negative a = c.Sum (c.part true a c.no_part)
+function_of Size a = c.Made unary.Size a
+
+-- the least or the greatest of at least one
+abbrev pub extreme_of : Extreme → c.Terms → c.Term
+extreme_of which c.no_term = undefined
+extreme_of which (c.term first later) = c.Selected which first later
 
 -- a quotient or a remainder by a number that is there and is not 0
-abbrev pub divided : (c.Term → ℤ → c.Term) → c.Term → Option ℤ → c.Term
+abbrev pub divided : (Divisor → Operation) → c.Term → Option ℤ → c.Term
 divided make a None = undefined
-divided make a (Some z) = if int_eq z (pos 0) then undefined else make a z
+divided make a (Some z) = if int_eq z (pos 0) then undefined else c.Made (make (record { number = z })) a
 
 -- Expressions.
 
@@ -148,7 +159,7 @@ abbrev mutual
   shape_instance place (t.Index name no_tree) = number (named_term place name)
   shape_instance place (t.Index name (tree e es)) =
       number (c.Element (table_of (elements place name)) (c.term (instance place e).term (instances place es)))
-  shape_instance place (t.Neg e) = number (c.Sum (c.part true (instance place e).term c.no_part))
+  shape_instance place (t.Call f e) = number (function_of f (instance place e).term)
   shape_instance place (t.Add parts) = number (c.Sum (chain_instance place parts))
   shape_instance place (t.Mul first others) = number (product_instance place (instance place first).term others)
   shape_instance place (t.Cmp op a b) = condition (c.Compare op (instance place a).term (instance place b).term)
@@ -157,9 +168,7 @@ abbrev mutual
   shape_instance place (t.Or es) = condition (c.Any (conditions place es))
   shape_instance place (t.Implies a b) = condition (c.Implies (instance place a).cond (instance place b).cond)
   shape_instance place (t.Sum bs e) = number (c.Sum (sum_of (map (λ here. (instance here e).term) (places place bs))))
-  shape_instance place (t.Least es) = number (extreme_of c.Least (instances place es))
-  shape_instance place (t.Greatest es) = number (extreme_of c.Greatest (instances place es))
-  shape_instance place (t.Abs e) = number (c.Size (instance place e).term)
+  shape_instance place (t.Selected which es) = number (extreme_of which (instances place es))
   shape_instance place (t.AllDifferent bs e) = condition (c.AllDifferent (terms_of (map (λ here. (instance here e).term) (places place bs))))
   shape_instance place (t.Cumulative bs start duration demand capacity) =
       condition (c.Cumulative
@@ -185,5 +194,5 @@ abbrev mutual
   pub product_instance : Place → c.Term → Factors → c.Term
   product_instance place before no_factor = before
   product_instance place before (factor Times e later) = product_instance place (c.Product before (instance place e).term) later
-  product_instance place before (factor Div e later) = product_instance place (divided c.Quotient before (value place.known e)) later
-  product_instance place before (factor Mod e later) = product_instance place (divided c.Remainder before (value place.known e)) later
+  product_instance place before (factor Div e later) = product_instance place (divided unary.Quotient before (value place.known e)) later
+  product_instance place before (factor Mod e later) = product_instance place (divided unary.Remainder before (value place.known e)) later

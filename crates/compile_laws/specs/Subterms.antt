@@ -1,7 +1,7 @@
 -- The number expressions that stand in a term or a condition, in the order in which their sizes are asked for: operands before what is made of them, and
 -- from left to right.
 use Rattle.std.specs.Prelude.{List, [], ◌∷◌, ◌++◌}
-use Rattle.term_language.specs.Terms.{Term, Constant, Cell, Sum, Product, Quotient, Remainder, Least, Greatest, Size, Element, Number, Terms, no_term, term, Parts, no_part, part, Cond}
+use Rattle.term_language.specs.Terms.{Term, Constant, Cell, Sum, Product, Made, Selected, Element, Number, Terms, no_term, term, Parts, no_part, part, Cond}
 use Rattle.term_language.specs.Terms.{Compare, Not, All, Any, Implies, AllDifferent, Cumulative, Conds, no_cond, condition, Tasks, no_task, task}
 
 abbrev mutual
@@ -11,11 +11,8 @@ abbrev mutual
   subterms (Cell cell) = Cell cell ∷ []
   subterms (Sum parts) = part_subterms parts ++ Sum parts ∷ []
   subterms (Product a b) = subterms a ++ (subterms b ++ Product a b ∷ [])
-  subterms (Quotient a divisor) = subterms a ++ Quotient a divisor ∷ []
-  subterms (Remainder a divisor) = subterms a ++ Remainder a divisor ∷ []
-  subterms (Least a later) = subterms a ++ (all_subterms later ++ Least a later ∷ [])
-  subterms (Greatest a later) = subterms a ++ (all_subterms later ++ Greatest a later ∷ [])
-  subterms (Size a) = subterms a ++ Size a ∷ []
+  subterms (Made op a) = subterms a ++ Made op a ∷ []
+  subterms (Selected which a later) = subterms a ++ (all_subterms later ++ Selected which a later ∷ [])
   subterms (Element table indices) = all_subterms indices ++ Element table indices ∷ []
   subterms (Number c) = condition_subterms c ++ Number c ∷ []
 

@@ -2,8 +2,8 @@
 
 ghost use Rattle.std.specs.Prelude.{◌≡◌, ◌+◌, ◌-◌, ◌^◌, pos, true, false, [], ◌∷◌, map, Some, None};
 ghost use Rattle.sopl_base.specs.declared.comparison.CmpOp.TheVariants.{Eq, Le};
-ghost use Rattle.term_language.specs.Terms.{Constant, Product, Quotient, Remainder, Least, Size, Number, Sum, no_part, part, Compare, Not, All, Implies, AllDifferent, Cumulative, no_cond, condition};
-ghost use Rattle.term_language.specs.WorkedIntervals.{x, y, z, number, sum, difference, one, two, three, price_at, two_tasks};
+ghost use Rattle.term_language.specs.Terms.{Constant, Product, Number, Sum, no_part, part, Compare, Not, All, Implies, AllDifferent, Cumulative, no_cond, condition};
+ghost use Rattle.term_language.specs.WorkedIntervals.{absolute, least, quotient, remainder, x, y, z, number, sum, difference, one, two, three, price_at, two_tasks};
 ghost use Rattle.compile_laws.specs.WorkedInstances.{drawing};
 ghost use Rattle.term_problem.specs.WorkedProgram.{ordering};
 ghost use Rattle.compile_laws.specs.Measured.{large_excess, measured_terms, first_large, term_excess, goal_excess, measured_excess};
@@ -15,12 +15,12 @@ ghost use Rattle.sopl_ast.specs.UnfoldEvents.{excess};
 /// The number expressions in a term and in a condition: each left part of a chain of products and divisions is one, no divisor is,
 /// and a chain of sums and differences is one as a whole.
 pub fn worked_subterms()
-    ensures products { subterms (Remainder (Quotient (Product x (number 3)) (pos 2)) (pos 5))
-        ≡ x ∷ number 3 ∷ Product x (number 3) ∷ Quotient (Product x (number 3)) (pos 2) ∷ Remainder (Quotient (Product x (number 3)) (pos 2)) (pos 5) ∷ [] }
+    ensures products { subterms (remainder (quotient (Product x (number 3)) (pos 2)) (pos 5))
+        ≡ x ∷ number 3 ∷ Product x (number 3) ∷ quotient (Product x (number 3)) (pos 2) ∷ remainder (quotient (Product x (number 3)) (pos 2)) (pos 5) ∷ [] }
     ensures chain { subterms (Sum (part false x (part true (Product (number 2) y) (part false z no_part))))
         ≡ x ∷ number 2 ∷ y ∷ Product (number 2) y ∷ z ∷ Sum (part false x (part true (Product (number 2) y) (part false z no_part))) ∷ [] }
     ensures element { subterms (price_at (sum x y)) ≡ x ∷ y ∷ sum x y ∷ price_at (sum x y) ∷ [] }
-    ensures extreme { subterms (Least (Size x) (two y z)) ≡ x ∷ Size x ∷ y ∷ z ∷ Least (Size x) (two y z) ∷ [] }
+    ensures extreme { subterms (least (absolute x) (two y z)) ≡ x ∷ absolute x ∷ y ∷ z ∷ least (absolute x) (two y z) ∷ [] }
     ensures number { subterms (Product (Number (Compare Le x y)) z)
         ≡ x ∷ y ∷ Number (Compare Le x y) ∷ z ∷ Product (Number (Compare Le x y)) z ∷ [] }
     ensures comparison { condition_subterms (Compare Eq (sum x y) z) ≡ x ∷ y ∷ sum x y ∷ z ∷ [] }
@@ -44,7 +44,7 @@ pub fn worked_excesses()
         ≡ Some (excess 207 (pos 72056494526300160) (pos 1099511627776)) }
     ensures at_most { first_large wide (Product y (Constant (pos (2 ^ 40))) ∷ Constant (pos (2 ^ 40)) ∷ []) ≡ None }
     ensures one_more { first_large wide (sum (Product y (Constant (pos (2 ^ 40)))) (number 1) ∷ []) ≡ Some (2 ^ 40 + 1) }
-    ensures left_part { first_large wide (subterms (Quotient large (pos 65536))) ≡ Some 72056494526300160 }
+    ensures left_part { first_large wide (subterms (quotient large (pos 65536))) ≡ Some 72056494526300160 }
     ensures operand { first_large wide (subterms (difference larger large)) ≡ Some 72056494526300160 }
     ensures cancelled { first_large wide (difference large large ∷ []) ≡ None }
     ensures hards_first { term_excess wide (posed (pos 4) ((positive x ∷ positive x ∷ []) ∷ (positive x ∷ positive (sum large (number 1)) ∷ []) ∷ [])

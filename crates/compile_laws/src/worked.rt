@@ -1,6 +1,7 @@
 ghost use Rattle.std.specs.Prelude.{◌≡◌, ℕ, pos, false, List, [], ◌∷◌, Some};
 ghost use Rattle.sopl_base.specs.declared.comparison.CmpOp.TheVariants.{Le};
 ghost use Rattle.term_language.specs.Terms as c;
+ghost use Rattle.term_language.specs.WorkedIntervals.{quotient};
 ghost use Rattle.compile_laws.specs.Instances.{instance, undefined};
 ghost use Rattle.compile_laws.specs.Whole.{cell_numbers, place_at, condition_at, problem_terms};
 ghost use Rattle.term_problem.specs.Points.{worth};
@@ -17,7 +18,7 @@ pub fn worked_terms()
         ≡ c.Compare Le (at (x_array 1 3) (pos 3)) (at c_array (pos 2)) }
     ensures never { condition_at drawing 1 [] first_scenario ≡ c.Any c.no_cond }
     ensures quotient { (instance (place_at drawing (given (pos 1)) first_scenario) divided_by).term
-        ≡ c.Quotient (c.Constant (pos 7)) (pos 2) }
+        ≡ quotient (c.Constant (pos 7)) (pos 2) }
     ensures by_zero { (instance (place_at drawing (given (pos 2)) first_scenario) divided_by).term ≡ undefined }
     ensures sum { (instance (place_at drawing [] second_scenario) summed).term
         ≡ c.Sum (c.part false (at (x_array 1 3) (pos 1)) (c.part false (at (x_array 1 3) (pos 2)) c.no_part)) }

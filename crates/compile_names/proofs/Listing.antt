@@ -4,7 +4,7 @@ use Rattle.std.proofs.Common.{drop, subst, Result, Ok, Err, OnOk}
 use Rattle.std.proofs.lemmas.List.{at_drop_more, at_drop_all, append_assoc, append-nil, map-append, length-map}
 use Rattle.std.specs.List.{filter, range_with_len}
 use Rattle.std.specs.Str.{bytes_eq}
-use Rattle.sopl_ast.specs.Known.{Constant, Known}
+use Rattle.sopl_ast.specs.Known.{Constant}
 use Rattle.sopl_ast.specs.Instances.{Decision, Stochastic}
 use Rattle.sopl_scen.specs.Layout.{Layout, cell_in, value_in}
 use Rattle.sopl_scen.specs.Levels.{no_variable}
@@ -17,7 +17,7 @@ use Rattle.compile_names.specs.declared.origins.Origin.TheVariants.{Fixed}
 use Rattle.compile_names.specs.declared.origins.Source.{Source}
 use Rattle.compile_names.specs.Grouped.{numbers_of}
 use Rattle.compile_names.specs.Listing.{constant_entry}
-use Rattle.compile_names.specs.Places.{cells_at, place_in, values_at}
+use Rattle.compile_names.specs.Places.{cells_at, values_at}
 use Rattle.compile_names.specs.Variables.{decided_entry, decided_name, drawn_entry, drawn_name, entry_from, no_decision}
 
 -- Constants.
@@ -188,14 +188,3 @@ pub constants_either : {A B : Type 0} (result : Result A B) (old new : List Sour
 constants_either (Ok x) old new name ks elements are listed =
     λ tree i. listed tree i ∙ ap (λ l. map (entry_from tree i) old ++ l) (ap (map constant_entry) are ∙ constants_are name ks)
 constants_either (Err y) old new name ks elements are listed = tt
-
--- all of a name
-pub sources_are : (a b d : List Source) (name : List ℕ) (known : Known) (ds : List Decision) (ss : List Stochastic) (tree : Layout) (i : ℕ) (ks : List Constant) → known.constants ≡ ks
-    → map (entry_from tree i) a ≡ constant_elements name ks → map (entry_from tree i) b ≡ map (entry_from tree i) a ++ seen_elements name ss (values_at tree (length ss) i)
-    → map (entry_from tree i) d ≡ map (entry_from tree i) b ++ decided_elements name ds (cells_at tree (length ds) i)
-    → map (entry_from tree i) d ≡ elements (place_in ds ss tree i known) name
-sources_are a b d name known ds ss tree i ks same first second third =
-    third
-    ∙ ap (λ l. l ++ decided_elements name ds (cells_at tree (length ds) i)) (second
-    ∙ ap (λ l. l ++ seen_elements name ss (values_at tree (length ss) i)) (first ∙ ap (constant_elements name) (sym same)))
-    ∙ append_assoc (constant_elements name known.constants) (seen_elements name ss (values_at tree (length ss) i)) (decided_elements name ds (cells_at tree (length ds) i))

@@ -1,8 +1,8 @@
 -- Which index is the first that is the same, noted one by one.
-use Rattle.std.proofs.Common.{◌≡◌, refl, sym, ap, subst, ◌∙◌, ℕ, ◌+◌, ◌<◌, ◌≤◌, ℤ, Bool, true, false, true≢false, ◌&&◌, cond, List, [], ◌∷◌, length, map, get_or, drop, Option}
+use Rattle.std.proofs.Common.{◌≡◌, refl, sym, ap, subst, ◌∙◌, ℕ, ◌+◌, ◌<◌, ℤ, Bool, true, false, true≢false, ◌&&◌, cond, List, [], ◌∷◌, length, map, get_or, drop, Option}
 use Rattle.std.proofs.Common.{Some, None, is_some, Bor}
 use Rattle.std.proofs.lemmas.Bool.Decides.{same_from_decides}
-use Rattle.std.proofs.lemmas.List.{at_drop_more, at_drop_all}
+use Rattle.std.proofs.lemmas.List.{at_drop_more}
 use Rattle.std.specs.Cmp.Lexicographic.{pointwise}
 use Rattle.std.specs.Cmp.Rules.{signed_items}
 use Rattle.std.specs.Map.{lookup}
@@ -108,8 +108,3 @@ module _ (xs : List (Bor (List ℤ))) (i : ℕ) where
       ∙ then_rest (noted other es) (place_among (i + 1) (map now_of (drop (i + 1) xs)) other) (same_index x.now other) i
       ∙ ap (λ y. or_else (noted other es) (place_among i (map now_of (y ∷ drop (i + 1) xs)) other)) at
       ∙ sym (at_drop_more (λ rest. or_else (noted other es) (place_among i (map now_of rest) other)) xs i x below)
-
-  -- none is left
-  pub all_noted : (es : Noted) → length xs ≤ i → (other : List ℤ) → or_else (noted other es) (place_among i (map now_of (drop i xs)) other) ≡ noted other es
-  all_noted es past other =
-      at_drop_all (λ rest. or_else (noted other es) (place_among i (map now_of rest) other)) xs i past ∙ sym (or_none (noted other es))

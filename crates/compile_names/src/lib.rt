@@ -1,6 +1,6 @@
 //! The names of a problem in a scenario: which constants, stochastic variables and decisions have a name, where its array takes its items
 //! from, the index sets of an array, and which element stands at each index.
-//! Its tests stand in `tests` and `plan_tests`, and those of arrays by their names in `compile_tests`.
+//! Its tests stand in `ground_tests`, and those of arrays by their names in `compile_tests`.
 #![tactic(auto)]
 
 mod arrays;
@@ -10,13 +10,9 @@ mod names;
 mod origins;
 mod plan;
 mod plan_laws;
-#[cfg(test)]
-mod plan_tests;
 mod scalars;
 mod sets;
 mod setting;
-#[cfg(test)]
-mod tests;
 
 pub use arrays::Array;
 pub use laws::places_of_tree;

@@ -9,8 +9,10 @@
 //! - Declarations, the objective, and the constraints in braces follow one another:
 //!   `int n@4 = 7@8; minimize worst n@30; { n@50; { } forall [i@60 in R@65] prob i@70 >= 1@80/2@82; }`.
 
-use sopl_ast::{Binder, Cons, Decl, Dim, Expr, Goal, Init, Kind, Model, MulOp, Name, RangeText};
-use sopl_base::{CmpOp, Direction};
+use sopl_ast::{
+    Binder, Cons, Decl, Dim, Expr, Function, Goal, Init, Kind, Model, MulOp, Name, RangeText,
+};
+use sopl_base::{CmpOp, Direction, Extreme};
 use std::alloc::{AllocError, Global};
 
 /// The whole model in one line.
@@ -246,7 +248,8 @@ fn sign(op: CmpOp) -> &'static str {
 fn word(kind: &Kind) -> &'static str {
     match kind {
         Kind::Lit(_) | Kind::Name(_) | Kind::Index(..) => "",
-        Kind::Neg(_) => "neg",
+        Kind::Call(Function::Negative, _) => "neg",
+        Kind::Call(Function::Size, _) => "abs",
         Kind::Add(_) => "add",
         Kind::Mul(_) => "mul",
         Kind::Cmp(op, ..) => sign(*op),
@@ -255,9 +258,8 @@ fn word(kind: &Kind) -> &'static str {
         Kind::Or(_) => "or",
         Kind::Implies(..) => "=>",
         Kind::Sum(..) => "sum",
-        Kind::Least(_) => "min",
-        Kind::Greatest(_) => "max",
-        Kind::Abs(_) => "abs",
+        Kind::Selected(Extreme::Least, _) => "min",
+        Kind::Selected(Extreme::Greatest, _) => "max",
         Kind::AllDifferent(..) => "allDifferent",
         Kind::Cumulative(..) => "cumulative",
     }
@@ -295,7 +297,7 @@ fn put_part(out: &mut String, e: &Expr) -> Result<(), AllocError> {
 fn put_parts(out: &mut String, e: &Expr) -> Result<(), AllocError> {
     match &e.kind {
         Kind::Lit(_) | Kind::Name(_) | Kind::Index(..) => Ok(()),
-        Kind::Neg(a) | Kind::Not(a) | Kind::Abs(a) => put_part(out, a),
+        Kind::Call(_, a) | Kind::Not(a) => put_part(out, a),
         Kind::Add(parts) => put_terms(out, parts.as_slice()),
         Kind::Mul(parts) => {
             put_part(out, parts.first())?;
@@ -305,7 +307,7 @@ fn put_parts(out: &mut String, e: &Expr) -> Result<(), AllocError> {
             put_part(out, a)?;
             put_part(out, b)
         }
-        Kind::And(parts) | Kind::Or(parts) | Kind::Least(parts) | Kind::Greatest(parts) => {
+        Kind::And(parts) | Kind::Or(parts) | Kind::Selected(_, parts) => {
             put_list(out, parts.as_slice())
         }
         Kind::Sum(over, a) | Kind::AllDifferent(over, a) => {

@@ -1,6 +1,8 @@
 -- Each row of expressions, ranges and binders is read as the reader reads it.
 use Rattle.std.proofs.Common.{◌≡◌, refl, sym, ap, ◌∙◌, ℕ, ℤ, Bool, true, false, List, [], ◌∷◌, length, Option, Some, None, Ok, ◌⊎◌, inr}
 use Rattle.sopl_base.specs.declared.comparison.CmpOp.{CmpOp}
+use Rattle.sopl_base.specs.declared.extreme.Extreme.{Extreme}
+use Rattle.sopl_ast.specs.declared.operators.Function.{Function}
 use Rattle.sopl_ast.specs.declared.token.Token.{Token}
 use Rattle.sopl_ast.specs.declared.token.TokenKind.TheVariants as k
 use Rattle.sopl_ast.specs.Lists.{trees, terms, factors}
@@ -13,8 +15,8 @@ use Rattle.parse_grammar.specs.Heads as h
 use Rattle.parse_grammar.specs.Heads.{head, rest, place, is_mark}
 use Rattle.parse_grammar.specs.Phrases.{way}
 use Rattle.parse_grammar.specs.Reading.{Read, Way, ◌>>=◌, past, enter, chain}
-use Rattle.sopl_ast.specs.ExpressionRows.{factor_sign, term_sign, comparison_sign, extreme_sign, comparison_tree, conjunction_tree, disjunction_tree, implication_tree, product_tree, sum_tree}
-use Rattle.sopl_ast.specs.ExpressionRows.{range_closers, range_tree, literal_row, element_row, parentheses_row, absolute_row, extreme_row, all_different_row, cumulative_row, primary_row}
+use Rattle.sopl_ast.specs.ExpressionRows.{factor_sign, term_sign, comparison_sign, function_sign, extreme_sign, comparison_tree, conjunction_tree, disjunction_tree, implication_tree, product_tree, sum_tree}
+use Rattle.sopl_ast.specs.ExpressionRows.{range_closers, range_tree, literal_row, element_row, parentheses_row, function_row, extreme_row, all_different_row, cumulative_row, primary_row}
 use Rattle.sopl_ast.specs.ExpressionRows.{negative_row, total_row, operand_row, product_row, sum_row, comparison_row, negated_row, negation_row, conjunction_row, disjunction_row}
 use Rattle.sopl_ast.specs.ExpressionRows.{conclusion_row, expression_row, arguments_row, ends_row, range_row, binder_row, bound_row, bindings_row, summed_row, compared_row, task_row, tasks_row}
 use Rattle.sopl_ast.specs.KindSets.{only, first_kind, has_kind}
@@ -25,7 +27,7 @@ use Rattle.grammar_rows.specs.RowTests.{is_predictive}
 use Rattle.sopl_ast.specs.Terminals.{a_literal, a_name, kinds_of}
 use Rattle.grammar_rows.proofs.ReadComplete.{AreToldApart}
 use Rattle.grammar_rows.proofs.ReadLists.{more_parts, chain_cons, items_read, next_operator, next_after, list_read, chain_read}
-use Rattle.grammar_rows.proofs.ReadMarks.{factor_said, term_said, comparison_said, extreme_said, is_there, range_ends, pick_said, pick_mark, as_function, missing_mark, known_mark, known_terminal}
+use Rattle.grammar_rows.proofs.ReadMarks.{factor_said, term_said, comparison_said, function_said, extreme_said, is_there, range_ends, pick_said, pick_mark, as_function, missing_mark, known_mark, known_terminal}
 use Rattle.grammar_rows.proofs.ReadMarks.{the_name, TiedBelow, known_nested, mark_before, a_bracket, known_bracket_at, known_bracket}
 use Rattle.grammar_rows.proofs.ReadPlans.{with_value, value_twice, chained, then_same, two_parts, other_value, go_is, planned, known_then, known_value, go_at_is, planned_at}
 use Rattle.grammar_rows.proofs.ReadSteps.{done}
@@ -53,7 +55,7 @@ abbrev functions : Phrase Tree
 functions = extreme_row or all_different_row or cumulative_row
 
 abbrev calls : Phrase Tree
-calls = parentheses_row or absolute_row or functions
+calls = parentheses_row or function_row or functions
 
 abbrev index : Phrase Tree
 index = enclosed k.BracketOpen s.Expression k.BracketClose
@@ -85,14 +87,15 @@ module _ (n : ℕ) (below : TiedBelow n) where
   unfolding parentheses_row code.parentheses
   parentheses_tied ts is = planned_at {p = parentheses_row} (known_value _ (known_bracket_at n below m.ParenOpen s.Expression tt m.ParenClose ts is))
 
-  absolute_tied : (ts : List Token) → is_mark m.Abs (head ts) ≡ true → read_at false n absolute_row ts ≡ code.absolute w ts
-  unfolding absolute_row code.absolute
-  absolute_tied ts is = planned_at {p = absolute_row} (known_value _ (known_then (known_mark n m.Abs ts is) (a_bracket n below m.ParenOpen s.Expression tt no_tree m.ParenClose)))
+  function_tied : (ts : List Token) (f : Function) → said function_sign ts ≡ Some f → read_at false n function_row ts ≡ code.function_call w f ts
+  unfolding function_row code.function_call
+  function_tied ts f is =
+      planned_at {p = function_row} (known_value _ (known_then (known_terminal n function_sign ts f is) (a_bracket n below m.ParenOpen s.Expression tt no_tree m.ParenClose)))
 
-  extreme_tied : (ts : List Token) (greatest : Bool) → said extreme_sign ts ≡ Some greatest → read_at false n extreme_row ts ≡ code.extreme w greatest ts
+  extreme_tied : (ts : List Token) (which : Extreme) → said extreme_sign ts ≡ Some which → read_at false n extreme_row ts ≡ code.extreme w which ts
   unfolding extreme_row code.extreme
-  extreme_tied ts greatest is =
-      planned_at {p = extreme_row} (known_value _ (known_then (known_terminal n extreme_sign ts greatest is) (a_bracket n below m.ParenOpen s.Arguments tt (no_tree ∷ no_tree ∷ []) m.ParenClose)))
+  extreme_tied ts which is =
+      planned_at {p = extreme_row} (known_value _ (known_then (known_terminal n extreme_sign ts which is) (a_bracket n below m.ParenOpen s.Arguments tt (no_tree ∷ no_tree ∷ []) m.ParenClose)))
 
   all_different_tied : (ts : List Token) → is_mark m.AllDifferent (head ts) ≡ true → read_at false n all_different_row ts ≡ code.all_different w ts
   unfolding all_different_row code.all_different
@@ -112,16 +115,23 @@ module _ (n : ℕ) (below : TiedBelow n) where
   unfolding extreme_row all_different_row
   functions_tied ts =
       pick_said extreme_sign (kinds_of extreme_sign) ts (read_at false n extreme_row ts) (read_at false n (all_different_row or cumulative_row) ts) (code.extreme_or w ts) refl
-      (λ greatest is. extreme_tied ts greatest is)
+      (λ which is. extreme_tied ts which is)
       (λ none. pick_mark m.AllDifferent ts (read_at false n all_different_row ts) (read_at false n cumulative_row ts) (code.different_or w ts) (λ is. all_different_tied ts is)
       (λ other. cumulative_tied ts (is_mark m.Cumulative (head ts)) refl))
       ∙ ap (code.extreme_or w ts) (extreme_said ts)
 
+  one_number_tied : (ts : List Token) → read_at false n (function_row or functions) ts ≡ code.function_or w ts (h.number_function (head ts))
+  unfolding function_row
+  one_number_tied ts =
+      pick_said function_sign (kinds_of function_sign) ts (read_at false n function_row ts) (read_at false n functions ts) (code.function_or w ts) refl
+      (λ f is. function_tied ts f is) (λ none. functions_tied ts)
+      ∙ ap (code.function_or w ts) (function_said ts)
+
   calls_tied : (ts : List Token) → read_at false n calls ts ≡ code.call w ts
-  unfolding parentheses_row absolute_row code.call
+  unfolding parentheses_row code.call
   calls_tied ts =
-      pick_mark m.ParenOpen ts (read_at false n parentheses_row ts) (read_at false n (absolute_row or functions) ts) (code.parentheses_or w ts) (λ is. parentheses_tied ts is)
-      (λ none. pick_mark m.Abs ts (read_at false n absolute_row ts) (read_at false n functions ts) (code.absolute_or w ts) (λ is. absolute_tied ts is) (λ other. functions_tied ts))
+      pick_mark m.ParenOpen ts (read_at false n parentheses_row ts) (read_at false n (function_row or functions) ts) (code.parentheses_or w ts) (λ is. parentheses_tied ts is)
+      (λ none. one_number_tied ts)
 
   primary_tied : (ts : List Token) → read_at false n primary_row ts ≡ code.primary w ts
   unfolding primary_row literal_row element_row code.primary h.literal h.named

@@ -11,7 +11,7 @@ use Rattle.parse_grammar.specs.Heads.{head, rest, place, kind_of, is_mark}
 use Rattle.parse_grammar.specs.Phrases as phrases
 use Rattle.parse_grammar.specs.Phrases.{way, is_over, inner_of, deeper}
 use Rattle.parse_grammar.specs.Reading.{Stop, Syntax, Read, Inner, ◌>>=◌, past, passed, opening, opened, content_of, enter, name, name_at}
-use Rattle.sopl_ast.specs.ExpressionRows.{factor_sign, term_sign, comparison_sign, extreme_sign, range_closers}
+use Rattle.sopl_ast.specs.ExpressionRows.{factor_sign, term_sign, comparison_sign, function_sign, extreme_sign, range_closers}
 use Rattle.sopl_ast.specs.KindSets.{kind_number, KindSet, only, first_kind, has_kind, kinds_but}
 use Rattle.sopl_ast.specs.ModelRows.{row, direction_sign, measure_sign}
 use Rattle.sopl_ast.specs.Nonterminals as s
@@ -46,7 +46,6 @@ same_mark m.Forall k.Forall = refl
 same_mark m.Sum k.Sum = refl
 same_mark m.All k.All = refl
 same_mark m.Prob k.Prob = refl
-same_mark m.Abs k.Abs = refl
 same_mark m.AllDifferent k.AllDifferent = refl
 same_mark m.Cumulative k.Cumulative = refl
 same_mark m.Dvar k.Dvar = refl
@@ -112,6 +111,15 @@ pub comparison_said : (ts : List Token) → said comparison_sign ts ≡ h.compar
 unfolding h.comparison_operator
 comparison_said [] = refl
 comparison_said (u ∷ us) = comparison_says u.kind
+
+function_says : (kind : TokenKind) → says function_sign kind ≡ h.function_of_kind kind
+function_says k.Abs = refl
+function_says kind = refl
+
+pub function_said : (ts : List Token) → said function_sign ts ≡ h.number_function (head ts)
+unfolding h.number_function
+function_said [] = refl
+function_said (u ∷ us) = function_says u.kind
 
 extreme_says : (kind : TokenKind) → says extreme_sign kind ≡ h.extreme_of_kind kind
 extreme_says k.Min = refl

@@ -9,7 +9,7 @@ use Rattle.grammar_rows.specs.WrongRows.{WrongRowsFail}
 
 -- all rows, as they are written
 unfoldable pub each_row : Unit {0}
-unfolding expr.literal_row expr.element_row expr.parentheses_row expr.absolute_row expr.extreme_row expr.all_different_row expr.cumulative_row
+unfolding expr.literal_row expr.element_row expr.parentheses_row expr.function_row expr.extreme_row expr.all_different_row expr.cumulative_row
     expr.primary_row expr.negative_row expr.total_row expr.operand_row expr.product_row expr.sum_row expr.comparison_row expr.negated_row
     expr.negation_row expr.conjunction_row expr.disjunction_row expr.conclusion_row expr.expression_row expr.arguments_row expr.ends_row
     expr.range_row expr.binder_row expr.bound_row expr.bindings_row expr.summed_row expr.compared_row expr.task_row expr.tasks_row model.dim_row

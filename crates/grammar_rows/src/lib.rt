@@ -1,7 +1,7 @@
-//! What holds of the rows of the grammar: one reader and one test of phrases, and each law is proved once for all rows that pass the test. The
-//! rows and what they spell stand in `sopl_ast`; here they are tied to the functions of `parse_grammar`, by which the reader reads. The
-//! functions are empty and state what was proved of the definitions, so that no body here could be wrong; hence the crate has no must-fail
-//! edits. There is nothing to test.
+//! What holds of the rows of the grammar: one reader and one test of phrases, and each law is proved once for all rows that pass the
+//! test. The rows and what they spell stand in `sopl_ast`; here they are tied to the functions of `parse_grammar`, by which the reader
+//! reads. The functions are empty and state what was proved of the definitions, so that no body here could be wrong; hence the crate has
+//! no must-fail edits. There is nothing to test.
 #![tactic(auto)]
 
 mod grammar_laws;

@@ -90,7 +90,7 @@ ranges_hold lo hi z = (
 
 -- Sets.
 
-from_inserted : (k : ℤ) (xs : List ℤ) (x : ℤ) → In x (insert_key int_cmp xs k) → (k ≡ x) ⊎ In x xs
+pub from_inserted : (k : ℤ) (xs : List ℤ) (x : ℤ) → In x (insert_key int_cmp xs k) → (k ≡ x) ⊎ In x xs
 from_inserted k [] x h = h
 from_inserted k (y ∷ ys) x h = placed (int_cmp k y) (from_inserted k ys x) h
   where
@@ -105,7 +105,7 @@ from_inserted k (y ∷ ys) x h = placed (int_cmp k y) (from_inserted k ys x) h
     placed Greater later (inl is) = inr (inl is)
     placed Greater later (inr more) = behind (later more)
 
-to_inserted : (k : ℤ) (xs : List ℤ) (x : ℤ) → (k ≡ x) ⊎ In x xs → In x (insert_key int_cmp xs k)
+pub to_inserted : (k : ℤ) (xs : List ℤ) (x : ℤ) → (k ≡ x) ⊎ In x xs → In x (insert_key int_cmp xs k)
 to_inserted k [] x h = h
 to_inserted k (y ∷ ys) x h = placed (int_cmp k y) (int_ranks k y) (to_inserted k ys x) h
   where

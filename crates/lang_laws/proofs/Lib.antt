@@ -2,7 +2,7 @@ pub mod Integers
 pub mod ScenarioLaws
 pub mod Ascending
 mod Times
-mod Holding
+pub mod Holding
 mod Satisfied
 pub mod Distinct
 pub mod Shared

@@ -2,6 +2,8 @@
 use Rattle.std.specs.Prelude.{true, false, [], ◌∷◌, Some, None, codes}
 use Rattle.sopl_base.specs.declared.comparison.CmpOp.TheVariants.{Eq, Lt, Le, Ge}
 use Rattle.sopl_base.specs.declared.direction.Direction.TheVariants.{Minimize}
+use Rattle.sopl_base.specs.declared.extreme.Extreme.TheVariants.{Least, Greatest}
+use Rattle.sopl_ast.specs.declared.operators.Function.TheVariants.{Negative, Size}
 use Rattle.sopl_ast.specs.declared.operators.MulOp.TheVariants.{Times, Div, Mod}
 use Rattle.sopl_ast.specs.Tree as t
 use Rattle.sopl_ast.specs.Tree.{Node, no_tree, tree, no_term, term, no_factor, factor, no_binder, binder, Named, Ends}
@@ -62,9 +64,9 @@ conditions_counted = stating ((IntDecl (codes "n") 4 [] (One
 --     == 1 => 0 == 1) + 1000000*(1 == 1 && 2 == 2); subject to { }
 abbrev pub functions_counted : ModelTree
 functions_counted = stating ((IntDecl (codes "n") 4 [] (One (Node 8
-    (t.Add (term false (Node 8 (t.Abs (Node 12 (t.Neg (lit 13 7)))))
-    (term false (Node 18 (t.Mul (lit 18 10) (factor Times (Node 21 (t.Least (tree (lit 25 3) (tree (lit 28 2) no_tree)))) no_factor)))
-    (term false (Node 33 (t.Mul (lit 33 100) (factor Times (Node 37 (t.Greatest (tree (lit 41 2) (tree (lit 44 3) (tree (lit 47 1) no_tree))))) no_factor)))
+    (t.Add (term false (Node 8 (t.Call Size (Node 12 (t.Call Negative (lit 13 7)))))
+    (term false (Node 18 (t.Mul (lit 18 10) (factor Times (Node 21 (t.Selected Least (tree (lit 25 3) (tree (lit 28 2) no_tree)))) no_factor)))
+    (term false (Node 33 (t.Mul (lit 33 100) (factor Times (Node 37 (t.Selected Greatest (tree (lit 41 2) (tree (lit 44 3) (tree (lit 47 1) no_tree))))) no_factor)))
     (term false (Node 52 (t.Mul (lit 52 1000) (factor Times (Node 57 (t.AllDifferent (binder (codes "i") 74 (Ends (lit 79 1) (lit 82 2)) no_binder) (var 85 (codes "i")))) no_factor)))
     (term false (Node 90 (t.Mul (lit 90 10000) (factor Times (Node 96 (t.AllDifferent (binder (codes "i") 113 (Ends (lit 118 1) (lit 121 2)) no_binder) (lit 124 3))) no_factor)))
     (term false (Node 129 (t.Mul (lit 129 100000) (factor Times (Node 136 (t.Implies (Node 137 (t.Cmp Eq (lit 137 1) (lit 142 1))) (Node 147 (t.Cmp Eq (lit 147 0) (lit 152 1))))) no_factor)))
@@ -83,11 +85,11 @@ tasks_counted = stating ((IntDecl (codes "n") 4 [] (One (Node 8
     (term false (Node 98 (t.Mul (lit 98 10) (factor Times (Node 101
     (t.Cumulative (binder (codes "i") 116 (Ends (lit 121 1) (lit 124 2)) no_binder) (var 128 (codes "i")) (lit 131 2) (lit 134 1) (lit 138 1))) no_factor)))
     (term false (Node 143 (t.Mul (lit 143 100) (factor Times
-    (Node 147 (t.Cumulative (binder (codes "i") 162 (Ends (lit 167 1) (lit 170 0)) no_binder) (var 174 (codes "i")) (lit 177 1) (lit 180 1) (Node 184 (t.Neg (lit 185 1))))) no_factor)))
+    (Node 147 (t.Cumulative (binder (codes "i") 162 (Ends (lit 167 1) (lit 170 0)) no_binder) (var 174 (codes "i")) (lit 177 1) (lit 180 1) (Node 184 (t.Call Negative (lit 185 1))))) no_factor)))
     (term false (Node 190 (t.Mul (lit 190 1000) (factor Times
     (Node 195 (t.Cumulative (binder (codes "i") 210 (Ends (lit 215 1) (lit 218 2)) no_binder) (var 222 (codes "i")) (lit 225 0) (lit 228 5) (lit 232 0))) no_factor)))
     (term false (Node 237 (t.Mul (lit 237 10000) (factor Times
-    (Node 243 (t.Cumulative (binder (codes "i") 258 (Ends (lit 263 1) (lit 266 2)) no_binder) (Node 270 (t.Neg (var 271 (codes "i")))) (Node 274 (t.Neg (var 275 (codes "i")))) (lit 278 0)
+    (Node 243 (t.Cumulative (binder (codes "i") 258 (Ends (lit 263 1) (lit 266 2)) no_binder) (Node 270 (t.Call Negative (var 271 (codes "i")))) (Node 274 (t.Call Negative (var 275 (codes "i")))) (lit 278 0)
     (lit 282 9))) no_factor))) no_term)))))))))) ∷ [])
 
 -- operators from left to right, and how far they reach:
@@ -98,10 +100,10 @@ operators_in_turn =
     stating (
     (IntDecl (codes "n") 4 [] (One (Node 8 (t.Mul (lit 8 4) (factor Times (Node 12 (t.Mul (lit 13 6) (factor Div (lit 19 4) no_factor))) no_factor)))))
     ∷ (IntDecl (codes "m") 27 [] (One (Node 31 (t.Mul (lit 31 4) (factor Times (lit 35 6) (factor Div (lit 41 4) no_factor))))))
-    ∷ (IntDecl (codes "k") 48 [] (One (Node 52 (t.Mul (Node 52 (t.Neg (lit 53 7))) (factor Mod (lit 59 2) no_factor)))))
-    ∷ (IntDecl (codes "j") 66 [] (One (Node 70 (t.Mul (lit 70 7) (factor Div (Node 76 (t.Neg (lit 77 2))) (factor Times (lit 81 2) no_factor))))))
+    ∷ (IntDecl (codes "k") 48 [] (One (Node 52 (t.Mul (Node 52 (t.Call Negative (lit 53 7))) (factor Mod (lit 59 2) no_factor)))))
+    ∷ (IntDecl (codes "j") 66 [] (One (Node 70 (t.Mul (lit 70 7) (factor Div (Node 76 (t.Call Negative (lit 77 2))) (factor Times (lit 81 2) no_factor))))))
     ∷ (IntDecl (codes "h") 88 [] (One (Node 92 (t.Add (term false (lit 92 2) (term true (lit 96 3) (term true (lit 100 4) no_term)))))))
-    ∷ (IntDecl (codes "g") 107 [] (One (Node 111 (t.Neg (Node 113
+    ∷ (IntDecl (codes "g") 107 [] (One (Node 111 (t.Call Negative (Node 113
     (t.Sum (binder (codes "i") 117 (Ends (lit 122 1) (lit 125 2)) no_binder) (Node 128 (t.Mul (var 128 (codes "i")) (factor Times (lit 132 2) no_factor)))))))))
     ∷ (IntDecl (codes "f") 139 [] (One (Node 143 (t.Add (term false
     (Node 143 (t.Mul (lit 143 2) (factor Times (Node 147 (t.Sum (binder (codes "i") 151 (Ends (lit 156 1) (lit 159 2)) no_binder) (var 162 (codes "i")))) no_factor)))
@@ -113,15 +115,15 @@ operators_in_turn =
 abbrev pub negative_elements : ModelTree
 negative_elements =
     stating (
-    (SetDecl (codes "S") 6 (tree (lit 11 5) (tree (Node 14 (t.Neg (lit 15 1))) no_tree)))
+    (SetDecl (codes "S") 6 (tree (lit 11 5) (tree (Node 14 (t.Call Negative (lit 15 1))) no_tree)))
     ∷ (IntDecl (codes "a") 23 ((record { binder = None; at = 25; range = Named (codes "S") 25 }) ∷ []) (Many 30 (init (One (lit 31 10)) (init (One (lit 35 20)) no_init))))
-    ∷ (IntDecl (codes "b") 44 [] (One (Node 48 (t.Add (term false (Node 48 (t.Mul (Node 48 (t.Index (codes "a") (tree (Node 50 (t.Neg (lit 51 1))) no_tree))) (factor Times (lit 54 100) no_factor)))
+    ∷ (IntDecl (codes "b") 44 [] (One (Node 48 (t.Add (term false (Node 48 (t.Mul (Node 48 (t.Index (codes "a") (tree (Node 50 (t.Call Negative (lit 51 1))) no_tree))) (factor Times (lit 54 100) no_factor)))
     (term false (Node 60 (t.Index (codes "a") (tree (lit 62 5) no_tree))) no_term))))))
     ∷ [])
 
 -- int n = -1099511627776; subject to { }
 abbrev pub least_constant : ModelTree
-least_constant = stating ((IntDecl (codes "n") 4 [] (One (Node 8 (t.Neg (lit 9 1099511627776))))) ∷ [])
+least_constant = stating ((IntDecl (codes "n") 4 [] (One (Node 8 (t.Call Negative (lit 9 1099511627776))))) ∷ [])
 
 -- The instances, scenarios and histories of `crossed` and `drawn_against_text`.
 
@@ -152,7 +154,7 @@ crossed = record {
 abbrev pub drawn_against_text : ModelTree
 drawn_against_text =
     stating (
-    (RangeDecl (codes "R") 6 (Node 10 (t.Neg (lit 11 2))) (lit 14 3))
+    (RangeDecl (codes "R") 6 (Node 10 (t.Call Negative (lit 11 2))) (lit 14 3))
     ∷ (StochDecl (codes "a") 27 [] ((lit 33 7, lit 35 1) ∷ (lit 38 5, lit 40 1) ∷ []) (Some (lit 49 2)))
     ∷ (StochDecl (codes "b") 62 [] ((lit 68 1, lit 70 1) ∷ (lit 73 0, lit 75 1) ∷ []) (Some (lit 84 1)))
     ∷ (DvarDecl (codes "x") 96 [] (Named (codes "R") 101) (Some (lit 109 2)))
@@ -250,7 +252,7 @@ many_nodes = record {
       (t.Sum (binder (codes "j") 87 (Ends (lit 92 1) (var 95 (codes "i"))) no_binder)
       (Node 98 (t.Add (term false (var 99 (codes "x")) (term false (Node 103 (t.Mul (var 103 (codes "j")) (factor Times (lit 105 2) no_factor)))
       (term true (Node 109 (t.Mul (var 109 (codes "j")) (factor Div (lit 115 2) no_factor))) no_term)))))))
-      (Node 121 (t.Greatest (tree (Node 125 (t.Abs (Node 129 (t.Neg (var 130 (codes "x")))))) (tree (lit 134 3) (tree (var 137 (codes "i")) no_tree)))))))
+      (Node 121 (t.Selected Greatest (tree (Node 125 (t.Call Size (Node 129 (t.Call Negative (var 130 (codes "x")))))) (tree (lit 134 3) (tree (var 137 (codes "i")) no_tree)))))))
       (Node 143 (t.And (tree (Node 143 (t.AllDifferent (binder (codes "k") 160 (Ends (lit 165 1) (lit 168 3)) no_binder)
       (Node 171 (t.Mul (var 171 (codes "k")) (factor Times (var 173 (codes "x")) no_factor)))))
       (tree (Node 179 (t.Not (Node 180 (t.And (tree (Node 181 (t.Cmp Eq (var 181 (codes "x")) (lit 186 1)))
@@ -292,7 +294,7 @@ sizes =
     stating (
     (StochDecl (codes "d") 10 ((record { binder = None; at = 12; range = Ends (lit 12 1) (lit 15 3) }) ∷ []) ((lit 22 0, lit 24 1) ∷ (lit 27 1, lit 29 1) ∷ (lit 32 2, lit 34 1) ∷ []) None)
     ∷ (DvarDecl (codes "x") 47 [] (Ends (lit 52 5) (lit 55 5)) None)
-    ∷ (DvarDecl (codes "y") 67 [] (Ends (Node 72 (t.Neg (lit 73 3))) (lit 76 4)) (Some (lit 84 2)))
+    ∷ (DvarDecl (codes "y") 67 [] (Ends (Node 72 (t.Call Negative (lit 73 3))) (lit 76 4)) (Some (lit 84 2)))
     ∷ [])
 
 -- domains of 1, 2, 3, 4, 5, 8, 9 and 65536 values:

@@ -2,6 +2,8 @@
 use Rattle.std.specs.Prelude.{true, false, [], ◌∷◌, Some, None, codes}
 use Rattle.sopl_base.specs.declared.comparison.CmpOp.TheVariants.{Eq, Gt, Ge}
 use Rattle.sopl_base.specs.declared.direction.Direction.TheVariants.{Minimize}
+use Rattle.sopl_base.specs.declared.extreme.Extreme.TheVariants.{Greatest}
+use Rattle.sopl_ast.specs.declared.operators.Function.TheVariants.{Negative}
 use Rattle.sopl_ast.specs.declared.operators.MulOp.TheVariants.{Times, Div, Mod}
 use Rattle.sopl_ast.specs.Tree as t
 use Rattle.sopl_ast.specs.Tree.{Node, no_tree, tree, no_term, term, no_factor, factor, no_binder, binder, Named, Ends}
@@ -45,7 +47,7 @@ great_inside = stating ((IntDecl (codes "n") 4 [] (One (Node 8
 -- int n = max(1099511627776 + 1, 0) - 1099511627776; subject to { }
 abbrev pub great_part : ModelTree
 great_part = stating ((IntDecl (codes "n") 4 [] (One (Node 8
-    (t.Add (term false (Node 8 (t.Greatest (tree (Node 12 (t.Add (term false (lit 12 1099511627776) (term false (lit 28 1) no_term)))) (tree (lit 31 0) no_tree))))
+    (t.Add (term false (Node 8 (t.Selected Greatest (tree (Node 12 (t.Add (term false (lit 12 1099511627776) (term false (lit 28 1) no_term)))) (tree (lit 31 0) no_tree))))
     (term true (lit 36 1099511627776) no_term)))))) ∷ [])
 
 -- int n = (1099511627776 + 1 > 0); subject to { }
@@ -94,7 +96,7 @@ outside_later = record {
 -- the least constant is -2^40:
 --     int n = -1099511627776 - 1; subject to { }
 abbrev pub past_least : ModelTree
-past_least = stating ((IntDecl (codes "n") 4 [] (One (Node 8 (t.Add (term false (Node 8 (t.Neg (lit 9 1099511627776))) (term true (lit 25 1) no_term)))))) ∷ [])
+past_least = stating ((IntDecl (codes "n") 4 [] (One (Node 8 (t.Add (term false (Node 8 (t.Call Negative (lit 9 1099511627776))) (term true (lit 25 1) no_term)))))) ∷ [])
 
 -- int a[0..0] = 7; int n = a[2 * 1099511627776]; subject to { }
 abbrev pub great_index : ModelTree
@@ -159,7 +161,7 @@ end_before_stage = stating ((DvarDecl (codes "x") 9 [] (Ends (lit 14 0) (Node 17
 -- ranges and domains have 65536 numbers at most:
 --     range R = -1099511627776..1099511627776; subject to { }
 abbrev pub widest_range : ModelTree
-widest_range = stating ((RangeDecl (codes "R") 6 (Node 10 (t.Neg (lit 11 1099511627776))) (lit 26 1099511627776)) ∷ [])
+widest_range = stating ((RangeDecl (codes "R") 6 (Node 10 (t.Call Negative (lit 11 1099511627776))) (lit 26 1099511627776)) ∷ [])
 
 -- range R = 0..65535; dvar int x in R; dvar int y in 0..65535; subject to { }
 abbrev pub full_domains : ModelTree
@@ -278,7 +280,7 @@ inner_divisor = record {
 -- 115 stands at the numerator:
 --     subject to { prob(1 == 2) >= -1/(2-2); }
 abbrev pub no_denominator : ModelTree
-no_denominator = asking ((ChanceTree (Node 18 (t.Cmp Eq (lit 18 1) (lit 23 2))) (Node 29 (t.Neg (lit 30 1))) (Node 32 (t.Add (term false (lit 33 2) (term true (lit 35 2) no_term))))) ∷ [])
+no_denominator = asking ((ChanceTree (Node 18 (t.Cmp Eq (lit 18 1) (lit 23 2))) (Node 29 (t.Call Negative (lit 30 1))) (Node 32 (t.Add (term false (lit 33 2) (term true (lit 35 2) no_term))))) ∷ [])
 
 -- subject to { prob(1 == 2) >= 1/1048577; }
 abbrev pub great_denominator : ModelTree

@@ -5,6 +5,8 @@ use Rattle.sopl_base.specs.declared.comparison.CmpOp.TheVariants.{Eq, Le, Ge}
 use Rattle.sopl_base.specs.declared.direction.Direction.TheVariants.{Minimize, Maximize}
 use Rattle.sopl_base.specs.declared.fault.Fault.{Fault}
 use Rattle.sopl_base.specs.declared.fault.Fault.TheVariants.{Text, Limit}
+use Rattle.sopl_base.specs.declared.extreme.Extreme.TheVariants.{Least, Greatest}
+use Rattle.sopl_ast.specs.declared.operators.Function.TheVariants.{Negative}
 use Rattle.sopl_ast.specs.declared.operators.MulOp.{MulOp}
 use Rattle.sopl_ast.specs.declared.operators.MulOp.TheVariants.{Times, Div}
 use Rattle.sopl_ast.specs.Tree as t
@@ -97,7 +99,7 @@ seller = record {
     expr =
         Node 240 (t.Sum (binder (codes "t") 244 (Named (codes "T") 249) no_binder)
         (Node 252 (t.Add (term false (Node 253 (t.Mul (Node 253 (t.Index (codes "price") (tree (var 259 (codes "t")) no_tree)))
-        (factor Times (Node 262 (t.Least (tree (Node 266 (t.Index (codes "x") (tree (var 268 (codes "t")) no_tree)))
+        (factor Times (Node 262 (t.Selected Least (tree (Node 266 (t.Index (codes "x") (tree (var 268 (codes "t")) no_tree)))
         (tree (Node 272 (t.Index (codes "d") (tree (var 274 (codes "t")) no_tree))) no_tree)))) no_factor)))
         (term true (Node 280 (t.Mul (Node 280 (t.Index (codes "cost") (tree (var 285 (codes "t")) no_tree)))
         (factor Times (Node 288 (t.Index (codes "x") (tree (var 290 (codes "t")) no_tree))) no_factor))) no_term)))));
@@ -173,7 +175,7 @@ tasks = record {
     direction = Minimize;
     worst = false;
     expr =
-        Node 57 (t.Greatest (tree (Node 61 (t.Add (term false (Node 61 (t.Index (codes "s") (tree (lit 63 1) no_tree))) (term false (lit 68 2) no_term))))
+        Node 57 (t.Selected Greatest (tree (Node 61 (t.Add (term false (Node 61 (t.Index (codes "s") (tree (lit 63 1) no_tree))) (term false (lit 68 2) no_term))))
         (tree (Node 71 (t.Add (term false (Node 71 (t.Index (codes "s") (tree (lit 73 2) no_tree))) (term false (lit 78 2) no_term)))) no_tree)));
   });
   body =
@@ -324,7 +326,7 @@ two_numbers = record {
   decls = [];
   goal = None;
   body =
-      (ChanceTree (Node 18 (t.Cmp Eq (lit 18 1) (lit 23 1))) (Node 29 (t.Neg (lit 30 1))) (Node 32 (t.Mul (lit 33 1) (factor Div (lit 39 0) no_factor))))
+      (ChanceTree (Node 18 (t.Cmp Eq (lit 18 1) (lit 23 1))) (Node 29 (t.Call Negative (lit 30 1))) (Node 32 (t.Mul (lit 33 1) (factor Div (lit 39 0) no_factor))))
       ∷ [];
 }
 
@@ -375,7 +377,7 @@ abbrev pub quotient : MulOp → Tree → Tree → Tree
 quotient op a b = Node 0 (t.Mul a (factor op b no_factor))
 
 abbrev pub minus : Tree → Tree
-minus e = Node 0 (t.Neg e)
+minus e = Node 0 (t.Call Negative e)
 
 -- 7 and 2 with each pair of signs
 abbrev pub quotients : MulOp → List Tree

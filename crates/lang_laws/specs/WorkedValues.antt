@@ -3,6 +3,8 @@ use Rattle.std.specs.Prelude.{ℕ, Bool, true, false, List, [], ◌∷◌, Some,
 use Rattle.std.specs.List.{range_with_len}
 use Rattle.sopl_base.specs.declared.comparison.CmpOp.TheVariants.{Eq, Ne, Lt, Ge}
 use Rattle.sopl_base.specs.declared.direction.Direction.TheVariants.{Minimize, Maximize}
+use Rattle.sopl_base.specs.declared.extreme.Extreme.TheVariants.{Least, Greatest}
+use Rattle.sopl_ast.specs.declared.operators.Function.TheVariants.{Negative, Size}
 use Rattle.sopl_ast.specs.declared.operators.MulOp.TheVariants.{Times, Div, Mod}
 use Rattle.sopl_ast.specs.Tree as t
 use Rattle.sopl_ast.specs.Tree.{Node, no_tree, tree, no_term, term, no_factor, factor, no_binder, binder, Named, Ends}
@@ -25,13 +27,13 @@ undefined = record {
       ∷ (DvarDecl (codes "x") 44 [] (Ends (lit 49 0) (lit 52 3)) None)
       ∷ (DvarDecl (codes "y") 64 ((record { binder = None; at = 66; range = Ends (lit 66 1) (lit 69 1) }) ∷ []) (Ends (lit 75 0) (lit 78 9)) None)
       ∷ [];
-  goal = Some (record { direction = Maximize; worst = true; expr = Node 96 (t.Least (tree (lit 100 3) (tree (Node 103 (t.Index (codes "a") (tree (var 105 (codes "x")) no_tree))) no_tree))) });
+  goal = Some (record { direction = Maximize; worst = true; expr = Node 96 (t.Selected Least (tree (lit 100 3) (tree (Node 103 (t.Index (codes "a") (tree (var 105 (codes "x")) no_tree))) no_tree))) });
   body =
       (HardTree (Node 124 (t.Not (Node 125 (t.Cmp Eq (Node 126 (t.Index (codes "a") (tree (var 128 (codes "x")) no_tree))) (Node 134 (t.Index (codes "a") (tree (var 136 (codes "x")) no_tree))))))))
       ∷ (HardTree (Node 141 (t.Cmp Eq (Node 141 (t.Add (term false (Node 141 (t.Cmp Eq (Node 142 (t.Index (codes "a") (tree (var 144 (codes "x")) no_tree))) (lit 150 5)))
       (term false (lit 155 1) no_term)))) (lit 160 1))))
-      ∷ (HardTree (Node 163 (t.Cmp Ge (Node 163 (t.Least (tree (lit 167 3) (tree (Node 170 (t.Index (codes "a") (tree (var 172 (codes "x")) no_tree))) no_tree)))) (lit 179 0))))
-      ∷ (HardTree (Node 182 (t.Or (tree (Node 182 (t.Cmp Ge (Node 182 (t.Least (tree (lit 186 3) (tree (Node 189 (t.Index (codes "a") (tree (var 191 (codes "x")) no_tree))) no_tree)))) (lit 198 0)))
+      ∷ (HardTree (Node 163 (t.Cmp Ge (Node 163 (t.Selected Least (tree (lit 167 3) (tree (Node 170 (t.Index (codes "a") (tree (var 172 (codes "x")) no_tree))) no_tree)))) (lit 179 0))))
+      ∷ (HardTree (Node 182 (t.Or (tree (Node 182 (t.Cmp Ge (Node 182 (t.Selected Least (tree (lit 186 3) (tree (Node 189 (t.Index (codes "a") (tree (var 191 (codes "x")) no_tree))) no_tree)))) (lit 198 0)))
       (tree (Node 203 (t.Cmp Eq (lit 203 1) (lit 208 1))) no_tree)))))
       ∷ (HardTree (Node 211 (t.Cmp Ge (Node 211 (t.Sum (binder (codes "i") 215 (Named (codes "R") 220) no_binder)
       (Node 223 (t.Index (codes "a") (tree (Node 225 (t.Add (term false (var 225 (codes "x")) (term false (var 227 (codes "i")) no_term)))) no_tree))))) (lit 233 0))))
@@ -49,9 +51,9 @@ undefined = record {
       (Node 405 (t.Index (codes "a") (tree (var 407 (codes "x")) no_tree))) (lit 412 100))))))
       ∷ (HardTree (Node 418 (t.Cumulative (binder (codes "i") 433 (Named (codes "R") 438) no_binder) (var 442 (codes "i")) (lit 445 1) (lit 448 1)
       (Node 452 (t.Index (codes "a") (tree (var 454 (codes "x")) no_tree))))))
-      ∷ (HardTree (Node 459 (t.Cmp Ge (Node 459 (t.Abs (Node 463 (t.Index (codes "a") (tree (var 465 (codes "x")) no_tree))))) (lit 472 0))))
-      ∷ (HardTree (Node 475 (t.Cmp Eq (Node 475 (t.Mul (var 475 (codes "x")) (factor Div (lit 481 2) no_factor))) (Node 486 (t.Neg (lit 487 1))))))
-      ∷ (HardTree (Node 490 (t.Cmp Eq (Node 490 (t.Mul (Node 490 (t.Neg (var 491 (codes "x")))) (factor Mod (lit 497 2) no_factor))) (Node 502 (t.Neg (lit 503 1))))))
+      ∷ (HardTree (Node 459 (t.Cmp Ge (Node 459 (t.Call Size (Node 463 (t.Index (codes "a") (tree (var 465 (codes "x")) no_tree))))) (lit 472 0))))
+      ∷ (HardTree (Node 475 (t.Cmp Eq (Node 475 (t.Mul (var 475 (codes "x")) (factor Div (lit 481 2) no_factor))) (Node 486 (t.Call Negative (lit 487 1))))))
+      ∷ (HardTree (Node 490 (t.Cmp Eq (Node 490 (t.Mul (Node 490 (t.Call Negative (var 491 (codes "x")))) (factor Mod (lit 497 2) no_factor))) (Node 502 (t.Call Negative (lit 503 1))))))
       ∷ [];
 }
 
@@ -69,7 +71,7 @@ settled = record {
       (RangeDecl (codes "R") 6 (lit 10 1) (lit 13 2))
       ∷ (IntDecl (codes "a") 20 ((record { binder = None; at = 22; range = Named (codes "R") 22 }) ∷ []) (Many 27 (init (One (lit 28 5)) (init (One (lit 31 7)) no_init))))
       ∷ (DvarDecl (codes "x") 44 [] (Ends (lit 49 0) (lit 52 3)) None)
-      ∷ (DvarDecl (codes "y") 64 ((record { binder = None; at = 66; range = Ends (Node 66 (t.Neg (lit 67 1))) (lit 70 1) }) ∷ []) (Ends (lit 76 0) (lit 79 2)) None)
+      ∷ (DvarDecl (codes "y") 64 ((record { binder = None; at = 66; range = Ends (Node 66 (t.Call Negative (lit 67 1))) (lit 70 1) }) ∷ []) (Ends (lit 76 0) (lit 79 2)) None)
       ∷ [];
   goal = Some (record {
     direction = Maximize;
@@ -80,17 +82,17 @@ settled = record {
   });
   body =
       (HardTree (Node 140 (t.Not (Node 141 (t.Cumulative (binder (codes "i") 156 (Ends (lit 161 1) (lit 164 0)) no_binder) (var 168 (codes "x")) (lit 171 1) (lit 174 1)
-      (Node 178 (t.Neg (lit 179 1))))))))
+      (Node 178 (t.Call Negative (lit 179 1))))))))
       ∷ (HardTree (Node 183 (t.Cmp Eq (Node 183 (t.Mul (var 183 (codes "x")) (factor Times (lit 185 1099511627776) (factor Times (lit 199 1099511627776) no_factor))))
       (Node 216 (t.Mul (lit 216 3) (factor Times (lit 218 1099511627776) (factor Times (lit 232 1099511627776) no_factor)))))))
-      ∷ (HardTree (Node 247 (t.Cmp Eq (Node 247 (t.Index (codes "y") (tree (Node 249 (t.Neg (lit 250 1))) no_tree))) (lit 256 1))))
+      ∷ (HardTree (Node 247 (t.Cmp Eq (Node 247 (t.Index (codes "y") (tree (Node 249 (t.Call Negative (lit 250 1))) no_tree))) (lit 256 1))))
       ∷ (HardTree (Node 259 (t.Cmp Eq (Node 259 (t.Mul (Node 259 (t.Add (term false (var 260 (codes "x")) (term true (lit 264 7) no_term)))) (factor Div (lit 271 2) no_factor)))
-      (Node 276 (t.Neg (lit 277 2))))))
-      ∷ (HardTree (Node 280 (t.Cmp Eq (Node 280 (t.Mul (Node 280 (t.Add (term false (var 281 (codes "x")) (term true (lit 285 7) no_term)))) (factor Mod (Node 292 (t.Neg (lit 293 2))) no_factor)))
+      (Node 276 (t.Call Negative (lit 277 2))))))
+      ∷ (HardTree (Node 280 (t.Cmp Eq (Node 280 (t.Mul (Node 280 (t.Add (term false (var 281 (codes "x")) (term true (lit 285 7) no_term)))) (factor Mod (Node 292 (t.Call Negative (lit 293 2))) no_factor)))
       (lit 298 0))))
-      ∷ (HardTree (Node 301 (t.Cmp Eq (Node 301 (t.Mul (Node 301 (t.Add (term false (lit 302 1) (term true (var 306 (codes "x")) no_term)))) (factor Div (Node 313 (t.Neg (lit 314 2))) no_factor)))
+      ∷ (HardTree (Node 301 (t.Cmp Eq (Node 301 (t.Mul (Node 301 (t.Add (term false (lit 302 1) (term true (var 306 (codes "x")) no_term)))) (factor Div (Node 313 (t.Call Negative (lit 314 2))) no_factor)))
       (lit 319 1))))
-      ∷ (HardTree (Node 322 (t.Cmp Eq (Node 322 (t.Greatest (tree (var 326 (codes "x"))
+      ∷ (HardTree (Node 322 (t.Cmp Eq (Node 322 (t.Selected Greatest (tree (var 326 (codes "x"))
       (tree (Node 329 (t.Add (term false (lit 329 1) (term true (var 333 (codes "x")) no_term)))) (tree (lit 336 2) no_tree))))) (lit 342 3))))
       ∷ (HardTree (Node 345 (t.Cmp Eq (Node 345 (t.Add (term false (Node 345 (t.Mul (Node 345 (t.Cmp Ge (var 346 (codes "x")) (lit 351 3))) (factor Times (lit 356 2) no_factor)))
       (term true (Node 360 (t.Cmp Eq (var 361 (codes "x")) (lit 366 0))) no_term)))) (lit 372 2))))
@@ -117,10 +119,10 @@ measured = record {
       ∷ [];
   goal = None;
   body =
-      (HardTree (Node 59 (t.Cmp Eq (Node 59 (t.Abs (Node 63 (t.Add (term false (var 63 (codes "x")) (term true (lit 67 5) no_term)))))) (lit 73 2))))
-      ∷ (HardTree (Node 76 (t.Cmp Eq (Node 76 (t.Abs (Node 80 (t.Add (term false (var 80 (codes "x")) (term true (lit 84 2) no_term)))))) (lit 90 1))))
+      (HardTree (Node 59 (t.Cmp Eq (Node 59 (t.Call Size (Node 63 (t.Add (term false (var 63 (codes "x")) (term true (lit 67 5) no_term)))))) (lit 73 2))))
+      ∷ (HardTree (Node 76 (t.Cmp Eq (Node 76 (t.Call Size (Node 80 (t.Add (term false (var 80 (codes "x")) (term true (lit 84 2) no_term)))))) (lit 90 1))))
       ∷ (HardTree (Node 93 (t.Implies (Node 93 (t.Cmp Ge (Node 93 (t.Index (codes "y") (tree (Node 95 (t.Add (term false (var 95 (codes "x")) (term false (lit 99 1) no_term)))) no_tree)))
-      (Node 105 (t.Abs (var 109 (codes "x")))))) (Node 115
+      (Node 105 (t.Call Size (var 109 (codes "x")))))) (Node 115
       (t.Cmp Eq (Node 115 (t.Index (codes "y") (tree (Node 117 (t.Mul (lit 117 2) (factor Times (var 119 (codes "x")) no_factor))) no_tree))) (var 125 (codes "x")))))))
       ∷ (HardTree (Node 128 (t.Implies (Node 128 (t.Cmp Eq (lit 128 1) (lit 133 1))) (Node 138 (t.Cmp Eq (var 138 (codes "x")) (lit 143 1))))))
       ∷ (HardTree (Node 146 (t.And (tree (Node 146 (t.Cmp Eq (var 146 (codes "x")) (lit 151 3))) (tree (Node 156 (t.Cmp Ge (var 156 (codes "x")) (lit 161 4))) no_tree)))))
@@ -193,7 +195,7 @@ over_nothing = record {
       ∷ (HardTree (Node 73 (t.AllDifferent (binder (codes "i") 90 (Named (codes "S") 95) no_binder) (Node 98 (t.Index (codes "x") (tree (var 100 (codes "i")) no_tree))))))
       ∷ (ForallTree (binder (codes "i") 112 (Named (codes "S") 117) no_binder)
       (HardTree (Node 120 (t.Cmp Eq (Node 120 (t.Mul (Node 120 (t.Index (codes "x") (tree (var 122 (codes "i")) no_tree))) (factor Div (lit 129 0) no_factor))) (lit 134 1)))))
-      ∷ (HardTree (Node 137 (t.Cmp Eq (Node 137 (t.Least (tree (lit 141 1) (tree (lit 144 2) no_tree)))) (lit 150 1))))
+      ∷ (HardTree (Node 137 (t.Cmp Eq (Node 137 (t.Selected Least (tree (lit 141 1) (tree (lit 144 2) no_tree)))) (lit 150 1))))
       ∷ [];
 }
 

@@ -10,7 +10,6 @@ pub mod Small
 pub mod Logging
 pub mod Closing
 pub mod Leaves
-pub mod Pieces
 pub mod Written
 pub mod Texts
 pub mod LogTexts

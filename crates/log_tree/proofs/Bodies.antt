@@ -41,9 +41,6 @@ pub record Leads (before : List Step) (n : ℕ) (lines : List (List ℕ)) (start
   pub body : (steps : List Step) (end : EndLine) (m : ℕ) (left : List (List ℕ)) → IsRowBody before n lines steps end m left → IsRowBody start first all steps end m left
   pub fault : (fault : Fault) → RefusesBody before n lines fault → RefusesBody start first all fault
 
-pub leads_first : (before : List Step) (n : ℕ) (lines : List (List ℕ)) → Leads before n lines before n lines
-leads_first before n lines = record { body = λ steps end m left is. is; fault = λ fault is. is }
-
 pub leads_more : (before : List Step) (n : ℕ) (lines : List (List ℕ)) (start : List Step) (first : ℕ) (all : List (List ℕ)) (line : List ℕ) (rest : List (List ℕ)) (new : Step)
     → Leads before n lines start first all → lines ≡ line ∷ rest → IsLineOf StepFits step_line line (Some new) → Leads (before ++ new ∷ []) (n + 1) rest start first all
 leads_more before n lines start first all line rest new leads cut is = record {

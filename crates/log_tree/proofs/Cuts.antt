@@ -56,11 +56,6 @@ onto b _ _ none = last (b ∷ [])
 onto b _ _ (last line) = last (b ∷ line)
 onto b _ _ (one_more line ending lines rest is more) = one_more (b ∷ line) ending lines rest is more
 
-fed : (b : ℕ) (bs : List ℕ) → AreLines (lines_in bs) bs → (c : Bool) → (b == 10) ≡ c → AreLines (onto_line b (lines_in bs)) (b ∷ bs)
-    → AreLines (if c then [] ∷ lines_in bs else onto_line b (lines_in bs)) (b ∷ bs)
-fed b bs more true is other = subst (λ b. AreLines ([] ∷ lines_in bs) (b ∷ bs)) (same_byte b 10 is) (one_more [] (codes "\n") (lines_in bs) bs (inl refl) more)
-fed b bs more false is other = other
-
 returned : (b a : ℕ) (bs : List ℕ) → AreLines (lines_in bs) bs → AreLines (lines_in (a ∷ bs)) (a ∷ bs) → (c d : Bool) → (b == 13) ≡ c → (a == 10) ≡ d
     → AreLines (if c && d then lines_in (a ∷ bs) else onto_line b (lines_in (a ∷ bs))) (b ∷ a ∷ bs)
 returned b a bs last_ones more true true is next =

@@ -18,7 +18,7 @@ use Rattle.log_rows.proofs.Growing.{hung, still_hangs, side_hangs, side_in}
 use Rattle.log_tree.specs.declared.slots.Slots.{Slots}
 use Rattle.log_tree.specs.declared.reading.Heading.{Heading}
 use Rattle.log_tree.specs.Reads.{IsNextNode}
-use Rattle.log_tree.specs.Slots.{slots_at, no_slots, is_free, taken, is_split, may_hang, is_next, depth_in, with_taken, new_slots, some_parent, SlotsFit, AllShallow}
+use Rattle.log_tree.specs.Slots.{slots_at, no_slots, is_free, taken, is_split, may_hang, is_next, depth_in, with_taken, new_slots, some_parent, SlotsFit}
 
 equal_is : (m n : ℕ) → (m == n) ≡ true → m ≡ n
 equal_is m n is = grind (arith, is)
@@ -49,11 +49,6 @@ module _ (rows : List Row) (slots : List Slots) (keeps : SlotsFit rows slots) wh
   pub depth_is : (parent : Option Parent) → Hangs rows (length rows) parent → depth_in slots parent ≡ depth_at rows parent
   depth_is None hangs = refl
   depth_is (Some parent) hangs = ap (λ n. n + 1) (keeps.depths parent.node hangs.earlier)
-
-  pub all_shallow : AllShallow slots
-  all_shallow k exists =
-      let there : k < length rows = subst (λ n. k < n) keeps.each exists in
-      subst (λ n. n ≤ greatest_depth) (sym (keeps.depths k there)) (keeps.shallow k there)
 
 free_taken : (h : Slots) (a b : Side) → ((a ≡ b) × (is_free (taken h a) b ≡ false)) ⊎ ((¬ a ≡ b) × (is_free (taken h a) b ≡ is_free h b))
 free_taken h Le Le = inl (refl, refl)

@@ -22,9 +22,6 @@ use Rattle.log_tree.proofs.Bodies.{bad, no_lines}
 pub record LeadsRows (rows : List Row) (n : ℕ) (lines all : List (List ℕ)) : Type 0 where
   pub leads : (out : LogOutcome) → ReadsFrom rows None n lines out → ReadsFrom [] None 2 all out
 
-pub rows_first : (all : List (List ℕ)) → LeadsRows [] 2 all all
-rows_first all = record { leads = λ out reads. reads }
-
 pub faults : (rows : List Row) (n : ℕ) (lines all : List (List ℕ)) (fault : Fault) → LeadsRows rows n lines all → RefusesRows rows n lines fault → RefusesRows [] 2 all fault
 faults rows n lines all (Text refusal) leads is = record { refuses = leads.leads (refused refusal.code refusal.at) is.refuses }
 faults rows n lines all (Limit excess) leads is = record { refuses = is.refuses }

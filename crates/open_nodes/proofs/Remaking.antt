@@ -13,21 +13,12 @@ use Rattle.open_nodes.proofs.Walking.{reverse_last}
 
 -- Back along the numbers of a way.
 
-pub back_first : (node : ℕ) (here : List ℕ) → GoesBack node here here
-back_first node here = record { gone = []; whole = refl; above = tt }
-
 pub back_on : (node : ℕ) (whole here rest : List ℕ) (last : ℕ) → here ≡ rest ++ last ∷ [] → node < last → GoesBack node whole (reverse here) → GoesBack node whole (reverse rest)
 back_on node whole here rest last is less back = record {
   gone = back.gone ++ last ∷ [];
   whole = back.whole ∙ ap (λ (l : List ℕ). back.gone ++ l) (ap reverse is ∙ reverse_last rest last) ∙ sym (append_assoc back.gone (last ∷ []) (reverse rest));
   above = all_append (λ n. node < n) back.gone (last ∷ []) back.above (less, tt);
 }
-
-pub back_stays : (node : ℕ) (whole here after : List ℕ) → here ≡ after → GoesBack node whole (reverse here) → GoesBack node whole (reverse after)
-back_stays node whole here after is back = subst (λ (l : List ℕ). GoesBack node whole (reverse l)) is back
-
-pub back_most : (rest after : List ℕ) (last node : ℕ) → after ≡ rest ++ last ∷ [] → last ≤ node → BeginsAtMost (reverse after) node
-back_most rest after last node is most = subst (λ (l : List ℕ). BeginsAtMost l node) (sym (ap reverse is ∙ reverse_last rest last)) most
 
 pub back_empty : (node : ℕ) (here : List ℕ) → here ≡ [] → BeginsAtMost (reverse here) node
 back_empty node here none = subst (λ (l : List ℕ). BeginsAtMost (reverse l) node) (sym none) tt
@@ -74,9 +65,6 @@ pub record IsMeeting (old new : List ℕ) (downs rest : List SplitNode) : Type 0
   pub above : AllByRecursion (λ n. AllByRecursion (λ (s : SplitNode). node_number s < n) rest) gone
   pub apart : StandApart old downs
 
-pub meeting_first : (old : List ℕ) (rest : List SplitNode) → IsMeeting old old [] rest
-meeting_first old rest = record { gone = []; whole = refl; above = tt; apart = tt }
-
 tails_below : (next : SplitNode) (rest : List SplitNode) (gone : List ℕ) → AllByRecursion (λ n. AllByRecursion (λ (s : SplitNode). node_number s < n) (next ∷ rest)) gone
     → AllByRecursion (λ n. AllByRecursion (λ (s : SplitNode). node_number s < n) rest) gone
 tails_below next rest [] all = tt
@@ -117,9 +105,6 @@ meeting_on old now after way downs next rest falls way_falls chain back most oth
           (all_above (node_number next) rest back.gone back.above below);
       apart = all_append (λ (s : SplitNode). AllByRecursion (λ n. ¬ n ≡ node_number s) old) downs (next ∷ []) meeting.apart (differs, tt);
     }
-
-pub left_first : (here : List ℕ) → HasLeft here here
-left_first here = record { gone = []; whole = refl }
 
 pub left_on : (node : ℕ) (old now after : List ℕ) → HasLeft old now → GoesBack node now after → HasLeft old after
 left_on node old now after left back = record {

@@ -1,5 +1,5 @@
--- A function value that reads what is asked of it, at each level below a number. It is no record: the search for proofs would open it in each phrase, and a phrase
--- only hands it on.
+-- A function value that reads what is asked of it, at each level below a number. It is no record: the search for proofs would open it in
+-- each phrase, and a phrase only hands it on.
 use Rattle.std.specs.Prelude.{ℕ, ◌<◌, List, Result, false}
 use Rattle.std.specs.declared.alloc.Global.{Global}
 use denote.Ref.{Bor}

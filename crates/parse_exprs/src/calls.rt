@@ -10,8 +10,11 @@ ghost use Rattle.parse_exprs.specs.Nests.{Nests};
 use crate::chains::chain;
 use crate::level::Level;
 use crate::reader::{Ask, Next, ParseStop, Read};
-use parse_grammar::{Mark, extreme_function, has_mark, literal, named, place, rest};
-use sopl_ast::{Expr, Exprs, Name, Token};
+use parse_grammar::{
+    Mark, extreme_function, has_mark, literal, named, number_function, place, rest,
+};
+use sopl_ast::{Expr, Exprs, Function, Name, Token};
+use sopl_base::Extreme;
 use std::alloc::Global;
 
 impl<F: Fn(Global, usize, Ask, &[Token]) -> Read<'_, Expr> + Copy> Level<F> {
@@ -69,30 +72,33 @@ impl<F: Fn(Global, usize, Ask, &[Token]) -> Read<'_, Expr> + Copy> Level<F> {
         Ok((e.moved(place(tokens)), left))
     }
 
-    /// The size of an expression.
-    #[tactic(auto, unfolding(parse_grammar::specs::Expressions::absolute, parse_grammar::specs::Phrases::inner_of))]
-    fn absolute<'a>(&self, tokens: &'a [Token]) -> Read<'a, Expr>
+    /// A function of one expression.
+    #[tactic(auto, unfolding(parse_grammar::specs::Expressions::function_call, parse_grammar::specs::Phrases::inner_of))]
+    fn function_call<'a>(&self, function: Function, tokens: &'a [Token]) -> Read<'a, Expr>
         requires { Nests self.now.here.depth (F.pre self.now.read) (F.post self.now.read) }
         ensures { Answers (λ x. (x.0, x.1.now)) result
-            (phrase.absolute (way false self.now.here.depth) tokens.now) }
+            (phrase.function_call (way false self.now.here.depth) function tokens.now) }
     {
         let (inner, left) = self.enter(Mark::ParenOpen, rest(tokens))?;
         let read = inner.expression(left)?;
         let (e, left) = self.here.closed(Mark::ParenClose, read)?;
-        Ok((Expr::absolute(self.here.alloc, place(tokens), e)?, left))
+        Ok((
+            Expr::call(self.here.alloc, place(tokens), function, e)?,
+            left,
+        ))
     }
 
     /// The least or the greatest of some expressions.
     #[tactic(auto, unfolding(parse_grammar::specs::Expressions::extreme, parse_grammar::specs::Phrases::inner_of))]
-    fn extreme<'a>(&self, greatest: bool, tokens: &'a [Token]) -> Read<'a, Expr>
+    fn extreme<'a>(&self, which: Extreme, tokens: &'a [Token]) -> Read<'a, Expr>
         requires { Nests self.now.here.depth (F.pre self.now.read) (F.post self.now.read) }
         ensures { Answers (λ x. (x.0, x.1.now)) result
-            (phrase.extreme (way false self.now.here.depth) greatest tokens.now) }
+            (phrase.extreme (way false self.now.here.depth) which tokens.now) }
     {
         let (inner, left) = self.enter(Mark::ParenOpen, rest(tokens))?;
         let read = inner.arguments(left)?;
         let (parts, left) = self.here.closed(Mark::ParenClose, read)?;
-        Ok((Expr::extreme(place(tokens), greatest, parts), left))
+        Ok((Expr::selected(place(tokens), which, parts), left))
     }
 
     /// Terms that all differ.
@@ -137,11 +143,11 @@ impl<F: Fn(Global, usize, Ask, &[Token]) -> Read<'_, Expr> + Copy> Level<F> {
         if has_mark(Mark::ParenOpen, tokens) {
             return self.parentheses(tokens);
         }
-        if has_mark(Mark::Abs, tokens) {
-            return self.absolute(tokens);
+        if let Some(function) = number_function(tokens) {
+            return self.function_call(function, tokens);
         }
-        if let Some(greatest) = extreme_function(tokens) {
-            return self.extreme(greatest, tokens);
+        if let Some(which) = extreme_function(tokens) {
+            return self.extreme(which, tokens);
         }
         if has_mark(Mark::AllDifferent, tokens) {
             return self.all_different(tokens);

@@ -1,4 +1,4 @@
-//! A level of brackets and prefixes, and those below it: each phrase of a level takes the reading of the levels below as a
+//! A level of nesting, and those below it: each phrase of a level takes the reading of the levels below as a
 //! function value, so that it is proved by itself.
 
 ghost use Rattle.std.specs.Prelude.{◌≡◌, ◌+◌, ◌<◌, Ok, Some, false, OnOk, IfOk};

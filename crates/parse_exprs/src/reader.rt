@@ -10,7 +10,7 @@ use sopl_ast::{Name, Token};
 use std::alloc::{AllocError, Global};
 
 /// Why reading stops: no phrase goes on with these tokens, the first of them opens one bracket or
-/// prefix too many, or no memory is left.
+/// prefix operator too many, or no memory is left.
 #[derive(Debug, Drop)]
 pub enum ParseStop<'a> {
     Syntax(&'a [Token]),
@@ -33,7 +33,7 @@ impl<'a> From<AllocError> for ParseStop<'a> {
 /// What was read, and the tokens that are left.
 pub type Read<'a, T> = Result<(T, &'a [Token]), ParseStop<'a>>;
 
-/// What was read if the prefix of the tokens begins it, and the tokens that are left.
+/// What was read at the front of the tokens, if it stands there, and the tokens that are left.
 pub type Next<'a, T> = Result<(Option<T>, &'a [Token]), ParseStop<'a>>;
 
 /// Which phrase is read at a level below.
@@ -46,8 +46,8 @@ pub(crate) enum Ask {
     Operand,
 }
 
-/// A reader of tokens: where its trees are made, and how many more brackets and prefixes may be
-/// opened.
+/// A reader of tokens: where its trees are made, and how many more brackets and prefix operators
+/// may be opened.
 #[derive(Clone, Copy)]
 pub struct Reader {
     pub alloc: Global,

@@ -11,7 +11,7 @@ use crate::chains::chain;
 use crate::level::Level;
 use crate::reader::{Ask, Next, Read, joined};
 use parse_grammar::{Mark, factor_operator, has_mark, place, rest, term_operator};
-use sopl_ast::{Expr, Factors, MulOp, Terms, Token};
+use sopl_ast::{Expr, Factors, Function, MulOp, Terms, Token};
 use std::alloc::Global;
 
 impl<F: Fn(Global, usize, Ask, &[Token]) -> Read<'_, Expr> + Copy> Level<F> {
@@ -24,7 +24,10 @@ impl<F: Fn(Global, usize, Ask, &[Token]) -> Read<'_, Expr> + Copy> Level<F> {
     {
         let inner = self.inside(tokens)?;
         let (e, left) = inner.operand(rest(tokens))?;
-        Ok((Expr::negative(self.here.alloc, place(tokens), e)?, left))
+        Ok((
+            Expr::call(self.here.alloc, place(tokens), Function::Negative, e)?,
+            left,
+        ))
     }
 
     /// A sum over binders.

@@ -1,9 +1,12 @@
 -- What is read of each kind of phrase of an expression.
 use Rattle.std.specs.Prelude.{ℕ, ℤ, pos, Bool, true, false, List, [], ◌∷◌, length, Option, Some, None, Ok}
 use Rattle.sopl_base.specs.declared.comparison.CmpOp.{CmpOp}
+use Rattle.sopl_base.specs.declared.extreme.Extreme.{Extreme}
+use Rattle.sopl_ast.specs.declared.operators.Function.{Function}
+use Rattle.sopl_ast.specs.declared.operators.Function.TheVariants.{Negative}
 use Rattle.sopl_ast.specs.declared.operators.MulOp.{MulOp}
 use Rattle.sopl_ast.specs.declared.token.Token.{Token}
-use Rattle.sopl_ast.specs.ExpressionRows.{element_of, extreme_of}
+use Rattle.sopl_ast.specs.ExpressionRows.{element_of}
 use Rattle.sopl_ast.specs.Lists.{BinderTree, trees, terms, factors, binders}
 use Rattle.sopl_ast.specs.Tree as t
 use Rattle.sopl_ast.specs.Tree.{Tree, Range, Node, Named, Ends, place_of, shape_of}
@@ -51,19 +54,19 @@ parentheses w ts = do
   after ← past w m.ParenClose left
   Ok (Node (place ts) (shape_of e), after)
 
--- the size of an expression
-unfoldable pub absolute : Way → List Token → Read Tree
-absolute w ts = do
+-- a function of one expression
+unfoldable pub function_call : Way → Function → List Token → Read Tree
+function_call w f ts = do
   (e, left) ← enter w m.ParenOpen no_tree (λ inner. inner.expression) (rest ts)
   after ← past w m.ParenClose left
-  Ok (Node (place ts) (t.Abs e), after)
+  Ok (Node (place ts) (t.Call f e), after)
 
 -- the least or the greatest of some expressions
-unfoldable pub extreme : Way → Bool → List Token → Read Tree
-extreme w greatest ts = do
+unfoldable pub extreme : Way → Extreme → List Token → Read Tree
+extreme w which ts = do
   (es, left) ← enter w m.ParenOpen (no_tree ∷ no_tree ∷ []) (λ inner. inner.arguments) (rest ts)
   after ← past w m.ParenClose left
-  Ok (Node (place ts) (extreme_of greatest (trees es)), after)
+  Ok (Node (place ts) (t.Selected which (trees es)), after)
 
 -- terms that all differ
 unfoldable pub all_different : Way → List Token → Read Tree
@@ -90,19 +93,19 @@ different_or w ts true = all_different w ts
 different_or w ts false = cumulative_or w ts (is_mark m.Cumulative (head ts))
 
 -- `min` or `max`, or else what follows
-abbrev pub extreme_or : Way → List Token → Option Bool → Read Tree
-extreme_or w ts (Some greatest) = extreme w greatest ts
+abbrev pub extreme_or : Way → List Token → Option Extreme → Read Tree
+extreme_or w ts (Some which) = extreme w which ts
 extreme_or w ts None = different_or w ts (is_mark m.AllDifferent (head ts))
 
--- `abs`, or else what follows
-abbrev pub absolute_or : Way → List Token → Bool → Read Tree
-absolute_or w ts true = absolute w ts
-absolute_or w ts false = extreme_or w ts (h.extreme_function (head ts))
+-- a function of one expression, or else what follows
+abbrev pub function_or : Way → List Token → Option Function → Read Tree
+function_or w ts (Some f) = function_call w f ts
+function_or w ts None = extreme_or w ts (h.extreme_function (head ts))
 
 -- an expression in parentheses, or a function of expressions
 abbrev pub parentheses_or : Way → List Token → Bool → Read Tree
 parentheses_or w ts true = parentheses w ts
-parentheses_or w ts false = absolute_or w ts (is_mark m.Abs (head ts))
+parentheses_or w ts false = function_or w ts (h.number_function (head ts))
 
 -- a function of expressions, or one in parentheses
 unfoldable pub call : Way → List Token → Read Tree
@@ -127,7 +130,7 @@ unfoldable pub negative : Way → List Token → Read Tree
 negative w ts = do
   inner ← w.inside ts
   (e, left) ← inner.operand (rest ts)
-  Ok (Node (place ts) (t.Neg e), left)
+  Ok (Node (place ts) (t.Call Negative e), left)
 
 -- a sum over binders
 unfoldable pub total : Way → List Token → Read Tree

@@ -5,6 +5,10 @@ use Rattle.sopl_base.specs.declared.comparison.CmpOp.TheVariants.{Eq, Ne, Lt, Le
 use Rattle.sopl_base.specs.declared.direction.Direction.{Direction}
 use Rattle.sopl_base.specs.declared.direction.Direction.TheVariants.{Minimize, Maximize}
 use Rattle.sopl_ast.specs.Terminals.{literal_value, name_bytes}
+use Rattle.sopl_base.specs.declared.extreme.Extreme.{Extreme}
+use Rattle.sopl_base.specs.declared.extreme.Extreme.TheVariants.{Least, Greatest}
+use Rattle.sopl_ast.specs.declared.operators.Function.{Function}
+use Rattle.sopl_ast.specs.declared.operators.Function.TheVariants.{Size}
 use Rattle.sopl_ast.specs.declared.operators.MulOp.{MulOp}
 use Rattle.sopl_ast.specs.declared.operators.MulOp.TheVariants.{Times, Div, Mod}
 use Rattle.sopl_ast.specs.declared.token.Token.{Token}
@@ -56,10 +60,15 @@ comparison_of_kind k.Greater = Some Gt
 comparison_of_kind k.GreaterEq = Some Ge
 comparison_of_kind _ = None
 
--- the function `min` or `max` that a kind is: whether it is the greatest of its arguments
-abbrev pub extreme_of_kind : TokenKind → Option Bool
-extreme_of_kind k.Min = Some false
-extreme_of_kind k.Max = Some true
+-- the function of one number that a kind is
+abbrev pub function_of_kind : TokenKind → Option Function
+function_of_kind k.Abs = Some Size
+function_of_kind _ = None
+
+-- `min` or `max`
+abbrev pub extreme_of_kind : TokenKind → Option Extreme
+extreme_of_kind k.Min = Some Least
+extreme_of_kind k.Max = Some Greatest
 extreme_of_kind _ = None
 
 -- the direction that a kind says
@@ -103,8 +112,12 @@ term_operator = at_kind term_of_kind
 unfoldable pub comparison_operator : Option TokenKind → Option CmpOp
 comparison_operator = at_kind comparison_of_kind
 
--- `min` or `max`: whether it is the greatest
-unfoldable pub extreme_function : Option TokenKind → Option Bool
+-- a function of one number
+unfoldable pub number_function : Option TokenKind → Option Function
+number_function = at_kind function_of_kind
+
+-- `min` or `max`
+unfoldable pub extreme_function : Option TokenKind → Option Extreme
 extreme_function = at_kind extreme_of_kind
 
 -- the direction of an objective
@@ -135,7 +148,6 @@ kind_of m.Forall = k.Forall
 kind_of m.Sum = k.Sum
 kind_of m.All = k.All
 kind_of m.Prob = k.Prob
-kind_of m.Abs = k.Abs
 kind_of m.AllDifferent = k.AllDifferent
 kind_of m.Cumulative = k.Cumulative
 kind_of m.Dvar = k.Dvar
@@ -171,7 +183,6 @@ is_mark m.Forall (Some k.Forall) = true
 is_mark m.Sum (Some k.Sum) = true
 is_mark m.All (Some k.All) = true
 is_mark m.Prob (Some k.Prob) = true
-is_mark m.Abs (Some k.Abs) = true
 is_mark m.AllDifferent (Some k.AllDifferent) = true
 is_mark m.Cumulative (Some k.Cumulative) = true
 is_mark m.Dvar (Some k.Dvar) = true

@@ -5,13 +5,14 @@ use Rattle.sopl_ast.specs.declared.token.Token.{Token}
 use Rattle.sopl_ast.specs.ModelRows.{range_place}
 use Rattle.sopl_ast.specs.Lists.{BinderTree, trees, binders}
 use Rattle.sopl_ast.specs.Tree.{Tree}
-use Rattle.sopl_ast.specs.Whole.{DimTree, InitTree, One, Many, inits, Declaration, IntDecl, RangeDecl, SetDecl, DvarDecl, StochDecl, ConsTree, ForallTree, BlockTree, HardTree}
-use Rattle.sopl_ast.specs.Whole.{ChanceTree, conses, GoalTree, ModelTree}
+use Rattle.sopl_ast.specs.Whole.{DimTree, InitTree, One, Many, inits, Declaration, IntDecl, RangeDecl, SetDecl, DvarDecl, StochDecl}
+use Rattle.sopl_ast.specs.Whole.{ConsTree, ForallTree, BlockTree, HardTree, ChanceTree, conses, GoalTree, ModelTree}
 use Rattle.parse_grammar.specs.declared.marks.Mark.TheVariants as m
 use Rattle.parse_grammar.specs.Heads as h
 use Rattle.parse_grammar.specs.Heads.{head, rest, place, is_mark}
 use Rattle.parse_grammar.specs.Reading.{Stop, Depth, Read, Next, Inner, Way, ◌>>=◌, absent, past, enter, name, chain}
-use Rattle.parse_grammar.specs.Expressions.{arguments, bindings, bound, compared, expression, negation, no_tree, operand, range, sum, summed, task, tasks}
+use Rattle.parse_grammar.specs.Expressions.{arguments, bindings, bound, compared, expression, negation, no_tree}
+use Rattle.parse_grammar.specs.Expressions.{operand, range, sum, summed, task, tasks}
 
 -- the stage behind its keyword
 abbrev pub stage_behind : Way → List Token → Bool → Read (Option Tree)
@@ -433,7 +434,7 @@ unfoldable pub deeper : Bool → ℕ → List Token → Result Inner Stop
 deeper cut zero ts = Err (Depth ts)
 deeper cut (suc n) ts = Ok (inner_of (record { cut = cut; inside = deeper cut n }))
 
--- how tokens are read where so many more brackets and prefixes may be opened
+-- how tokens are read where so many more brackets and prefix operators may be opened
 abbrev pub way : Bool → ℕ → Way
 way cut n = record { cut = cut; inside = deeper cut n }
 

@@ -7,5 +7,5 @@ mod marks;
 
 pub use marks::{
     Mark, comparison_operator, extreme_function, factor_operator, goal_direction, goal_measure,
-    has_mark, literal, named, peek, place, range_end, rest, term_operator,
+    has_mark, literal, named, number_function, peek, place, range_end, rest, term_operator,
 };

@@ -1,12 +1,14 @@
 //! What stands first in a list of tokens, and what a token is to the reader.
 
 ghost use Rattle.std.specs.Prelude.{◌≡◌, option_copied};
-ghost use Rattle.parse_grammar.specs.Heads.{head, rest as rest_of, place as place_of, is_mark, literal as literal_of, named as named_of, factor_operator as factor_operator_of};
-ghost use Rattle.parse_grammar.specs.Heads.{term_operator as term_operator_of, comparison_operator as comparison_operator_of, extreme_function as extreme_function_of};
-ghost use Rattle.parse_grammar.specs.Heads.{goal_direction as goal_direction_of, goal_measure as goal_measure_of, range_end as range_end_of};
+ghost use Rattle.parse_grammar.specs.Heads.{head, rest as rest_of, place as place_of, is_mark, literal as literal_of, named as named_of};
+ghost use Rattle.parse_grammar.specs.Heads.{factor_operator as factor_operator_of, term_operator as term_operator_of};
+ghost use Rattle.parse_grammar.specs.Heads.{comparison_operator as comparison_operator_of, extreme_function as extreme_function_of};
+ghost use Rattle.parse_grammar.specs.Heads.{number_function as number_function_of, goal_direction as goal_direction_of};
+ghost use Rattle.parse_grammar.specs.Heads.{goal_measure as goal_measure_of, range_end as range_end_of};
 
-use sopl_ast::{MulOp, Name, Token, TokenKind};
-use sopl_base::{CmpOp, Direction};
+use sopl_ast::{Function, MulOp, Name, Token, TokenKind};
+use sopl_base::{CmpOp, Direction, Extreme};
 
 /// A keyword or a symbol that the reader asks for by itself.
 #[derive(Clone, Copy, Debug)]
@@ -25,7 +27,6 @@ pub enum Mark {
     Sum,
     All,
     Prob,
-    Abs,
     AllDifferent,
     Cumulative,
     Dvar,
@@ -99,7 +100,6 @@ pub fn has_mark(mark: Mark, tokens: &[Token]) -> bool
         Mark::Sum => matches!(kind, TokenKind::Sum),
         Mark::All => matches!(kind, TokenKind::All),
         Mark::Prob => matches!(kind, TokenKind::Prob),
-        Mark::Abs => matches!(kind, TokenKind::Abs),
         Mark::AllDifferent => matches!(kind, TokenKind::AllDifferent),
         Mark::Cumulative => matches!(kind, TokenKind::Cumulative),
         Mark::Dvar => matches!(kind, TokenKind::Dvar),
@@ -184,14 +184,25 @@ pub fn comparison_operator(tokens: &[Token]) -> Option<CmpOp>
     }
 }
 
-/// `min` or `max`: whether it is the greatest of its arguments.
+/// A function of one number.
+#[tactic(auto, unfolding(crate::specs::Heads::number_function))]
+pub fn number_function(tokens: &[Token]) -> Option<Function>
+    ensures { result ≡ number_function_of (head tokens.now) }
+{
+    match peek(tokens)? {
+        TokenKind::Abs => Some(Function::Size),
+        _ => None,
+    }
+}
+
+/// `min` or `max`.
 #[tactic(auto, unfolding(crate::specs::Heads::extreme_function))]
-pub fn extreme_function(tokens: &[Token]) -> Option<bool>
+pub fn extreme_function(tokens: &[Token]) -> Option<Extreme>
     ensures { result ≡ extreme_function_of (head tokens.now) }
 {
     match peek(tokens)? {
-        TokenKind::Min => Some(false),
-        TokenKind::Max => Some(true),
+        TokenKind::Min => Some(Extreme::Least),
+        TokenKind::Max => Some(Extreme::Greatest),
         _ => None,
     }
 }

@@ -7,7 +7,7 @@ use Rattle.sopl_ast.specs.Tree as t
 use Rattle.sopl_ast.specs.Tree.{Tree, Trees, Terms, Factors, Binders, Range, Node, no_tree, tree, no_term, term, no_factor, factor, no_binder, binder, Named, Ends, place_of}
 use Rattle.sopl_ast.specs.Whole.{DimTree, InitTree, InitTrees, One, Many, no_init, init, Declaration, IntDecl, RangeDecl, SetDecl, DvarDecl, StochDecl, ConsTree, ConsTrees}
 use Rattle.sopl_ast.specs.Whole.{ForallTree, BlockTree, HardTree, ChanceTree, no_cons, cons, conses, GoalTree, ModelTree}
-use Rattle.sopl_ast.specs.Mistakes.{Entity, Constant, Variable, RangeName, SetName, Scope, entity_of, one_mistake, mistake_unless, unknown_name, known_name, no_number, no_range}
+use Rattle.sopl_ast.specs.Mistakes.{Entity, Constant, Variable, RangeName, SetName, Scope, entity_of, no_names, with_entity, one_mistake, mistake_unless, unknown_name, known_name, no_number, no_range}
 use Rattle.sopl_ast.specs.Mistakes.{is_condition, no_condition, wrong_indices, no_constant, of_use, count, bind, asks_constant, of_number, of_numbers, of_conditions, of_terms}
 use Rattle.sopl_ast.specs.Mistakes.{of_factors, of_binders, of_range, of_condition, bind_dim, bind_dims, of_dim_name, of_dims, of_init, of_inits, wrong_depths, wrong_parts}
 use Rattle.sopl_ast.specs.Mistakes.{first_of, of_stage, of_outcomes, of_declaration, declare, of_declarations, declare_all, of_constraint, of_constraints, of_goal, of_model}
@@ -86,7 +86,7 @@ mutual
   number_above scope constant (Node at (t.Lit z)) = no_mistake
   number_above scope constant (Node at (t.Name name)) = use_above constant (entity_of scope name) 0 at
   number_above scope constant (Node at (t.Index name es)) = both _ _ (use_above constant (entity_of scope name) (count es) at) (numbers_above scope constant es)
-  number_above scope constant (Node at (t.Neg e)) = number_above scope constant e
+  number_above scope constant (Node at (t.Call f e)) = number_above scope constant e
   number_above scope constant (Node at (t.Add parts)) = terms_above scope constant parts
   number_above scope constant (Node at (t.Mul first others)) = both _ _ (number_above scope constant first) (factors_above scope constant others)
   number_above scope constant (Node at (t.Cmp op a b)) = both _ _ (number_above scope constant a) (number_above scope constant b)
@@ -96,9 +96,7 @@ mutual
   number_above scope constant (Node at (t.Implies a b)) =
       both _ _ (both _ _ (no_condition_above a) (number_above scope constant a)) (both _ _ (no_condition_above b) (number_above scope constant b))
   number_above scope constant (Node at (t.Sum bs e)) = both _ _ (binders_above scope bs) (number_above (bind bs scope) constant e)
-  number_above scope constant (Node at (t.Least es)) = numbers_above scope constant es
-  number_above scope constant (Node at (t.Greatest es)) = numbers_above scope constant es
-  number_above scope constant (Node at (t.Abs e)) = number_above scope constant e
+  number_above scope constant (Node at (t.Selected which es)) = numbers_above scope constant es
   number_above scope constant (Node at (t.AllDifferent bs e)) = both _ _ (binders_above scope bs) (number_above (bind bs scope) constant e)
   number_above scope constant (Node at (t.Cumulative bs start duration demand capacity)) =
       both _ _ (binders_above scope bs)
@@ -125,7 +123,7 @@ mutual
   binders_above : (scope : Scope) (bs : Binders) → AreAboveSpelling (of_binders scope bs)
   binders_above scope no_binder = no_mistake
   binders_above scope (binder name at range more) =
-      both _ _ (known_above (entity_of scope name) at) (both _ _ (range_above scope true range) (binders_above ((name, Constant 0) ∷ scope) more))
+      both _ _ (known_above (entity_of scope name) at) (both _ _ (range_above scope true range) (binders_above (with_entity name (Constant 0) scope) more))
 
   range_above : (scope : Scope) (sets : Bool) (range : Range) → AreAboveSpelling (of_range scope sets range)
   range_above scope sets (Named name at) = both _ _ (unknown_above (entity_of scope name) at) (no_range_above sets (entity_of scope name) at)
@@ -217,8 +215,8 @@ goal_above scope (Some goal) = number_above scope false goal.expr
 
 model_above : (model : ModelTree) → AreAboveSpelling (of_model model)
 model_above model =
-    both _ _ (declarations_above [] model.decls)
-    (both _ _ (goal_above (declare_all model.decls []) model.goal) (constraints_above (declare_all model.decls []) (conses model.body)))
+    both _ _ (declarations_above no_names model.decls)
+    (both _ _ (goal_above (declare_all model.decls no_names) model.goal) (constraints_above (declare_all model.decls no_names) (conses model.body)))
 
 pub mistake_above : (model : ModelTree) (refusal : Refusal) → Contains (of_model model) refusal → IsAboveSpelling refusal
 mistake_above model refusal among = subst IsAboveSpelling among.2 (each_of IsAboveSpelling (of_model model) among.0 refusal (model_above model).each among.1)

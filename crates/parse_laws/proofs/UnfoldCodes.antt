@@ -17,8 +17,7 @@ use Rattle.sopl_ast.specs.Numbers.{count_between}
 use Rattle.sopl_ast.specs.Known.{Known, with_bound}
 use Rattle.sopl_ast.specs.Constants.{applied_within, value, value_or_zero, numbers_in}
 use Rattle.sopl_ast.specs.UnfoldEvents.{UnfoldEvent, Counted, Refused, Passed, excess, first_failure, most_counted, refused_unless, no_value, most_numbers, too_many}
-use Rattle.sopl_ast.specs.UnfoldEvents.{constant_events, inside_events, constants_events, constant_terms_events, constant_factors_events, binding_events, range_events, constant_place}
-use Rattle.sopl_ast.specs.UnfoldEvents.{is_zero, divisor_events, expression_events, parts_events, expressions_events, terms_events, factors_events}
+use Rattle.sopl_ast.specs.UnfoldEvents.{events_in, inside_events, all_events, terms_events, factors_events, binding_events, range_events, constant_place, is_zero, expression_events}
 use Rattle.sopl_ast.specs.Arrays.{Dimension, dimensions_of, indices, taking, with_index, dimension_events, array_events}
 use Rattle.sopl_ast.specs.Declarations.{Declared, nothing_declared, init_events, inits_events, set_of, constant_places, stage_events, domain_of, domain_events, outcome_events}
 use Rattle.sopl_ast.specs.Declarations.{behind, declaration_events, behind_all, declarations_events}
@@ -63,48 +62,53 @@ too_many_above code count = on (nat_le count most_numbers)
     on true = no_event
     on false = record { each = (tt, tt) }
 
--- Constant places.
+zero_above : (known : Known) (e : Tree) → AllRefuseAbove (refused_unless (not (is_zero (value known e))) 110 (place_of e))
+zero_above known e = unless_above (not (is_zero (value known e))) 110 (place_of e) (omega arith)
+
+-- Expressions.
 
 mutual
-  constant_above : (known : Known) (whole : ℕ) (e : Tree) → AllRefuseAbove (constant_events known whole e)
-  constant_above known whole (Node at shape) = both _ _ (inside_above known whole shape) (no_value_above (value known (Node at shape)) whole)
+  events_above : (whole : Option ℕ) (known : Known) (e : Tree) → AllRefuseAbove (events_in whole known e)
+  events_above None known (Node at shape) = inside_above None known shape
+  events_above (Some whole) known (Node at shape) = both _ _ (inside_above (Some whole) known shape) (no_value_above (value known (Node at shape)) whole)
 
-  inside_above : (known : Known) (whole : ℕ) (shape : Shape) → AllRefuseAbove (inside_events known whole shape)
-  inside_above known whole (t.Lit z) = no_event
-  inside_above known whole (t.Name name) = no_event
-  inside_above known whole (t.Index name es) = constants_above known whole es
-  inside_above known whole (t.Neg e) = constant_above known whole e
-  inside_above known whole (t.Add parts) = constant_terms_above known whole parts
-  inside_above known whole (t.Mul first others) = both _ _ (constant_above known whole first) (constant_factors_above known whole (value known first) others)
-  inside_above known whole (t.Cmp op a b) = both _ _ (constant_above known whole a) (constant_above known whole b)
-  inside_above known whole (t.Not e) = constant_above known whole e
-  inside_above known whole (t.And es) = constants_above known whole es
-  inside_above known whole (t.Or es) = constants_above known whole es
-  inside_above known whole (t.Implies a b) = both _ _ (constant_above known whole a) (constant_above known whole b)
-  inside_above known whole (t.Sum bs e) = binding_above known (Some whole) bs (λ here. constant_events here whole e) (λ here. constant_above here whole e)
-  inside_above known whole (t.Least es) = constants_above known whole es
-  inside_above known whole (t.Greatest es) = constants_above known whole es
-  inside_above known whole (t.Abs e) = constant_above known whole e
-  inside_above known whole (t.AllDifferent bs e) = binding_above known (Some whole) bs (λ here. constant_events here whole e) (λ here. constant_above here whole e)
-  inside_above known whole (t.Cumulative bs start duration demand capacity) =
+  inside_above : (whole : Option ℕ) (known : Known) (shape : Shape) → AllRefuseAbove (inside_events whole known shape)
+  inside_above whole known (t.Lit z) = no_event
+  inside_above whole known (t.Name name) = no_event
+  inside_above whole known (t.Index name es) = all_above whole known es
+  inside_above whole known (t.Call f e) = events_above whole known e
+  inside_above whole known (t.Add parts) = terms_above whole known parts
+  inside_above whole known (t.Mul first others) = both _ _ (events_above whole known first) (factors_above whole known (value known first) others)
+  inside_above whole known (t.Cmp op a b) = both _ _ (events_above whole known a) (events_above whole known b)
+  inside_above whole known (t.Not e) = events_above whole known e
+  inside_above whole known (t.And es) = all_above whole known es
+  inside_above whole known (t.Or es) = all_above whole known es
+  inside_above whole known (t.Implies a b) = both _ _ (events_above whole known a) (events_above whole known b)
+  inside_above whole known (t.Sum bs e) = binding_above known whole bs (λ here. events_in whole here e) (λ here. events_above whole here e)
+  inside_above whole known (t.Selected which es) = all_above whole known es
+  inside_above whole known (t.AllDifferent bs e) = binding_above known whole bs (λ here. events_in whole here e) (λ here. events_above whole here e)
+  inside_above whole known (t.Cumulative bs start duration demand capacity) =
       both _ _
-      (binding_above known (Some whole) bs (λ here. constant_events here whole start ++ (constant_events here whole duration ++ constant_events here whole demand))
-      (λ here. both _ _ (constant_above here whole start) (both _ _ (constant_above here whole duration) (constant_above here whole demand))))
-      (constant_above known whole capacity)
+      (binding_above known whole bs (λ here. events_in whole here start ++ (events_in whole here duration ++ events_in whole here demand))
+      (λ here. both _ _ (events_above whole here start) (both _ _ (events_above whole here duration) (events_above whole here demand))))
+      (events_above whole known capacity)
 
-  constants_above : (known : Known) (whole : ℕ) (es : Trees) → AllRefuseAbove (constants_events known whole es)
-  constants_above known whole no_tree = no_event
-  constants_above known whole (tree e es) = both _ _ (constant_above known whole e) (constants_above known whole es)
+  all_above : (whole : Option ℕ) (known : Known) (es : Trees) → AllRefuseAbove (all_events whole known es)
+  all_above whole known no_tree = no_event
+  all_above whole known (tree e es) = both _ _ (events_above whole known e) (all_above whole known es)
 
-  constant_terms_above : (known : Known) (whole : ℕ) (parts : Terms) → AllRefuseAbove (constant_terms_events known whole parts)
-  constant_terms_above known whole no_term = no_event
-  constant_terms_above known whole (term minus e more) = both _ _ (constant_above known whole e) (constant_terms_above known whole more)
+  terms_above : (whole : Option ℕ) (known : Known) (parts : Terms) → AllRefuseAbove (terms_events whole known parts)
+  terms_above whole known no_term = no_event
+  terms_above whole known (term minus e more) = both _ _ (events_above whole known e) (terms_above whole known more)
 
-  constant_factors_above : (known : Known) (whole : ℕ) (before : Option ℤ) (others : Factors) → AllRefuseAbove (constant_factors_events known whole before others)
-  constant_factors_above known whole before no_factor = no_event
-  constant_factors_above known whole before (factor op e more) =
-      both _ _ (constant_above known whole e)
-      (both _ _ (no_value_above (applied_within op before (value known e)) whole) (constant_factors_above known whole (applied_within op before (value known e)) more))
+  factors_above : (whole : Option ℕ) (known : Known) (before : Option ℤ) (others : Factors) → AllRefuseAbove (factors_events whole known before others)
+  factors_above whole known before no_factor = no_event
+  factors_above (Some whole) known before (factor op e more) =
+      both _ _ (events_above (Some whole) known e)
+      (both _ _ (no_value_above (applied_within op before (value known e)) whole) (factors_above (Some whole) known (applied_within op before (value known e)) more))
+  factors_above None known before (factor Times e more) = both _ _ (events_above None known e) (factors_above None known before more)
+  factors_above None known before (factor Div e more) = both _ _ (both _ _ (events_above (Some (place_of e)) known e) (zero_above known e)) (factors_above None known before more)
+  factors_above None known before (factor Mod e more) = both _ _ (both _ _ (events_above (Some (place_of e)) known e) (zero_above known e)) (factors_above None known before more)
 
   binding_above : (known : Known) (whole : Option ℕ) (bs : Binders) (each : Known → List UnfoldEvent) → ((here : Known) → AllRefuseAbove (each here))
       → AllRefuseAbove (binding_events known whole bs each)
@@ -117,57 +121,14 @@ mutual
   range_above : (known : Known) (whole : Option ℕ) (range : Range) → AllRefuseAbove (range_events known whole range)
   range_above known whole (Named name at) = no_event
   range_above known whole (Ends lo hi) =
-      both _ _ (constant_above known (unwrap_or whole (place_of lo)) lo)
-      (both _ _ (constant_above known (unwrap_or whole (place_of hi)) hi) (too_many_above 208 (count_between (value_or_zero known lo) (value_or_zero known hi))))
+      both _ _ (events_above (Some (unwrap_or whole (place_of lo))) known lo)
+      (both _ _ (events_above (Some (unwrap_or whole (place_of hi))) known hi) (too_many_above 208 (count_between (value_or_zero known lo) (value_or_zero known hi))))
 
 place_above : (known : Known) (e : Tree) → AllRefuseAbove (constant_place known e)
-place_above known e = constant_above known (place_of e) e
+place_above known e = events_above (Some (place_of e)) known e
 
-divisor_above : (known : Known) (e : Tree) → AllRefuseAbove (divisor_events known e)
-divisor_above known e = both _ _ (place_above known e) (unless_above (not (is_zero (value known e))) 110 (place_of e) (omega arith))
-
--- Expressions.
-
-mutual
-  expression_above : (known : Known) (e : Tree) → AllRefuseAbove (expression_events known e)
-  expression_above known (Node at shape) = parts_above known shape
-
-  parts_above : (known : Known) (shape : Shape) → AllRefuseAbove (parts_events known shape)
-  parts_above known (t.Lit z) = no_event
-  parts_above known (t.Name name) = no_event
-  parts_above known (t.Index name es) = expressions_above known es
-  parts_above known (t.Neg e) = expression_above known e
-  parts_above known (t.Add parts) = terms_above known parts
-  parts_above known (t.Mul first others) = both _ _ (expression_above known first) (factors_above known others)
-  parts_above known (t.Cmp op a b) = both _ _ (expression_above known a) (expression_above known b)
-  parts_above known (t.Not e) = expression_above known e
-  parts_above known (t.And es) = expressions_above known es
-  parts_above known (t.Or es) = expressions_above known es
-  parts_above known (t.Implies a b) = both _ _ (expression_above known a) (expression_above known b)
-  parts_above known (t.Sum bs e) = binding_above known None bs (λ here. expression_events here e) (λ here. expression_above here e)
-  parts_above known (t.Least es) = expressions_above known es
-  parts_above known (t.Greatest es) = expressions_above known es
-  parts_above known (t.Abs e) = expression_above known e
-  parts_above known (t.AllDifferent bs e) = binding_above known None bs (λ here. expression_events here e) (λ here. expression_above here e)
-  parts_above known (t.Cumulative bs start duration demand capacity) =
-      both _ _
-      (binding_above known None bs (λ here. expression_events here start ++ (expression_events here duration ++ expression_events here demand))
-      (λ here. both _ _ (expression_above here start) (both _ _ (expression_above here duration) (expression_above here demand))))
-      (expression_above known capacity)
-
-  expressions_above : (known : Known) (es : Trees) → AllRefuseAbove (expressions_events known es)
-  expressions_above known no_tree = no_event
-  expressions_above known (tree e es) = both _ _ (expression_above known e) (expressions_above known es)
-
-  terms_above : (known : Known) (parts : Terms) → AllRefuseAbove (terms_events known parts)
-  terms_above known no_term = no_event
-  terms_above known (term minus e more) = both _ _ (expression_above known e) (terms_above known more)
-
-  factors_above : (known : Known) (others : Factors) → AllRefuseAbove (factors_events known others)
-  factors_above known no_factor = no_event
-  factors_above known (factor Times e more) = both _ _ (expression_above known e) (factors_above known more)
-  factors_above known (factor Div e more) = both _ _ (divisor_above known e) (factors_above known more)
-  factors_above known (factor Mod e more) = both _ _ (divisor_above known e) (factors_above known more)
+expression_above : (known : Known) (e : Tree) → AllRefuseAbove (expression_events known e)
+expression_above known e = events_above None known e
 
 -- Declarations.
 

@@ -16,8 +16,8 @@ pub data IsUnread (text : List ℕ) (refusal : Refusal) : Type 0 where
 abbrev pub OneRefusal : Type 0
 OneRefusal = (text : List ℕ) (a b : Refusal) → IsUnread text a → IsUnread text b → a ≡ b
 
--- some model's tokens begin with those of the text before this place, and no model's with them and the token there; where the text ends there, they
--- spell no model
+-- some model's tokens begin with those of the text before this place, and no model's with them and the token there; where the text ends
+-- there, they spell no model
 pub record LeavesAllModels (text : List ℕ) (at : ℕ) : Type 0 where
   pub before : List Token
   pub behind : List Token

@@ -1,15 +1,13 @@
 -- The first of a list that is not so.
 use Rattle.std.proofs.Common.{arith, ◌≡◌, sym, ap, subst, ◌∙◌, inl, inr, ◌⊎◌, ℕ, zero, suc, ◌<◌, List, [], ◌∷◌, All, take, slice_get, Some}
 use Rattle.std.proofs.lemmas.Bool.{cases_order}
-use Rattle.std.proofs.lemmas.Option.{none-some, same_Some}
+use Rattle.std.proofs.lemmas.Option.{get_or_from_slice_get, none-some, same_Some, slice_get_within}
 use Rattle.policy_eval.specs.Reports.{IsFirstOther}
 
 module _ {A : Type 0} (IsSo : A → Type 0) where
   -- what stands in a list of which all are so
   pub all_so : (xs : List A) (n : ℕ) (x : A) → All IsSo xs → slice_get xs n ≡ Some x → IsSo x
-  all_so [] n x all stands = absurd (none-some x stands)
-  all_so (y ∷ ys) zero x all stands = subst IsSo (same_Some y x stands) (all 0 y (omega arith))
-  all_so (y ∷ ys) (suc n) x all stands = all_so ys n x (λ k d below. all (suc k) d (omega (arith, below))) stands
+  all_so xs n x all stands = subst IsSo (get_or_from_slice_get xs n x x stands) (all n x (slice_get_within xs n x stands))
 
   -- or in the first part of it
   before_so : (xs : List A) (m n : ℕ) (x : A) → All IsSo (take m xs) → n < m → slice_get xs n ≡ Some x → IsSo x

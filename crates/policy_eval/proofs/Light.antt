@@ -5,14 +5,18 @@ use Rattle.std.specs.List.{AllByRecursion}
 use Rattle.sopl_base.proofs.Sizes.{sized}
 use Rattle.sopl_ast.specs.declared.operators.MulOp.TheVariants.{Times, Div, Mod}
 use Rattle.sopl_ast.specs.Constants as constant
-use Rattle.sopl_ast.specs.Tree.{Factors, no_factor, factor}
-use Rattle.unfold_laws.specs.Passing.{IsConstant}
+use Rattle.sopl_ast.specs.Tree.{Tree, Factors, no_factor, factor}
+use Rattle.sopl_ast.specs.UnfoldEvents.{divisor_events}
+use Rattle.unfold_laws.specs.Passing.{IsConstant, NothingFails}
 use Rattle.box_problem.specs.Box.{Box, IsBox, InBox}
 use Rattle.box_problem.proofs.Boxes.{part_of_itself}
 use Rattle.term_language.specs.Ends.{Lies}
 use Rattle.term_language.specs.Laws.{IsAtMost, IsProper}
 use Rattle.term_language.specs.Rules.{Near, interval}
 use Rattle.term_language.specs.Sizes.{size}
+use Rattle.term_language.specs.declared.made.Operation.{Operation}
+use Rattle.term_language.specs.declared.made.Operation.TheVariants as unary
+use Rattle.term_language.specs.declared.made.Divisor.{Divisor}
 use Rattle.term_language.specs.Terms as c
 use Rattle.term_language.specs.Values.{value}
 use Rattle.term_language.proofs.Bounds.{sizes_bound}
@@ -42,11 +46,8 @@ itself root (c.Constant z) light = light.0
 itself root (c.Cell cell) light = light.0
 itself root (c.Sum parts) light = (behind root _ (c.Sum parts ∷ []) light).0
 itself root (c.Product a b) light = (behind root (subterms b) (c.Product a b ∷ []) (behind root (subterms a) _ light)).0
-itself root (c.Quotient a divisor) light = (behind root (subterms a) (c.Quotient a divisor ∷ []) light).0
-itself root (c.Remainder a divisor) light = (behind root (subterms a) (c.Remainder a divisor ∷ []) light).0
-itself root (c.Least a later) light = (behind root _ (c.Least a later ∷ []) (behind root (subterms a) _ light)).0
-itself root (c.Greatest a later) light = (behind root _ (c.Greatest a later ∷ []) (behind root (subterms a) _ light)).0
-itself root (c.Size a) light = (behind root (subterms a) (c.Size a ∷ []) light).0
+itself root (c.Made how a) light = (behind root (subterms a) (c.Made how a ∷ []) light).0
+itself root (c.Selected which a later) light = (behind root _ (c.Selected which a later ∷ []) (behind root (subterms a) _ light)).0
 itself root (c.Element table indices) light = (behind root _ (c.Element table indices ∷ []) light).0
 itself root (c.Number cond) light = (behind root _ (c.Number cond ∷ []) light).0
 
@@ -66,16 +67,14 @@ is_small root point t is_box inside proper light = by_value (value point t) (no_
 
 -- what a product begins with is in it, where its divisors are there
 module _ (root : Box) (place : Place) where
+  by_divisor : (make : Divisor → Operation) (e : Tree) (b : c.Term) → NothingFails (divisor_events place.known e)
+      → AreLight root (subterms (divided make b (constant.value place.known e))) → AreLight root (subterms b)
+  by_divisor make e b passes light =
+      let d : IsDivisor place.known e = divisor_is place.known e passes in
+      before root (subterms b) _ (from_divided (λ t. AreLight root (subterms t)) make b d.number d.nonzero (constant.value place.known e) d.is light)
+
   pub first_light : (others : Factors) (b : c.Term) → FactorsAreWalked None place.known others → AreLight root (subterms (product_instance place b others)) → AreLight root (subterms b)
   first_light no_factor b walked light = light
   first_light (factor Times e later) b walked light = before root (subterms b) _ (first_light later (c.Product b (instance place e).term) walked.2 light)
-  first_light (factor Div e later) b walked light =
-      let d : IsDivisor place.known e = divisor_is place.known e walked.0 in
-      before root (subterms b) _
-      (from_divided b d.number d.nonzero (constant.value place.known e) d.is (λ t. AreLight root (subterms t)) c.Quotient
-      (first_light later (divided c.Quotient b (constant.value place.known e)) walked.2 light))
-  first_light (factor Mod e later) b walked light =
-      let d : IsDivisor place.known e = divisor_is place.known e walked.0 in
-      before root (subterms b) _
-      (from_divided b d.number d.nonzero (constant.value place.known e) d.is (λ t. AreLight root (subterms t)) c.Remainder
-      (first_light later (divided c.Remainder b (constant.value place.known e)) walked.2 light))
+  first_light (factor Div e later) b walked light = by_divisor unary.Quotient e b walked.0 (first_light later (divided unary.Quotient b (constant.value place.known e)) walked.2 light)
+  first_light (factor Mod e later) b walked light = by_divisor unary.Remainder e b walked.0 (first_light later (divided unary.Remainder b (constant.value place.known e)) walked.2 light)

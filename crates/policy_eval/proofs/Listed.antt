@@ -1,49 +1,29 @@
 -- Lists by the numbers of their elements.
 use Rattle.std.proofs.Common.{arith, inl, inr, ◌⊎◌, IsSome, ◌≡◌, refl, sym, ap, subst, ◌∙◌, ℕ, zero, suc, ◌+◌, ◌<◌, Bool, true, false, List, [], ◌∷◌, All, drop, take, length, map, slice_get, Option, Some, None}
 use Rattle.std.proofs.lemmas.Bool.{cases_order}
-use Rattle.std.proofs.lemmas.Option.{none-some, same_Some}
+use Rattle.std.proofs.lemmas.List.Elements.{All-cons, All-nil}
+use Rattle.std.proofs.lemmas.Option.{get_or_from_slice_get, none-some, same_Some, slice_get_within}
+use Rattle.sopl_base.proofs.Lists.{drop_next}
+use Rattle.term_problem.proofs.Lists.{all_from}
 use Rattle.std.specs.Option.{is_some}
 use Rattle.sopl_ast.specs.Numbers.{all_of, both_of}
-use Rattle.std.specs.List.{AllByRecursion, range_with_len}
+use Rattle.std.specs.List.{range_with_len}
 use Rattle.policy_eval.specs.Reports.{IsFirstOther}
 use Rattle.policy_eval.specs.Tried.{IsFirstFalse}
 
 module _ {A : Type 0} where
-  all_none : (P : A → Type 0) → All P []
-  all_none P k d below = absurd (omega (arith, below))
-
-  all_more : (P : A → Type 0) (x : A) (xs : List A) → P x → All P xs → All P (x ∷ xs)
-  all_more P x xs here later zero d below = here
-  all_more P x xs here later (suc k) d below = later k d (omega (arith, below))
-
-  -- what holds of each element of a list, or of its first part
+  -- what holds of each element of the first part of a list
   pub all_first : (P : A → Type 0) (k : ℕ) (xs : List A) → ((i : ℕ) (x : A) → i < k → slice_get xs i ≡ Some x → P x) → All P (take k xs)
-  all_first P zero [] each = all_none P
-  all_first P zero (x ∷ xs) each = all_none P
-  all_first P (suc k) [] each = all_none P
-  all_first P (suc k) (x ∷ xs) each = all_more P x (take k xs) (each 0 x (omega arith) refl) (all_first P k xs (λ i y below at. each (suc i) y (omega (arith, below)) at))
-
-  pub all_list : (P : A → Type 0) (xs : List A) → ((i : ℕ) (x : A) → slice_get xs i ≡ Some x → P x) → All P xs
-  all_list P [] each = all_none P
-  all_list P (x ∷ xs) each = all_more P x xs (each 0 x refl) (all_list P xs (λ i y at. each (suc i) y at))
-
-  -- an element of a list of which all are so
-  pub one_of : (P : A → Type 0) (xs : List A) (i : ℕ) (x : A) → AllByRecursion P xs → slice_get xs i ≡ Some x → P x
-  one_of P [] i x all at = absurd (none-some x at)
-  one_of P (y ∷ ys) zero x all at = subst P (same_Some y x at) all.0
-  one_of P (y ∷ ys) (suc i) x all at = one_of P ys i x all.1 at
+  all_first P zero [] each = All-nil P
+  all_first P zero (x ∷ xs) each = All-nil P
+  all_first P (suc k) [] each = All-nil P
+  all_first P (suc k) (x ∷ xs) each = All-cons P x (take k xs) (each 0 x (omega arith) refl) (all_first P k xs (λ i y below at. each (suc i) y (omega (arith, below)) at))
 
   -- there is an element below the length
   pub there : (xs : List A) (i : ℕ) → i < length xs → (x : A) × (slice_get xs i ≡ Some x)
   there [] i below = absurd (omega (arith, below))
   there (x ∷ xs) zero below = (x, refl)
   there (x ∷ xs) (suc i) below = there xs i (omega (arith, below))
-
-  -- and nowhere else
-  pub inside : (xs : List A) (i : ℕ) (x : A) → slice_get xs i ≡ Some x → i < length xs
-  inside [] i x at = absurd (none-some x at)
-  inside (y ∷ ys) zero x at = omega arith
-  inside (y ∷ ys) (suc i) x at = omega (arith, inside ys i x at)
 
   -- a list that is made of numbers, and one that is made of elements
   pub by_numbers : {B : Type 0} (f : ℕ → B) (g : A → B) (n : ℕ) (xs : List A) → ((i : ℕ) (x : A) → slice_get xs i ≡ Some x → f (n + i) ≡ g x) → map f (range_with_len n (length xs)) ≡ map g xs
@@ -64,15 +44,8 @@ module _ {A : Type 0} where
       by_order (inr (inr more)) = absurd (omega (arith, more, below))
 
   -- what is left behind the first elements
-  left_behind : (xs : List A) (i : ℕ) (x : A) → slice_get xs i ≡ Some x → drop i xs ≡ x ∷ drop (suc i) xs
-  left_behind [] i x at = absurd (none-some x at)
-  left_behind (y ∷ ys) zero x at = ap (λ z. z ∷ ys) (same_Some y x at)
-  left_behind (y ∷ ys) (suc i) x at = left_behind ys i x at
-
   pub left_at : (xs : List A) (i : ℕ) (x : A) → slice_get xs i ≡ Some x → drop i xs ≡ x ∷ drop (i + 1) xs
-  left_at xs i x at =
-      let next : suc i ≡ i + 1 = omega arith in
-      left_behind xs i x at ∙ ap (λ k. x ∷ drop k xs) next
+  left_at xs i x at = drop_next xs i x (slice_get_within xs i x at) (sym (get_or_from_slice_get xs i x x at))
 
   -- all values by numbers, and by elements
   pub all_numbers : {B : Type 0} (f : ℕ → Option B) (g : A → Option B) (n : ℕ) (xs : List A) → ((i : ℕ) (x : A) → slice_get xs i ≡ Some x → f (n + i) ≡ g x)
@@ -105,7 +78,7 @@ module _ {A : Type 0} where
   module _ (IsSo : A → Type 0) (test : ℕ → Bool) (xs : List A) (n : ℕ) (many : n ≡ length xs) (so : (i : ℕ) (x : A) → slice_get xs i ≡ Some x → test i ≡ true → IsSo x)
       (other : (i : ℕ) (x : A) → slice_get xs i ≡ Some x → test i ≡ false → ¬ IsSo x) where
     pub all_true : IsFirstFalse test n None → All IsSo xs
-    all_true first = all_list IsSo xs (λ i x at. so i x at (first i (omega (arith, inside xs i x at, many))))
+    all_true first = all_from IsSo xs (λ i x at. so i x at (first i (omega (arith, slice_get_within xs i x at, many))))
 
     pub first_false : (k : ℕ) (x : A) → slice_get xs k ≡ Some x → IsFirstFalse test n (Some k) → IsFirstOther IsSo xs k x
     first_false k x at first =

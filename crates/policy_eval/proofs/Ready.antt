@@ -10,7 +10,7 @@ use Rattle.std.specs.Option.{option_map_or}
 use denote.Struct.Props.{props}
 use Rattle.std.proofs.Math.Logic.{∥∥₁_elim, ∥∥₁_map}
 use Rattle.std.proofs.lemmas.Option.{slice_get-map}
-use Rattle.sopl_ast.specs.Cells.{Cell, cells, IsPoint, policy_at}
+use Rattle.sopl_ast.specs.Cells.{cells, IsPoint, policy_at}
 use Rattle.sopl_ast.specs.Instances.{Binding, Chance, Decision, Hard, Objective, Problem, Stochastic}
 use Rattle.sopl_ast.specs.Known.{Known}
 use Rattle.sopl_ast.specs.Limits.{size_excess, usual_limits}
@@ -34,6 +34,7 @@ use Rattle.policy_eval.specs.Reports.{IsReport}
 use Rattle.policy_eval.specs.Shown.{report_shown}
 use Rattle.policy_eval.specs.declared.report.Report.{Report}
 use Rattle.sopl_ast.specs.declared.whole.Goal.{Goal}
+use Rattle.sopl_policy.proofs.Keeping.{point_long}
 use Rattle.sopl_scen.specs.Layout.{IsTreeOf}
 use Rattle.unfold_laws.specs.Conditions.{IsMet, IsThreshold, placed}
 use Rattle.unfold_laws.specs.Passing.{NothingFails}
@@ -293,16 +294,10 @@ module _ (trial : Trial) (is : IsUnfolding (posed trial)) (laid : IsTreeOf trial
   goals_tried None there_is = tt
   goals_tried (Some goal) there_is = goal_tried goal there_is
 
-  long_as : (all : List Cell) (values : List ℤ) → IsPoint all values → length values ≡ length all
-  long_as [] [] point = refl
-  long_as [] (v ∷ vs) point = absurd point
-  long_as (k ∷ all) [] point = absurd point
-  long_as (k ∷ all) (v ∷ vs) point = omega (arith, long_as all vs point.2)
-
   pub is_ready : IsTrial trial
   is_ready = record {
     laid = laid;
-    decided = long_as (cells asked) trial.policy.now is_point;
+    decided = point_long (cells asked) trial.policy.now is_point;
     hards =
         each_is trial.hards.now (λ i h at met. condition_tried h.text h.bound met (λ j s there_at. hard_light asked trial.policy.now is_point is.arrays is.is_box allowed i h at j s there_at)) is.hards;
     chances =

@@ -1,6 +1,10 @@
 -- Where no term is too large, expressions may be evaluated.
-use Rattle.std.proofs.Common.{◌≡◌, refl, sym, ap, subst, ◌≤◌, ℤ, ◌*ℤ◌, List, [], ◌∷◌, ◌++◌, map, Option, None}
+use Rattle.std.proofs.Common.{◌≡◌, refl, sym, subst, ◌≤◌, ℤ, ◌*ℤ◌, List, [], ◌∷◌, ◌++◌, map, Option, None}
 use Rattle.std.specs.List.{AllByRecursion}
+use Rattle.sopl_base.specs.declared.extreme.Extreme.{Extreme}
+use Rattle.sopl_base.proofs.Lists.{map-map}
+use Rattle.sopl_ast.specs.declared.operators.Function.{Function}
+use Rattle.sopl_ast.specs.declared.operators.Function.TheVariants.{Negative, Size}
 use Rattle.sopl_ast.specs.declared.operators.MulOp.TheVariants.{Times, Div, Mod}
 use Rattle.sopl_ast.specs.Constants as constant
 use Rattle.sopl_ast.specs.Constants.{all_bindings}
@@ -9,23 +13,23 @@ use Rattle.sopl_ast.specs.Meanings as meant
 use Rattle.sopl_ast.specs.Meanings.{meaning}
 use Rattle.sopl_ast.specs.Numbers.{both_of}
 use Rattle.sopl_ast.specs.Tree as t
-use Rattle.sopl_ast.specs.Tree.{Tree, Shape, Trees, Factors, Node, no_tree, tree, no_factor, factor}
+use Rattle.sopl_ast.specs.Tree.{Tree, Trees, Factors, Node, no_tree, tree, no_factor, factor}
 use Rattle.box_problem.specs.Box.{Box, IsBox, InBox}
+use Rattle.term_language.specs.declared.made.Operation.TheVariants as unary
 use Rattle.term_language.specs.Terms as c
 use Rattle.term_language.specs.Laws.{IsProper}
 use Rattle.term_language.specs.Sizes.{size}
 use Rattle.term_language.specs.Values.{value}
 use Rattle.term_language.specs.Values as term
-use Rattle.compile_laws.specs.Instances.{Place, TaskTerms, chain_instance, conditions, constant_elements, decided_elements, divided, extreme_of, instance, instances, knowing, product_instance, seen_elements, sum_of, tasks_of, terms_of}
+use Rattle.compile_laws.specs.Instances.{Place, TaskTerms, function_of, chain_instance, conditions, constant_elements, decided_elements, divided, extreme_of, instance, instances, knowing, product_instance, seen_elements, sum_of, tasks_of, terms_of}
 use Rattle.compile_laws.specs.Laws.{Agrees, AreArrays, IsArray}
 use Rattle.compile_laws.specs.Measured.{most_size}
 use Rattle.compile_laws.specs.Subterms.{subterms, all_subterms, part_subterms, condition_subterms, all_condition_subterms, task_subterms}
-use Rattle.compile_laws.proofs.Means.{instances_mean}
+use Rattle.compile_laws.proofs.Means.{divided_means, instances_mean}
 use Rattle.compile_laws.proofs.Places.{Keeps, constants_kept}
-use Rattle.compile_laws.proofs.Proper.{instances_are_proper}
+use Rattle.compile_laws.proofs.Proper.{divided_proper, instances_are_proper}
 use Rattle.compile_counts.specs.Walked.{AreWalked, FactorsAreWalked, IsWalked, TermsAreWalked}
 use Rattle.policy_values.specs.Safe.{AreSafe, AreTestable, FactorsAreSafe, HasConstantSize, IsSafe, IsTestable, TermsAreSafe}
-use Rattle.policy_eval.proofs.Divided.{IsDivisor, divisor_is, is_divided, quotient_worth, remainder_worth}
 use Rattle.policy_eval.proofs.Light.{AreLight, before, behind, first_light, is_small, itself}
 
 -- three terms of a task
@@ -62,18 +66,17 @@ over_tasks W root constants f each (k ∷ ks) kept walked light =
       over_tasks W root constants f each ks kept.1 walked.1 (behind root (subterms (f k).demand) _ second),
     )
 
-same_maps : {A : Type 0} (f : Place → A) (g : Known → Place) (ks : List Known) → map f (map g ks) ≡ map (λ k. f (g k)) ks
-same_maps f g [] = refl
-same_maps f g (k ∷ ks) = ap (λ rest. f (g k) ∷ rest) (same_maps f g ks)
-
-extreme_light : (root : Box) (make : c.Term → c.Terms → c.Term) → ((a : c.Term) (later : c.Terms) → AreLight root (subterms (make a later)) → AreLight root (all_subterms (c.term a later)))
-    → (ts : c.Terms) → AreLight root (subterms (extreme_of make ts)) → AreLight root (all_subterms ts)
-extreme_light root make inner c.no_term light = tt
-extreme_light root make inner (c.term a later) light = inner a later light
-
 joined_light : (root : Box) (xs ys zs : List c.Term) → AreLight root (xs ++ (ys ++ zs)) → AreLight root (xs ++ ys)
 joined_light root [] ys zs light = before root ys zs light
 joined_light root (x ∷ xs) ys zs light = (light.0, joined_light root xs ys zs light.1)
+
+extreme_light : (root : Box) (which : Extreme) (ts : c.Terms) → AreLight root (subterms (extreme_of which ts)) → AreLight root (all_subterms ts)
+extreme_light root which c.no_term light = tt
+extreme_light root which (c.term a later) light = joined_light root (subterms a) (all_subterms later) _ light
+
+called_light : (root : Box) (f : Function) (a : c.Term) → AreLight root (subterms (function_of f a)) → AreLight root (subterms a)
+called_light root Negative a light = before root (subterms a) [] (before root _ _ light)
+called_light root Size a light = before root (subterms a) _ light
 
 module _ (root : Box) (is_box : IsBox root) (point : List ℤ) (inside : InBox root point) (place : Place) (other : meant.Place) (agrees : Agrees place other point) (arrays : AreArrays place) where
   abbrev at : Known → Place
@@ -108,8 +111,10 @@ module _ (root : Box) (is_box : IsBox root) (point : List ℤ) (inside : InBox r
     safe (Node n (t.Name name)) k same walked light = tt
     safe (Node n (t.Index name no_tree)) k same walked light = tt
     safe (Node n (t.Index name (tree e es))) k same walked light = all_safe (tree e es) k same walked (before root _ _ light)
-    safe (Node n (t.Neg e)) k same walked light =
-        (worth_small (Node n (t.Neg e)) k same (itself root (instance (at k) (Node n (t.Neg e))).term light), safe e k same walked (before root (subterms (instance (at k) e).term) [] (before root _ _ light)))
+    safe (Node n (t.Call f e)) k same walked light = (
+      worth_small (Node n (t.Call f e)) k same (itself root (instance (at k) (Node n (t.Call f e))).term light),
+      safe e k same walked (called_light root f (instance (at k) e).term light),
+    )
     safe (Node n (t.Add parts)) k same walked light = (worth_small (Node n (t.Add parts)) k same (itself root (instance (at k) (Node n (t.Add parts))).term light), terms_safe parts k same walked (before root _ _ light))
     safe (Node n (t.Mul first others)) k same walked light =
         let inner = first_light root (at k) others (instance (at k) first).term walked.1 light in (
@@ -131,18 +136,14 @@ module _ (root : Box) (is_box : IsBox root) (point : List ℤ) (inside : InBox r
       worth_small (Node n (t.Sum bs e)) k same (itself root (instance (at k) (Node n (t.Sum bs e))).term light),
       over_all (λ here. IsWalked None here e) root place.known.constants (λ here. (instance (at here) e).term) (λ here is meets all. safe e here is meets all) (all_bindings k bs)
           (constants_kept place.known.constants bs k same) walked.1
-          (subst (λ ts. AreLight root (part_subterms (sum_of ts))) (same_maps (λ here. (instance here e).term) at (all_bindings k bs)) (before root _ _ light)),
+          (subst (λ ts. AreLight root (part_subterms (sum_of ts))) (map-map (λ here. (instance here e).term) at (all_bindings k bs)) (before root _ _ light)),
     )
-    safe (Node n (t.Least es)) k same walked light =
-        all_safe es k same walked (extreme_light root c.Least (λ a later all. joined_light root (subterms a) (all_subterms later) _ all) (instances (at k) es) light)
-    safe (Node n (t.Greatest es)) k same walked light =
-        all_safe es k same walked (extreme_light root c.Greatest (λ a later all. joined_light root (subterms a) (all_subterms later) _ all) (instances (at k) es) light)
-    safe (Node n (t.Abs e)) k same walked light = (worth_small (Node n (t.Abs e)) k same (itself root (instance (at k) (Node n (t.Abs e))).term light), safe e k same walked (before root _ _ light))
+    safe (Node n (t.Selected which es)) k same walked light = all_safe es k same walked (extreme_light root which (instances (at k) es) light)
     safe (Node n (t.AllDifferent bs e)) k same walked light = (
       walked.0,
       over_terms (λ here. IsWalked None here e) root place.known.constants (λ here. (instance (at here) e).term) (λ here is meets all. safe e here is meets all) (all_bindings k bs)
           (constants_kept place.known.constants bs k same) walked.1
-          (subst (λ ts. AreLight root (all_subterms (terms_of ts))) (same_maps (λ here. (instance here e).term) at (all_bindings k bs)) (before root _ _ light)),
+          (subst (λ ts. AreLight root (all_subterms (terms_of ts))) (map-map (λ here. (instance here e).term) at (all_bindings k bs)) (before root _ _ light)),
     )
     safe (Node n (t.Cumulative bs start duration demand capacity)) k same walked light =
         let both = before root (task_subterms (tasks_of (map (task_at start duration demand) (map at (all_bindings k bs)))) ++ subterms (instance (at k) capacity).term) _ light in (
@@ -150,7 +151,7 @@ module _ (root : Box) (is_box : IsBox root) (point : List ℤ) (inside : InBox r
           over_tasks (λ here. IsWalked None here start × IsWalked None here duration × IsWalked None here demand) root place.known.constants (λ here. task_at start duration demand (at here))
               (λ here is meets all. (safe start here is meets.0 all.0, safe duration here is meets.1 all.1, safe demand here is meets.2 all.2)) (all_bindings k bs)
               (constants_kept place.known.constants bs k same) walked.1
-              (subst (λ ts. AreLight root (task_subterms (tasks_of ts))) (same_maps (task_at start duration demand) at (all_bindings k bs)) (before root _ _ both)),
+              (subst (λ ts. AreLight root (task_subterms (tasks_of ts))) (map-map (task_at start duration demand) at (all_bindings k bs)) (before root _ _ both)),
           safe capacity k same walked.2 (behind root (task_subterms (tasks_of (map (task_at start duration demand) (map at (all_bindings k bs))))) _ both),
         )
 
@@ -158,7 +159,7 @@ module _ (root : Box) (is_box : IsBox root) (point : List ℤ) (inside : InBox r
     testable (Node n (t.Lit z)) k same walked light = tt
     testable (Node n (t.Name name)) k same walked light = tt
     testable (Node n (t.Index name es)) k same walked light = tt
-    testable (Node n (t.Neg e)) k same walked light = tt
+    testable (Node n (t.Call f e)) k same walked light = tt
     testable (Node n (t.Add parts)) k same walked light = tt
     testable (Node n (t.Mul first others)) k same walked light = tt
     testable (Node n (t.Cmp op a b)) k same walked light =
@@ -169,21 +170,19 @@ module _ (root : Box) (is_box : IsBox root) (point : List ℤ) (inside : InBox r
     testable (Node n (t.Implies a b)) k same walked light =
         (testable a k same walked.0 (before root (condition_subterms (instance (at k) a).cond) _ light), testable b k same walked.1 (behind root (condition_subterms (instance (at k) a).cond) _ light))
     testable (Node n (t.Sum bs e)) k same walked light = tt
-    testable (Node n (t.Least es)) k same walked light = tt
-    testable (Node n (t.Greatest es)) k same walked light = tt
-    testable (Node n (t.Abs e)) k same walked light = tt
+    testable (Node n (t.Selected which es)) k same walked light = tt
     testable (Node n (t.AllDifferent bs e)) k same walked light = (
       walked.0,
       over_terms (λ here. IsWalked None here e) root place.known.constants (λ here. (instance (at here) e).term) (λ here is meets all. safe e here is meets all) (all_bindings k bs)
           (constants_kept place.known.constants bs k same) walked.1
-          (subst (λ ts. AreLight root (all_subterms (terms_of ts))) (same_maps (λ here. (instance here e).term) at (all_bindings k bs)) light),
+          (subst (λ ts. AreLight root (all_subterms (terms_of ts))) (map-map (λ here. (instance here e).term) at (all_bindings k bs)) light),
     )
     testable (Node n (t.Cumulative bs start duration demand capacity)) k same walked light = (
       walked.0,
       over_tasks (λ here. IsWalked None here start × IsWalked None here duration × IsWalked None here demand) root place.known.constants (λ here. task_at start duration demand (at here))
           (λ here is meets all. (safe start here is meets.0 all.0, safe duration here is meets.1 all.1, safe demand here is meets.2 all.2)) (all_bindings k bs)
           (constants_kept place.known.constants bs k same) walked.1
-          (subst (λ ts. AreLight root (task_subterms (tasks_of ts))) (same_maps (task_at start duration demand) at (all_bindings k bs)) (before root _ _ light)),
+          (subst (λ ts. AreLight root (task_subterms (tasks_of ts))) (map-map (task_at start duration demand) at (all_bindings k bs)) (before root _ _ light)),
       safe capacity k same walked.2 (behind root (task_subterms (tasks_of (map (task_at start duration demand) (map at (all_bindings k bs))))) _ light),
     )
 
@@ -218,19 +217,21 @@ module _ (root : Box) (is_box : IsBox root) (point : List ℤ) (inside : InBox r
           factors_safe later k same walked.2 made _ means whole light,
         )
     factors_safe (factor Div e later) k same walked b v is proper light =
-        let made : c.Term = divided c.Quotient b (constant.value k e) in
-        let inner : AreLight root (subterms made) = first_light root (at k) later made walked.2 light in
-        let d : IsDivisor k e = divisor_is k e walked.0 in
-        let means : value point made ≡ meant.divided Div v (constant.value k e) = quotient_worth b d.number d.nonzero (constant.value k e) d.is point v is in
-        let whole : IsProper made = is_divided b d.number d.nonzero (constant.value k e) d.is IsProper c.Quotient proper in
-        (product_small k same made _ means whole inner, walked.0, factors_safe later k same walked.2 made _ means whole light)
+        let made : c.Term = divided unary.Quotient b (constant.value k e) in
+        let means : value point made ≡ meant.divided Div v (constant.value k e) = divided_means Div unary.Quotient (λ x z. refl) point b v is (constant.value k e) in
+        let whole : IsProper made = divided_proper unary.Quotient b proper (constant.value k e) in (
+          product_small k same made _ means whole (first_light root (at k) later made walked.2 light),
+          walked.0,
+          factors_safe later k same walked.2 made _ means whole light,
+        )
     factors_safe (factor Mod e later) k same walked b v is proper light =
-        let made : c.Term = divided c.Remainder b (constant.value k e) in
-        let inner : AreLight root (subterms made) = first_light root (at k) later made walked.2 light in
-        let d : IsDivisor k e = divisor_is k e walked.0 in
-        let means : value point made ≡ meant.divided Mod v (constant.value k e) = remainder_worth b d.number d.nonzero (constant.value k e) d.is point v is in
-        let whole : IsProper made = is_divided b d.number d.nonzero (constant.value k e) d.is IsProper c.Remainder proper in
-        (product_small k same made _ means whole inner, walked.0, factors_safe later k same walked.2 made _ means whole light)
+        let made : c.Term = divided unary.Remainder b (constant.value k e) in
+        let means : value point made ≡ meant.divided Mod v (constant.value k e) = divided_means Mod unary.Remainder (λ x z. refl) point b v is (constant.value k e) in
+        let whole : IsProper made = divided_proper unary.Remainder b proper (constant.value k e) in (
+          product_small k same made _ means whole (first_light root (at k) later made walked.2 light),
+          walked.0,
+          factors_safe later k same walked.2 made _ means whole light,
+        )
 
   -- a condition and a number, where the place is known
   pub condition_safe : (e : Tree) → IsWalked None place.known e → AreLight root (condition_subterms (instance place e).cond) → IsTestable (there place.known) e
@@ -238,6 +239,3 @@ module _ (root : Box) (is_box : IsBox root) (point : List ℤ) (inside : InBox r
 
   pub number_safe : (e : Tree) → IsWalked None place.known e → AreLight root (subterms (instance place e).term) → IsSafe (there place.known) e
   number_safe e walked light = safe e place.known refl walked light
-
-  pub number_small : (e : Tree) → size root (instance place e).term ≤ most_size → HasConstantSize (meaning (there place.known) e).value
-  number_small e light = worth_small e place.known refl light

@@ -1,34 +1,14 @@
 -- The loops of a trial.
-use Rattle.std.proofs.Common.{arith, ◌≡◌, refl, sym, ap, subst, ◌∙◌, ℕ, zero, suc, ◌+◌, ◌<◌, ◌≤◌, ℤ, pos, ◌+ℤ◌, ◌*ℤ◌, FitsSigned, Bool, true, false, List, [], ◌∷◌, ◌++◌, drop, get_or, length, map, Option, Some, None, IsSome}
-use Rattle.std.proofs.Math.IntN.{+ℤ_assoc, +ℤ_idl, +ℤ_comm}
-use Rattle.std.proofs.lemmas.Bool.{cases_order}
-use Rattle.std.proofs.Common.{inl, inr, ◌⊎◌}
-use Rattle.std.proofs.lemmas.List.{at_drop_more, at_drop_all}
+use Rattle.std.proofs.Common.{arith, ◌≡◌, refl, sym, ap, subst, ◌∙◌, ℕ, zero, suc, ◌+◌, ◌<◌, ℤ, pos, ◌+ℤ◌, ◌*ℤ◌, true, List, [], ◌∷◌, ◌++◌, drop, get_or, length, map, Option, Some, None, IsSome}
+use Rattle.std.proofs.Math.IntN.{+ℤ_assoc}
+use Rattle.std.proofs.lemmas.List.{at_drop_more}
 use Rattle.std.proofs.lemmas.List.FromFn.{get_or-map-range_with_len, map-range_with_len_more}
-use Rattle.std.specs.Int.{w128}
 use Rattle.std.specs.List.{range_with_len}
 use Rattle.std.specs.Option.{is_some}
 use Rattle.sopl_ast.specs.Numbers.{all_of, both_of}
-use Rattle.policy_eval.specs.Tried.{FitOn, IsFirstFalse, weighted}
+use Rattle.policy_eval.specs.Tried.{FitOn, weighted}
 
 -- A test at each number.
-
-pub none_before : (test : ℕ → Bool) (i : ℕ) → i < 0 → test i ≡ true
-none_before test i below = absurd (omega (arith, below))
-
-pub one_tested : (test : ℕ → Bool) (n : ℕ) (b : Bool) → b ≡ test n → b ≡ true → ((i : ℕ) → i < n → test i ≡ true) → (i : ℕ) → i < n + 1 → test i ≡ true
-one_tested test n b is so before i below = by_order (cases_order i n)
-  where
-    by_order : (i ≡ n) ⊎ ((i < n) ⊎ (n < i)) → test i ≡ true
-    by_order (inl same) = ap test same ∙ sym is ∙ so
-    by_order (inr (inl less)) = before i less
-    by_order (inr (inr more)) = absurd (omega (arith, more, below))
-
-pub found_false : (test : ℕ → Bool) (n k : ℕ) (b : Bool) → k < n → b ≡ test k → b ≡ false → ((i : ℕ) → i < k → test i ≡ true) → IsFirstFalse test n (Some k)
-found_false test n k b below is fails before = (below, sym is ∙ fails, before)
-
-pub found_none : (test : ℕ → Bool) (n k : ℕ) → n ≤ k → ((i : ℕ) → i < k → test i ≡ true) → IsFirstFalse test n None
-found_none test n k past before i below = before i (omega (arith, past, below))
 
 -- A number at each number.
 
@@ -77,10 +57,6 @@ pub record IsWeighed (ws xs : List ℤ) (sum : ℤ) (i : ℕ) : Type 0 where
   pub fits : FitOn sum (drop i ws) (drop i xs)
   pub rest : sum +ℤ weighted (drop i ws) (drop i xs) ≡ weighted ws xs
 
-pub weighed_first : (ws xs : List ℤ) (sum : ℤ) → sum ≡ pos 0 → FitOn (pos 0) ws xs → IsWeighed ws xs sum 0
-weighed_first ws xs sum none fits =
-    record { fits = subst (λ z. FitOn z ws xs) (sym none) fits; rest = ap (λ z. z +ℤ weighted ws xs) none ∙ +ℤ_idl (weighted ws xs) }
-
 module _ (ws xs : List ℤ) (sum : ℤ) (i : ℕ) (x : ℤ) (many : length xs ≡ length ws) (below : i < length xs) (at : x ≡ get_or xs i (pos 0)) where
   abbrev w : ℤ
   w = get_or ws i (pos 0)
@@ -94,12 +70,6 @@ module _ (ws xs : List ℤ) (sum : ℤ) (i : ℕ) (x : ℤ) (many : length xs �
   next_fits : IsWeighed ws xs sum i → FitOn sum (w ∷ drop (i + 1) ws) (x ∷ drop (i + 1) xs)
   next_fits l = subst (λ ys. FitOn sum (w ∷ drop (i + 1) ws) ys) numbers_left (subst (λ vs. FitOn sum vs (drop i xs)) weights_left l.fits)
 
-  pub product_fits : IsWeighed ws xs sum i → FitsSigned w128 (w *ℤ x)
-  product_fits l = (next_fits l).0
-
-  pub sum_fits : IsWeighed ws xs sum i → FitsSigned w128 (sum +ℤ (w *ℤ x))
-  sum_fits l = (next_fits l).1
-
   pub weighed_more : (new : ℤ) → new ≡ sum +ℤ (w *ℤ x) → IsWeighed ws xs sum i → IsWeighed ws xs new (i + 1)
   weighed_more new put l =
       record {
@@ -109,9 +79,3 @@ module _ (ws xs : List ℤ) (sum : ℤ) (i : ℕ) (x : ℤ) (many : length xs �
             ∙ (λ j. sum +ℤ weighted (sym weights_left j) (sym numbers_left j))
             ∙ l.rest;
       }
-
-pub weighed_all : (ws xs : List ℤ) (sum : ℤ) (i : ℕ) → length xs ≡ length ws → length xs ≤ i → IsWeighed ws xs sum i → sum ≡ weighted ws xs
-weighed_all ws xs sum i many past l =
-    sym (+ℤ_comm sum (pos 0) ∙ +ℤ_idl sum)
-    ∙ ap (λ vs. sum +ℤ weighted vs (drop i xs)) (sym (at_drop_all (λ vs. vs) ws i (omega (arith, past, many))))
-    ∙ l.rest

@@ -3,6 +3,8 @@ use Rattle.std.proofs.Common.{arith, ◌≡◌, ◌↔◌, sym, ap, subst, ◌�
 use Rattle.std.specs.List.{range_with_len}
 use Rattle.std.specs.Option.{is_some, option_map_or}
 use Rattle.std.proofs.lemmas.Int.{ints}
+use Rattle.std.proofs.lemmas.Option.{slice_get_within}
+use Rattle.term_problem.proofs.Lists.{all_from}
 use Rattle.std.proofs.lemmas.List.{append_assoc, append-nil, at_drop_all}
 use Rattle.sopl_ast.specs.Instances.{Binding, Chance, Hard, Objective, Problem, Stochastic}
 use Rattle.sopl_ast.specs.Meanings.{Place, meaning}
@@ -21,7 +23,7 @@ use Rattle.policy_eval.specs.Tried.{AreReached, FitOn, IsFirstFalse, IsTrial, ho
 use Rattle.policy_eval.specs.Valued.{is_worth, worst_of}
 use Rattle.policy_eval.specs.declared.trial.Trial.{Trial}
 use Rattle.policy_eval.proofs.Firsts.{all_so}
-use Rattle.policy_eval.proofs.Listed.{all_first, all_list, all_true, each_there, first_false, inside, left_at, listed_by, one_more, there, valued_by}
+use Rattle.policy_eval.proofs.Listed.{all_first, all_true, each_there, first_false, left_at, listed_by, one_more, there, valued_by}
 use Rattle.policy_eval.proofs.Placed.{many, place_is, weights_are}
 use Rattle.policy_eval.proofs.Objectives.{as_many, expected_is, worst_found, worst_there}
 use Rattle.policy_eval.proofs.Weights.{IsBetween, sizes, sizes_sum, they_fit, truths_between, truths_small, weighted_truths}
@@ -79,17 +81,14 @@ module _ (trial : Trial) (tried : IsTrial trial) where
         first =
             record {
               stands = at;
-              other = λ held. other h k s.0 s.1 first.1 (one_held (scenarios ss) k s.0 held s.1);
+              other = λ held. other h k s.0 s.1 first.1 (all_so (HoldsIn problem policy h) (scenarios ss) k s.0 held s.1);
               before = all_first (IsHeld problem policy) i trial.hards.now before;
             };
         earliest = earliest;
       }
-    where
-      one_held : (xs : List Scenario) (i : ℕ) (s : Scenario) → All (HoldsIn problem policy h) xs → slice_get xs i ≡ Some s → HoldsIn problem policy h s
-      one_held xs i s all at = all_so (HoldsIn problem policy h) xs i s all at
 
   pub hards_held : ((j : ℕ) (g : Hard) → j < length trial.hards.now → slice_get trial.hards.now j ≡ Some g → IsHeld problem policy g) → All (IsHeld problem policy) trial.hards.now
-  hards_held each = all_list (IsHeld problem policy) trial.hards.now (λ j g at. each j g (inside trial.hards.now j g at) at)
+  hards_held each = all_from (IsHeld problem policy) trial.hards.now (λ j g at. each j g (slice_get_within trial.hards.now j g at) at)
 
   -- one more that holds
   pub held_more : (i : ℕ) (h : Hard) → slice_get trial.hards.now i ≡ Some h → IsHeld problem policy h
@@ -126,12 +125,6 @@ module _ (trial : Trial) (tried : IsTrial trial) where
     λ h. subst (λ z. (c.p *ℤ trial.tree.now.total) ≤ℤ (c.q *ℤ z)) (sym is) (subst (λ z. (c.p *ℤ z) ≤ℤ (c.q *ℤ weight_of problem policy c)) (sym tried.laid.whole) h),
   )
 
-  pub sofar_first : (sums : List ℤ) → sums ≡ [] → IsSofar trial 0 sums
-  sofar_first sums none = record {
-    reached = λ j c below at. absurd (omega (arith, below));
-    weights = ap (λ (zs : List ℤ). zs ++ map (weight_of problem policy) trial.chances.now) none;
-  }
-
   pub sofar_more : (i : ℕ) (sums new : List ℤ) (c : Chance) (sum : ℤ) → slice_get trial.chances.now i ≡ Some c → sum ≡ weight_of problem policy c → IsReached problem policy c
       → new ≡ sums ++ sum ∷ [] → IsSofar trial i sums → IsSofar trial (i + 1) new
   sofar_more i sums new c sum at is reached put sofar = record {
@@ -145,7 +138,7 @@ module _ (trial : Trial) (tried : IsTrial trial) where
 
   pub sofar_all : (i : ℕ) (sums : List ℤ) → length trial.chances.now ≤ i → IsSofar trial i sums → AreReached trial sums
   sofar_all i sums past sofar = record {
-    reached = all_list (IsReached problem policy) trial.chances.now (λ j c at. sofar.reached j c (omega (arith, inside trial.chances.now j c at, past)) at);
+    reached = all_from (IsReached problem policy) trial.chances.now (λ j c at. sofar.reached j c (omega (arith, slice_get_within trial.chances.now j c at, past)) at);
     weights = sym (at_drop_all (λ cs. sums ++ map (weight_of problem policy) cs) trial.chances.now i past ∙ append-nil sums) ∙ sofar.weights;
   }
 
@@ -162,18 +155,6 @@ module _ (trial : Trial) (tried : IsTrial trial) where
   -- The objective.
 
   module _ (sums : List ℤ) (held : All (IsHeld problem policy) trial.hards.now) (reached : AreReached trial sums) where
-    pub unasked : trial.goal.now ≡ None → IsReport problem policy (satisfied (pos 0) sums)
-    unasked none = record {
-      satisfies =
-          record {
-            hards = held;
-            chances = reached.reached;
-            objective = subst (λ (g : Option Goal). IfSome (option_map objective_of (option_map goal_tree g)) (λ o. All (IsValued problem policy o) (scenarios ss))) (sym none) tt;
-          };
-      worth = ap (λ (g : Option Goal). option_map_or (objective_value problem policy) (option_map objective_of (option_map goal_tree g)) (Some (pos 0))) none;
-      weights = reached.weights;
-    }
-
     module _ (goal : Goal) (asked : trial.goal.now ≡ Some goal) where
       abbrev objective_asked : Objective
       objective_asked = objective_of (goal_tree goal)
@@ -215,7 +196,7 @@ module _ (trial : Trial) (tried : IsTrial trial) where
                 chances = reached.reached;
                 objective =
                     subst (λ (o : Option Objective). IfSome o (λ a. All (IsValued problem policy a) (scenarios ss))) (sym stated)
-                    (all_list (IsValued problem policy objective_asked) (scenarios ss) (λ i s at. each_there worths (scenarios ss) values all_worths i s at));
+                    (all_from (IsValued problem policy objective_asked) (scenarios ss) (λ i s at. each_there worths (scenarios ss) values all_worths i s at));
               };
           worth = ap (λ (o : Option Objective). option_map_or (objective_value problem policy) o (Some (pos 0))) stated ∙ value_found ∙ ap Some (sym is);
           weights = reached.weights;

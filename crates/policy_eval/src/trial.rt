@@ -19,7 +19,7 @@ use crate::report::Report;
 use compile_counts::{condition_at, known_at};
 use policy_values::{PlayedScenario, Variables};
 use sopl_ast::{Expr, Goal};
-use sopl_base::{Direction, Wide, reaches};
+use sopl_base::{Direction, Extreme, Wide, reaches};
 use sopl_scen::Tree;
 use sopl_unfold::{ChanceItem, Env, HardItem};
 use std::alloc::{AllocError, Global};
@@ -328,8 +328,8 @@ fn worst_value(direction: Direction, values: &[i64]) -> Option<i64>
     ensures worst { result ≡ worst_in direction values.now }
 {
     match direction {
-        Direction::Minimize => extreme(true, values),
-        Direction::Maximize => extreme(false, values),
+        Direction::Minimize => extreme(Extreme::Greatest, values),
+        Direction::Maximize => extreme(Extreme::Least, values),
         Direction::Nothing => values.first().copied(),
     }
 }

@@ -3,7 +3,7 @@ use mathlib.Core.Bool.{Bool-set}
 use Rattle.std.proofs.Common.{◌≡◌, ◌∙◌, ℕ, ℤ, true, List, length, refl, sym, subst}
 use Rattle.std.proofs.Math.Logic.{∥∥₁_elim}
 use Rattle.std.specs.List.{list_all}
-use Rattle.sopl_ast.specs.Cells.{IsPoint, cells, policy_at}
+use Rattle.sopl_ast.specs.Cells.{IsPoint, cells}
 use Rattle.sopl_ast.specs.Instances.{Decision, Problem, Stochastic, names_in}
 use Rattle.sopl_ast.specs.Origin.{IsFromTokens}
 use Rattle.sopl_ast.specs.Pieces.{is_word}
@@ -11,12 +11,10 @@ use Rattle.sopl_ast.specs.Unfolding.{problem_of, text_events}
 use Rattle.sopl_ast.specs.Whole.{ModelTree}
 use Rattle.unfold_laws.specs.Passing.{NothingFails}
 use Rattle.unfold_laws.proofs.Names.{names_are_words}
-use Rattle.sopl_scen.specs.Layout.{AreStated, IsTreeOf, Layout, cells_for}
+use Rattle.sopl_scen.specs.Layout.{AreStated, IsTreeOf, Layout}
 use Rattle.sopl_scen.proofs.GroundStated.{ground_stated}
 use Rattle.sopl_scen.proofs.Stated.{constraints_in}
-use Rattle.serde_json.specs.Data.{Data}
 use Rattle.sopl_policy.proofs.Keeping.{point_long}
-use Rattle.policy_json.specs.Nodes.{outermost_node, policy_data}
 
 module _ (model : ModelTree) (from : ∥ IsFromTokens model ∥₁) (passes : NothingFails (text_events model)) (ds : List Decision) (ss : List Stochastic)
     (decided : ds ≡ (problem_of model).decisions) (drawn : ss ≡ (problem_of model).stochastics) where
@@ -34,10 +32,6 @@ module _ (model : ModelTree) (from : ∥ IsFromTokens model ∥₁) (passes : No
   -- a tree of the problem is one of these variables
   pub ground_laid : (tree : Layout) → IsTreeOf (problem_of model).decisions (problem_of model).stochastics tree → IsTreeOf ds ss tree
   ground_laid tree laid = subst (λ d. IsTreeOf d ss tree) (sym decided) (subst (λ s. IsTreeOf (problem_of model).decisions s tree) (sym drawn) laid)
-
-  -- what is printed of these variables is printed of the problem
-  pub ground_printed : (values : List ℤ) (d : Data) → d ≡ outermost_node ds ss (policy_at (cells_for ds ss) values) → d ≡ policy_data (problem_of model) (policy_at (cells (problem_of model)) values)
-  ground_printed values d is = is ∙ (λ i. outermost_node (decided i) (drawn i) (policy_at (cells_for (decided i) (drawn i)) values))
 
 pub values_long : (problem : Problem) (tree : Layout) (values : List ℤ) → IsTreeOf problem.decisions problem.stochastics tree → IsPoint (cells problem) values
     → length values ≡ tree.cells

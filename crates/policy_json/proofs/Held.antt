@@ -90,7 +90,7 @@ abbrev IsSeen : Problem → ℕ → List ℤ → Type 0
 IsSeen problem stage seen = (vs : List ℤ) × AreChosen problem.stochastics vs × (history stage problem.stochastics vs ≡ seen)
 
 -- a decision of the stage with such a history is a key
-is_key : (problem : Problem) (number stage : ℕ) (d : Decision) (seen : List ℤ) → slice_get problem.decisions number ≡ Some d → d.stage ≡ stage → IsSeen problem stage seen
+pub is_key : (problem : Problem) (number stage : ℕ) (d : Decision) (seen : List ℤ) → slice_get problem.decisions number ≡ Some d → d.stage ≡ stage → IsSeen problem stage seen
     → IsKey problem (number, seen)
 is_key problem number stage d seen decided here (vs, chosen, is) =
     let from : (x : Scenario) × In x (scenarios problem.stochastics) × (x.values ≡ vs) = scenario_of problem.stochastics vs chosen in
@@ -118,7 +118,7 @@ decide_there problem policy stage seen is possible =
         ((is.keys (number, seen)).1 (is_key problem number stage d seen decided (eqb-true d.stage stage kept.1) possible))
 
 -- what may be seen next, at such a history of a stage, makes one of the next stage
-next_seen : (problem : Problem) (stage : ℕ) (seen values : List ℤ) → IsStaged problem → IsSeen problem stage seen → In values (outcomes_after stage problem.stochastics)
+pub next_seen : (problem : Problem) (stage : ℕ) (seen values : List ℤ) → IsStaged problem → IsSeen problem stage seen → In values (outcomes_after stage problem.stochastics)
     → IsSeen problem (stage + 1) (seen ++ values)
 next_seen problem stage seen values staged (vs, chosen, is) within =
     let next : Next stage problem.stochastics vs values =

@@ -1,5 +1,5 @@
 -- What is known of a point whose parts go together.
-use Rattle.std.proofs.Common.{◌≡◌, ◌+◌, ◌-◌, ◌/◌, ◌≤◌, ◌<◌, ◌^◌, ℕ, pos, [], length, get_or, slice_get, Some, true, arith, sym, subst, ◌∙◌}
+use Rattle.std.proofs.Common.{◌≡◌, ◌+◌, ◌-◌, ◌/◌, ◌≤◌, ◌<◌, ℕ, pos, [], length, get_or, slice_get, Some, true, arith, sym, subst, ◌∙◌}
 use Rattle.std.specs.List.{AllByRecursion}
 use Rattle.std.proofs.lemmas.Option.{slice_get-get_or, slice_get_within}
 use Rattle.sopl_ast.specs.Instances.{Decision, Stochastic}
@@ -40,9 +40,6 @@ decided_within parts (ready k stated is long staged words) j within = omega (ari
 
 pub drawn_within : (parts : Parts) → IsReady parts → (j : ℕ) → j < length parts.stochastics → j < parts.tree.variables
 drawn_within parts (ready k stated is long staged words) j within = omega (arith, is.variables, within)
-
-pub drawn_few : (parts : Parts) → IsReady parts → (j : ℕ) → j < length parts.stochastics → j < 2 ^ 32
-drawn_few parts (ready k stated is long staged words) j within = omega (arith, stated.few, within)
 
 pub decided_word : (parts : Parts) → IsReady parts → (j : ℕ) (d : Decision) → j < length parts.decisions → d ≡ get_or parts.decisions j d → is_word d.name ≡ true
 decided_word parts (ready k stated is long staged words) j d within at = decision_word parts.decisions parts.stochastics j d words within at

@@ -161,9 +161,6 @@ module _ (parts : Parts) (are : IsReady parts) (stage : ℕ) (from : 1 ≤ stage
       (λ k. branches_same parts are stage from to k * block_same parts are (stage + 1) next_from next_to k)
       ∙ sym (blocks_divide stage parts.stochastics (orderly parts are)) ∙ sym (block_same parts are stage from upto)
 
-  pub begun : start 0 ≡ scenario
-  begun = omega arith
-
   module _ (end : ℕ) (run : IsRunOf parts.tree stage scenario end) where
     ends : end ≡ start (branches_in parts.tree stage)
     ends = run_is_block parts are stage from upto scenario number end begins run ∙ ap (λ n. scenario + n) (sym branches_long)

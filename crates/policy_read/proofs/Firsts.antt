@@ -1,6 +1,6 @@
 -- The first of a list that passes a test, and what comes of each item.
 use Rattle.std.proofs.Common.{◌≡◌, ◌∙◌, ◌<◌, ◌≤◌, ◌+◌, ℕ, List, [], ◌∷◌, ◌++◌, length, map, drop, get_or, Bool, true, false, cond, Some, None, sym, ap, subst}
-use Rattle.std.proofs.lemmas.List.{drop_more, drop_all, get_or-map, length-map, append_assoc, append-nil}
+use Rattle.std.proofs.lemmas.List.{drop_more, drop_all, get_or-map, length-map, append_assoc}
 use Rattle.std.specs.List.{position_from, flat_map}
 
 module _ {A B : Type 0} (view : A → B) (xs : List A) (i : ℕ) where
@@ -35,6 +35,3 @@ module _ {A B : Type 0} (view : A → B) (xs : List A) (i : ℕ) where
     each_more x new within is made so =
         ap (λ ys. ys ++ flat_map make (drop (i + 1) (map view xs))) made ∙ append_assoc old (make (view x)) (flat_map make (drop (i + 1) (map view xs)))
         ∙ ap (λ ys. old ++ flat_map make ys) (sym (next_view x within is)) ∙ so
-
-    pub each_all : length xs ≤ i → old ++ flat_map make (drop i (map view xs)) ≡ flat_map make (map view xs) → old ≡ flat_map make (map view xs)
-    each_all all so = sym (append-nil old) ∙ sym (ap (λ ys. old ++ flat_map make ys) (no_view all)) ∙ so

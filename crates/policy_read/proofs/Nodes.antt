@@ -1,6 +1,6 @@
 -- The nodes of a form, one after the other.
 use native.Mathlib.Omega.{arith}
-use Rattle.std.proofs.Common.{◌≡◌, ◌∙◌, Result, Ok, Err, OnOk, ◌<◌, ◌-◌, ℕ, zero, suc, List, [], ◌∷◌, ◌++◌, ℤ, map, refl, ap, ap₂}
+use Rattle.std.proofs.Common.{◌≡◌, ◌∙◌, Result, Ok, Err, OnOk, ◌<◌, ◌-◌, ℕ, zero, suc, List, [], ◌∷◌, ◌++◌, ℤ, map, ap, ap₂}
 use Rattle.std.proofs.lemmas.List.{append_assoc}
 use Rattle.serde_json.specs.Data.{Data}
 use Rattle.sopl_ast.specs.Instances.{Decision, Stochastic}
@@ -10,10 +10,6 @@ use Rattle.policy_json.specs.LastStage.{last_stage}
 use Rattle.policy_read.specs.Listed.{pairwise}
 use Rattle.policy_read.specs.Policies.{form_for, node_read, policy_from}
 use Rattle.policy_read.specs.Forms.{Facing, facing, next_branches, nodes_behind, nodes_of}
-
-pub nodes_last : (later : ℕ) (old : List Facing) (h : Facing) → later ≡ 0 → old ++ h ∷ [] ≡ old ++ nodes_of later h
-nodes_last zero old h is = refl
-nodes_last (suc later) old h is = absurd (omega (arith, is))
 
 pub nodes_more : (later : ℕ) (old : List Facing) (h : Facing) → 0 < later
     → (old ++ h ∷ []) ++ pairwise (nodes_behind (nodes_of (later - 1))) (next_branches h.form) (next_branches h.given) ≡ old ++ nodes_of later h

@@ -33,7 +33,8 @@ use Rattle.policy_read.proofs.Indices.{accepted_are_readable}
 use Rattle.policy_read.proofs.Printing.{IsReadBack, decide_back}
 use Rattle.policy_read.proofs.Putting.{all_point, all_there, lows_lie, none_outside}
 use Rattle.policy_read.proofs.Small.{policy, prints_in_form, shown}
-use Rattle.policy_read.proofs.Visited.{At, IsSeen, IsTold, behind, both_at, decision_at, entry_list, first_all, form_there, key_at, next_seen, nodes_told, p, pos_of, q, second_all}
+use Rattle.policy_json.proofs.Held.{next_seen}
+use Rattle.policy_read.proofs.Visited.{At, IsSeen, IsTold, behind, both_at, decision_at, entry_list, first_all, form_there, key_at, nodes_told, p, pos_of, q, second_all}
 
 all_flat : {A B : Type 0} (P : B → Type 0) (f : A → List B) (xs : List A) → AllByRecursion P (flat_map f xs) → AllByRecursion (λ x. AllByRecursion P (f x)) xs
 all_flat P f [] all = tt

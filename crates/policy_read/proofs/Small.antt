@@ -26,10 +26,6 @@ read_back (pos n) small =
     ap (λ b. if b then Some (pos n) else None) below
 read_back (negsuc n) small = refl
 
-all_mapped : {A : Type 0} {P Q : A → Type 0} (f : (x : A) → P x → Q x) (xs : List A) → AllByRecursion P xs → AllByRecursion Q xs
-all_mapped f [] all = tt
-all_mapped f (x ∷ xs) all = (f x all.0, all_mapped f xs all.1)
-
 all_read_back : (zs : List ℤ) → AllByRecursion IsReadable zs → AllByRecursion IsReadBack zs
 all_read_back [] all = tt
 all_read_back (z ∷ zs) all = (read_back z all.0, all_read_back zs all.1)

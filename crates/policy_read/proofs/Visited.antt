@@ -11,15 +11,15 @@ use Rattle.sopl_ast.specs.Cells.{IsPoint, cells}
 use Rattle.sopl_ast.specs.Histories.{history}
 use Rattle.sopl_ast.specs.Instances.{Decision, Problem}
 use Rattle.sopl_ast.specs.Policies.{IsKey, Key, Policy}
-use Rattle.sopl_ast.specs.Scenarios.{Scenario, scenarios}
 use Rattle.policy_tree.proofs.Bijection.{points_are_policies}
-use Rattle.policy_tree.proofs.Members.{Contains-In, In, from_enumerate, from_filter}
+use Rattle.policy_tree.proofs.Members.{In, from_enumerate, from_filter}
 use Rattle.sopl_policy.proofs.Keeping.{point_long}
 use Rattle.policy_json.specs.Entries.{entry_of}
 use Rattle.policy_json.specs.Nodes.{decide_of, decided_at, decision_entry, node_at, node_of, numbered_in_stage, outcomes_after}
 use Rattle.policy_json.specs.Staged.{IsStaged}
+use Rattle.policy_json.proofs.Held.{is_key, next_seen}
 use Rattle.policy_json.proofs.Branches.{branch_after}
-use Rattle.policy_json.proofs.Chosen.{AreChosen, Next, next_chosen, outcome_chosen, scenario_of}
+use Rattle.policy_json.proofs.Chosen.{AreChosen}
 use Rattle.policy_read.specs.declared.entry.Told.{Told}
 use Rattle.policy_read.specs.Listed.{pairwise}
 use Rattle.policy_read.specs.Entries.{told_at, told_in}
@@ -31,25 +31,6 @@ use Rattle.policy_read.proofs.Small.{are_read_back, form, policy, shown}
 -- the history is what has been seen of some chosen values when the stage is chosen
 abbrev pub IsSeen : Problem → ℕ → List ℤ → Type 0
 IsSeen problem stage seen = (vs : List ℤ) × AreChosen problem.stochastics vs × (history stage problem.stochastics vs ≡ seen)
-
-is_key : (problem : Problem) (number stage : ℕ) (d : Decision) (seen : List ℤ) → slice_get problem.decisions number ≡ Some d → d.stage ≡ stage → IsSeen problem stage seen
-    → IsKey problem (number, seen)
-is_key problem number stage d seen decided here (vs, chosen, is) =
-    let from : (x : Scenario) × In x (scenarios problem.stochastics) × (x.values ≡ vs) = scenario_of problem.stochastics vs chosen in
-    record {
-      decision = d;
-      decided = decided;
-      scenario = from.0;
-      possible = Contains-In (scenarios problem.stochastics) from.0 from.1;
-      seen = sym is ∙ λ i. history (sym here i) problem.stochastics (sym from.2 i);
-    }
-
-pub next_seen : (problem : Problem) (stage : ℕ) (seen values : List ℤ) → IsStaged problem → IsSeen problem stage seen → In values (outcomes_after stage problem.stochastics)
-    → IsSeen problem (stage + 1) (seen ++ values)
-next_seen problem stage seen values staged (vs, chosen, is) within =
-    let next : Next stage problem.stochastics vs values =
-    next_chosen stage 1 problem.stochastics vs values staged.ascending chosen (outcome_chosen stage problem.stochastics values within) in
-    (next.0, next.1, next.2 ∙ ap (λ xs. xs ++ values) is)
 
 abbrev pub pos_of : ℤ → ℕ
 pos_of (pos n) = n

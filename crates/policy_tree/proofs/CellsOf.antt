@@ -77,12 +77,6 @@ key_cell problem key k =
     subst H (sym k.seen) (history_in k.decision.stage problem.stochastics k.scenario k.possible) in
     In-map (λ (cell : Cell). cell.key) (cells problem) (made key.0 k.decision key.1) (is_cell problem key.0 k.decision key.1 k.decided seen)
 
-pub from_key : (problem : Problem) (key : Key) → In key (keys_of (cells problem)) → IsKey problem key
-from_key problem key h =
-    let from : (c : Cell) × In c (cells problem) × (c.key ≡ key) = from_map (λ (cell : Cell). cell.key) (cells problem) key h in
-    let P : Key → Type 0 = λ k. IsKey problem k in
-    subst P from.2 (cell_key problem from.0 from.1)
-
 -- the keys of one decision
 one_decision : (stochastics : List Stochastic) (number : ℕ) (d : Decision) → Once (keys_of (cells_of stochastics (number, d)))
 one_decision stochastics number d = keyed (histories d.stage stochastics) (Once-distinct (map (λ (s : Scenario). history d.stage stochastics s.values) (scenarios stochastics)))

@@ -1,14 +1,13 @@
 -- What an evaluation asks of an expression at a place: the ranges of binders and the divisors pass, and the value of each number expression
 -- in it is, where it is there, of a size that constants have.
-use Rattle.std.specs.Prelude.{ℤ, pos, neg_ℤ, ◌*ℤ◌, Option, None, IfSome, option_map}
-use Rattle.std.specs.Int.RustNames.{unsigned_abs}
+use Rattle.std.specs.Prelude.{ℤ, ◌*ℤ◌, Option, None, IfSome, option_map}
 use Rattle.std.specs.List.{AllByRecursion}
 use Rattle.compile_counts.specs.Walked.{AreMet}
 use Rattle.sopl_ast.specs.declared.operators.MulOp.TheVariants.{Times, Div, Mod}
 use Rattle.sopl_ast.specs.Constants.{value, all_bindings}
 use Rattle.sopl_ast.specs.Known.{Known}
 use Rattle.sopl_ast.specs.Meanings.{Place, knowing, places, meaning, sum_value, divided}
-use Rattle.sopl_ast.specs.Numbers.{both_of, all_of, total}
+use Rattle.sopl_ast.specs.Numbers.{both_of, all_of, called, total}
 use Rattle.sopl_ast.specs.UnfoldEvents.{divisor_events}
 use Rattle.sopl_ast.specs.Tree as t
 use Rattle.sopl_ast.specs.Tree.{Tree, Shape, Trees, Terms, Factors, Binders, Node, no_tree, tree, no_term, term, no_factor, factor}
@@ -27,7 +26,7 @@ abbrev mutual
   ShapeIsSafe place (t.Lit z) = Unit {0}
   ShapeIsSafe place (t.Name name) = Unit {0}
   ShapeIsSafe place (t.Index name es) = AreSafe place es
-  ShapeIsSafe place (t.Neg e) = HasConstantSize (option_map neg_ℤ (meaning place e).value) × IsSafe place e
+  ShapeIsSafe place (t.Call f e) = HasConstantSize (option_map (called f) (meaning place e).value) × IsSafe place e
   ShapeIsSafe place (t.Add parts) = HasConstantSize (sum_value place parts) × TermsAreSafe place parts
   ShapeIsSafe place (t.Mul first others) = IsSafe place first × FactorsAreSafe place (meaning place first).value others
   ShapeIsSafe place (t.Cmp op a b) = IsSafe place a × IsSafe place b
@@ -39,9 +38,7 @@ abbrev mutual
       AreMet place.known None bs
       × HasConstantSize (option_map total (all_of (λ here. (meaning here e).value) (places place bs)))
       × AllByRecursion (λ (here : Known). IsSafe (knowing place here) e) (all_bindings place.known bs)
-  ShapeIsSafe place (t.Least es) = AreSafe place es
-  ShapeIsSafe place (t.Greatest es) = AreSafe place es
-  ShapeIsSafe place (t.Abs e) = HasConstantSize (option_map (λ x. pos (unsigned_abs x)) (meaning place e).value) × IsSafe place e
+  ShapeIsSafe place (t.Selected which es) = AreSafe place es
   ShapeIsSafe place (t.AllDifferent bs e) =
       AreMet place.known None bs × AllByRecursion (λ (here : Known). IsSafe (knowing place here) e) (all_bindings place.known bs)
   ShapeIsSafe place (t.Cumulative bs start duration demand capacity) =
@@ -57,7 +54,7 @@ abbrev mutual
   ShapeIsTestable place (t.Lit z) = Unit {0}
   ShapeIsTestable place (t.Name name) = Unit {0}
   ShapeIsTestable place (t.Index name es) = Unit {0}
-  ShapeIsTestable place (t.Neg e) = Unit {0}
+  ShapeIsTestable place (t.Call f e) = Unit {0}
   ShapeIsTestable place (t.Add parts) = Unit {0}
   ShapeIsTestable place (t.Mul first others) = Unit {0}
   ShapeIsTestable place (t.Cmp op a b) = IsSafe place a × IsSafe place b
@@ -66,9 +63,7 @@ abbrev mutual
   ShapeIsTestable place (t.Or es) = AreTestable place es
   ShapeIsTestable place (t.Implies a b) = IsTestable place a × IsTestable place b
   ShapeIsTestable place (t.Sum bs e) = Unit {0}
-  ShapeIsTestable place (t.Least es) = Unit {0}
-  ShapeIsTestable place (t.Greatest es) = Unit {0}
-  ShapeIsTestable place (t.Abs e) = Unit {0}
+  ShapeIsTestable place (t.Selected which es) = Unit {0}
   ShapeIsTestable place (t.AllDifferent bs e) =
       AreMet place.known None bs × AllByRecursion (λ (here : Known). IsSafe (knowing place here) e) (all_bindings place.known bs)
   ShapeIsTestable place (t.Cumulative bs start duration demand capacity) =

@@ -1,41 +1,28 @@
 //! Arithmetic on numbers that may be undefined: exact, where what comes of it is of a size that constants have.
 
-ghost use Rattle.std.specs.Prelude.{◌≡◌, ◌*ℤ◌, ℕ, List, map, neg_ℤ, pos, option_and_then, option_map, IfOk, if◌then◌else◌};
-ghost use Rattle.std.specs.Int.{int_max, int_min};
-ghost use Rattle.std.specs.Int.RustNames.{unsigned_abs};
+ghost use Rattle.std.specs.Prelude.{◌≡◌, ◌*ℤ◌, ℕ, List, map, option_and_then, option_map, IfOk};
+ghost use Rattle.sopl_base.specs.Extremes.{chosen_by};
 ghost use Rattle.sopl_ast.specs.Meanings as meant;
 ghost use Rattle.sopl_ast.specs.Numbers as spec;
 ghost use Rattle.sopl_ast.specs.Constants.{within as constant_within};
 ghost use Rattle.unfold_tables.specs.Tables.{items, tasks_of};
 ghost use Rattle.policy_values.specs.Safe.{HasConstantSize};
 
-use sopl_ast::MulOp;
-use sopl_base::{CmpOp, Wide};
+use sopl_ast::{Function, MulOp};
+use sopl_base::{CmpOp, Extreme, Wide};
 use std::alloc::{AllocError, Global};
 use unfold_tables::{
     all_distinct, applied, are_within, compares, extreme, one_or_zero, total, within,
 };
 
-/// A number with its sign changed.
+/// What a function makes of a number.
 #[tactic(auto, using(crate::proofs::Sized::sized))]
-pub(crate) fn negated(x: Option<i64>) -> Option<i64>
-    requires small { HasConstantSize (option_map neg_ℤ x) }
-    ensures value { result ≡ option_map neg_ℤ x }
+pub(crate) fn called(function: Function, x: Option<i64>) -> Option<i64>
+    requires small { HasConstantSize (option_map (spec.called function) x) }
+    ensures value { result ≡ option_map (spec.called function) x }
 {
     match x {
-        Some(x) => within(-i128::from(x)),
-        None => None,
-    }
-}
-
-/// The size of a number.
-#[tactic(auto, using(crate::proofs::Sized::sized))]
-pub(crate) fn size_of(x: Option<i64>) -> Option<i64>
-    requires small { HasConstantSize (option_map (λ z. pos (unsigned_abs z)) x) }
-    ensures value { result ≡ option_map (λ z. pos (unsigned_abs z)) x }
-{
-    match x {
-        Some(x) => within(i128::from(x).abs()),
+        Some(x) => within(function.of(x)),
         None => None,
     }
 }
@@ -103,12 +90,12 @@ pub(crate) fn total_of(numbers: Option<Vec<i64>>) -> Option<i64>
     }
 }
 
-/// The greatest or the least of numbers, where each is there and there is one.
-pub(crate) fn extreme_of(greatest: bool, numbers: Option<Vec<i64>>) -> Option<i64>
-    ensures value { result ≡ option_and_then (λ xs. spec.extreme (if greatest then int_max else int_min) (items xs)) numbers }
+/// The least or the greatest of numbers, where each is there and there is one.
+pub(crate) fn extreme_of(which: Extreme, numbers: Option<Vec<i64>>) -> Option<i64>
+    ensures value { result ≡ option_and_then (λ xs. spec.extreme (chosen_by which) (items xs)) numbers }
 {
     match numbers {
-        Some(numbers) => extreme(greatest, numbers.as_slice()),
+        Some(numbers) => extreme(which, numbers.as_slice()),
         None => None,
     }
 }

@@ -1,8 +1,8 @@
 //! The walk over an expression.
 
-ghost use Rattle.std.specs.Prelude.{◌≡◌, ◌∷◌, ◌++◌, [], None, map, IfOk, OnOk, option_and_then, option_map, if◌then◌else◌};
-ghost use Rattle.std.specs.Int.{int_max, int_min};
+ghost use Rattle.std.specs.Prelude.{◌≡◌, ◌∷◌, ◌++◌, [], None, map, IfOk, OnOk, option_and_then, option_map};
 ghost use Rattle.std.specs.List.{AllByRecursion};
+ghost use Rattle.sopl_base.specs.Extremes.{chosen_by};
 ghost use Rattle.sopl_ast.specs.Constants.{value};
 ghost use Rattle.sopl_ast.specs.Known as place;
 ghost use Rattle.sopl_ast.specs.Lists.{binders, factors, terms, trees};
@@ -21,13 +21,12 @@ ghost use Rattle.policy_values.specs.Played.{IsPlayed, place_of};
 ghost use Rattle.policy_values.specs.Safe.{AreSafe, AreTestable, FactorsAreSafe, HasConstantSize, IsSafe, IsTestable, OverIsSafe, ShapeIsSafe, TasksAreSafe};
 
 use crate::arithmetic::{
-    are_different, compared, divided, extreme_of, fit, negated, product, size_of, summed, total_of,
-    truth,
+    are_different, called, compared, divided, extreme_of, fit, product, summed, total_of, truth,
 };
 use crate::played::PlayedScenario;
 use compile_counts::{all_places, divisor};
-use sopl_ast::{Binders, Expr, Factors, Kind, MulOp, Name};
-use sopl_base::{CmpOp, Wide};
+use sopl_ast::{Binders, Expr, Factors, Function, Kind, MulOp, Name};
+use sopl_base::{CmpOp, Extreme, Wide};
 use std::alloc::AllocError;
 use unfold_constants::{ConstantScope, TaskText};
 use unfold_tables::{TaskNumbers, add, with_number};
@@ -88,13 +87,11 @@ impl PlayedScenario<'_, '_> {
             Kind::Lit(value) => Ok(Some(*value)),
             Kind::Name(name) => Ok(self.named(known, name, &[])),
             Kind::Index(name, parts) => self.element(known, name, parts.as_slice()),
-            Kind::Neg(part) => self.negative(known, part),
+            Kind::Call(function, part) => self.called(known, *function, part),
             Kind::Add(parts) => self.sum(known, parts.as_slice()),
             Kind::Mul(parts) => self.product(known, parts),
             Kind::Sum(over, part) => self.total(known, over, part),
-            Kind::Least(parts) => self.extreme(known, false, parts.as_slice()),
-            Kind::Greatest(parts) => self.extreme(known, true, parts.as_slice()),
-            Kind::Abs(part) => self.absolute(known, part),
+            Kind::Selected(which, parts) => self.extreme(known, *which, parts.as_slice()),
             Kind::Cmp(_, _, _)
             | Kind::Not(_)
             | Kind::And(_)
@@ -130,13 +127,11 @@ impl PlayedScenario<'_, '_> {
             Kind::Lit(_)
             | Kind::Name(_)
             | Kind::Index(_, _)
-            | Kind::Neg(_)
+            | Kind::Call(_, _)
             | Kind::Add(_)
             | Kind::Mul(_)
             | Kind::Sum(_, _)
-            | Kind::Least(_)
-            | Kind::Greatest(_)
-            | Kind::Abs(_) => Ok(false),
+            | Kind::Selected(_, _) => Ok(false),
         }
     }
 
@@ -151,34 +146,20 @@ impl PlayedScenario<'_, '_> {
         Ok(truth(holds))
     }
 
-    /// The value of an expression with its sign changed.
+    /// What a function makes of an expression's value.
     #[cycle(walk)]
-    fn negative<'a>(
+    fn called<'a>(
         &self,
         known: &ConstantScope<'a>,
+        function: Function,
         e: &'a Expr,
     ) -> Result<Option<i64>, AllocError>
         requires played { IsPlayed self.now }
-        requires safe { ShapeIsSafe (place_of self.now (known_in known.now)) (t.Neg e.now) }
-        ensures value { IfOk result (λ x. x ≡ (shape_meaning (place_of self.now (known_in known.now)) (t.Neg e.now)).value) }
+        requires safe { ShapeIsSafe (place_of self.now (known_in known.now)) (t.Call function e.now) }
+        ensures value { IfOk result (λ x. x ≡ (shape_meaning (place_of self.now (known_in known.now)) (t.Call function e.now)).value) }
     {
         let x = self.number(known, e)?;
-        Ok(negated(x))
-    }
-
-    /// The size of an expression's value.
-    #[cycle(walk)]
-    fn absolute<'a>(
-        &self,
-        known: &ConstantScope<'a>,
-        e: &'a Expr,
-    ) -> Result<Option<i64>, AllocError>
-        requires played { IsPlayed self.now }
-        requires safe { ShapeIsSafe (place_of self.now (known_in known.now)) (t.Abs e.now) }
-        ensures value { IfOk result (λ x. x ≡ (shape_meaning (place_of self.now (known_in known.now)) (t.Abs e.now)).value) }
-    {
-        let x = self.number(known, e)?;
-        Ok(size_of(x))
+        Ok(called(function, x))
     }
 
     /// The element of a name at indices.
@@ -204,16 +185,16 @@ impl PlayedScenario<'_, '_> {
     fn extreme<'a>(
         &self,
         known: &ConstantScope<'a>,
-        greatest: bool,
+        which: Extreme,
         parts: &'a [Expr],
     ) -> Result<Option<i64>, AllocError>
         requires played { IsPlayed self.now }
         requires safe { AreSafe (place_of self.now (known_in known.now)) (trees parts.now) }
-        ensures value { IfOk result (λ x. x ≡ option_and_then (spec.extreme (if greatest then int_max else int_min))
+        ensures value { IfOk result (λ x. x ≡ option_and_then (spec.extreme (chosen_by which))
             (defined_values (place_of self.now (known_in known.now)) (trees parts.now))) }
     {
         let numbers = self.values(known, parts)?;
-        Ok(extreme_of(greatest, numbers))
+        Ok(extreme_of(which, numbers))
     }
 
     /// The values of expressions in order, where each is defined.

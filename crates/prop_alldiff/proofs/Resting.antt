@@ -1,29 +1,21 @@
 -- Where there is no step.
-use Rattle.std.proofs.Common.{◌≡◌, ◌∙◌, inl, inr, refl, ap, sym, subst, ℕ, ◌<◌, ◌≤◌, ℤ, pos, false, List, [], ◌∷◌, Option, Some, None, IfNone, length, map, slice_get, arith}
+use Rattle.std.proofs.Common.{◌≡◌, ◌∙◌, inl, inr, refl, ap, sym, subst, ℕ, false, List, [], ◌∷◌, Option, Some, None, IfNone}
 use Rattle.std.specs.List.{All, Contains}
-use Rattle.std.proofs.lemmas.List.{length-map}
 use Rattle.std.proofs.lemmas.List.Elements.{All-contains}
-use Rattle.sopl_base.specs.declared.reason.Reason.{Reason}
 use Rattle.sopl_base.specs.declared.reason.Reason.TheVariants.{Hard}
 use Rattle.sopl_base.specs.declared.reason.Step.{Step}
-use Rattle.box_problem.specs.Box.{high, low, with_high, with_low}
+use Rattle.box_problem.specs.Box.{high, low}
 use Rattle.box_problem.specs.Rightness.{Quiets}
 use Rattle.term_crowds.specs.Crowds.{AreWhole, LowsWhole}
 use Rattle.term_crowds.proofs.Tight.{lows_whole}
-use Rattle.term_language.specs.Ends as rule
 use Rattle.term_language.specs.Globals.{never_differ}
-use Rattle.term_language.specs.Mentions.{cond_mentions, terms_mention}
 use Rattle.term_language.specs.Rules.{Near, intervals, truth}
-use Rattle.term_language.specs.Terms.{Cond, AllDifferent}
-use Rattle.term_math.specs.Shown.{ends_of}
-use Rattle.term_math.specs.declared.ends.Ends.{Ends}
+use Rattle.term_language.specs.Terms.{AllDifferent}
 use Rattle.term_problem.specs.Reasons.{reason_mentions}
 use Rattle.term_problem.proofs.Reasons.{all_of}
 use Rattle.term_program.specs.Programs.{problem_in, root_in, with_interval}
 use Rattle.term_program.specs.Stated.{box_problem_of}
-use Rattle.term_windows.specs.Overlaps.{IsFirstOverlap}
 use Rattle.term_windows.specs.Windows.{spans}
-use Rattle.term_windows.specs.declared.overlaps.Overlap.{Overlap}
 use Rattle.prop_shave.specs.Opened.{IsOpen, IsWhole}
 use Rattle.prop_shave.specs.Probes.{IsAsked, closes}
 use Rattle.prop_shave.specs.declared.probes.Probe.{Probe}
@@ -86,12 +78,6 @@ rests p q fits own asked whole looked lows opened =
       | inl shared ↦ All-contains (IsOpen q) p.shared.items cell opened shared
       | inr alone ↦ alone_is_open p q cell fits own asked whole looked windows alone
     ]))
-
--- the place of an overlap exists
-pub place_there : (p : AllDiff) (q : Probe) (found : Overlap) → IsLookedAt never_differ p.operands q → IsFirstOverlap (spans p.operands.known.items) found
-    → found.place < length p.operands.list.items
-place_there p q found looked first =
-    omega (arith, first.widest.first.exists, length-map p.operands.known.items ends_of, looked.about.operands.known)
 
 -- what is known where there is no step
 pub none_leads : {A B : Type 0} (found : Option Step) → (A → B) → IfNone found A → IfNone found B

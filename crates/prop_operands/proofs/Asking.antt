@@ -1,5 +1,5 @@
 -- What the intervals of operands tell of a box.
-use Rattle.std.proofs.Common.{◌≡◌, ◌∙◌, refl, ap, sym, subst, ℕ, ℤ, Bool, true, false, List, [], ◌∷◌, length, Option, Some, slice_get}
+use Rattle.std.proofs.Common.{◌≡◌, ◌∙◌, refl, ap, sym, subst, ℕ, ℤ, Bool, true, false, List, [], ◌∷◌, Option, Some, slice_get}
 use Rattle.std.specs.List.{All, Contains}
 use Rattle.std.specs.Option.{option_and_then, option_map_or}
 use Rattle.sopl_base.specs.declared.reason.Reason.{Reason}
@@ -21,7 +21,7 @@ use Rattle.term_problem.specs.Problems.{ProblemTerms}
 use Rattle.term_problem.specs.Reasons.{reason_mentions}
 use Rattle.term_problem.specs.Refuted.{is_false, refutes}
 use Rattle.term_program.specs.Mentions.{IsListOf}
-use Rattle.term_program.specs.Programs.{IsMade, problem_in, root_in, things_in}
+use Rattle.term_program.specs.Programs.{IsMade, problem_in, root_in}
 use Rattle.term_program.specs.Stated.{box_problem_of}
 use Rattle.term_program.specs.declared.program.Program.{Program}
 use Rattle.term_windows.specs.Windows.{spans}
@@ -29,7 +29,7 @@ use Rattle.prop_shave.specs.Opened.{IsOpen, IsWhole}
 use Rattle.prop_shave.specs.Probes.{closes}
 use Rattle.prop_shave.specs.declared.probes.Probe.{Probe}
 use Rattle.prop_shave.proofs.Finding.{found_quiet}
-use Rattle.prop_operands.specs.Kept.{AreOperands, AreSeen, operand_ids, operand_terms, operands_mark}
+use Rattle.prop_operands.specs.Kept.{AreSeen, operand_ids, operand_terms, operands_mark}
 use Rattle.prop_operands.specs.Questions.{IsAbout, is_refuted}
 use Rattle.prop_operands.specs.declared.operands.Operand.{Operand}
 use Rattle.prop_operands.specs.declared.operands.Operands.{Operands}
@@ -57,15 +57,6 @@ ordered_seen program b list es made inside seen =
     subst AllOrdered (sym seen.spans)
     (ordered_intervals Near (root_in program) b (operand_terms program list) made.draft.store.root_is_box inside
     (terms_proper (root_in program) program.draft.store.items.items (operand_ids list) made.draft.store.built))
-
--- another list of rooms is about the same
-pub about_same : (fails : List rule.Ends → Bool) (o new : Operands) (q : Probe) → IsAbout fails o q → AreOperands q.program.now new → new.list ≡ o.list → IsAbout fails new q
-about_same fails o new q about are same = record {
-  operands = are;
-  tells = λ b.
-      about.tells b
-      ∙ ap (λ list. is_refuted (operands_mark q.program.now list.items b) (fails (intervals Near (root_in q.program.now) b (operand_terms q.program.now list.items)))) (sym same);
-}
 
 -- what is judged
 pub judged_refuted : (m : Defined) (fails holds : Bool) → is_false (judged m fails holds) ≡ is_refuted m fails

@@ -1,6 +1,6 @@
 -- What is seen of operands, one after the other.
-use Rattle.std.proofs.Common.{◌≡◌, ◌∙◌, refl, ap, ap₂, sym, subst, ℕ, zero, suc, ◌+◌, ◌<◌, ◌≤◌, ℤ, false, List, [], ◌∷◌, ◌++◌, length, get_or, set, take, arith}
-use Rattle.std.proofs.lemmas.List.{map-append, take_all, take_more, take_more_set}
+use Rattle.std.proofs.Common.{◌≡◌, ◌∙◌, refl, ap, ap₂, sym, subst, ℕ, zero, suc, ◌+◌, ◌<◌, ℤ, false, List, [], ◌∷◌, ◌++◌, length, get_or, set, take, arith}
+use Rattle.std.proofs.lemmas.List.{map-append, take_more, take_more_set}
 use Rattle.box_problem.specs.Box.{Box}
 use Rattle.term_language.specs.Ends as rule
 use Rattle.term_language.specs.Marks.{all_marks, both}
@@ -21,10 +21,6 @@ use Rattle.prop_shave.specs.Sums.{has_cell}
 use Rattle.prop_shave.proofs.Mentioned.{listed_is, untouched, with_agrees}
 use Rattle.prop_operands.specs.Kept.{AreSeen, IsOperand, operand_ids, operand_term, operand_terms, operands_mark}
 use Rattle.prop_operands.specs.declared.operands.Operand.{Operand}
-
--- marks
-never_first : (n : Defined) → both Never n ≡ Never
-never_first n = refl
 
 always_ever : ¬ Always ≡ Never
 always_ever is = cc
@@ -70,10 +66,6 @@ ids_more list place x exists at =
     ∙ map-append (λ (y : Operand). y.term.0) (take place list) (get_or list place x ∷ [])
     ∙ ap (λ (y : Operand). operand_ids (take place list) ++ y.term.0 ∷ []) (sym at)
 
--- none is seen, one more is seen, and then all are
-pub none_seen : (program : Program) (b : Box) → AreSeen program b [] []
-none_seen program b = record { defined = always_ever; spans = refl }
-
 pub seen_more : (program : Program) (b : Box) (list : List Operand) (es new : List Ends) (place : ℕ) (x : Operand) (e : Ends) → place < length list → length es ≡ length list
     → x ≡ get_or list place x → new ≡ set es place e → ends_of e ≡ interval Near (root_in program) b (operand_term program x) → ¬ mark Near (root_in program) b (operand_term program x) ≡ Never
     → AreSeen program b (take place list) (take place es) → AreSeen program b (take (place + 1) list) (take (place + 1) new)
@@ -93,11 +85,6 @@ seen_more program b list es new place x e exists paired at put is ever before =
           ∙ sym (interval_more root b all (operand_ids (take place list)) x.term.0)
           ∙ ap (λ (ns : List ℕ). intervals Near root b (terms_at all ns)) (sym ids);
     }
-
-pub all_seen : (program : Program) (b : Box) (list : List Operand) (es : List Ends) (i : ℕ) → length list ≤ i → length es ≡ length list → AreSeen program b (take i list) (take i es) → AreSeen program b list es
-all_seen program b list es i past paired seen =
-    subst (λ (ys : List Ends). AreSeen program b list ys) (take_all i es (omega (arith, past, paired)))
-    (subst (λ (xs : List Operand). AreSeen program b xs (take i es)) (take_all i list past) seen)
 
 -- the interval of one of those that are seen
 pub interval_there : (program : Program) (b : Box) (list : List Operand) (es : List Ends) (place : ℕ) (x : Operand) (e : Ends) → spans es ≡ intervals Near (root_in program) b (operand_terms program list)

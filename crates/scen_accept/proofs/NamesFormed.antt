@@ -3,6 +3,7 @@ use Rattle.std.proofs.Common.{◌≡◌, ℕ, Bool, true, false, not, List, [], 
 use Rattle.std.specs.List.{AllByRecursion, list_all}
 use Rattle.std.proofs.lemmas.Bool.{and_parts}
 use Rattle.std.specs.Str.{bytes_eq}
+use Rattle.sopl_base.proofs.Booleans.{not_true}
 use Rattle.sopl_ast.specs.declared.token.Token.{Token}
 use Rattle.sopl_ast.specs.declared.token.TokenKind.{TokenKind}
 use Rattle.sopl_ast.specs.declared.token.TokenKind.TheVariants as k
@@ -30,13 +31,9 @@ kind_no_name bytes (row ∷ rows) kind all e =
     parts : (no_name row ≡ true) × (list_all no_name rows ≡ true)
     parts = and_parts (no_name row) (list_all no_name rows) all
 
-    negated : (b : Bool) → not b ≡ true → b ≡ false
-    negated true h = sym h
-    negated false h = refl
-
     by_row : (b : Bool) → (if b then Some row.1 else kind_in bytes rows) ≡ Some kind → (kind_in bytes rows ≡ Some kind → is_name kind ≡ false)
         → is_name kind ≡ false
-    by_row true h later = let same : row.1 ≡ kind = cc in ap is_name (sym same) ∙ negated (is_name row.1) parts.0
+    by_row true h later = let same : row.1 ≡ kind = cc in ap is_name (sym same) ∙ not_true (is_name row.1) parts.0
     by_row false h later = later h
 
 keywords_no_name : list_all no_name keywords ≡ true
@@ -49,9 +46,6 @@ symbols_no_name = refl
 name_formed : (bytes name : List ℕ) → piece_of bytes ≡ Some (Word (k.Name name)) → is_word name ≡ true
 name_formed bytes name e = by_blank _ e
   where
-    Goal : Type 0
-    Goal = is_word name ≡ true
-
     by_symbol : (o : Option TokenKind) → kind_in bytes symbols ≡ o → option_map Word o ≡ Some (Word (k.Name name)) → is_word name ≡ true
     by_symbol None is h = absurd (cc)
     by_symbol (Some kind) is h =

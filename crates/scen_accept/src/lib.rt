@@ -1,12 +1,10 @@
 //! From the bytes of a text to what it states, or to the first refusal or limit.
-//! Its tests stand in `compile_tests`; `tree_tests` has those of trees that are built call by call.
+//! Its tests stand in `compile_tests`.
 #![tactic(auto)]
 
 mod accepted;
 mod laws;
 mod read;
-#[cfg(test)]
-mod tree_tests;
 
 pub use accepted::AcceptedProblem;
 pub use laws::texts_end_once;

@@ -1,4 +1,3 @@
 pub mod ConstraintTrees
 pub mod Lighter
-pub mod TreeLists
 pub mod InitWeights

@@ -6,9 +6,13 @@ use Rattle.std.specs.Coded.{Coded, code_by, coded_ℕ, coded_ℤ, coded_bool, co
 use base.Stored.{Gv, gnil, gnum, gcons, num}
 use Rattle.sopl_base.specs.declared.comparison.CmpOp.{CmpOp}
 use Rattle.sopl_base.specs.declared.comparison.CmpOp.TheVariants.{Eq, Ne, Lt, Le, Gt, Ge}
+use Rattle.sopl_base.specs.declared.extreme.Extreme.{Extreme}
+use Rattle.sopl_base.specs.declared.extreme.Extreme.TheVariants.{Least, Greatest}
+use Rattle.sopl_ast.specs.declared.operators.Function.{Function}
+use Rattle.sopl_ast.specs.declared.operators.Function.TheVariants.{Negative, Size}
 use Rattle.sopl_ast.specs.declared.operators.MulOp.{MulOp}
 use Rattle.sopl_ast.specs.declared.operators.MulOp.TheVariants.{Times, Div, Mod}
-use Rattle.sopl_ast.specs.Tree.{Tree, Node, Shape, Lit, Name, Index, Neg, Add, Mul, Cmp, Not, And, Or, Implies, Sum, Least, Greatest, Abs, AllDifferent, Cumulative, Trees, no_tree}
+use Rattle.sopl_ast.specs.Tree.{Tree, Node, Shape, Lit, Name, Index, Call, Add, Mul, Cmp, Not, And, Or, Implies, Sum, Selected, AllDifferent, Cumulative, Trees, no_tree}
 use Rattle.sopl_ast.specs.Tree.{tree, Terms, no_term, term, Factors, no_factor, factor, Binders, no_binder, binder, Range, Named, Ends}
 use Rattle.sopl_ast.specs.Lists.{BinderTree, Product}
 
@@ -77,6 +81,38 @@ mul_of_number-number_of_mul Mod = refl
 abbrev pub coded_mul : Coded MulOp
 coded_mul = code_by ℕ coded_ℕ number_of_mul mul_of_number mul_of_number-number_of_mul
 
+abbrev number_of_function : Function → ℕ
+number_of_function Negative = 0
+number_of_function Size = 1
+
+abbrev function_of_number : ℕ → Function
+function_of_number zero = Negative
+function_of_number (suc n) = Size
+
+pub function_of_number-number_of_function : (op : Function) → function_of_number (number_of_function op) ≡ op
+function_of_number-number_of_function Negative = refl
+function_of_number-number_of_function Size = refl
+
+-- a function, by a number
+abbrev pub coded_function : Coded Function
+coded_function = code_by ℕ coded_ℕ number_of_function function_of_number function_of_number-number_of_function
+
+abbrev number_of_extreme : Extreme → ℕ
+number_of_extreme Least = 0
+number_of_extreme Greatest = 1
+
+abbrev extreme_of_number : ℕ → Extreme
+extreme_of_number zero = Least
+extreme_of_number (suc n) = Greatest
+
+pub extreme_of_number-number_of_extreme : (op : Extreme) → extreme_of_number (number_of_extreme op) ≡ op
+extreme_of_number-number_of_extreme Least = refl
+extreme_of_number-number_of_extreme Greatest = refl
+
+-- which of several is taken, by a number
+abbrev pub coded_extreme : Coded Extreme
+coded_extreme = code_by ℕ coded_ℕ number_of_extreme extreme_of_number extreme_of_number-number_of_extreme
+
 -- a name, by its bytes
 abbrev pub coded_text : Coded (List ℕ)
 coded_text = coded_list coded_ℕ
@@ -89,7 +125,7 @@ abbrev mutual
   code_shape (Lit x1) = gcons (gnum 0) (coded_ℤ.code x1)
   code_shape (Name x1) = gcons (gnum 1) (coded_text.code x1)
   code_shape (Index x1 x2) = gcons (gnum 2) (gcons (coded_text.code x1) (code_trees x2))
-  code_shape (Neg x1) = gcons (gnum 3) (code_tree x1)
+  code_shape (Call x1 x2) = gcons (gnum 3) (gcons (coded_function.code x1) (code_tree x2))
   code_shape (Add x1) = gcons (gnum 4) (code_terms x1)
   code_shape (Mul x1 x2) = gcons (gnum 5) (gcons (code_tree x1) (code_factors x2))
   code_shape (Cmp x1 x2 x3) = gcons (gnum 6) (gcons (coded_cmp.code x1) (gcons (code_tree x2) (code_tree x3)))
@@ -98,11 +134,9 @@ abbrev mutual
   code_shape (Or x1) = gcons (gnum 9) (code_trees x1)
   code_shape (Implies x1 x2) = gcons (gnum 10) (gcons (code_tree x1) (code_tree x2))
   code_shape (Sum x1 x2) = gcons (gnum 11) (gcons (code_binders x1) (code_tree x2))
-  code_shape (Least x1) = gcons (gnum 12) (code_trees x1)
-  code_shape (Greatest x1) = gcons (gnum 13) (code_trees x1)
-  code_shape (Abs x1) = gcons (gnum 14) (code_tree x1)
-  code_shape (AllDifferent x1 x2) = gcons (gnum 15) (gcons (code_binders x1) (code_tree x2))
-  code_shape (Cumulative x1 x2 x3 x4 x5) = gcons (gnum 16) (gcons (code_binders x1) (gcons (code_tree x2) (gcons (code_tree x3) (gcons (code_tree x4) (code_tree x5)))))
+  code_shape (Selected x1 x2) = gcons (gnum 12) (gcons (coded_extreme.code x1) (code_trees x2))
+  code_shape (AllDifferent x1 x2) = gcons (gnum 13) (gcons (code_binders x1) (code_tree x2))
+  code_shape (Cumulative x1 x2 x3 x4 x5) = gcons (gnum 14) (gcons (code_binders x1) (gcons (code_tree x2) (gcons (code_tree x3) (gcons (code_tree x4) (code_tree x5)))))
 
   pub code_trees : Trees → Gv
   code_trees no_tree = gcons (gnum 0) gnil
@@ -132,7 +166,7 @@ mutual
   inj_shape (Lit x1) (Lit y1) e = λ i. Lit (coded_ℤ.inj x1 y1 (pairs e).1 i)
   inj_shape (Name x1) (Name y1) e = λ i. Name (coded_text.inj x1 y1 (pairs e).1 i)
   inj_shape (Index x1 x2) (Index y1 y2) e = λ i. Index (coded_text.inj x1 y1 ((pairs (pairs e).1).0) i) (inj_trees x2 y2 ((pairs (pairs e).1).1) i)
-  inj_shape (Neg x1) (Neg y1) e = λ i. Neg (inj_tree x1 y1 (pairs e).1 i)
+  inj_shape (Call x1 x2) (Call y1 y2) e = λ i. Call (coded_function.inj x1 y1 ((pairs (pairs e).1).0) i) (inj_tree x2 y2 ((pairs (pairs e).1).1) i)
   inj_shape (Add x1) (Add y1) e = λ i. Add (inj_terms x1 y1 (pairs e).1 i)
   inj_shape (Mul x1 x2) (Mul y1 y2) e = λ i. Mul (inj_tree x1 y1 ((pairs (pairs e).1).0) i) (inj_factors x2 y2 ((pairs (pairs e).1).1) i)
   inj_shape (Cmp x1 x2 x3) (Cmp y1 y2 y3) e = λ i. Cmp (coded_cmp.inj x1 y1 ((pairs (pairs e).1).0) i) (inj_tree x2 y2 ((pairs (pairs (pairs e).1).1).0) i)
@@ -142,9 +176,7 @@ mutual
   inj_shape (Or x1) (Or y1) e = λ i. Or (inj_trees x1 y1 (pairs e).1 i)
   inj_shape (Implies x1 x2) (Implies y1 y2) e = λ i. Implies (inj_tree x1 y1 ((pairs (pairs e).1).0) i) (inj_tree x2 y2 ((pairs (pairs e).1).1) i)
   inj_shape (Sum x1 x2) (Sum y1 y2) e = λ i. Sum (inj_binders x1 y1 ((pairs (pairs e).1).0) i) (inj_tree x2 y2 ((pairs (pairs e).1).1) i)
-  inj_shape (Least x1) (Least y1) e = λ i. Least (inj_trees x1 y1 (pairs e).1 i)
-  inj_shape (Greatest x1) (Greatest y1) e = λ i. Greatest (inj_trees x1 y1 (pairs e).1 i)
-  inj_shape (Abs x1) (Abs y1) e = λ i. Abs (inj_tree x1 y1 (pairs e).1 i)
+  inj_shape (Selected x1 x2) (Selected y1 y2) e = λ i. Selected (coded_extreme.inj x1 y1 ((pairs (pairs e).1).0) i) (inj_trees x2 y2 ((pairs (pairs e).1).1) i)
   inj_shape (AllDifferent x1 x2) (AllDifferent y1 y2) e = λ i. AllDifferent (inj_binders x1 y1 ((pairs (pairs e).1).0) i) (inj_tree x2 y2 ((pairs (pairs e).1).1) i)
   inj_shape (Cumulative x1 x2 x3 x4 x5) (Cumulative y1 y2 y3 y4 y5) e = λ i.
       Cumulative (inj_binders x1 y1 ((pairs (pairs e).1).0) i) (inj_tree x2 y2 ((pairs (pairs (pairs e).1).1).0) i) (inj_tree x3 y3 ((pairs (pairs ((pairs (pairs e).1).1)).1).0) i)

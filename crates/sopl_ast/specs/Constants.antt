@@ -1,14 +1,14 @@
 -- What an expression in a constant place is worth: a whole number, or nothing. Every operand counts: a condition spares none of its parts.
 use Rattle.std.specs.Prelude.{◌^◌, nat_le, ℤ, pos, neg_ℤ, ◌+ℤ◌, Bool, not, ◌||◌, List, [], ◌∷◌, Option, Some, None, option_map, option_and_then, if◌then◌else◌}
 use Rattle.std.specs.List.{list_all, list_any}
-use Rattle.std.specs.Int.{int_min, int_max}
 use Rattle.std.specs.Int.RustNames.{unsigned_abs}
 use Rattle.std.specs.Option.{unwrap_or}
 use Rattle.std.specs.Ordering.{int_eq}
+use Rattle.sopl_base.specs.Extremes.{chosen_by}
 use Rattle.sopl_ast.specs.declared.operators.MulOp.{MulOp}
 use Rattle.sopl_ast.specs.Tree as t
 use Rattle.sopl_ast.specs.Tree.{Tree, Shape, Trees, Terms, Factors, Binders, Range, Node, no_tree, tree, no_term, term, no_factor, factor, no_binder, binder, Named, Ends}
-use Rattle.sopl_ast.specs.Numbers.{both_of, all_of, joined, up_to, total, extreme, one_or_zero, compares, applied, all_distinct, task_of, are_within}
+use Rattle.sopl_ast.specs.Numbers.{both_of, all_of, joined, up_to, total, extreme, one_or_zero, compares, applied, called, all_distinct, task_of, are_within}
 use Rattle.sopl_ast.specs.Known.{Known, with_bound, known_value, set_named, ascending}
 
 -- a constant's size is at most 2^40
@@ -34,7 +34,7 @@ abbrev mutual
   untested known (t.Lit z) = Some z
   untested known (t.Name name) = known_value known name []
   untested known (t.Index name es) = option_and_then (known_value known name) (values known es)
-  untested known (t.Neg e) = option_map neg_ℤ (value known e)
+  untested known (t.Call f e) = option_map (called f) (value known e)
   untested known (t.Add parts) = sum_of known parts
   untested known (t.Mul first others) = product_of known (value known first) others
   untested known (t.Cmp op a b) = both_of (λ x y. one_or_zero (compares op x y)) (value known a) (value known b)
@@ -43,9 +43,7 @@ abbrev mutual
   untested known (t.Or es) = option_map (λ xs. one_or_zero (list_any is_true xs)) (values known es)
   untested known (t.Implies a b) = both_of (λ x y. one_or_zero (not (is_true x) || is_true y)) (value known a) (value known b)
   untested known (t.Sum bs e) = option_map total (option_and_then (all_of (λ here. value here e)) (bindings known bs))
-  untested known (t.Least es) = option_and_then (extreme int_min) (values known es)
-  untested known (t.Greatest es) = option_and_then (extreme int_max) (values known es)
-  untested known (t.Abs e) = option_map (λ x. pos (unsigned_abs x)) (value known e)
+  untested known (t.Selected which es) = option_and_then (extreme (chosen_by which)) (values known es)
   untested known (t.AllDifferent bs e) =
       option_map (λ xs. one_or_zero (all_distinct xs)) (option_and_then (all_of (λ here. value here e)) (bindings known bs))
   untested known (t.Cumulative bs start duration demand capacity) =

@@ -4,12 +4,16 @@ use Rattle.std.specs.Prelude.{ℕ, Bool, true, false, List, [], ◌∷◌, Optio
 use mathlib.Core.Logic.{inl, inr}
 use Rattle.sopl_base.specs.declared.comparison.CmpOp.{CmpOp}
 use Rattle.sopl_base.specs.declared.comparison.CmpOp.TheVariants.{Eq, Ne, Lt, Le, Gt, Ge}
+use Rattle.sopl_base.specs.declared.extreme.Extreme.{Extreme}
+use Rattle.sopl_base.specs.declared.extreme.Extreme.TheVariants.{Least, Greatest}
+use Rattle.sopl_ast.specs.declared.operators.Function.{Function}
+use Rattle.sopl_ast.specs.declared.operators.Function.TheVariants.{Negative, Size}
 use Rattle.sopl_ast.specs.declared.operators.MulOp.{MulOp}
 use Rattle.sopl_ast.specs.declared.operators.MulOp.TheVariants.{Times, Div, Mod}
 use Rattle.sopl_ast.specs.declared.token.TokenKind.TheVariants as k
 use Rattle.sopl_ast.specs.Lists.{BinderTree, trees, terms, factors, binders}
 use Rattle.sopl_ast.specs.Tree as t
-use Rattle.sopl_ast.specs.Tree.{Tree, Trees, Shape, Range, Node, Named, Ends, place_of, shape_of}
+use Rattle.sopl_ast.specs.Tree.{Tree, Shape, Range, Node, Named, Ends, place_of, shape_of}
 use Rattle.sopl_ast.specs.KindSets.{KindSet, kind_number}
 use Rattle.sopl_ast.specs.Terminals.{Terminal, one_of, a_literal, a_name, kinds_of}
 use Rattle.sopl_ast.specs.Nonterminals as s
@@ -28,19 +32,18 @@ term_sign = one_of k.Plus false ((k.Minus, true) ∷ [])
 abbrev pub comparison_sign : Terminal CmpOp
 comparison_sign = one_of k.EqEq Eq ((k.NotEq, Ne) ∷ (k.Less, Lt) ∷ (k.LessEq, Le) ∷ (k.Greater, Gt) ∷ (k.GreaterEq, Ge) ∷ [])
 
--- "min" | "max", and whether it is the greatest
-abbrev pub extreme_sign : Terminal Bool
-extreme_sign = one_of k.Min false ((k.Max, true) ∷ [])
+-- the functions of one number: "abs"
+abbrev pub function_sign : Terminal Function
+function_sign = one_of k.Abs Size []
+
+-- "min" | "max"
+abbrev pub extreme_sign : Terminal Extreme
+extreme_sign = one_of k.Min Least ((k.Max, Greatest) ∷ [])
 
 -- a name alone, or an element by its indices
 abbrev pub element_of : List ℕ → List Tree → Shape
 element_of bytes [] = t.Name bytes
 element_of bytes (e ∷ more) = t.Index bytes (trees (e ∷ more))
-
--- the least or the greatest of these
-abbrev pub extreme_of : Bool → Trees → Shape
-extreme_of false = t.Least
-extreme_of true = t.Greatest
 
 -- a chain of products, or its one part
 abbrev pub product_tree : Tree × List (MulOp × Tree) → Tree
@@ -92,16 +95,16 @@ unfoldable pub parentheses_row : Phrase Tree
 parentheses_row = enclosed_at k.ParenOpen s.Expression k.ParenClose makes λ (at, e). Node at (shape_of e)
 
 -- "abs" "(" Expr ")"
-unfoldable pub absolute_row : Phrase Tree
-absolute_row =
-    place_of_mark k.Abs then enclosed k.ParenOpen s.Expression k.ParenClose
-    makes λ (at, e). Node at (t.Abs e)
+unfoldable pub function_row : Phrase Tree
+function_row =
+    terminal function_sign then enclosed k.ParenOpen s.Expression k.ParenClose
+    makes λ ((at, f), e). Node at (t.Call f e)
 
 -- ( "min" | "max" ) "(" Expr "," Expr { "," Expr } ")"
 unfoldable pub extreme_row : Phrase Tree
 extreme_row =
     terminal extreme_sign then enclosed k.ParenOpen s.Arguments k.ParenClose
-    makes λ ((at, greatest), es). Node at (extreme_of greatest (trees es))
+    makes λ ((at, which), es). Node at (t.Selected which (trees es))
 
 -- "allDifferent" "(" "all" "(" Binders ")" Expr ")"
 unfoldable pub all_different_row : Phrase Tree
@@ -119,11 +122,11 @@ cumulative_row =
 --      | "allDifferent" "(" "all" "(" Binders ")" Expr ")"
 --      | "cumulative" "(" "all" "(" Binders ")" "(" Expr "," Expr "," Expr ")" "," Expr ")"
 unfoldable pub primary_row : Phrase Tree
-primary_row = literal_row or element_row or parentheses_row or absolute_row or extreme_row or all_different_row or cumulative_row
+primary_row = literal_row or element_row or parentheses_row or function_row or extreme_row or all_different_row or cumulative_row
 
 -- "-" ( Un | Tail )
 unfoldable pub negative_row : Phrase Tree
-negative_row = deepened k.Minus s.Operand makes λ (at, e). Node at (t.Neg e)
+negative_row = deepened k.Minus s.Operand makes λ (at, e). Node at (t.Call Negative e)
 
 -- "sum" "(" Binders ")" Mul
 unfoldable pub total_row : Phrase Tree

@@ -38,18 +38,3 @@ binders (b ∷ bs) = binder b.name b.at b.range (binders bs)
 abbrev pub trees_list : Trees → List Tree
 trees_list no_tree = []
 trees_list (tree t ts) = t ∷ trees_list ts
-
--- the parts of a chain of `+` and `-` that a tree holds
-abbrev pub terms_list : Terms → List (Bool × Tree)
-terms_list no_term = []
-terms_list (term minus t ts) = (minus, t) ∷ terms_list ts
-
--- what a tree holds behind the first part of a product
-abbrev pub factors_list : Factors → List (MulOp × Tree)
-factors_list no_factor = []
-factors_list (factor op t fs) = (op, t) ∷ factors_list fs
-
--- the binders that a tree holds
-abbrev pub binders_list : Binders → List BinderTree
-binders_list no_binder = []
-binders_list (binder name at range bs) = (record { name = name; at = at; range = range }) ∷ binders_list bs

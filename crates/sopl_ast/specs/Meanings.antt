@@ -2,15 +2,14 @@
 -- A number is a whole number without bound, or undefined; a condition is true or false, and as a number it is worth 1 or 0.
 use Rattle.std.specs.Prelude.{ℕ, ◌+◌, ℤ, neg_ℤ, pos, ◌+ℤ◌, ◌*ℤ◌, Bool, true, false, not, ◌&&◌, ◌||◌, List, [], ◌∷◌, map, Option, Some, None, option_map, option_and_then, if◌then◌else◌}
 use Rattle.std.specs.Option.{option_map_or}
-use Rattle.std.specs.Int.{int_min, int_max}
-use Rattle.std.specs.Int.RustNames.{unsigned_abs}
 use Rattle.std.specs.FinMap.{get}
 use Rattle.sopl_base.specs.declared.comparison.CmpOp.{CmpOp}
+use Rattle.sopl_base.specs.Extremes.{chosen_by}
 use Rattle.sopl_ast.specs.declared.operators.MulOp.{MulOp}
 use Rattle.sopl_ast.specs.declared.operators.MulOp.TheVariants.{Times, Div, Mod}
 use Rattle.sopl_ast.specs.Tree as t
 use Rattle.sopl_ast.specs.Tree.{Tree, Shape, Trees, Terms, Factors, Binders, Node, no_tree, tree, no_term, term, no_factor, factor}
-use Rattle.sopl_ast.specs.Numbers.{both_of, all_of, total, extreme, one_or_zero, applied, all_distinct, Task, task_of, are_within}
+use Rattle.sopl_ast.specs.Numbers.{both_of, all_of, total, extreme, one_or_zero, applied, called, all_distinct, Task, task_of, are_within}
 use Rattle.sopl_ast.specs.Known.{Known, known_value}
 pub use Rattle.sopl_ast.specs.Numbers.{or_else, compares}
 pub use Rattle.sopl_ast.specs.Known.{is_at, bound_value, constant_value}
@@ -104,7 +103,7 @@ abbrev mutual
   shape_meaning place (t.Lit v) = number (Some v)
   shape_meaning place (t.Name name) = number (named_value place name [])
   shape_meaning place (t.Index name es) = number (option_and_then (named_value place name) (defined_values place es))
-  shape_meaning place (t.Neg e) = number (option_map neg_ℤ (meaning place e).value)
+  shape_meaning place (t.Call f e) = number (option_map (called f) (meaning place e).value)
   shape_meaning place (t.Add parts) = number (sum_value place parts)
   shape_meaning place (t.Mul first others) = number (product_value place (meaning place first).value others)
   shape_meaning place (t.Cmp op a b) = condition (compared op (meaning place a).value (meaning place b).value)
@@ -113,9 +112,7 @@ abbrev mutual
   shape_meaning place (t.Or es) = condition (some_true place es)
   shape_meaning place (t.Implies a b) = condition (not (meaning place a).truth || (meaning place b).truth)
   shape_meaning place (t.Sum bs e) = number (option_map total (all_of (λ here. (meaning here e).value) (places place bs)))
-  shape_meaning place (t.Least es) = number (option_and_then (extreme int_min) (defined_values place es))
-  shape_meaning place (t.Greatest es) = number (option_and_then (extreme int_max) (defined_values place es))
-  shape_meaning place (t.Abs e) = number (option_map (λ x. pos (unsigned_abs x)) (meaning place e).value)
+  shape_meaning place (t.Selected which es) = number (option_and_then (extreme (chosen_by which)) (defined_values place es))
   shape_meaning place (t.AllDifferent bs e) = condition (are_different (all_of (λ here. (meaning here e).value) (places place bs)))
   shape_meaning place (t.Cumulative bs start duration demand capacity) =
       condition (fit

@@ -1,7 +1,7 @@
 -- Which names stand in an expression.
 use Rattle.std.specs.Prelude.{ℕ, Bool, false, ◌||◌, List}
 use Rattle.std.specs.Str.{bytes_eq}
-use Rattle.sopl_ast.specs.Tree.{Tree, Node, Shape, Lit, Name, Index, Neg, Add, Mul, Cmp, Not, And, Or, Implies, Sum, Least, Greatest, Abs, AllDifferent, Cumulative, Trees, no_tree}
+use Rattle.sopl_ast.specs.Tree.{Tree, Node, Shape, Lit, Name, Index, Call, Add, Mul, Cmp, Not, And, Or, Implies, Sum, Selected, AllDifferent, Cumulative, Trees, no_tree}
 use Rattle.sopl_ast.specs.Tree.{tree, Terms, no_term, term, Factors, no_factor, factor, Binders, no_binder, binder, Range, Named, Ends}
 
 abbrev mutual
@@ -13,7 +13,7 @@ abbrev mutual
   shape_mentions n (Lit value) = false
   shape_mentions n (Name name) = bytes_eq name n
   shape_mentions n (Index name ts) = bytes_eq name n || some_mentions n ts
-  shape_mentions n (Neg a) = mentions n a
+  shape_mentions n (Call f a) = mentions n a
   shape_mentions n (Add ts) = some_term_mentions n ts
   shape_mentions n (Mul a fs) = mentions n a || some_factor_mentions n fs
   shape_mentions n (Cmp op a b) = mentions n a || mentions n b
@@ -22,9 +22,7 @@ abbrev mutual
   shape_mentions n (Or ts) = some_mentions n ts
   shape_mentions n (Implies a b) = mentions n a || mentions n b
   shape_mentions n (Sum bs a) = some_binder_mentions n bs || mentions n a
-  shape_mentions n (Least ts) = some_mentions n ts
-  shape_mentions n (Greatest ts) = some_mentions n ts
-  shape_mentions n (Abs a) = mentions n a
+  shape_mentions n (Selected which ts) = some_mentions n ts
   shape_mentions n (AllDifferent bs a) = some_binder_mentions n bs || mentions n a
   shape_mentions n (Cumulative bs a b c d) = some_binder_mentions n bs || mentions n a || mentions n b || mentions n c || mentions n d
 

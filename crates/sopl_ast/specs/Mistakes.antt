@@ -18,14 +18,21 @@ pub data Entity : Type 0 where
   RangeName : Entity
   SetName : Entity
 
--- the names that are known at a place, the newest first
+-- what each name stands for at a place, where it is known
 abbrev pub Scope : Type 0
-Scope = List (List ℕ × Entity)
+Scope = List ℕ → Option Entity
 
--- what a name stands for at a place
+-- what a name stands for there
 abbrev pub entity_of : Scope → List ℕ → Option Entity
-entity_of [] name = None
-entity_of (first ∷ older) name = if bytes_eq first.0 name then Some first.1 else entity_of older name
+entity_of scope name = scope name
+
+-- no name is known
+abbrev pub no_names : Scope
+no_names name = None
+
+-- one more name, which stands for this from here on
+abbrev pub with_entity : List ℕ → Entity → Scope → Scope
+with_entity own entity scope name = if bytes_eq own name then Some entity else scope name
 
 -- a mistake, alone
 abbrev pub one_mistake : ℕ → ℕ → List Refusal
@@ -98,7 +105,7 @@ count (tree e es) = count es + 1
 -- the names of binders, behind those that were known
 abbrev pub bind : Binders → Scope → Scope
 bind no_binder scope = scope
-bind (binder name at range more) scope = bind more ((name, Constant 0) ∷ scope)
+bind (binder name at range more) scope = bind more (with_entity name (Constant 0) scope)
 
 -- whether an operator asks for a constant behind it
 abbrev pub asks_constant : MulOp → Bool
@@ -112,7 +119,7 @@ abbrev mutual
   of_number scope constant (Node at (t.Lit value)) = []
   of_number scope constant (Node at (t.Name name)) = of_use constant (entity_of scope name) 0 at
   of_number scope constant (Node at (t.Index name es)) = of_use constant (entity_of scope name) (count es) at ++ of_numbers scope constant es
-  of_number scope constant (Node at (t.Neg e)) = of_number scope constant e
+  of_number scope constant (Node at (t.Call f e)) = of_number scope constant e
   of_number scope constant (Node at (t.Add parts)) = of_terms scope constant parts
   of_number scope constant (Node at (t.Mul first others)) = of_number scope constant first ++ of_factors scope constant others
   of_number scope constant (Node at (t.Cmp op a b)) = of_number scope constant a ++ of_number scope constant b
@@ -122,9 +129,7 @@ abbrev mutual
   of_number scope constant (Node at (t.Implies a b)) =
       (no_condition a ++ of_number scope constant a) ++ (no_condition b ++ of_number scope constant b)
   of_number scope constant (Node at (t.Sum bs e)) = of_binders scope bs ++ of_number (bind bs scope) constant e
-  of_number scope constant (Node at (t.Least es)) = of_numbers scope constant es
-  of_number scope constant (Node at (t.Greatest es)) = of_numbers scope constant es
-  of_number scope constant (Node at (t.Abs e)) = of_number scope constant e
+  of_number scope constant (Node at (t.Selected which es)) = of_numbers scope constant es
   of_number scope constant (Node at (t.AllDifferent bs e)) = of_binders scope bs ++ of_number (bind bs scope) constant e
   of_number scope constant (Node at (t.Cumulative bs start length demand capacity)) =
       of_binders scope bs
@@ -155,7 +160,7 @@ abbrev mutual
   pub of_binders : Scope → Binders → List Refusal
   of_binders scope no_binder = []
   of_binders scope (binder name at range more) =
-      known_name (entity_of scope name) at ++ (of_range scope true range ++ of_binders ((name, Constant 0) ∷ scope) more)
+      known_name (entity_of scope name) at ++ (of_range scope true range ++ of_binders (with_entity name (Constant 0) scope) more)
 
   -- a range; `sets` says whether the name of a set will do
   pub of_range : Scope → Bool → Range → List Refusal
@@ -169,7 +174,7 @@ of_condition scope constant e = no_condition e ++ of_number scope constant e
 -- the name that a dimension goes by, behind those that were known
 abbrev pub bind_dim : Option (List ℕ) → Scope → Scope
 bind_dim None scope = scope
-bind_dim (Some name) scope = (name, Constant 0) ∷ scope
+bind_dim (Some name) scope = with_entity name (Constant 0) scope
 
 -- the names of dimensions, behind those that were known
 abbrev pub bind_dims : List DimTree → Scope → Scope
@@ -239,11 +244,11 @@ of_declaration scope (StochDecl name at dims dist stage) =
 
 -- the declared name, behind those that were known
 abbrev pub declare : Declaration → Scope → Scope
-declare (IntDecl name at dims value) scope = (name, Constant (length dims)) ∷ scope
-declare (RangeDecl name at lo hi) scope = (name, RangeName) ∷ scope
-declare (SetDecl name at elements) scope = (name, SetName) ∷ scope
-declare (DvarDecl name at dims range stage) scope = (name, Variable (length dims)) ∷ scope
-declare (StochDecl name at dims dist stage) scope = (name, Variable (length dims)) ∷ scope
+declare (IntDecl name at dims value) scope = with_entity name (Constant (length dims)) scope
+declare (RangeDecl name at lo hi) scope = with_entity name RangeName scope
+declare (SetDecl name at elements) scope = with_entity name SetName scope
+declare (DvarDecl name at dims range stage) scope = with_entity name (Variable (length dims)) scope
+declare (StochDecl name at dims dist stage) scope = with_entity name (Variable (length dims)) scope
 
 -- declarations: each name is known behind its own
 abbrev pub of_declarations : Scope → List Declaration → List Refusal
@@ -275,8 +280,8 @@ of_goal scope (Some goal) = of_number scope false goal.expr
 -- all mistakes of a model
 abbrev pub of_model : ModelTree → List Refusal
 of_model model =
-    of_declarations [] model.decls
-    ++ (of_goal (declare_all model.decls []) model.goal ++ of_constraints (declare_all model.decls []) (conses model.body))
+    of_declarations no_names model.decls
+    ++ (of_goal (declare_all model.decls no_names) model.goal ++ of_constraints (declare_all model.decls no_names) (conses model.body))
 
 -- the model has no mistake
 abbrev pub IsWellTyped : ModelTree → Type 0

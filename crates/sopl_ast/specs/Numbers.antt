@@ -1,12 +1,14 @@
 -- Whole numbers, lists of them and tasks: what constant expressions and the values of all expressions have in common.
-use Rattle.std.specs.Prelude.{ℕ, zero, suc, nat_le, ◌^◌, ℤ, pos, ◌+ℤ◌, ◌*ℤ◌, int_lt, int_le, Bool, true, false, not, ◌&&◌, List, [], ◌∷◌, length, map, Option, Some, None}
+use Rattle.std.specs.Prelude.{ℕ, zero, suc, nat_le, ◌^◌, ℤ, pos, neg_ℤ, ◌+ℤ◌, ◌*ℤ◌, int_lt, int_le, Bool, true, false, not, ◌&&◌, List, [], ◌∷◌, length, map, Option, Some, None}
 use Rattle.std.specs.Prelude.{option_map, option_and_then, if◌then◌else◌}
 use Rattle.std.specs.List.{flat_map, filter, fold, list_all, list_any, range_with_len}
 use Rattle.std.specs.Int.{int_gap}
-use Rattle.std.specs.Int.RustNames.{int_div, int_rem}
+use Rattle.std.specs.Int.RustNames.{int_div, int_rem, unsigned_abs}
 use Rattle.std.specs.Ordering.{int_eq}
 use Rattle.sopl_base.specs.declared.comparison.CmpOp.{CmpOp}
 use Rattle.sopl_base.specs.declared.comparison.CmpOp.TheVariants.{Eq, Ne, Lt, Le, Gt, Ge}
+use Rattle.sopl_ast.specs.declared.operators.Function.{Function}
+use Rattle.sopl_ast.specs.declared.operators.Function.TheVariants.{Negative, Size}
 use Rattle.sopl_ast.specs.declared.operators.MulOp.{MulOp}
 use Rattle.sopl_ast.specs.declared.operators.MulOp.TheVariants.{Times, Div, Mod}
 
@@ -74,6 +76,11 @@ abbrev pub applied : MulOp → ℤ → ℤ → Option ℤ
 applied Times x y = Some (x *ℤ y)
 applied Div x y = if int_eq y (pos 0) then None else Some (int_div x y)
 applied Mod x y = if int_eq y (pos 0) then None else Some (int_rem x y)
+
+-- what a function makes of a number: its negative, or its size
+abbrev pub called : Function → ℤ → ℤ
+called Negative x = neg_ℤ x
+called Size x = pos (unsigned_abs x)
 
 -- no two numbers are the same
 abbrev pub all_distinct : List ℤ → Bool

@@ -31,7 +31,7 @@ pub data Phrase : Type 0 → Type 1 where
   -- the terminal and what follows it, or the other phrase; it is read as the first where one of these kinds stands behind the terminal
   lookahead : {X T A : Type 0} → Terminal X → KindSet → Phrase T → Phrase A → Phrase (((ℕ × X) × T) ⊎ A)
 
--- whether a phrase may have no token
+-- whether a phrase may have no token: of two alternatives the second alone, as the test of rows asks; for the reader alone
 abbrev pub nullable : {A : Type 0} → Phrase A → Bool
 nullable (give a) = true
 nullable (terminal w) = false
@@ -48,7 +48,7 @@ abbrev pub when : Bool → KindSet → KindSet
 when true ks = ks
 when false ks = []
 
--- the kinds with which a phrase starts
+-- the kinds with which a phrase starts, for the reader alone
 abbrev pub starts : {A : Type 0} → Phrase A → KindSet
 starts (give a) = []
 starts (terminal w) = kinds_of w

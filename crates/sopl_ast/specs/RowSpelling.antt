@@ -1,6 +1,7 @@
 -- What a phrase spells: the tokens begin with its spelling, it has a value, and these tokens are left.
 -- `cut` says whether the tokens may end too early: where they do, what is still missing counts as spelled, whatever it is.
--- The kinds that a choice, a repetition and a lookahead have are for the reader alone: what is spelled does not depend on them.
+-- The kinds that a choice, a repetition and a lookahead have are for the reader alone: what is spelled does not depend on them. Those of
+-- `not_before` belong to what is spelled.
 use Rattle.std.specs.Prelude.{◌≡◌, ◌⊎◌, ℕ, zero, suc, Bool, true, false, List, [], ◌∷◌, Some}
 use mathlib.Core.Logic.{inl, inr}
 use Rattle.sopl_ast.specs.declared.token.Token.{Token}
@@ -56,7 +57,7 @@ IsSpelled cut inside (repetition ks p) ts x r = AreRepeated (IsSpelled cut insid
 IsSpelled cut inside (not_before ks p) ts x r = IsSpelled cut inside p ts x r × (has_kind ks (first_kind r) ≡ false)
 IsSpelled cut inside (lookahead w ks t p) ts x r = IsEither (IsTerminal cut w) (IsSpelled cut inside t) (IsSpelled cut inside p) ts x r
 
--- what each nonterminal spells where so many nestings may begin; nothing where none may
+-- what each nonterminal spells where so many nestings may be open, the one in which it stands and those inside it; nothing where none may
 abbrev pub SpelledInside : Bool → ℕ → Spellings
 SpelledInside cut zero s ts x r = ⊥
 SpelledInside cut (suc n) s ts x r = IsSpelled cut (SpelledInside cut n) (row s) ts x r

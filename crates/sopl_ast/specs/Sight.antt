@@ -10,7 +10,7 @@ abbrev pub shape_of_kind : Kind → t.Shape
 shape_of_kind (k.Lit value) = t.Lit value
 shape_of_kind (k.Name name) = t.Name name
 shape_of_kind (k.Index name es) = t.Index name (trees es)
-shape_of_kind (k.Neg a) = t.Neg a.value
+shape_of_kind (k.Call f a) = t.Call f a.value
 shape_of_kind (k.Add ts) = t.Add (terms ts)
 shape_of_kind (k.Mul fs) = t.Mul fs.first (factors fs.others)
 shape_of_kind (k.Cmp op a b) = t.Cmp op a.value b.value
@@ -19,9 +19,7 @@ shape_of_kind (k.And es) = t.And (trees es)
 shape_of_kind (k.Or es) = t.Or (trees es)
 shape_of_kind (k.Implies a b) = t.Implies a.value b.value
 shape_of_kind (k.Sum bs a) = t.Sum (binders bs) a.value
-shape_of_kind (k.Least es) = t.Least (trees es)
-shape_of_kind (k.Greatest es) = t.Greatest (trees es)
-shape_of_kind (k.Abs a) = t.Abs a.value
+shape_of_kind (k.Selected which es) = t.Selected which (trees es)
 shape_of_kind (k.AllDifferent bs a) = t.AllDifferent (binders bs) a.value
 shape_of_kind (k.Cumulative bs a b c d) = t.Cumulative (binders bs) a.value b.value c.value d.value
 

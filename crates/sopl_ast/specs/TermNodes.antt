@@ -19,7 +19,7 @@ abbrev mutual
   shape_nodes known (t.Lit v) = 1
   shape_nodes known (t.Name name) = 1
   shape_nodes known (t.Index name es) = 1 + all_nodes known es
-  shape_nodes known (t.Neg e) = 1 + nodes known e
+  shape_nodes known (t.Call f e) = 1 + nodes known e
   shape_nodes known (t.Add parts) = 1 + term_nodes known parts
   shape_nodes known (t.Mul first others) = 1 + (nodes known first + factor_nodes known others)
   shape_nodes known (t.Cmp op a b) = 1 + (nodes known a + nodes known b)
@@ -28,9 +28,7 @@ abbrev mutual
   shape_nodes known (t.Or es) = 1 + all_nodes known es
   shape_nodes known (t.Implies a b) = 1 + (nodes known a + nodes known b)
   shape_nodes known (t.Sum bs e) = 1 + sum_by (λ here. nodes here e) (all_bindings known bs)
-  shape_nodes known (t.Least es) = 1 + all_nodes known es
-  shape_nodes known (t.Greatest es) = 1 + all_nodes known es
-  shape_nodes known (t.Abs e) = 1 + nodes known e
+  shape_nodes known (t.Selected which es) = 1 + all_nodes known es
   shape_nodes known (t.AllDifferent bs e) = 1 + sum_by (λ here. nodes here e) (all_bindings known bs)
   shape_nodes known (t.Cumulative bs start duration demand capacity) =
       1 + (sum_by (λ here. nodes here start + (nodes here duration + nodes here demand)) (all_bindings known bs) + nodes known capacity)

@@ -2,6 +2,8 @@
 -- A node's place is the offset of its first byte in the text.
 use Rattle.std.specs.Prelude.{ℕ, ℤ, Bool, List}
 use Rattle.sopl_base.specs.declared.comparison.CmpOp.{CmpOp}
+use Rattle.sopl_base.specs.declared.extreme.Extreme.{Extreme}
+use Rattle.sopl_ast.specs.declared.operators.Function.{Function}
 use Rattle.sopl_ast.specs.declared.operators.MulOp.{MulOp}
 
 mutual
@@ -13,7 +15,7 @@ mutual
     Lit : ℤ → Shape
     Name : List ℕ → Shape
     Index : List ℕ → Trees → Shape
-    Neg : Tree → Shape
+    Call : Function → Tree → Shape
     Add : Terms → Shape
     Mul : Tree → Factors → Shape
     Cmp : CmpOp → Tree → Tree → Shape
@@ -22,9 +24,7 @@ mutual
     Or : Trees → Shape
     Implies : Tree → Tree → Shape
     Sum : Binders → Tree → Shape
-    Least : Trees → Shape
-    Greatest : Trees → Shape
-    Abs : Tree → Shape
+    Selected : Extreme → Trees → Shape
     AllDifferent : Binders → Tree → Shape
     Cumulative : Binders → Tree → Tree → Tree → Tree → Shape
 

@@ -62,50 +62,59 @@ most_numbers = 65536
 abbrev pub too_many : ℕ → ℕ → List UnfoldEvent
 too_many code count = if nat_le count most_numbers then [] else Passed (excess code (pos count) (pos most_numbers)) ∷ []
 
+-- whether a value is there and is 0
+abbrev pub is_zero : Option ℤ → Bool
+is_zero None = false
+is_zero (Some x) = int_eq x (pos 0)
+
 abbrev mutual
-  -- an expression in a constant place, inside the one that begins at `whole`
-  pub constant_events : Known → ℕ → Tree → List UnfoldEvent
-  constant_events known whole (Node at shape) = inside_events known whole shape ++ no_value (value known (Node at shape)) whole
+  -- an expression: inside the constant expression that begins at `whole`, which is refused there where this one has no value (110); or, with none, in
+  -- a constraint or an objective
+  pub events_in : Option ℕ → Known → Tree → List UnfoldEvent
+  events_in None known (Node at shape) = inside_events None known shape
+  events_in (Some whole) known (Node at shape) = inside_events (Some whole) known shape ++ no_value (value known (Node at shape)) whole
 
   -- its parts
-  pub inside_events : Known → ℕ → Shape → List UnfoldEvent
-  inside_events known whole (t.Lit z) = []
-  inside_events known whole (t.Name name) = []
-  inside_events known whole (t.Index name es) = constants_events known whole es
-  inside_events known whole (t.Neg e) = constant_events known whole e
-  inside_events known whole (t.Add parts) = constant_terms_events known whole parts
-  inside_events known whole (t.Mul first others) = constant_events known whole first ++ constant_factors_events known whole (value known first) others
-  inside_events known whole (t.Cmp op a b) = constant_events known whole a ++ constant_events known whole b
-  inside_events known whole (t.Not e) = constant_events known whole e
-  inside_events known whole (t.And es) = constants_events known whole es
-  inside_events known whole (t.Or es) = constants_events known whole es
-  inside_events known whole (t.Implies a b) = constant_events known whole a ++ constant_events known whole b
-  inside_events known whole (t.Sum bs e) = binding_events known (Some whole) bs (λ here. constant_events here whole e)
-  inside_events known whole (t.Least es) = constants_events known whole es
-  inside_events known whole (t.Greatest es) = constants_events known whole es
-  inside_events known whole (t.Abs e) = constant_events known whole e
-  inside_events known whole (t.AllDifferent bs e) = binding_events known (Some whole) bs (λ here. constant_events here whole e)
-  inside_events known whole (t.Cumulative bs start duration demand capacity) =
-      binding_events known (Some whole) bs (λ here. constant_events here whole start ++ (constant_events here whole duration ++ constant_events here whole demand))
-      ++ constant_events known whole capacity
+  pub inside_events : Option ℕ → Known → Shape → List UnfoldEvent
+  inside_events whole known (t.Lit z) = []
+  inside_events whole known (t.Name name) = []
+  inside_events whole known (t.Index name es) = all_events whole known es
+  inside_events whole known (t.Call f e) = events_in whole known e
+  inside_events whole known (t.Add parts) = terms_events whole known parts
+  inside_events whole known (t.Mul first others) = events_in whole known first ++ factors_events whole known (value known first) others
+  inside_events whole known (t.Cmp op a b) = events_in whole known a ++ events_in whole known b
+  inside_events whole known (t.Not e) = events_in whole known e
+  inside_events whole known (t.And es) = all_events whole known es
+  inside_events whole known (t.Or es) = all_events whole known es
+  inside_events whole known (t.Implies a b) = events_in whole known a ++ events_in whole known b
+  inside_events whole known (t.Sum bs e) = binding_events known whole bs (λ here. events_in whole here e)
+  inside_events whole known (t.Selected which es) = all_events whole known es
+  inside_events whole known (t.AllDifferent bs e) = binding_events known whole bs (λ here. events_in whole here e)
+  inside_events whole known (t.Cumulative bs start duration demand capacity) =
+      binding_events known whole bs (λ here. events_in whole here start ++ (events_in whole here duration ++ events_in whole here demand)) ++ events_in whole known capacity
 
-  -- expressions in a constant place, in order
-  pub constants_events : Known → ℕ → Trees → List UnfoldEvent
-  constants_events known whole no_tree = []
-  constants_events known whole (tree e es) = constant_events known whole e ++ constants_events known whole es
+  -- expressions in order
+  pub all_events : Option ℕ → Known → Trees → List UnfoldEvent
+  all_events whole known no_tree = []
+  all_events whole known (tree e es) = events_in whole known e ++ all_events whole known es
 
   -- the parts of a chain of `+` and `-`
-  pub constant_terms_events : Known → ℕ → Terms → List UnfoldEvent
-  constant_terms_events known whole no_term = []
-  constant_terms_events known whole (term minus e more) = constant_events known whole e ++ constant_terms_events known whole more
+  pub terms_events : Option ℕ → Known → Terms → List UnfoldEvent
+  terms_events whole known no_term = []
+  terms_events whole known (term minus e more) = events_in whole known e ++ terms_events whole known more
 
-  -- the factors behind what stands before them; each prefix of the product has a value
-  pub constant_factors_events : Known → ℕ → Option ℤ → Factors → List UnfoldEvent
-  constant_factors_events known whole before no_factor = []
-  constant_factors_events known whole before (factor op e more) =
-      constant_events known whole e
-      ++ (no_value (applied_within op before (value known e)) whole
-      ++ constant_factors_events known whole (applied_within op before (value known e)) more)
+  -- the factors behind what stands before them: inside a constant expression each prefix of the product has a value (110); else a divisor is a
+  -- constant place of its own, and is not 0 (110)
+  pub factors_events : Option ℕ → Known → Option ℤ → Factors → List UnfoldEvent
+  factors_events whole known before no_factor = []
+  factors_events (Some whole) known before (factor op e more) =
+      events_in (Some whole) known e
+      ++ (no_value (applied_within op before (value known e)) whole ++ factors_events (Some whole) known (applied_within op before (value known e)) more)
+  factors_events None known before (factor Times e more) = events_in None known e ++ factors_events None known before more
+  factors_events None known before (factor Div e more) =
+      (events_in (Some (place_of e)) known e ++ refused_unless (not (is_zero (value known e))) 110 (place_of e)) ++ factors_events None known before more
+  factors_events None known before (factor Mod e more) =
+      (events_in (Some (place_of e)) known e ++ refused_unless (not (is_zero (value known e))) 110 (place_of e)) ++ factors_events None known before more
 
   -- binders, and what is met for each way in which they take their values, which are counted; their ranges are constant places, which belong to the
   -- expression that begins at `whole`, if there is one
@@ -119,62 +128,20 @@ abbrev mutual
   pub range_events : Known → Option ℕ → Range → List UnfoldEvent
   range_events known whole (Named name at) = []
   range_events known whole (Ends lo hi) =
-      constant_events known (unwrap_or whole (place_of lo)) lo
-      ++ (constant_events known (unwrap_or whole (place_of hi)) hi ++ too_many 208 (count_between (value_or_zero known lo) (value_or_zero known hi)))
+      events_in (Some (unwrap_or whole (place_of lo))) known lo
+      ++ (events_in (Some (unwrap_or whole (place_of hi))) known hi ++ too_many 208 (count_between (value_or_zero known lo) (value_or_zero known hi)))
 
--- an expression that is a constant place of its own
+-- an expression inside the constant expression that begins at `whole`, one that is a constant place of its own, and one of a constraint or an
+-- objective
+abbrev pub constant_events : Known → ℕ → Tree → List UnfoldEvent
+constant_events known whole e = events_in (Some whole) known e
+
 abbrev pub constant_place : Known → Tree → List UnfoldEvent
 constant_place known e = constant_events known (place_of e) e
 
--- whether a value is there and is 0
-abbrev pub is_zero : Option ℤ → Bool
-is_zero None = false
-is_zero (Some x) = int_eq x (pos 0)
+abbrev pub expression_events : Known → Tree → List UnfoldEvent
+expression_events known e = events_in None known e
 
 -- 110: a divisor has no value, or is 0
 abbrev pub divisor_events : Known → Tree → List UnfoldEvent
 divisor_events known e = constant_place known e ++ refused_unless (not (is_zero (value known e))) 110 (place_of e)
-
-abbrev mutual
-  -- an expression of a constraint or an objective: its divisors and the ranges of its binders are constant places
-  pub expression_events : Known → Tree → List UnfoldEvent
-  expression_events known (Node at shape) = parts_events known shape
-
-  -- its parts
-  pub parts_events : Known → Shape → List UnfoldEvent
-  parts_events known (t.Lit z) = []
-  parts_events known (t.Name name) = []
-  parts_events known (t.Index name es) = expressions_events known es
-  parts_events known (t.Neg e) = expression_events known e
-  parts_events known (t.Add parts) = terms_events known parts
-  parts_events known (t.Mul first others) = expression_events known first ++ factors_events known others
-  parts_events known (t.Cmp op a b) = expression_events known a ++ expression_events known b
-  parts_events known (t.Not e) = expression_events known e
-  parts_events known (t.And es) = expressions_events known es
-  parts_events known (t.Or es) = expressions_events known es
-  parts_events known (t.Implies a b) = expression_events known a ++ expression_events known b
-  parts_events known (t.Sum bs e) = binding_events known None bs (λ here. expression_events here e)
-  parts_events known (t.Least es) = expressions_events known es
-  parts_events known (t.Greatest es) = expressions_events known es
-  parts_events known (t.Abs e) = expression_events known e
-  parts_events known (t.AllDifferent bs e) = binding_events known None bs (λ here. expression_events here e)
-  parts_events known (t.Cumulative bs start duration demand capacity) =
-      binding_events known None bs (λ here. expression_events here start ++ (expression_events here duration ++ expression_events here demand))
-      ++ expression_events known capacity
-
-  -- expressions in order
-  pub expressions_events : Known → Trees → List UnfoldEvent
-  expressions_events known no_tree = []
-  expressions_events known (tree e es) = expression_events known e ++ expressions_events known es
-
-  -- the parts of a chain of `+` and `-`
-  pub terms_events : Known → Terms → List UnfoldEvent
-  terms_events known no_term = []
-  terms_events known (term minus e more) = expression_events known e ++ terms_events known more
-
-  -- the factors of a product
-  pub factors_events : Known → Factors → List UnfoldEvent
-  factors_events known no_factor = []
-  factors_events known (factor Times e more) = expression_events known e ++ factors_events known more
-  factors_events known (factor Div e more) = divisor_events known e ++ factors_events known more
-  factors_events known (factor Mod e more) = divisor_events known e ++ factors_events known more

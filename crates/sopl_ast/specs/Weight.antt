@@ -3,7 +3,7 @@ use Rattle.std.specs.Prelude.{ℕ, Bool, ◌+◌, ◌≤◌, max, List, [], ◌�
 use Rattle.std.proofs.Common.{arith}
 use denote.Param.Weighed.{most}
 use Rattle.sopl_ast.specs.declared.operators.MulOp.{MulOp}
-use Rattle.sopl_ast.specs.Tree.{Tree, Node, Shape, Lit, Name, Index, Neg, Add, Mul, Cmp, Not, And, Or, Implies, Sum, Least, Greatest, Abs, AllDifferent, Cumulative, Trees, no_tree}
+use Rattle.sopl_ast.specs.Tree.{Tree, Node, Shape, Lit, Name, Index, Call, Add, Mul, Cmp, Not, And, Or, Implies, Sum, Selected, AllDifferent, Cumulative, Trees, no_tree}
 use Rattle.sopl_ast.specs.Tree.{tree, Terms, no_term, term, Factors, no_factor, factor, Binders, no_binder, binder, Range, Named, Ends}
 use Rattle.sopl_ast.specs.Lists.{BinderTree, Product, trees, terms, factors, binders}
 
@@ -15,7 +15,7 @@ abbrev mutual
   weight_shape (Lit x1) = 0
   weight_shape (Name x1) = 0
   weight_shape (Index x1 x2) = weight_trees x2 + 2
-  weight_shape (Neg x1) = weight x1 + 2
+  weight_shape (Call x1 x2) = weight x2 + 2
   weight_shape (Add x1) = weight_terms x1 + 2
   weight_shape (Mul x1 x2) = weight x1 + weight_factors x2 + 2
   weight_shape (Cmp x1 x2 x3) = weight x2 + weight x3 + 2
@@ -24,9 +24,7 @@ abbrev mutual
   weight_shape (Or x1) = weight_trees x1 + 2
   weight_shape (Implies x1 x2) = weight x1 + weight x2 + 2
   weight_shape (Sum x1 x2) = weight_binders x1 + weight x2 + 2
-  weight_shape (Least x1) = weight_trees x1 + 2
-  weight_shape (Greatest x1) = weight_trees x1 + 2
-  weight_shape (Abs x1) = weight x1 + 2
+  weight_shape (Selected x1 x2) = weight_trees x2 + 2
   weight_shape (AllDifferent x1 x2) = weight_binders x1 + weight x2 + 2
   weight_shape (Cumulative x1 x2 x3 x4 x5) = weight_binders x1 + weight x2 + weight x3 + weight x4 + weight x5 + 2
 

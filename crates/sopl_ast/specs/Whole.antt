@@ -68,8 +68,3 @@ inits_list (init x xs) = x ∷ inits_list xs
 abbrev pub conses : List ConsTree → ConsTrees
 conses [] = no_cons
 conses (c ∷ cs) = cons c (conses cs)
-
--- the constraints that a block holds
-abbrev pub conses_list : ConsTrees → List ConsTree
-conses_list no_cons = []
-conses_list (cons c cs) = c ∷ conses_list cs

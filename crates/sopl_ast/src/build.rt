@@ -1,8 +1,7 @@
 //! Ways to build expressions and constraints.
 
 ghost use Rattle.std.specs.Prelude.{◌≡◌, IfOk};
-ghost use Rattle.sopl_ast.specs.Tree.{Node, Lit, Name as NameTree, Index, Neg, Add, Mul, Cmp, Not, And, Or, Implies, Sum, Abs, AllDifferent, Cumulative, place_of, shape_of};
-ghost use Rattle.sopl_ast.specs.ExpressionRows.{extreme_of};
+ghost use Rattle.sopl_ast.specs.Tree.{Node, Lit, Name as NameTree, Index, Call, Add, Mul, Cmp, Not, And, Or, Implies, Sum, Selected, AllDifferent, Cumulative, place_of, shape_of};
 ghost use Rattle.sopl_ast.specs.Lists.{trees, terms, factors, binders};
 ghost use Rattle.sopl_ast.specs.Whole.{ForallTree, BlockTree, HardTree, ChanceTree, conses};
 ghost use Rattle.sopl_ast.specs.Constraints.{cons_tree, cons_trees};
@@ -13,7 +12,8 @@ use crate::constraints::{Cons, ConsList};
 use crate::expr::{Expr, Kind};
 use crate::exprs::Exprs;
 use crate::name::Name;
-use sopl_base::CmpOp;
+use crate::operators::Function;
+use sopl_base::{CmpOp, Extreme};
 use std::alloc::{AllocError, Global};
 
 /// A task of `cumulative`: when it starts, how long it lasts, and what it demands of the capacity.
@@ -64,14 +64,19 @@ impl Expr {
         }
     }
 
-    /// The operand with its sign changed.
-    pub fn negative(alloc: Global, at: usize, operand: Expr) -> Result<Expr, AllocError>
-        ensures built { IfOk result (λ e. e ≡ Node at (Neg operand)) }
+    /// A function of the operand.
+    pub fn call(
+        alloc: Global,
+        at: usize,
+        function: Function,
+        operand: Expr,
+    ) -> Result<Expr, AllocError>
+        ensures built { IfOk result (λ e. e ≡ Node at (Call function operand)) }
     {
         let operand = Box::new(alloc, operand)?;
         Ok(Expr {
             at,
-            kind: Kind::Neg(operand),
+            kind: Kind::Call(function, operand),
         })
     }
 
@@ -163,27 +168,14 @@ impl Expr {
         })
     }
 
-    /// The greatest of the parts, or the least.
-    pub fn extreme(at: usize, greatest: bool, parts: Exprs) -> Expr
-        ensures built { result ≡ Node at (extreme_of greatest (trees parts)) }
+    /// The least or the greatest of the parts.
+    pub fn selected(at: usize, which: Extreme, parts: Exprs) -> Expr
+        ensures built { result ≡ Node at (Selected which (trees parts)) }
     {
-        let kind = if greatest {
-            Kind::Greatest(parts)
-        } else {
-            Kind::Least(parts)
-        };
-        Expr { at, kind }
-    }
-
-    /// The size of the operand.
-    pub fn absolute(alloc: Global, at: usize, operand: Expr) -> Result<Expr, AllocError>
-        ensures built { IfOk result (λ e. e ≡ Node at (Abs operand)) }
-    {
-        let operand = Box::new(alloc, operand)?;
-        Ok(Expr {
+        Expr {
             at,
-            kind: Kind::Abs(operand),
-        })
+            kind: Kind::Selected(which, parts),
+        }
     }
 
     /// True where the operand differs for any two values of the binders.

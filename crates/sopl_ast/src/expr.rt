@@ -6,7 +6,8 @@ use crate::binders::Binders;
 use crate::chains::{Factors, Terms};
 use crate::exprs::Exprs;
 use crate::name::Name;
-use sopl_base::CmpOp;
+use crate::operators::Function;
+use sopl_base::{CmpOp, Extreme};
 use std::marker::Model;
 
 /// An expression: the offset of its first byte in the text, and what it is.
@@ -24,7 +25,7 @@ pub enum Kind {
     Lit(i64),
     Name(Name),
     Index(Name, Exprs),
-    Neg(Box<Expr>),
+    Call(Function, Box<Expr>),
     Add(Terms),
     Mul(Factors),
     Cmp(CmpOp, Box<Expr>, Box<Expr>),
@@ -33,9 +34,7 @@ pub enum Kind {
     Or(Exprs),
     Implies(Box<Expr>, Box<Expr>),
     Sum(Binders, Box<Expr>),
-    Least(Exprs),
-    Greatest(Exprs),
-    Abs(Box<Expr>),
+    Selected(Extreme, Exprs),
     AllDifferent(Binders, Box<Expr>),
     Cumulative(Binders, Box<Expr>, Box<Expr>, Box<Expr>, Box<Expr>),
 }

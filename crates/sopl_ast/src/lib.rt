@@ -1,6 +1,6 @@
 //! The tokens and the syntax tree of a model text, and what the language means: the definitions in
 //! `specs/` that every contract above cites.
-//! Its tests stand in `compile_tests`, and in `tree_tests` of `scen_accept`.
+//! Its tests stand in `compile_tests`, and those of trees that are built call by call in `ground_tests`.
 #![tactic(auto)]
 
 mod binders;
@@ -26,6 +26,6 @@ pub use expr::{Expr, Kind};
 pub use exprs::Exprs;
 pub use inits::{Init, Inits};
 pub use name::Name;
-pub use operators::MulOp;
+pub use operators::{Function, MulOp};
 pub use token::{Token, TokenKind};
 pub use whole::{Goal, Model};

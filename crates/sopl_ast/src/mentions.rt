@@ -29,13 +29,13 @@ impl Expr {
             Kind::Lit(_) => false,
             Kind::Name(own) => same(own, name),
             Kind::Index(own, parts) => same(own, name) || in_some(parts.as_slice(), name),
-            Kind::Neg(a) | Kind::Not(a) | Kind::Abs(a) => a.mentions(name),
+            Kind::Call(_, a) | Kind::Not(a) => a.mentions(name),
             Kind::Add(parts) => in_some_term(parts.as_slice(), name),
             Kind::Mul(parts) => {
                 parts.first().mentions(name) || in_some_factor(parts.as_slice(), name)
             }
             Kind::Cmp(_, a, b) | Kind::Implies(a, b) => a.mentions(name) || b.mentions(name),
-            Kind::And(parts) | Kind::Or(parts) | Kind::Least(parts) | Kind::Greatest(parts) => {
+            Kind::And(parts) | Kind::Or(parts) | Kind::Selected(_, parts) => {
                 in_some(parts.as_slice(), name)
             }
             Kind::Sum(over, a) | Kind::AllDifferent(over, a) => {

@@ -2,7 +2,6 @@
 use Rattle.std.proofs.Common.{ℤ, ℕ, neg_ℤ, pos, ◌≤ℤ◌, unsigned_abs, ◌≤◌, arith, negsuc, ◌+ℤ◌, ◌+◌, SFits, w64, to_z, of_z, ◌≡◌, zero, refl, suc, subst, sym, ◌/◌}
 use Rattle.std.proofs.Math.Nat.{div-le_self}
 use Rattle.std.proofs.lemmas.Int.{ints, to_z-of_z}
-use Rattle.std.specs.Int.{w128}
 use Rattle.std.specs.Int.RustNames.{int_div}
 
 pub sized : (z : ℤ) (n : ℕ) → neg_ℤ (pos n) ≤ℤ z → z ≤ℤ pos n → unsigned_abs z ≤ n
@@ -14,9 +13,6 @@ plus_size a b = omega (arith, ints)
 
 pub same_small : (x : ℤ) → SFits w64 x → to_z w64 (of_z w64 x) ≡ x
 same_small x fits = to_z-of_z w64 x fits
-
-pub same_large : (x : ℤ) → SFits w128 x → to_z w128 (of_z w128 x) ≡ x
-same_large x fits = to_z-of_z w128 x fits
 
 pub size_neg : (n : ℕ) → unsigned_abs (neg_ℤ (pos n)) ≡ n
 size_neg zero = refl

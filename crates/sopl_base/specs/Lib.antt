@@ -1,1 +1,2 @@
 pub mod Better
+pub mod Extremes

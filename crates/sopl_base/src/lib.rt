@@ -5,6 +5,7 @@
 pub mod codes;
 mod comparison;
 mod direction;
+mod extreme;
 mod fault;
 mod interval;
 pub mod limits;
@@ -17,6 +18,7 @@ mod wide;
 
 pub use comparison::CmpOp;
 pub use direction::Direction;
+pub use extreme::Extreme;
 pub use fault::{Excess, Fault, Refusal};
 pub use interval::Interval;
 pub use numbers::{better, bits, midpoint, reaches};

@@ -1,6 +1,6 @@
 -- The sizes of a problem's terms, part by part.
-use Rattle.std.proofs.Common.{arith, ◌≡◌, ◌∙◌, refl, sym, ap, subst, ◌⊎◌, inl, inr, ℕ, ◌+◌, ◌-◌, ◌^◌, min, ℤ, pos, negsuc, ◌*ℤ◌, ◌≤ℤ◌, ◌<ℤ◌, false, List, [], ◌++◌, Option, Some}
-use Rattle.std.proofs.Common.{None, IfSome, option_map, unwrap_or, Result}
+use Rattle.std.proofs.Common.{arith, ◌≡◌, ◌∙◌, refl, sym, ap, subst, ◌⊎◌, ◌+◌, ◌-◌, ◌^◌, min, ℤ, pos, negsuc, ◌*ℤ◌, ◌≤ℤ◌, ◌<ℤ◌, false, List, [], ◌++◌, Option, Some}
+use Rattle.std.proofs.Common.{None, IfSome, option_map, Result}
 use Rattle.std.proofs.lemmas.Int.{ints, clamps}
 use Rattle.std.specs.Int.{int_min, saturate_signed, w128}
 use Rattle.std.specs.List.{flat_map}
@@ -49,16 +49,6 @@ module _ (root : Box) (terms : ProblemTerms) where
       → Measures root (measured_terms terms) result
   goal_measures result hards chances measures =
       measures_in_turn root in_hards (in_chances ++ in_goal) result hards (measures_in_turn root in_chances in_goal result chances measures)
-
-  -- a fault of a term's size
-  found : (n : Option ℕ) (fault : Fault) → option_map (λ n. Limit (large_excess n)) n ≡ Some fault
-      → (e : Excess) × (fault ≡ Limit e) × (or_else (option_map large_excess n) (goal_excess root terms) ≡ Some e)
-  found None fault is = absurd (cc)
-  found (Some n) fault is = (large_excess n, ap (λ (o : Option Fault). unwrap_or o fault) (sym is), refl)
-
-  pub size_limit : (fault : Fault) → IsSizeFault root (measured_terms terms) fault → IsLimitOf (measured_excess root terms) fault
-  size_limit fault (inl memory) = inl memory
-  size_limit fault (inr is) = inr (found (first_large root (measured_terms terms)) fault is)
 
   -- behind terms that are small the objective's number counts
   pub goal_alone : first_large root (measured_terms terms) ≡ None → measured_excess root terms ≡ goal_excess root terms

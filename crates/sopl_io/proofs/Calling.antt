@@ -1,7 +1,6 @@
 -- Calls behind one another.
-use Rattle.std.proofs.Common.{◌≡◌, ℕ, Result, Ok, Err, sym, ap, subst}
-use Rattle.sopl_io.specs.Calls.{Outcomes, succeeded, failed, with_call, AllSucceeded, no_call, call_more, LastFailed, StopsAtFailure, StopsWhere, counted, outcome_of}
-use Rattle.sopl_io.specs.Causes.{count_after}
+use Rattle.std.proofs.Common.{◌≡◌, Result, Ok, Err, sym, subst}
+use Rattle.sopl_io.specs.Calls.{Outcomes, succeeded, failed, with_call, AllSucceeded, no_call, call_more, LastFailed, StopsAtFailure, StopsWhere}
 
 -- no call
 pub none_called : (calls : Outcomes) → AllSucceeded calls calls
@@ -41,8 +40,3 @@ where_all before now not_so all = record { all = λ _. all; last = λ so. absurd
 
 pub where_last : {F : Type 0} (before now : Outcomes) → F → LastFailed before now → StopsWhere F before now
 where_last before now so last = record { all = λ not_so. absurd (not_so so); last = λ _. last }
-
--- where the number of failures alone is told
-pub counted_call : {T E : Type 0} (before now : ℕ) (result : Result T E) → now ≡ count_after result before → counted now ≡ with_call (counted before) (outcome_of result)
-counted_call before now (Ok value) is = ap counted is
-counted_call before now (Err error) is = ap counted is

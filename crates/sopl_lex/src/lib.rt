@@ -1,12 +1,10 @@
 //! The tokens of a model text.
-//! Its tests stand in `tests`.
+//! Its tests stand in `ground_tests`.
 #![tactic(auto)]
 
 mod pieces;
 mod runs;
 mod tables;
-#[cfg(test)]
-mod tests;
 
 ghost use Rattle.std.specs.Prelude.{◌≡◌, ℕ, ◌<◌, ◌≤◌, List, [], ◌∷◌, ◌++◌, length, Result, IfOk, IfErr, OnOk};
 ghost use Rattle.sopl_base.specs.declared.fault.Refusal.{Refusal};

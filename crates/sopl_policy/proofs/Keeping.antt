@@ -19,7 +19,7 @@ use Rattle.policy_tree.proofs.Bijection.{cell_value}
 use Rattle.policy_tree.proofs.Once.{same_is}
 use Rattle.unfold_laws.specs.Bounds.{IsBoundedDecision, IsStage}
 use Rattle.sopl_scen.specs.Layout.{IsTreeOf, Layout, cell_at, histories_in, history_in}
-use Rattle.sopl_policy.specs.Kept.{HasHistory, IsPolicyFor, PolicyCells, firsts_from, first_cell, policy_map, value_kept}
+use Rattle.sopl_policy.specs.Kept.{IsPolicyFor, PolicyCells, firsts_from, first_cell, policy_map, value_kept}
 use Rattle.sopl_policy.specs.Laid.{cells_end, laid_firsts}
 use Rattle.sopl_policy.proofs.Laid.{each_before_end}
 
@@ -98,25 +98,7 @@ module _ (ss : List Stochastic) where
         ap (slice_get (cells_of ss (n, e) ++ later)) where_is ∙ get_behind (cells_of ss (n, e)) later (more.0 + h) ∙ more.3 ∙ ap (λ m. Some (cell_at m d seen)) (omega arith),
       )
 
-firsts_long : (ss : List Stochastic) (first : ℕ) (ds : List Decision) → length (firsts_from ss first ds) ≡ suc (length ds)
-firsts_long ss first [] = refl
-firsts_long ss first (d ∷ ds) = ap suc (firsts_long ss (first + length (histories d.stage ss)) ds)
-
 module _ (problem : Problem) (kept : PolicyCells) (is : IsPolicyFor problem kept) where
-  -- a decision has a cell for each history of its stage
-  pub history_kept : (j h : ℕ) (d : Decision) (seen : List ℤ) → slice_get problem.decisions j ≡ Some d → slice_get (histories d.stage problem.stochastics) h ≡ Some seen
-      → HasHistory kept j h
-  history_kept j h d seen decided at =
-      let ss : List Stochastic = problem.stochastics in
-      let there = placed ss 0 0 problem.decisions j h d seen decided at in
-      let one : get_or kept.firsts j 0 ≡ there.0 = ap (λ ns. get_or ns j 0) is.firsts ∙ there.1 ∙ omega arith in
-      let two : get_or kept.firsts (suc j) 0 ≡ there.0 + length (histories d.stage ss) = ap (λ ns. get_or ns (suc j) 0) is.firsts ∙ there.2 ∙ omega arith in
-      let long : length kept.firsts ≡ suc (length problem.decisions) = ap length is.firsts ∙ firsts_long ss 0 problem.decisions in
-      record {
-        decided = omega (arith, long, slice_get_within problem.decisions j d decided);
-        seen = omega (arith, one, two, slice_get_within (histories d.stage ss) h seen at);
-      }
-
   -- and there the map has the value that is kept
   pub value_mapped : (j h : ℕ) (d : Decision) (seen : List ℤ) → slice_get problem.decisions j ≡ Some d → slice_get (histories d.stage problem.stochastics) h ≡ Some seen
       → get (policy_map problem kept) (j, seen) ≡ Some (value_kept kept j h)

@@ -1,7 +1,7 @@
 -- Where the cells of each decision begin, one decision after the other.
 use native.Mathlib.Omega.{arith}
-use Rattle.std.proofs.Common.{◌≡◌, ◌∙◌, ◌+◌, ◌<◌, ◌≤◌, ◌^◌, ℕ, zero, suc, List, [], ◌∷◌, ◌++◌, length, drop, get_or, sym, ap}
-use Rattle.std.proofs.lemmas.List.{drop_more, drop_all, append_assoc}
+use Rattle.std.proofs.Common.{◌≡◌, ◌∙◌, ◌+◌, ◌<◌, ◌≤◌, ◌^◌, ℕ, zero, suc, List, [], ◌∷◌, length, drop, get_or, sym, ap}
+use Rattle.std.proofs.lemmas.List.{drop_more}
 use Rattle.sopl_ast.specs.Instances.{Decision}
 use Rattle.sopl_scen.specs.Layout.{Layout, histories_in}
 use Rattle.sopl_policy.specs.Laid.{cells_end, laid_firsts}
@@ -26,16 +26,6 @@ module _ (tree : Layout) (ds : List Decision) (i first : ℕ) where
     pub end_next : cells_end tree first (drop i ds) ≡ cells_end tree 0 ds → cells_end tree (first + histories_in tree d.stage) (drop (i + 1) ds) ≡ cells_end tree 0 ds
     end_next so = sym (ap (cells_end tree first) next) ∙ so
 
-    pub firsts_next : (old new : List ℕ) → new ≡ old ++ first ∷ [] → old ++ laid_firsts tree first (drop i ds) ≡ laid_firsts tree 0 ds
-        → new ++ laid_firsts tree (first + histories_in tree d.stage) (drop (i + 1) ds) ≡ laid_firsts tree 0 ds
-    firsts_next old new pushed so =
-        ap (λ xs. xs ++ laid_firsts tree (first + histories_in tree d.stage) (drop (i + 1) ds)) pushed
-        ∙ append_assoc old (first ∷ []) (laid_firsts tree (first + histories_in tree d.stage) (drop (i + 1) ds))
-        ∙ ap (λ xs. old ++ laid_firsts tree first xs) (sym next) ∙ so
-
     pub room_next : cells_end tree first (drop i ds) ≡ cells_end tree 0 ds → cells_end tree 0 ds < 2 ^ 64 → first + histories_in tree d.stage < 2 ^ 64
     room_next so few =
         omega (arith, few, end_next so, end_behind tree (first + histories_in tree d.stage) (drop (i + 1) ds))
-
-  pub firsts_all : (old new : List ℕ) → length ds ≤ i → new ≡ old ++ first ∷ [] → old ++ laid_firsts tree first (drop i ds) ≡ laid_firsts tree 0 ds → new ≡ laid_firsts tree 0 ds
-  firsts_all old new all pushed so = pushed ∙ ap (λ xs. old ++ laid_firsts tree first xs) (sym (drop_all i ds all)) ∙ so

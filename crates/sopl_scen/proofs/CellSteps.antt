@@ -1,8 +1,7 @@
 -- The cells and the bits of decisions, one decision after the other.
-use Rattle.std.proofs.Common.{◌≡◌, ◌+◌, ◌*◌, ◌≤◌, ◌<◌, ◌^◌, ◌++◌, ℕ, ℤ, pos, ◌+ℤ◌, List, [], ◌∷◌, length, drop, get_or, unsigned_abs, append_assoc, arith, refl, sym, ap, subst, ◌∙◌}
+use Rattle.std.proofs.Common.{◌≡◌, ◌+◌, ◌*◌, ◌≤◌, ◌<◌, ◌^◌, ◌++◌, ℕ, ℤ, pos, ◌+ℤ◌, List, [], ◌∷◌, length, drop, get_or, unsigned_abs, append_assoc, arith, sym, ap, subst, ◌∙◌}
 use Rattle.std.proofs.Math.Nat.{mul-le-mul_right}
 use Rattle.std.proofs.lemmas.Int.{ints}
-use Rattle.std.proofs.lemmas.List.{append-nil, at_drop_all}
 use Rattle.std.proofs.lemmas.List.Sums.{sum_by-cons}
 use Rattle.std.specs.List.{AllByRecursion, sum_by}
 use Rattle.sopl_base.proofs.Lists.{drop_next}
@@ -18,9 +17,6 @@ pub record IsPlaced (stages : List Stage) (most : ℕ) (ds : List Decision) (pla
   pub sum : total + sum_by (cell_count stages) left ≡ sum_by (cell_count stages) ds
   pub few : total ≤ i * most
   pub bounded : AllByRecursion IsBoundedDecision left
-
-pub placed_start : (stages : List Stage) (most : ℕ) (ds : List Decision) → AllByRecursion IsBoundedDecision ds → IsPlaced stages most ds [] 0 0 ds
-placed_start stages most ds all = record { placed = refl; sum = omega arith; few = omega arith; bounded = all }
 
 next_few : (total i most count : ℕ) → total ≤ i * most → count ≤ most → total + count ≤ (i + 1) * most
 next_few total i most count few one = omega (arith, few, one)
@@ -45,13 +41,6 @@ placed_next stages most ds places now total next i d within is one by up p =
     (placed_more stages most ds places total i d (drop (i + 1) ds) one
     (subst (IsPlaced stages most ds places total i) (drop_next ds i d within is) p)))
 
-pub placed_end : (stages : List Stage) (most : ℕ) (ds : List Decision) (places : List Place) (total i : ℕ) → length ds ≤ i
-    → IsPlaced stages most ds places total i (drop i ds) → (places ≡ places_from 0 stages ds) × (total ≡ sum_by (cell_count stages) ds)
-placed_end stages most ds places total i past p = end (subst (IsPlaced stages most ds places total i) (at_drop_all (λ list. list) ds i past) p)
-  where
-    end : IsPlaced stages most ds places total i [] → (places ≡ places_from 0 stages ds) × (total ≡ sum_by (cell_count stages) ds)
-    end q = (sym (append-nil places) ∙ q.placed, omega (arith, q.sum))
-
 -- one more decision's cells are few
 pub cells_few : (stages : List Stage) (most : ℕ) (ds : List Decision) (places : List Place) (total i : ℕ) (d : Decision) → i < length ds
     → cell_count stages d ≤ most → length ds * most ≤ 1048576 → IsPlaced stages most ds places total i (drop i ds)
@@ -67,9 +56,6 @@ pub record IsSummed (stages : List Stage) (ds : List Decision) (total : ℤ) (i 
   pub sum : total +ℤ pos (sum_by (bit_count stages) left) ≡ pos (sum_by (bit_count stages) ds)
   pub few : unsigned_abs total ≤ 2 ^ 40 * i
   pub bounded : AllByRecursion IsBoundedDecision left
-
-pub summed_start : (stages : List Stage) (ds : List Decision) → AllByRecursion IsBoundedDecision ds → IsSummed stages ds (pos 0) 0 ds
-summed_start stages ds all = record { sum = omega (arith, ints); few = omega (arith, ints); bounded = all }
 
 added : (total : ℤ) (b rest whole : ℕ) → total +ℤ pos (b + rest) ≡ pos whole → (total +ℤ pos b) +ℤ pos rest ≡ pos whole
 added total b rest whole is = omega (arith, ints, is)
@@ -93,13 +79,6 @@ pub summed_next : (stages : List Stage) (ds : List Decision) (total part now : �
 summed_next stages ds total part now i d within is one by up s =
     subst (λ z. IsSummed stages ds z (i + 1) (drop (i + 1) ds)) (sym (up ∙ ap (λ z. total +ℤ z) by))
     (summed_more stages ds total i d (drop (i + 1) ds) one (subst (IsSummed stages ds total i) (drop_next ds i d within is) s))
-
-pub summed_end : (stages : List Stage) (ds : List Decision) (total : ℤ) (i : ℕ) → length ds ≤ i → IsSummed stages ds total i (drop i ds)
-    → total ≡ pos (sum_by (bit_count stages) ds)
-summed_end stages ds total i past s = end (subst (IsSummed stages ds total i) (at_drop_all (λ list. list) ds i past) s)
-  where
-    end : IsSummed stages ds total i [] → total ≡ pos (sum_by (bit_count stages) ds)
-    end q = let is : total +ℤ pos 0 ≡ pos (sum_by (bit_count stages) ds) = q.sum in omega (arith, ints, is)
 
 -- the next decision is bounded
 pub next_bounded : (ds : List Decision) (i : ℕ) (d : Decision) → i < length ds → d ≡ get_or ds i d → AllByRecursion IsBoundedDecision (drop i ds) → IsBoundedDecision d

@@ -1,5 +1,5 @@
 -- Climbing from a node to those above it.
-use Rattle.std.proofs.Common.{◌≡◌, ◌+◌, ◌-◌, ◌≤◌, ◌<◌, ◌++◌, ℕ, zero, suc, ℤ, List, [], ◌∷◌, length, get_or, append_assoc, arith, sym, ap, subst, ◌∙◌}
+use Rattle.std.proofs.Common.{◌≡◌, ◌+◌, ◌-◌, ◌<◌, ◌++◌, ℕ, zero, suc, ℤ, List, [], ◌∷◌, length, get_or, append_assoc, arith, sym, ap, subst, ◌∙◌}
 use Rattle.std.proofs.lemmas.Grind.{flat_map-append}
 use Rattle.std.proofs.lemmas.List.{append-nil, map-id, get_or_default}
 use Rattle.std.proofs.lemmas.List.FromFn.{map-range_with_len_more}
@@ -50,11 +50,6 @@ climb_more levels values nodes now_values next_values now_nodes next_nodes left 
   where
     same : get_or level node root ≡ node_at levels left node
     same = ap (λ list. get_or list node root) (is ∙ get_or_default levels left d [] c.level)
-
-pub climb_end : (levels : List (List Node)) (values : List ℤ) (nodes : List ℕ) (now_values : List ℤ) (now_nodes next_nodes : List ℕ) (left node : ℕ)
-    → left ≤ 0 → next_nodes ≡ now_nodes ++ node ∷ [] → IsClimb levels values nodes now_values now_nodes left node → (now_values ≡ values) × (next_nodes ≡ nodes)
-climb_end levels values nodes now_values now_nodes next_nodes zero node past next c = (sym (append-nil now_values) ∙ c.values_left, next ∙ c.nodes_left)
-climb_end levels values nodes now_values now_nodes next_nodes (suc left) node past next c = absurd (omega (arith, past))
 
 -- the piece of one more number
 pub pieces_more : {A : Type 0} (f : ℕ → List A) (n : ℕ) (old new : List A) → old ≡ flat_map f (range_with_len 0 n) → new ≡ old ++ f n

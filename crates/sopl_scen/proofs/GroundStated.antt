@@ -1,9 +1,8 @@
 -- What a ground problem states is what a tree asks for.
-use Rattle.std.proofs.Common.{◌≡◌, ◌≤◌, ℕ, List, [], ◌∷◌, arith, sym, subst}
+use Rattle.std.proofs.Common.{◌≡◌, ℕ, List, [], ◌∷◌, arith, sym, subst}
 use denote.Struct.Props.{props}
 use Rattle.std.proofs.Math.Logic.{∥∥₁_elim, ∥∥₁_map}
 use Rattle.std.specs.List.{AllByRecursion}
-use Rattle.sopl_base.specs.declared.fault.Fault.TheVariants as fault
 use Rattle.sopl_ast.specs.Whole.{ModelTree}
 use Rattle.sopl_ast.specs.Origin.{IsFromTokens}
 use Rattle.sopl_ast.specs.Instances.{Decision, Stochastic}
@@ -37,7 +36,3 @@ ground_stated model from passes ds ss constraints decided drawn beside =
       ordered = stochastics_ascend model;
       few = omega (arith, instances_are_counted model passes);
     })))
-
--- the constraints of a text that passes are few
-pub few_constraints : (model : ModelTree) → NothingFails (text_events model) → constraints_in (problem_of model) ≤ 262144
-few_constraints model passes = omega (arith, instances_are_counted model passes)

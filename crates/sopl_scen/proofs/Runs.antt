@@ -1,7 +1,6 @@
 -- Running products, one variable after the other.
-use Rattle.std.proofs.Common.{◌≡◌, ◌+◌, ◌-◌, ◌≤◌, ◌<◌, ◌^◌, ℕ, ℤ, pos, ◌*ℤ◌, ◌≤ℤ◌, ◌<ℤ◌, cond, List, [], ◌∷◌, length, drop, get_or, Some, None, arith, refl, sym, ap, subst, ◌∙◌}
+use Rattle.std.proofs.Common.{◌≡◌, ◌+◌, ◌-◌, ◌≤◌, ◌<◌, ◌^◌, ℕ, ℤ, pos, ◌*ℤ◌, ◌≤ℤ◌, ◌<ℤ◌, cond, List, [], ◌∷◌, length, drop, get_or, Some, None, arith, sym, ap, subst, ◌∙◌}
 use Rattle.std.proofs.lemmas.Int.{ints}
-use Rattle.std.proofs.lemmas.List.{at_drop_all}
 use Rattle.std.specs.Int.{int_min}
 use Rattle.sopl_base.specs.declared.fault.Excess.{Excess}
 use Rattle.sopl_base.proofs.Tests.{le_test, le_untest}
@@ -10,10 +9,8 @@ use Rattle.sopl_base.proofs.Lists.{drop_next}
 use Rattle.sopl_ast.specs.Instances.{Stochastic}
 use Rattle.sopl_ast.specs.UnfoldEvents.{excess}
 use Rattle.sopl_ast.specs.Limits.{first_above}
-use Rattle.lang_laws.proofs.Integers.{one-*ℤ}
 use Rattle.scen_laws.specs.Laws.{first_passed, product_of}
 use Rattle.scen_laws.proofs.Weights.{products_within}
-use Rattle.scen_laws.proofs.Splits.{times_one}
 
 -- how far a product has run
 pub record IsRun (code limit : ℕ) (f : Stochastic → ℤ) (ss : List Stochastic) (so_far : ℤ) (left : List Stochastic) : Type 0 where
@@ -21,10 +18,6 @@ pub record IsRun (code limit : ℕ) (f : Stochastic → ℤ) (ss : List Stochast
   pub product : so_far *ℤ product_of f left ≡ product_of f ss
   pub least : pos 1 ≤ℤ so_far
   pub few : so_far ≤ℤ pos limit
-
-pub run_start : (code limit : ℕ) (f : Stochastic → ℤ) (ss : List Stochastic) → 1 ≤ limit → IsRun code limit f ss (pos 1) ss
-run_start code limit f ss some =
-    record { run = refl; product = one-*ℤ (product_of f ss); least = omega (arith, ints); few = omega (arith, ints, some) }
 
 -- a product of numbers from 1 on
 positive : (a b : ℤ) → pos 1 ≤ℤ a → pos 1 ≤ℤ b → pos 1 ≤ℤ (a *ℤ b)
@@ -52,25 +45,6 @@ run_next code limit f ss i s so_far factor now within is by least made few r =
     subst (λ z. IsRun code limit f ss z (drop (i + 1) ss)) (sym same)
     (run_more code limit f ss so_far s (drop (i + 1) ss) least (subst (λ z. z ≤ℤ pos limit) same few)
     (subst (IsRun code limit f ss so_far) left r))
-
-pub run_stop : (code limit : ℕ) (f : Stochastic → ℤ) (ss : List Stochastic) (i : ℕ) (s : Stochastic) (so_far factor : ℤ) (e : Excess)
-    → i < length ss → s ≡ get_or ss i s → factor ≡ f s → pos limit <ℤ (so_far *ℤ factor)
-    → e ≡ excess code (int_min (so_far *ℤ factor) (pos (2 ^ 127 - 1))) (pos limit)
-    → IsRun code limit f ss so_far (drop i ss) → first_passed code limit f (pos 1) ss ≡ Some e
-run_stop code limit f ss i s so_far factor e within is by more made r =
-    let left : drop i ss ≡ s ∷ drop (i + 1) ss = drop_next ss i s within is in
-    sym r.run
-    ∙ (ap (first_passed code limit f so_far) left
-    ∙ ((λ j. cond (le_untest (so_far *ℤ f s) (pos limit) (subst (λ z. pos limit <ℤ (so_far *ℤ z)) by more) j)
-    (first_passed code limit f (so_far *ℤ f s) (drop (i + 1) ss)) (Some (excess code (int_min (so_far *ℤ f s) (pos (2 ^ 127 - 1))) (pos limit))))
-    ∙ ((λ j. Some (excess code (int_min (so_far *ℤ sym by j) (pos (2 ^ 127 - 1))) (pos limit))) ∙ ap Some (sym made))))
-
-pub run_end : (code limit : ℕ) (f : Stochastic → ℤ) (ss : List Stochastic) (i : ℕ) (so_far : ℤ) → length ss ≤ i
-    → IsRun code limit f ss so_far (drop i ss) → (first_passed code limit f (pos 1) ss ≡ None) × (so_far ≡ product_of f ss)
-run_end code limit f ss i so_far past r = (
-  sym r.run ∙ at_drop_all (first_passed code limit f so_far) ss i past,
-  sym (ap (λ z. so_far *ℤ z) (at_drop_all (product_of f) ss i past) ∙ times_one so_far) ∙ r.product,
-)
 
 -- One number.
 

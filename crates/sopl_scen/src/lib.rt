@@ -1,5 +1,5 @@
 //! The scenarios of a ground problem, with their histories and the cells of its decisions.
-//! Its tests stand in `tests`; what they do not reach is reached by those of `search_tests` and `policy_json`.
+//! Its tests stand in `ground_tests`; what they do not reach is reached by those of `search_tests` and `policy_json`.
 #![tactic(auto)]
 
 mod cell_domains;
@@ -12,8 +12,6 @@ mod products;
 mod scenes;
 mod stages;
 mod table;
-#[cfg(test)]
-mod tests;
 mod tree;
 
 pub use cell_domains::domains;

@@ -1,83 +1,25 @@
 -- What is answered of the boxes that are open.
-use Rattle.std.proofs.Common.{◌≡◌, inl, inr, ℕ, ◌<◌, ℤ, List, [], ◌∷◌, length, Option, Some, None, IfSome, IfNone, All, Any, Contains, IsPermutation, arith, refl, sym, ap, subst}
-use Rattle.std.proofs.lemmas.List.Elements.{All-nil}
+use Rattle.std.proofs.Common.{◌≡◌, inl, inr, ℕ, ℤ, List, [], ◌∷◌, length, Option, Some, None, IfSome, Any, Contains, IsPermutation, arith, refl, sym, ap, subst}
 use Rattle.std.proofs.lemmas.List.Sorted.{All-permutation, Contains-permutation, length_permutation}
 use Rattle.sopl_base.specs.Better.{IsBetter}
-use Rattle.sopl_base.specs.declared.direction.Direction.{Direction}
 use Rattle.box_problem.specs.Box.{Box}
 use Rattle.box_problem.specs.BoxProblem.{BoxProblem}
-use Rattle.box_problem.specs.Opens.{IsBetterOf, IsBound, IsUnsettled}
+use Rattle.box_problem.specs.Opens.{IsBound, IsUnsettled}
 use Rattle.box_problem.proofs.Bounds.{bound_holds, bound_is_hopeful}
 use Rattle.box_problem.proofs.Nodes.{none_at_last}
-use Rattle.box_problem.proofs.Opens.{covers_bound, not_better_than_itself, not_both_better, still_not_better}
-use Rattle.open_nodes.specs.declared.seats.OpenNode.{OpenNode}
+use Rattle.box_problem.proofs.Opens.{covers_bound, not_better_than_itself}
 use Rattle.sopl_search.specs.declared.outcome.Found.{Found}
 use Rattle.sopl_search.specs.declared.outcome.Outcome.{Outcome}
 use Rattle.sopl_search.specs.declared.outcome.Outcome.TheVariants.{Optimal, Infeasible, Bounded}
 use Rattle.sopl_search.specs.Closes.{EndsBy}
 use Rattle.sopl_search.specs.Ends.{IsPosed}
-use Rattle.sopl_search.specs.Frontiers.{IsSound, boxes, pendings}
-use Rattle.sopl_search.specs.Outcomes.{Closes, HasCause, IsGood, IsOutcomeBy, IsTrueOf, Settles, found_of, value_of}
-
--- the better one of a value and of the best end over boxes
-better_bound : (problem : BoxProblem) (v : Option ℤ) (bs : List Box) (end bound : ℤ) → IsBound problem None bs end → IsBetterOf problem.direction v end bound → IsBound problem v bs bound
-better_bound problem None bs end bound is better = subst (IsBound problem None bs) (sym better) is
-better_bound problem (Some w) bs end bound is better = elim better [
-  | inl kept ↦ subst (IsBound problem (Some w) bs) (sym kept.0) (record {
-    reached = not_better_than_itself problem.direction w;
-    ends = λ k d exists. still_not_better problem.direction _ end w (is.ends k d exists) kept.1;
-    one_of_them = inl refl;
-  })
-  | inr new ↦ subst (IsBound problem (Some w) bs) (sym new.0) (record {
-    reached = not_both_better problem.direction end w new.1;
-    ends = is.ends;
-    one_of_them = elim is.one_of_them [
-      | inl none ↦ absurd (cc)
-      | inr some ↦ inr some
-    ];
-  })
-]
-
-some_open : (problem : BoxProblem) (bs : List Box) (end : ℤ) → IsBound problem None bs end → 0 < length bs
-some_open problem bs end is = elim is.one_of_them [
-  | inl none ↦ absurd (cc)
-  | inr some ↦ omega (arith, some.2)
-]
+use Rattle.sopl_search.specs.Frontiers.{IsSound}
+use Rattle.sopl_search.specs.Outcomes.{HasCause, IsGood, IsTrueOf, found_of, value_of}
 
 hopeful : (problem : BoxProblem) (best : Option Found) (bs : List Box) (bound : ℤ) → IsBound problem (value_of best) bs bound
     → IfSome best (λ (found : Found). IsBetter problem.direction bound found.value) → IfSome best (λ (found : Found). Any (λ b. IsBetter problem.direction (problem.end b) found.value) bs)
 hopeful problem None bs bound is better = tt
 hopeful problem (Some found) bs bound is better = bound_is_hopeful problem found.value bs bound is better
-
--- with no node open, and with some
-closes_by : (problem : BoxProblem) (best : Option Found) (bs : List Box) (outcome : Outcome) → bs ≡ [] → Closes best outcome → EndsBy problem best bs outcome
-closes_by problem best bs (Optimal value cells) none is =
-    (is, subst (All (λ b. ¬ IsBetter problem.direction (problem.end b) value)) (sym none) (All-nil (λ b. ¬ IsBetter problem.direction (problem.end b) value)))
-closes_by problem best bs Infeasible none is = (is, none)
-closes_by problem best bs (Bounded found bound) none is = absurd is
-
-settles_by : (problem : BoxProblem) (best : Option Found) (bs : List Box) (end bound : ℤ) (outcome : Outcome) → IsBound problem None bs end → IsBetterOf problem.direction (value_of best) end bound
-    → Settles problem.direction best bound outcome → EndsBy problem best bs outcome
-settles_by problem best bs end bound (Optimal value cells) is better settles =
-    let bounds = better_bound problem (value_of best) bs end bound is better in
-    (settles.0, λ k d exists. still_not_better problem.direction _ bound value (bounds.ends k d exists) settles.1)
-settles_by problem best bs end bound Infeasible is better settles = absurd settles
-settles_by problem best bs end bound (Bounded found x) is better settles =
-    let bounds = better_bound problem (value_of best) bs end bound is better in (
-      settles.0,
-      subst (IsBound problem (value_of best) bs) (sym settles.1) bounds,
-      some_open problem bs end is,
-      hopeful problem best bs bound bounds settles.2,
-    )
-
-pub ends_by : (problem : BoxProblem) (direction : Direction) (best : Option Found) (end : Option ℤ) (nodes : List OpenNode) (outcome : Outcome) → direction ≡ problem.direction
-    → IfSome end (IsBound problem None (boxes (pendings problem.root nodes))) → IfNone end (nodes ≡ []) → IsOutcomeBy direction best end outcome
-    → EndsBy problem best (boxes (pendings problem.root nodes)) outcome
-ends_by problem direction best None nodes outcome way bound none by =
-    closes_by problem best (boxes (pendings problem.root nodes)) outcome (ap (λ (xs : List OpenNode). boxes (pendings problem.root xs)) none) by
-ends_by problem direction best (Some end) nodes outcome way bound none by =
-    settles_by problem best (boxes (pendings problem.root nodes)) end by.bound outcome bound
-    (subst (λ (d : Direction). IsBetterOf d (value_of best) end by.bound) way by.better) (subst (λ (d : Direction). Settles d best by.bound outcome) way by.settles)
 
 -- the order of the boxes is free
 any_shuffled : (P : Box → Type 0) (bs cs : List Box) → IsPermutation bs cs → Any P bs → Any P cs

@@ -1,5 +1,5 @@
 -- A box goes to an open node.
-use Rattle.std.proofs.Common.{◌≡◌, ℕ, List, [], ◌∷◌, length, reverse, Option, Some, None, option_map, sym, ap, subst, ◌∙◌, Result, Ok, Err, OnOk}
+use Rattle.std.proofs.Common.{◌≡◌, ℕ, List, ◌∷◌, length, reverse, Some, option_map, sym, ap, subst, ◌∙◌, Result, Ok, Err, OnOk}
 use Rattle.std.specs.declared.alloc.Global.{Global}
 use Rattle.std.specs.declared.rc.Rc.{Rc}
 use Rattle.box_problem.specs.Box.{Box}
@@ -10,7 +10,7 @@ use Rattle.open_nodes.specs.declared.seats.OpenNode.{OpenNode}
 use Rattle.open_nodes.specs.declared.split.SplitNode.{SplitNode}
 use Rattle.open_nodes.specs.declared.walk.BoxWalk.{BoxWalk}
 use Rattle.open_nodes.specs.Remade.{AreBelow, split_numbers}
-use Rattle.open_nodes.specs.Walks.{IsEntered, IsKnownWay, StandsAt}
+use Rattle.open_nodes.specs.Walks.{IsEntered, IsKnownWay}
 use Rattle.open_nodes.specs.Ways.{given_box, ups}
 use Rattle.open_nodes.proofs.GoingOn.{way_below}
 use Rattle.open_nodes.proofs.Places.{cuts_as_rows, named_as_rows}
@@ -58,18 +58,3 @@ enters problem rows old new node split there (Ok value) is same able entered bel
       box = e.box ∙ sym (ap (given_box problem.root node.side) (split_is node split is ∙ ap (λ (s : SplitNode). Some s) (sym same)));
     }
 enters problem rows old new node split there (Err error) is same able entered below = tt
-
--- the root has no way
-pub enters_root : {T E : Type 0} (problem : BoxProblem) (rows : List Row) (old new : BoxWalk) (node : OpenNode) (result : Result T E) → node.below ≡ None → IsEnterable problem rows old node
-    → ((root : Box) (f : ℕ → Box) → StandsAt root f old → OnOk result (StandsAt root f new × (new.store.box ≡ root))) → OnOk result (new.here.items ≡ [])
-    → OnOk result (IsAtNode problem rows new node)
-enters_root problem rows old new node (Ok value) is able entered none =
-    let e = entered problem.root (final_of problem.root rows) able.at.at in
-    record {
-      at = record { at = e.0; below = subst (λ (ns : List ℕ). AreBelow (length rows) (reverse ns)) (sym none) tt };
-      box = e.1 ∙ sym (ap (λ (below : Option (Rc SplitNode Global)). given_box problem.root node.side (option_map (λ (s : Rc SplitNode Global). s.value) below)) is);
-    }
-enters_root problem rows old new node (Err error) is able entered none = tt
-
-pub some_root : (walk : BoxWalk) (node : OpenNode) → ((problem : BoxProblem) × (rows : List Row) × IsEnterable problem rows walk node) → (root : Box) × (f : ℕ → Box) × StandsAt root f walk
-some_root walk node able = (able.0.root, final_of able.0.root able.1, able.2.at.at)

@@ -1,5 +1,5 @@
 -- Propagators that are followed from box to box.
-use Rattle.std.proofs.Common.{◌≡◌, inl, inr, ℕ, ◌+◌, ◌<◌, ◌≤◌, ℤ, pos, List, ◌++◌, length, map, take, get_or, set, length-set, refl, sym, ap, subst, ◌∙◌, arith}
+use Rattle.std.proofs.Common.{◌≡◌, inl, inr, ℕ, ◌+◌, ◌<◌, ◌≤◌, ℤ, pos, List, ◌++◌, length, map, take, get_or, set, length-set, sym, ap, subst, ◌∙◌, arith}
 use Rattle.std.proofs.lemmas.Bool.{cases_eq, cases_lt}
 use Rattle.std.proofs.lemmas.Int.{ints}
 use Rattle.std.proofs.Math.Seq.{take-append_seam}
@@ -54,16 +54,6 @@ pub record IsMixed (n : ℕ) (b c mixed : Box) : Type 0 where
   pub lows_old : (k : ℕ) → n ≤ k → low mixed k ≡ low b k
   pub highs_new : (k : ℕ) → k < n → high mixed k ≡ high c k
   pub highs_old : (k : ℕ) → n ≤ k → high mixed k ≡ high b k
-
-pub none_mixed : (b c : Box) → IsMixed 0 b c b
-none_mixed b c = record {
-  lows_long = refl;
-  highs_long = refl;
-  lows_new = λ k none. absurd (omega (arith, none));
-  lows_old = λ k past. refl;
-  highs_new = λ k none. absurd (omega (arith, none));
-  highs_old = λ k past. refl;
-}
 
 new_at : (xs news : List ℤ) (n k : ℕ) (x : ℤ) → n < length xs → x ≡ get_or news n (pos 0) → ((k : ℕ) → k < n → get_or xs k (pos 0) ≡ get_or news k (pos 0)) → k < n + 1
     → get_or (set xs n x) k (pos 0) ≡ get_or news k (pos 0)

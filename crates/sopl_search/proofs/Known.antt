@@ -9,9 +9,6 @@ use Rattle.log_rows.specs.Ranges.{StepFits}
 abbrev pub FitBelow : List Step → ℕ → Type 0
 FitBelow steps i = (k : ℕ) (d : Step) → k < i → k < length steps → StepFits (get_or steps k d)
 
-pub none_fits : (steps : List Step) → FitBelow steps 0
-none_fits steps k d before exists = absurd (omega (arith, before))
-
 pub one_more_fits : (steps : List Step) (i : ℕ) (e : Step) → FitBelow steps i → StepFits (get_or steps i e) → FitBelow steps (i + 1)
 one_more_fits steps i e below here k d before exists =
     elim (cases_eq k i) [

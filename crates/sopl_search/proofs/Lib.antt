@@ -21,7 +21,6 @@ mod NextRow
 mod Stepping
 mod BrokenSteps
 mod Footers
-mod Calls
 mod Settling
 mod Climbing
 pub mod InOrder

@@ -1,5 +1,5 @@
 -- A search that goes on by a plan.
-use Rattle.std.proofs.Common.{◌≡◌, inl, inr, ℕ, zero, suc, ℤ, Contains, ◌+◌, ◌<◌, ◌≤◌, List, [], ◌∷◌, ◌++◌, length, map, Option, Result, OnErr, All, arith, sym, ap, subst, ◌∙◌, append_assoc}
+use Rattle.std.proofs.Common.{◌≡◌, inl, inr, ℕ, zero, suc, ℤ, Contains, ◌+◌, ◌<◌, ◌≤◌, List, [], ◌∷◌, ◌++◌, length, map, Option, All, arith, sym, ap, subst, ◌∙◌, append_assoc}
 use Rattle.std.proofs.lemmas.List.{append-nil, length-append, map-append}
 use Rattle.std.proofs.lemmas.List.Elements.{All-append, All-cons, All-nil, Contains-append_left, Contains-append_right}
 use Rattle.std.specs.List.{range_with_len}
@@ -26,11 +26,10 @@ use Rattle.sopl_search.specs.declared.frontier.Frontier.{Frontier}
 use Rattle.sopl_search.specs.Crews.{IsCrewRun, one_more}
 use Rattle.sopl_search.specs.Frontiers.{IsRunning, IsSearchOf, Keeps, Stands, opens, state_of}
 use Rattle.sopl_search.specs.Lines.{pending_of}
-use Rattle.sopl_search.specs.Logged.{IsPlannedRun, IsPrefixLogged, SearchPlan, plan_of}
+use Rattle.sopl_search.specs.Logged.{IsPlannedRun, IsPrefixLogged, SearchPlan}
 use Rattle.sopl_search.specs.Moves.{IsBrokenStep, IsStepped}
 use Rattle.sopl_search.specs.Outcomes.{value_of}
 use Rattle.sopl_search.specs.Schedules.{AreSeats, named_seat, named_seats}
-use Rattle.sopl_search.specs.declared.schedule.Schedule.{Schedule}
 use Rattle.sopl_search.proofs.MovedNodes.{all_seen}
 
 -- the seats of one more step
@@ -207,15 +206,6 @@ pub searches_on : (problem : BoxProblem) (asked : Option Rule) (old new : Fronti
 searches_on problem asked old new seat mid now search stands stepped =
     let on = stepped search.rows search.keeps in
     record { stands = stands; rows = search.rows ++ on.row ∷ []; keeps = on.keeps }
-
--- the rule that is asked, by another name
-pub running_asked : (problem : BoxProblem) (schedule : Schedule) (one other : Option Rule) (budget : ℕ) (frontier : Frontier) (before now : Option (List ℕ)) → one ≡ other
-    → IsRunning problem (plan_of schedule one budget) frontier before now → IsRunning problem (plan_of schedule other budget) frontier before now
-running_asked problem schedule one other budget frontier before now same is = subst (λ (asked : Option Rule). IsRunning problem (plan_of schedule asked budget) frontier before now) same is
-
-pub prefix_asked : {T E : Type 0} (problem : BoxProblem) (schedule : Schedule) (one other : Option Rule) (budget : ℕ) (before now : Option (List ℕ)) (result : Result T E) → one ≡ other
-    → OnErr result (IsPrefixLogged problem (plan_of schedule one budget) before now) → OnErr result (IsPrefixLogged problem (plan_of schedule other budget) before now)
-prefix_asked problem schedule one other budget before now result same is = subst (λ (asked : Option Rule). OnErr result (IsPrefixLogged problem (plan_of schedule asked budget) before now)) same is
 
 pub some_seats : (problem : BoxProblem) (plan : SearchPlan) (frontier : Frontier) (before now : Option (List ℕ)) → IsRunning problem plan frontier before now → AreSeats plan.seats
     → 0 < length frontier.seats.seats.items

@@ -3,8 +3,8 @@
 ghost use Rattle.std.specs.Prelude.{◌≡◌, ◌<◌, ◌≤◌, ◌^◌, length};
 ghost use Rattle.term_language.specs.Terms as term;
 ghost use Rattle.term_language.specs.Sizes as sizes;
-ghost use Rattle.term_math.specs.declared.extremes.Extreme.TheVariants as which;
-ghost use Rattle.term_math.specs.declared.operations.Operation.TheVariants as made;
+ghost use Rattle.sopl_base.specs.declared.extreme.Extreme.TheVariants as which;
+ghost use Rattle.term_language.specs.declared.made.Operation.TheVariants as made;
 ghost use Rattle.term_nodes.specs.Things.{a_term, thing_at};
 ghost use Rattle.term_store.specs.declared.additions.NewTerm.TheVariants as new;
 ghost use Rattle.sopl_term.specs.Built.{CanAddTerm, HasAddedTerm, IsBuilding, built, root_built};

@@ -1,5 +1,5 @@
 -- A stable sort by stage lists stochastic variables by stage.
-use Rattle.std.proofs.Common.{◌≡◌, refl, sym, ap, ◌∙◌, ℕ, zero, suc, ◌+◌, ◌<◌, ◌≤◌, nat_eq, nat_lt, Bool, true, false, cond, not, ◌&&◌, List, [], ◌∷◌, ◌++◌, true≢false, arith}
+use Rattle.std.proofs.Common.{◌≡◌, refl, sym, ap, ◌∙◌, ℕ, zero, suc, ◌+◌, ◌<◌, ◌≤◌, nat_eq, nat_lt, Bool, true, false, cond, not, ◌&&◌, List, [], ◌∷◌, ◌++◌, arith}
 use Rattle.std.proofs.lemmas.Bool.{eqb-true}
 use Rattle.std.proofs.lemmas.Bool.Decides.{nat_tests}
 use Rattle.std.specs.declared.cmp.Ordering.TheVariants.{Less, Equal, Greater}
@@ -8,6 +8,7 @@ use Rattle.std.proofs.lemmas.List.Sorted.{All-permutation}
 use Rattle.std.specs.List.{flat_map, filter, range_with_len, All, AllByRecursion}
 use Rattle.std.specs.List.Sorted.{IsPermutation, IsNonDecreasingBy, IsStableByKey}
 use Rattle.std.specs.Ordering.{is_lt, nat_cmp}
+use Rattle.sopl_base.proofs.Booleans.{tests_agree}
 use Rattle.sopl_ast.specs.Instances.{Stochastic}
 use Rattle.sopl_ast.specs.Unfolding.{by_stage}
 use Rattle.unfold_laws.specs.Bounds.{IsStage}
@@ -127,11 +128,6 @@ ties_equal : (k m : ℕ) → tie k m ≡ nat_eq m k
 ties_equal k m =
     (λ i. not (less_told k m i) && not (less_told m k i)) ∙ tests_agree (not (nat_lt k m) && not (nat_lt m k)) (nat_eq m k) (from_ties k m) (to_ties k m)
   where
-    tests_agree : (a b : Bool) → (a ≡ true → b ≡ true) → (b ≡ true → a ≡ true) → a ≡ b
-    tests_agree true b f g = sym (f refl)
-    tests_agree false true f g = absurd (true≢false (sym (g refl)))
-    tests_agree false false f g = refl
-
     from_ties : (k m : ℕ) → (not (nat_lt k m) && not (nat_lt m k)) ≡ true → nat_eq m k ≡ true
     from_ties k m is = grind (arith, nat_tests)
 

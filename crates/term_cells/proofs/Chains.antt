@@ -5,11 +5,6 @@ use Rattle.std.specs.BTreeSet.{insert_key}
 use Rattle.std.specs.Ordering.{nat_cmp}
 use Rattle.box_problem.specs.Box.{Box}
 use Rattle.term_language.specs.Terms as rule
-use Rattle.term_math.specs.declared.operations.Operation.{Operation}
-use Rattle.term_math.specs.declared.operations.Operation.TheVariants.{Quotient, Remainder, Size}
-use Rattle.term_math.specs.declared.extremes.Extreme.{Extreme}
-use Rattle.term_math.specs.declared.extremes.Extreme.TheVariants.{Least, Greatest}
-use Rattle.term_math.specs.Made.{operation_term, extreme_term}
 use Rattle.term_nodes.specs.declared.nodes.Node.{Node}
 use Rattle.term_nodes.specs.declared.nodes.Node.TheVariants as node
 use Rattle.term_nodes.specs.declared.items.Item.{Item}
@@ -27,24 +22,12 @@ others_first root (rule.Cell cell) set = refl
 others_first root (rule.Sum parts) set = refl
 others_first root (rule.Product a b) set =
     either_order set (mentions root a) (mentions root b) ∙ sym (fold-append (insert_key nat_cmp) set (mentions root a) (mentions root b))
-others_first root (rule.Quotient a divisor) set = refl
-others_first root (rule.Remainder a divisor) set = refl
-others_first root (rule.Least a later) set = refl
-others_first root (rule.Greatest a later) set = refl
-others_first root (rule.Size a) set = refl
+others_first root (rule.Made op a) set = refl
+others_first root (rule.Selected which a later) set = refl
 others_first root (rule.Element table at) set = refl
 others_first root (rule.Number c) set = refl
 
 -- the operand of a node, if it has one
-operation_left : (root : Box) (op : Operation) (t : rule.Term) → left_mentions root (operation_term op t) ≡ mentions root t
-operation_left root (Quotient divisor) t = refl
-operation_left root (Remainder divisor) t = refl
-operation_left root Size t = refl
-
-extreme_left : (root : Box) (e : Extreme) (t : rule.Term) (later : rule.Terms) → left_mentions root (extreme_term e t later) ≡ []
-extreme_left root Least t later = refl
-extreme_left root Greatest t later = refl
-
 abbrev told : Box → List Thing → Option ℕ → List ℕ
 told root all None = []
 told root all (Some a) = mentions root (term_at all a)
@@ -54,8 +37,8 @@ left_of_node root all (node.Constant z) = refl
 left_of_node root all (node.Cell cell) = refl
 left_of_node root all (node.Sum parts) = refl
 left_of_node root all (node.Product a b) = refl
-left_of_node root all (node.Operation op a) = operation_left root op (term_at all a)
-left_of_node root all (node.Extreme e first later) = extreme_left root e (term_at all first) _
+left_of_node root all (node.Operation op a) = refl
+left_of_node root all (node.Extreme e first later) = refl
 left_of_node root all (node.Element table at) = refl
 left_of_node root all (node.Number c) = refl
 left_of_node root all (node.Compare c) = refl

@@ -6,13 +6,10 @@ use Rattle.std.specs.BTreeSet.{insert_key}
 use Rattle.std.specs.Ordering.{nat_cmp}
 use Rattle.box_problem.specs.Box.{Box}
 use Rattle.term_language.specs.Rules.{form}
-use Rattle.term_language.specs.Terms.{Term, Terms}
+use Rattle.term_language.specs.Terms.{Made, Selected, Term, Terms}
 use Rattle.term_math.specs.Shown.{form_of}
-use Rattle.term_math.specs.declared.operations.Operation.{Operation}
-use Rattle.term_math.specs.declared.operations.Operation.TheVariants.{Quotient, Remainder, Size}
-use Rattle.term_math.specs.declared.extremes.Extreme.{Extreme}
-use Rattle.term_math.specs.declared.extremes.Extreme.TheVariants.{Least, Greatest}
-use Rattle.term_math.specs.Made.{operation_term, extreme_term}
+use Rattle.term_language.specs.declared.made.Operation.{Operation}
+use Rattle.sopl_base.specs.declared.extreme.Extreme.{Extreme}
 use Rattle.term_nodes.specs.declared.nodes.Node.{Node}
 use Rattle.term_nodes.specs.declared.nodes.Signed.{Signed}
 use Rattle.term_nodes.specs.declared.nodes.Task.{Task}
@@ -46,16 +43,13 @@ pub no_cond_here : (root : Box) (all : List Thing) (id : ℕ) (set : List ℕ) �
 no_cond_here root all id set none = ap (λ (t : Thing). with_cells set (cond_mentions root (cond_in t))) (sym none)
 
 -- what is made of one number mentions nothing else
-pub of_operation : (root : Box) (operation : Operation) (t : Term) (set : List ℕ) → set ≡ with_cells set (other_mentions root (operation_term operation t))
-of_operation root (Quotient divisor) t set = refl
-of_operation root (Remainder divisor) t set = refl
-of_operation root Size t set = refl
+pub of_operation : (root : Box) (operation : Operation) (t : Term) (set : List ℕ) → set ≡ with_cells set (other_mentions root (Made operation t))
+of_operation root operation t set = refl
 
 -- the least and the greatest of several mention what these do
 pub of_extreme : (root : Box) (extreme : Extreme) (t : Term) (later : Terms) (before after : List ℕ) → after ≡ with_cells before (mentions root t ++ terms_mention root later) → after
-    ≡ with_cells before (other_mentions root (extreme_term extreme t later))
-of_extreme root Least t later before after put = put
-of_extreme root Greatest t later before after put = put
+    ≡ with_cells before (other_mentions root (Selected extreme t later))
+of_extreme root extreme t later before after put = put
 
 -- one of several more
 pub next_part : (root : Box) (all : List Thing) (before after : List ℕ) (xs : List Signed) (i : ℕ) (x : Signed) → i < length xs → x ≡ get_or xs i x → after

@@ -5,7 +5,7 @@ use Rattle.std.specs.List.{fold}
 use Rattle.std.specs.Ordering.{nat_cmp}
 use Rattle.box_problem.specs.Box.{Box}
 use Rattle.term_language.specs.Forms.{Coefficient}
-use Rattle.term_language.specs.Terms.{Term, Product, Quotient, Remainder, Size}
+use Rattle.term_language.specs.Terms.{Term, Product, Made}
 use Rattle.term_language.specs.Mentions.{mentions}
 use Rattle.term_nodes.specs.declared.nodes.Task.{Task}
 use Rattle.term_nodes.specs.Things.{Thing, term_at}
@@ -21,16 +21,12 @@ form_cells coefficients = map (λ (c : Coefficient). c.cell) coefficients
 -- what a term's left operand mentions, and what else the term mentions
 abbrev pub left_mentions : Box → Term → List ℕ
 left_mentions root (Product a b) = mentions root a
-left_mentions root (Quotient a divisor) = mentions root a
-left_mentions root (Remainder a divisor) = mentions root a
-left_mentions root (Size a) = mentions root a
+left_mentions root (Made op a) = mentions root a
 left_mentions root t = []
 
 abbrev pub other_mentions : Box → Term → List ℕ
 other_mentions root (Product a b) = mentions root b
-other_mentions root (Quotient a divisor) = []
-other_mentions root (Remainder a divisor) = []
-other_mentions root (Size a) = []
+other_mentions root (Made op a) = []
 other_mentions root t = mentions root t
 
 -- what the start, the length and the demand of a task mention

@@ -2,8 +2,8 @@
 use Rattle.std.specs.Prelude.{ℕ, pos, true, false, List, [], ◌∷◌}
 use Rattle.term_language.specs.Ends.{Ends, ends}
 use Rattle.term_language.specs.Globals.{TaskEnds}
-use Rattle.term_language.specs.Terms.{Term, Sum, Product, Quotient, Size, Terms, no_term, term, no_part, part, Tasks, no_task, task}
-use Rattle.term_language.specs.WorkedIntervals.{x, y, z, number}
+use Rattle.term_language.specs.Terms.{Term, Sum, Product, Terms, no_term, term, no_part, part, Tasks, no_task, task}
+use Rattle.term_language.specs.WorkedIntervals.{x, y, z, number, quotient, absolute}
 
 -- from one number to another
 abbrev pub from_to : ℕ → ℕ → Ends
@@ -34,4 +34,4 @@ tasks_for_z = task x z (number 2) (task y z (number 2) no_task)
 -- 3 * x - 10 + x * z + x div 2 - abs(y)
 abbrev pub several_parts : Term
 several_parts =
-    Sum (part false (Product (number 3) x) (part true (number 10) (part false (Product x z) (part false (Quotient x (pos 2)) (part true (Size y) no_part)))))
+    Sum (part false (Product (number 3) x) (part true (number 10) (part false (Product x z) (part false (quotient x (pos 2)) (part true (absolute y) no_part)))))

@@ -3,8 +3,8 @@ ghost use Rattle.term_language.specs.declared.answers.Truth.TheVariants.{False, 
 ghost use Rattle.term_language.specs.Ends.{ends};
 ghost use Rattle.term_language.specs.Globals.{are_crowded, never_differ, always_differ, never_fit, always_fit};
 ghost use Rattle.term_language.specs.Sizes.{size};
-ghost use Rattle.term_language.specs.Terms.{Constant, Product, Quotient, Remainder, Least, Greatest, Size, AllDifferent, Cumulative};
-ghost use Rattle.term_language.specs.WorkedIntervals.{minus, box, x, y, z, number, sum, difference, one, two, three, truth_over};
+ghost use Rattle.term_language.specs.Terms.{Constant, Product, AllDifferent, Cumulative};
+ghost use Rattle.term_language.specs.WorkedIntervals.{minus, box, x, y, z, number, sum, difference, quotient, remainder, absolute, least, greatest, one, two, three, truth_over};
 ghost use Rattle.term_crowds.specs.Crowds.{some_found};
 ghost use Rattle.term_crowds.specs.WorkedCrowds.{from_to, task_from, two_from, and_later, four, tasks_for_z, several_parts};
 
@@ -60,17 +60,17 @@ pub fn worked_open_tasks()
 /// interval, and 1 where that is 0 alone; parts that are alike are not combined; and what folds is a constant.
 pub fn worked_sizes_of_parts()
     ensures quotients { map (size (box (minus 7) (pos 9) (minus 5) (pos 4) (pos 3) (pos 9)))
-        (Quotient x (pos 2) ∷ Quotient x (minus 2) ∷ Quotient y (pos 100) ∷ Quotient (Constant (minus 7)) (pos 2) ∷ []) ≡ 4 ∷ 4 ∷ 1 ∷ 3 ∷ [] }
+        (quotient x (pos 2) ∷ quotient x (minus 2) ∷ quotient y (pos 100) ∷ quotient (Constant (minus 7)) (pos 2) ∷ []) ≡ 4 ∷ 4 ∷ 1 ∷ 3 ∷ [] }
     ensures remainders { map (size (box (minus 7) (pos 9) (minus 5) (pos 4) (pos 3) (pos 9)))
-        (Remainder x (pos 4) ∷ Remainder y (pos 4) ∷ Remainder z (pos 4) ∷ Remainder z (pos 100) ∷ Remainder (Constant (minus 7)) (pos 2) ∷ []) ≡ 3 ∷ 3 ∷ 3 ∷ 9 ∷ 1 ∷ [] }
+        (remainder x (pos 4) ∷ remainder y (pos 4) ∷ remainder z (pos 4) ∷ remainder z (pos 100) ∷ remainder (Constant (minus 7)) (pos 2) ∷ []) ≡ 3 ∷ 3 ∷ 3 ∷ 9 ∷ 1 ∷ [] }
     ensures extremes { map (size (box (minus 7) (pos 9) (minus 5) (pos 4) (pos 3) (pos 9)))
-        (Least x (one y) ∷ Greatest x (one y) ∷ Least z (one (number 2)) ∷ Least (number 5) (two (number 3) (number 4)) ∷ []) ≡ 7 ∷ 9 ∷ 2 ∷ 3 ∷ [] }
+        (least x (one y) ∷ greatest x (one y) ∷ least z (one (number 2)) ∷ least (number 5) (two (number 3) (number 4)) ∷ []) ≡ 7 ∷ 9 ∷ 2 ∷ 3 ∷ [] }
     ensures sizes { map (size (box (minus 7) (pos 9) (minus 5) (pos 4) (pos 3) (pos 9)))
-        (Size x ∷ Size y ∷ Size z ∷ Size (difference z (number 20)) ∷ Size (Constant (minus 4)) ∷ []) ≡ 9 ∷ 5 ∷ 9 ∷ 17 ∷ 4 ∷ [] }
+        (absolute x ∷ absolute y ∷ absolute z ∷ absolute (difference z (number 20)) ∷ absolute (Constant (minus 4)) ∷ []) ≡ 9 ∷ 5 ∷ 9 ∷ 17 ∷ 4 ∷ [] }
     ensures several { size (box (minus 7) (pos 9) (minus 5) (pos 4) (pos 3) (pos 9)) several_parts ≡ 127 }
-    ensures alike { size (box (minus 7) (pos 9) (minus 5) (pos 4) (pos 3) (pos 9)) (difference (Size y) (Size y)) ≡ 10 }
+    ensures alike { size (box (minus 7) (pos 9) (minus 5) (pos 4) (pos 3) (pos 9)) (difference (absolute y) (absolute y)) ≡ 10 }
     ensures multiples { map (size (box (minus 7) (pos 9) (minus 5) (pos 4) (pos 3) (pos 9)))
-        (Product (number 4) (Size y) ∷ Product (Constant (minus 4)) (sum (Quotient x (pos 2)) (number 3)) ∷ Product (number 6) (Quotient y (pos 100)) ∷ []) ≡ 20 ∷ 28 ∷ 6 ∷ [] }
+        (Product (number 4) (absolute y) ∷ Product (Constant (minus 4)) (sum (quotient x (pos 2)) (number 3)) ∷ Product (number 6) (quotient y (pos 100)) ∷ []) ≡ 20 ∷ 28 ∷ 6 ∷ [] }
     ensures of_each_other { map (size (box (minus 7) (pos 9) (minus 5) (pos 4) (pos 3) (pos 9)))
-        (Quotient (Product x z) (pos 5) ∷ Remainder (sum x z) (pos 10) ∷ Size (Product x y) ∷ []) ≡ 16 ∷ 9 ∷ 45 ∷ [] }
+        (quotient (Product x z) (pos 5) ∷ remainder (sum x z) (pos 10) ∷ absolute (Product x y) ∷ []) ≡ 16 ∷ 9 ∷ 45 ∷ [] }
 {}

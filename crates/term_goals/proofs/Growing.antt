@@ -1,5 +1,5 @@
 -- What a list of multiples of several terms is, as it grows.
-use Rattle.std.proofs.Common.{◌≡◌, ℕ, ◌+◌, ◌*◌, ◌<◌, ◌≤◌, ◌^◌, zero, suc, ℤ, pos, ◌*ℤ◌, ◌≤ℤ◌, unsigned_abs, Bool, true, false, if◌then◌else◌, List, [], ◌∷◌, ◌++◌, map, length}
+use Rattle.std.proofs.Common.{◌≡◌, ℕ, ◌+◌, ◌*◌, ◌<◌, ◌≤◌, ◌^◌, zero, suc, ℤ, ◌*ℤ◌, ◌≤ℤ◌, unsigned_abs, Bool, true, false, if◌then◌else◌, List, [], ◌∷◌, ◌++◌, map, length}
 use Rattle.std.proofs.Common.{get_or, drop, Option, Some, None, arith, refl, ap, subst, sym, ◌∙◌}
 use Rattle.std.proofs.lemmas.Int.{ints, clamps, unsigned_abs-mul}
 use Rattle.std.proofs.lemmas.List.{at_drop_all, get_or_default}
@@ -18,7 +18,6 @@ use Rattle.term_language.proofs.Bounds.{sign_size}
 use Rattle.term_language.proofs.Layers.{IsClear}
 use Rattle.term_language.proofs.Sharpening.{narrow_parts}
 use Rattle.term_language.proofs.Soundness.{read}
-use Rattle.term_math.proofs.Rules.{operation_form, extreme_form}
 use Rattle.term_math.specs.Shown.{box_in}
 use Rattle.term_nodes.specs.declared.nodes.Node.{Node}
 use Rattle.term_nodes.specs.declared.nodes.Node.TheVariants as node
@@ -28,7 +27,7 @@ use Rattle.term_nodes.specs.declared.evaluation.Evaluator.{Evaluator}
 use Rattle.term_nodes.specs.Built.{IsAt}
 use Rattle.term_nodes.specs.Built as built
 use Rattle.term_nodes.specs.Seen.{IsReady, Sight}
-use Rattle.term_nodes.specs.Things.{Thing, nothing, table_at, term_in, term_at, thing_at, thing_of, parts_at, terms_at, things}
+use Rattle.term_nodes.specs.Things.{Thing, table_at, term_in, term_at, thing_of, parts_at, terms_at, things}
 use Rattle.term_nodes.proofs.Ready.{small_term}
 use Rattle.term_nodes.proofs.Steps.{next_part}
 use Rattle.term_store.proofs.Summing.{parts_proper}
@@ -58,12 +57,6 @@ leaf_added root b all xs ys a k id leaf is a_is =
 -- nothing more
 clear_added : (l a : ends.Ends) (k : ℤ) → IsClear a → l ≡ ends.plus l (ends.scaled k a)
 clear_added l a k clear = sym (plus_zero l) ∙ ap (ends.plus l) (sym (clear_scaled k a clear))
-
-pub none_added : (root b : Box) (all : List Thing) (xs : List Atom) (k : ℤ) (id : ℕ) → thing_at all id ≡ nothing → listed_ends root b all xs
-    ≡ ends.plus (listed_ends root b all xs) (ends.scaled k (atoms Near root b (term_at all id)))
-none_added root b all xs k id none =
-    subst (λ (t : Thing). listed_ends root b all xs ≡ ends.plus (listed_ends root b all xs) (ends.scaled k (atoms Near root b (term_in t)))) (sym none)
-    (clear_added (listed_ends root b all xs) (ends.exactly (pos 0)) k (record { low = refl; high = refl }))
 
 pub plain_form : (root : Box) (all : List Thing) (id : ℕ) (item : Item) → IsAt root all id item → item.facts.form.plain ≡ (form root (term_at all id)).plain
 plain_form root all id item at =
@@ -105,12 +98,8 @@ leaf_of root all (node.Constant z) leaf other = cc
 leaf_of root all (node.Cell cell) leaf other = cc
 leaf_of root all (node.Sum parts) leaf other = cc
 leaf_of root all (node.Product a c) leaf other = cc
-leaf_of root all (node.Operation op a) leaf other =
-    let is = operation_form root op (term_at all a) in
-    is ∙ folded_leaf _ _ (ap (λ (f : Form). f.plain) (sym is) ∙ other)
-leaf_of root all (node.Extreme e first later) leaf other =
-    let is = extreme_form root e (term_at all first) (terms_at all later.items) in
-    is ∙ folded_leaf _ _ (ap (λ (f : Form). f.plain) (sym is) ∙ other)
+leaf_of root all (node.Operation op a) leaf other = folded_leaf _ _ other
+leaf_of root all (node.Extreme e first later) leaf other = folded_leaf _ _ other
 leaf_of root all (node.Element table at) leaf other = element_leaf (table_at all table) (forms root (terms_at all at.items)) other
 leaf_of root all (node.Number c) leaf other = refl
 leaf_of root all (node.Compare c) leaf other = cc
@@ -154,12 +143,6 @@ part_room root all xs i d k m below is room =
     ∙ omega arith in
     let same : unsigned_abs m * n ≡ unsigned_abs k * n = ap (λ (u : ℕ). u * n) size in
     omega (arith, same, mul-le-mul_left (unsigned_abs k) (part_weight root all xs i x below (get_or_default xs i d x below)), room)
-
-pub signed_small : (k m : ℤ) (subtracted : Bool) → m ≡ sign subtracted → unsigned_abs k < 2 ^ 127 → unsigned_abs (k *ℤ m) < 2 ^ 127
-signed_small k m subtracted is small =
-    let size : unsigned_abs (k *ℤ m) ≡ unsigned_abs k = unsigned_abs-mul k m ∙ ap (λ (z : ℤ). unsigned_abs k * unsigned_abs z) is ∙ ap (λ (n : ℕ). unsigned_abs k * n) (sign_size subtracted)
-    ∙ omega arith in
-    omega (arith, size, small)
 
 pub part_step : (here : Evaluator) (b : Box) (xs : List Signed) (i : ℕ) (d : Signed) (k m : ℤ) (list next result : ends.Ends) → IsReady here → Inside b (box_in here.root) → i < length xs
     → m ≡ k *ℤ sign (get_or xs i d).subtracted → next ≡ ends.plus list (ends.scaled m (atoms Near (box_in here.root) b (term_at (things here.items.now) (get_or xs i d).term)))

@@ -124,11 +124,8 @@ mutual
   weighs root (term.Sum parts) other = parts_weigh root parts other
   weighs root (term.Product a b) other =
       product_weighs root (form root a) (form root b) (atoms_weight root a) (atoms_weight root b) (atoms Wide root root (term.Product a b)) other (weighs root a) (weighs root b)
-  weighs root (term.Quotient a c) other = alone_weighs (form root (term.Quotient a c)) (atoms Wide root root (term.Quotient a c)) other
-  weighs root (term.Remainder a c) other = alone_weighs (form root (term.Remainder a c)) (atoms Wide root root (term.Remainder a c)) other
-  weighs root (term.Least a later) other = alone_weighs (form root (term.Least a later)) (atoms Wide root root (term.Least a later)) other
-  weighs root (term.Greatest a later) other = alone_weighs (form root (term.Greatest a later)) (atoms Wide root root (term.Greatest a later)) other
-  weighs root (term.Size a) other = alone_weighs (form root (term.Size a)) (atoms Wide root root (term.Size a)) other
+  weighs root (term.Made op a) other = alone_weighs (form root (term.Made op a)) (atoms Wide root root (term.Made op a)) other
+  weighs root (term.Selected which a later) other = alone_weighs (form root (term.Selected which a later)) (atoms Wide root root (term.Selected which a later)) other
   weighs root (term.Element table at) other = alone_weighs (form root (term.Element table at)) (atoms Wide root root (term.Element table at)) other
   weighs root (term.Number c) other = alone_weighs (form root (term.Number c)) (atoms Wide root root (term.Number c)) other
 

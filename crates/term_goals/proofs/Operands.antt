@@ -5,16 +5,11 @@ use Rattle.term_language.specs.Forms.{is_constant, atom_form}
 use Rattle.term_language.specs.Rules.{form}
 use Rattle.term_language.specs.Sizes.{atoms_weight}
 use Rattle.term_language.specs.Terms as term
-use Rattle.term_math.specs.declared.operations.Operation.{Operation}
-use Rattle.term_math.specs.declared.operations.Operation.TheVariants.{Quotient, Remainder, Size}
-use Rattle.term_math.specs.declared.extremes.Extreme.{Extreme}
-use Rattle.term_math.specs.declared.extremes.Extreme.TheVariants.{Least, Greatest}
-use Rattle.term_math.specs.Made.{operation_term, extreme_term}
 use Rattle.term_nodes.specs.declared.nodes.Node.{Node}
 use Rattle.term_nodes.specs.declared.nodes.Node.TheVariants as node
 use Rattle.term_nodes.specs.declared.items.Item.{Item}
 use Rattle.term_nodes.specs.Built.{IsAt}
-use Rattle.term_nodes.specs.Things.{Thing, nothing, term_in, term_at, thing_at, thing_of, terms_at}
+use Rattle.term_nodes.specs.Things.{Thing, nothing, term_in, term_at, thing_at, thing_of}
 use Rattle.term_goals.specs.declared.sums.Atom.{Atom}
 use Rattle.term_goals.specs.Goals.{IsBare, IsOperand}
 use Rattle.term_goals.proofs.Growing.{term_is, other_at, plain_form, left_room, right_room, left_is, right_is}
@@ -24,22 +19,13 @@ abbrev pub is_product : Node → Bool
 is_product (node.Product a c) = true
 is_product other = false
 
-operation_bare : (root : Box) (op : Operation) (t : term.Term) → IsBare root (operation_term op t)
-operation_bare root (Quotient divisor) t = tt
-operation_bare root (Remainder divisor) t = tt
-operation_bare root Size t = tt
-
-extreme_bare : (root : Box) (e : Extreme) (t : term.Term) (later : term.Terms) → IsBare root (extreme_term e t later)
-extreme_bare root Least t later = tt
-extreme_bare root Greatest t later = tt
-
 bare_of : (root : Box) (all : List Thing) (x : Node) → is_product x ≡ false → IsBare root (term_in (thing_of all x))
 bare_of root all (node.Constant z) none = tt
 bare_of root all (node.Cell cell) none = tt
 bare_of root all (node.Sum parts) none = tt
 bare_of root all (node.Product a c) none = absurd (cc)
-bare_of root all (node.Operation op a) none = operation_bare root op (term_at all a)
-bare_of root all (node.Extreme e first later) none = extreme_bare root e (term_at all first) (terms_at all later.items)
+bare_of root all (node.Operation op a) none = tt
+bare_of root all (node.Extreme e first later) none = tt
 bare_of root all (node.Element table at) none = tt
 bare_of root all (node.Number c) none = tt
 bare_of root all (node.Compare c) none = tt
@@ -63,11 +49,8 @@ of_plain root (term.Constant z) plain = tt
 of_plain root (term.Cell cell) plain = tt
 of_plain root (term.Sum parts) plain = tt
 of_plain root (term.Product s u) plain = λ other. absurd (cc)
-of_plain root (term.Quotient s c) plain = tt
-of_plain root (term.Remainder s c) plain = tt
-of_plain root (term.Least s later) plain = tt
-of_plain root (term.Greatest s later) plain = tt
-of_plain root (term.Size s) plain = tt
+of_plain root (term.Made op s) plain = tt
+of_plain root (term.Selected which s later) plain = tt
 of_plain root (term.Element table at) plain = tt
 of_plain root (term.Number c) plain = tt
 
@@ -79,11 +62,8 @@ of_leaf root (term.Constant z) leaf = tt
 of_leaf root (term.Cell cell) leaf = tt
 of_leaf root (term.Sum parts) leaf = tt
 of_leaf root (term.Product s u) leaf = λ other. leaf
-of_leaf root (term.Quotient s c) leaf = tt
-of_leaf root (term.Remainder s c) leaf = tt
-of_leaf root (term.Least s later) leaf = tt
-of_leaf root (term.Greatest s later) leaf = tt
-of_leaf root (term.Size s) leaf = tt
+of_leaf root (term.Made op s) leaf = tt
+of_leaf root (term.Selected which s later) leaf = tt
 of_leaf root (term.Element table at) leaf = tt
 of_leaf root (term.Number c) leaf = tt
 

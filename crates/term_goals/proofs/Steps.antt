@@ -79,11 +79,6 @@ cells_fit here xs i d times sum ready room positive most times_is sum_is =
     (wide_fit (cells_ends b cells) (cells_weight (box_in here.root) cells) (cells_bounds (box_in here.root) b cells ready.root_is_box ready.inside)
     (omega (arith, drop_lighter (box_in here.root) (i - 1) xs, room)))
 
-pub all_cells : (b : Box) (xs : List WideCoefficient) (i : ℕ) (r : ends.Ends) → i ≤ 0 → r ≡ cells_ends b (wide_cells (drop i xs)) → r ≡ cells_ends b (wide_cells xs)
-all_cells b xs i r none is =
-    let at_zero : i ≡ 0 = omega (arith, none) in
-    is ∙ ap (λ (j : ℕ). cells_ends b (wide_cells (drop j xs))) at_zero
-
 -- the non-linear part
 pub next_atoms : (root b : Box) (all : List Thing) (xs : List Atom) (i : ℕ) (x : Atom) → i < length xs → x ≡ get_or xs i x → atoms_ends root b all (drop i xs)
     ≡ ends.plus (ends.scaled x.k (atoms Near root b (term_at all x.term))) (atoms_ends root b all (drop (i + 1) xs))
@@ -147,11 +142,6 @@ atoms_fit here xs i d times sum ready room positive most times_is sum_is =
     ∙ sym next in
     subst IsWideFit (sym same)
     (wide_fit (atoms_ends root b all ys) (all_weight root all ys) (atoms_bounds here ys ready) (omega (arith, atoms_lighter root all (i - 1) xs, room)))
-
-pub all_atoms : (root b : Box) (all : List Thing) (xs : List Atom) (i : ℕ) (r : ends.Ends) → i ≤ 0 → r ≡ atoms_ends root b all (drop i xs) → r ≡ atoms_ends root b all xs
-all_atoms root b all xs i r none is =
-    let at_zero : i ≡ 0 = omega (arith, none) in
-    is ∙ ap (λ (j : ℕ). atoms_ends root b all (drop j xs)) at_zero
 
 -- the whole sum
 others_bounds : (here : Evaluator) (s : Summed) → IsReady here → Bounds

@@ -50,11 +50,6 @@ pub next_form : (root : Box) (all : List Thing) (ws : List ℤ) (ids : List ℕ)
 next_form root all ws ids i w id same below at id_at =
     two_drop (λ vs ys. expected_form root vs (terms_of all ys)) ws ids i w id (omega (arith, same, below)) below at id_at
 
-pub no_form : (root : Box) (all : List Thing) (ws : List ℤ) (ids : List ℕ) (i : ℕ) → length ids ≡ length ws → length ids ≤ i → expected_form root (drop i ws) (terms_of all (drop i ids))
-    ≡ expected_form root [] []
-no_form root all ws ids i same past =
-    at_drop_all (λ ys. expected_form root ys (terms_of all (drop i ids))) ws i (omega (arith, same, past))
-
 -- the non-linear part
 pub next_others : (root : Box) (all : List Thing) (ws : List ℤ) (ids : List ℕ) (i : ℕ) (w : ℤ) (id : ℕ) → length ids ≡ length ws → i < length ids → w ≡ get_or ws i w → id ≡ get_or ids i id
     → others root all (drop i ws) (drop i ids) ≡ others root all (w ∷ drop (i + 1) ws) (id ∷ drop (i + 1) ids)
@@ -122,10 +117,6 @@ listed_sum here weights ids g s b (Ok list) ready inside kept is fact =
     ap (ends.plus (ends.exactly (constant_of g))) fact
     ∙ ap (λ (o : Option Summed). ends.plus (ends.exactly (option_map_or (λ (x : Summed). x.form.constant) o (pos 0))) rest) kept
     ∙ summed_at (box_in here.root) b here.items.now weights ids s ready.built ready.root_is_box inside is
-
--- sizes: a sum is no larger than its parts together
-size_parts : (root : Box) (t : Term) → weight_in root (form root t) + atoms_weight root t ≡ size root t
-size_parts root t = refl
 
 step_heavy : (root : Box) (w : ℤ) (t : Term) (before weights greatest : ℕ) → before ≤ weights * greatest
     → before + unsigned_abs w * size root t ≤ (unsigned_abs w + weights) * max (size root t) greatest

@@ -71,11 +71,6 @@ next_greatest root all ids i id below at =
 pub no_greatest : (root : Box) (all : List Thing) (ids : List ℕ) (i : ℕ) → length ids ≤ i → greatest_size root (terms_of all (drop i ids)) ≡ 0
 no_greatest root all ids i past = at_drop_all (λ ys. greatest_size root (terms_of all ys)) ids i past
 
-pub all_greatest : (root : Box) (all : List Thing) (ids : List ℕ) (i most : ℕ) → i ≤ 0 → most ≡ greatest_size root (terms_of all (drop i ids)) → most ≡ greatest_size root (terms_of all ids)
-all_greatest root all ids i most none is =
-    let at_zero : i ≡ 0 = omega (arith, none) in
-    is ∙ ap (λ (j : ℕ). greatest_size root (terms_of all (drop j ids))) at_zero
-
 pub greatest_small : (root : Box) (items : List Item) (ids : List ℕ) → IsBuilt root items → greatest_size root (terms_of (things items) ids) ≤ 2 ^ 40
 greatest_small root items [] built = omega arith
 greatest_small root items (id ∷ ids) built = omega (arith, (small_term root items id built).small, greatest_small root items ids built)

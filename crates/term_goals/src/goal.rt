@@ -19,7 +19,7 @@ use crate::sums::{Atom, Summed};
 use crate::wide::WideEnds;
 use sopl_base::{Direction, Fault};
 use std::alloc::{AllocError, Global};
-use term_math::{Combination, Ends, Extreme};
+use term_math::{Combination, Ends, Extreme, taken};
 use term_nodes::{Evaluator, form_at};
 
 /// What an objective is made of: the weight of each scenario, and the number of its term in each.
@@ -113,8 +113,8 @@ fn worse(direction: Direction, a: &Ends, b: &Ends) -> Ends
     ensures { ends_of result ≡ worse_ends direction (ends_of a.now) (ends_of b.now) }
 {
     match direction {
-        Direction::Minimize => Extreme::Greatest.taken(a, b),
-        Direction::Maximize => Extreme::Least.taken(a, b),
+        Direction::Minimize => taken(Extreme::Greatest, a, b),
+        Direction::Maximize => taken(Extreme::Least, a, b),
         Direction::Nothing => *a,
     }
 }

@@ -4,9 +4,9 @@ use Rattle.std.specs.List.{fold}
 use Rattle.box_problem.specs.Box.{Box}
 use Rattle.term_language.specs.declared.answers.Defined.{Defined}
 use Rattle.term_language.specs.declared.answers.Truth.{Truth}
-use Rattle.term_language.specs.Terms.{Term, Constant, Cell, Sum, Product, Quotient, Remainder, Least, Greatest, Size, Element, Number, Terms, no_term, term, Parts, no_part, part, Cond}
+use Rattle.term_language.specs.Terms.{Term, Constant, Cell, Sum, Product, Made, Selected, Element, Number, Terms, no_term, term, Parts, no_part, part, Cond}
 use Rattle.term_language.specs.Terms.{Compare, Not, All, Any, Implies, AllDifferent, Cumulative, Conds, no_cond, condition, Tasks, no_task, task}
-use Rattle.term_language.specs.Ends.{Ends, plus, scaled, quotients, remainders, least, greatest, sizes}
+use Rattle.term_language.specs.Ends.{Ends, plus, scaled, made, picked}
 use Rattle.term_language.specs.Forms.{sign, whole}
 use Rattle.term_language.specs.Marks.{both, all_marks, opposite, and_truth, or_truth, truth_ends, judged, compared}
 use Rattle.term_language.specs.Globals.{never_differ, always_differ, TaskEnds, never_fit, always_fit}
@@ -34,22 +34,13 @@ mutual
       let right = second (Same b c) (mentions root x) (mentions root y) reach in
       same_product b c (form root x) (form root y) (atoms reading root b x) (atoms reading root b y) (atoms reading root c x) (atoms reading root c y) (over_form (Same b c) root x left)
       (over_form (Same b c) root y right) (same_atoms reading root b c x left) (same_atoms reading root b c y right)
-  same_atoms reading root b c (Quotient x k) reach =
-      ap (λ (e : Ends). unless_folded (folds (form root x ∷ []) (mark Near root root x)) (quotients e k)) (by_atoms reading root b c x reach (same_atoms reading root b c x reach))
-  same_atoms reading root b c (Remainder x k) reach =
-      ap (λ (e : Ends). unless_folded (folds (form root x ∷ []) (mark Near root root x)) (remainders e k)) (by_atoms reading root b c x reach (same_atoms reading root b c x reach))
-  same_atoms reading root b c (Least x later) reach =
-      ap₂ (λ (e : Ends) (es : List Ends). unless_folded (folds (form root x ∷ forms root later) (both (mark Near root root x) (all_marks (marks Near root root later)))) (fold least e es))
-      (by_atoms reading root b c x (first (Same b c) (mentions root x) (terms_mention root later) reach)
-      (same_atoms reading root b c x (first (Same b c) (mentions root x) (terms_mention root later) reach)))
+  same_atoms reading root b c (Made op x) reach =
+      ap (λ (e : Ends). unless_folded (folds (form root x ∷ []) (mark Near root root x)) (made op e)) (by_atoms reading root b c x reach (same_atoms reading root b c x reach))
+  same_atoms reading root b c (Selected which x later) reach =
+      let here = first (Same b c) (mentions root x) (terms_mention root later) reach in
+      ap₂ (λ (e : Ends) (es : List Ends). unless_folded (folds (form root x ∷ forms root later) (both (mark Near root root x) (all_marks (marks Near root root later)))) (fold (picked which) e es))
+      (by_atoms reading root b c x here (same_atoms reading root b c x here))
       (same_intervals reading root b c later (second (Same b c) (mentions root x) (terms_mention root later) reach))
-  same_atoms reading root b c (Greatest x later) reach =
-      ap₂ (λ (e : Ends) (es : List Ends). unless_folded (folds (form root x ∷ forms root later) (both (mark Near root root x) (all_marks (marks Near root root later)))) (fold greatest e es))
-      (by_atoms reading root b c x (first (Same b c) (mentions root x) (terms_mention root later) reach)
-      (same_atoms reading root b c x (first (Same b c) (mentions root x) (terms_mention root later) reach)))
-      (same_intervals reading root b c later (second (Same b c) (mentions root x) (terms_mention root later) reach))
-  same_atoms reading root b c (Size x) reach =
-      ap (λ (e : Ends). unless_folded (folds (form root x ∷ []) (mark Near root root x)) (sizes e)) (by_atoms reading root b c x reach (same_atoms reading root b c x reach))
   same_atoms reading root b c (Element table indices) reach =
       let item = named_item table (forms root indices) in
       same_named reading b c table (forms root indices) (intervals reading root b indices) (intervals reading root c indices)
@@ -76,15 +67,10 @@ mutual
   same_mark reading root b c (Sum parts) reach = same_sum_mark reading root b c parts reach
   same_mark reading root b c (Product x y) reach =
       ap₂ both (same_mark reading root b c x (first (Same b c) (mentions root x) (mentions root y) reach)) (same_mark reading root b c y (second (Same b c) (mentions root x) (mentions root y) reach))
-  same_mark reading root b c (Quotient x k) reach = same_mark reading root b c x reach
-  same_mark reading root b c (Remainder x k) reach = same_mark reading root b c x reach
-  same_mark reading root b c (Least x later) reach =
+  same_mark reading root b c (Made op x) reach = same_mark reading root b c x reach
+  same_mark reading root b c (Selected which x later) reach =
       ap₂ both (same_mark reading root b c x (first (Same b c) (mentions root x) (terms_mention root later) reach))
       (same_marks reading root b c later (second (Same b c) (mentions root x) (terms_mention root later) reach))
-  same_mark reading root b c (Greatest x later) reach =
-      ap₂ both (same_mark reading root b c x (first (Same b c) (mentions root x) (terms_mention root later) reach))
-      (same_marks reading root b c later (second (Same b c) (mentions root x) (terms_mention root later) reach))
-  same_mark reading root b c (Size x) reach = same_mark reading root b c x reach
   same_mark reading root b c (Element table indices) reach =
       let at = second (Same b c) (element_mentions table (named_item table (forms root indices))) (terms_mention root indices) reach in
       ap₂ (element_mark table) (same_marks reading root b c indices at) (same_intervals reading root b c indices at)

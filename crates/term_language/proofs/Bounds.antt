@@ -4,7 +4,7 @@ use Rattle.std.proofs.lemmas.Int.{ints, clamps, unsigned_abs-mul}
 use Rattle.std.proofs.Math.Nat.{mul-le-mul_left}
 use Rattle.sopl_base.proofs.Sizes.{sized}
 use Rattle.box_problem.specs.Box.{Box, IsBox, Inside}
-use Rattle.term_language.specs.Terms.{Term, Constant, Cell, Sum, Product, Quotient, Remainder, Least, Greatest, Size, Element, Number, Parts, no_part, part}
+use Rattle.term_language.specs.Terms.{Term, Constant, Cell, Sum, Product, Made, Selected, Element, Number, Parts, no_part, part}
 use Rattle.term_language.specs.Ends.{Ends, exactly, plus, between, scaled, times, cell_ends}
 use Rattle.term_language.specs.Forms.{Coefficient, Form, is_constant, sign, cells_ends, whole}
 use Rattle.term_language.specs.Rules.{element_form, Reading, Wide, folded, unless_folded, form, forms, atoms, sum_atoms, interval, product_atoms}
@@ -90,11 +90,8 @@ mutual
   bounded root (Sum parts) proper = bounded_parts root parts proper
   bounded root (Product a c) proper =
       bounds_product root (form root a) (form root c) (atoms Wide root root a) (atoms Wide root root c) (atoms_weight root a) (atoms_weight root c) (bounded root a proper.0) (bounded root c proper.1)
-  bounded root (Quotient a c) proper = bounds_folded _ _ _
-  bounded root (Remainder a c) proper = bounds_folded _ _ _
-  bounded root (Least a later) proper = bounds_folded _ _ _
-  bounded root (Greatest a later) proper = bounds_folded _ _ _
-  bounded root (Size a) proper = bounds_folded _ _ _
+  bounded root (Made op a) proper = bounds_folded _ _ _
+  bounded root (Selected which a later) proper = bounds_folded _ _ _
   bounded root (Element table at) proper = bounds_alone (element_form table (forms root at)) _
   bounded root (Number c) proper = bounds_weight (atoms Wide root root (Number c))
 

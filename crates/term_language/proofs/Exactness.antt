@@ -1,20 +1,23 @@
 -- Intervals, marks and truths on a box of one point.
-use Rattle.std.proofs.Common.{◌≡◌, inl, inr, ℕ, ℤ, pos, negsuc, ◌*ℤ◌, int_le, Bool, true, false, if◌then◌else◌, List, [], ◌∷◌, length, arith, refl, sym, ap, ◌∙◌}
+use Rattle.std.proofs.Common.{◌≡◌, inl, inr, ℕ, ℤ, pos, negsuc, ◌*ℤ◌, int_le, Bool, true, false, if◌then◌else◌, List, [], ◌∷◌, length, arith, refl, sym, ap, ap₂, ◌∙◌}
 use Rattle.std.specs.List.{fold}
-use Rattle.std.specs.Int.{int_min, int_max}
 use Rattle.std.specs.Int.RustNames.{int_div, int_rem}
 use Rattle.std.specs.Ordering.{int_eq}
 use Rattle.std.proofs.lemmas.Int.{ints, clamps}
 use Rattle.std.proofs.lemmas.Bool.{cases_lt}
 use Rattle.sopl_base.specs.declared.comparison.CmpOp.{CmpOp}
 use Rattle.sopl_base.specs.declared.comparison.CmpOp.TheVariants.{Eq, Ne, Lt, Le, Gt, Ge}
+use Rattle.sopl_base.specs.declared.extreme.Extreme.{Extreme}
+use Rattle.sopl_base.specs.Extremes.{chosen_by}
+use Rattle.term_language.specs.declared.made.Operation.{Operation}
+use Rattle.term_language.specs.declared.made.Operation.TheVariants.{Quotient, Remainder, Size}
 use Rattle.sopl_base.proofs.Tests.{le_tested}
 use Rattle.box_problem.specs.Box.{Box, IsBox, IsPoint}
 use Rattle.term_language.specs.declared.answers.Defined.{Defined}
 use Rattle.term_language.specs.declared.answers.Defined.TheVariants.{Never, Maybe, Always}
 use Rattle.term_language.specs.declared.answers.Truth.{Truth}
 use Rattle.term_language.specs.declared.answers.Truth.TheVariants.{False, Unknown, True}
-use Rattle.term_language.specs.Ends.{Ends, has, ends, exactly, plus, between, scaled, times, quotients, remainders, least, greatest, size_of, sizes, cell_ends}
+use Rattle.term_language.specs.Ends.{Ends, has, ends, exactly, plus, between, hull, scaled, times, quotients, remainders, size_of, image, made, picked, cell_ends}
 use Rattle.term_language.specs.Forms.{Coefficient, Form, is_constant, cells_ends, whole, plus_form}
 use Rattle.term_language.specs.Marks.{both, opposite, and_truth, or_truth, truth_ends, judged, none_compares, all_compare, compared}
 use Rattle.term_language.specs.Rules.{unless_folded, product_atoms, difference_ends}
@@ -65,23 +68,26 @@ one_remainders k a p =
     (λ same. ap (λ z. int_rem z k) p)
     (λ differ. let test = equal_tests (int_div a.low k) (int_div a.high k) (ap (λ z. int_div z k) p) in absurd (cc))
 
-pub one_least : (a c : Ends) → IsOne a → IsOne c → IsOne (least a c)
-one_least a c p q = omega (arith, ints, clamps, p, q)
+pub one_picked : (which : Extreme) (a c : Ends) → IsOne a → IsOne c → IsOne (picked which a c)
+one_picked which a c p q = ap₂ (chosen_by which) p q
 
-pub one_greatest : (a c : Ends) → IsOne a → IsOne c → IsOne (greatest a c)
-one_greatest a c p q = omega (arith, ints, clamps, p, q)
-
-pub one_sizes : (a : Ends) → IsOne a → IsOne (sizes a)
-one_sizes a p =
-    let same = ap size_of p in
-    by_if (λ z. z ≡ int_max (size_of a.low) (size_of a.high)) (has a (pos 0)) (pos 0) (int_min (size_of a.low) (size_of a.high))
+-- an image of one number is what is made of it
+pub image_exactly : (f : ℤ → ℤ) (a : Ends) → IsOne a → ((image f a).low ≡ f a.low) × ((image f a).high ≡ f a.low)
+image_exactly f a p =
+    let same = ap f p in
+    by_if (λ (e : Ends). (e.low ≡ f a.low) × (e.high ≡ f a.low)) (has a (pos 0)) (hull (exactly (f (pos 0))) (between (f a.low) (f a.high))) (between (f a.low) (f a.high))
     (λ inside.
     let from = le_tested a.low (pos 0) (and_first (int_le a.low (pos 0)) (int_le (pos 0) a.high) inside) in
     let to = le_tested (pos 0) a.high (and_second (int_le a.low (pos 0)) (int_le (pos 0) a.high) inside) in
-    let none : a.low ≡ pos 0 = omega (arith, ints) in
-    let size = ap size_of none in
-    omega (arith, ints, clamps, size, same))
-    (λ outside. omega (arith, ints, clamps, same))
+    let none : a.low ≡ pos 0 = omega (arith, ints, from, to, p) in
+    let zero = ap f none in
+    (omega (arith, ints, clamps, zero, same), omega (arith, ints, clamps, zero, same)))
+    (λ outside. (omega (arith, ints, clamps, same), omega (arith, ints, clamps, same)))
+
+pub one_made : (op : Operation) (a : Ends) → IsOne a → IsOne (made op a)
+one_made (Quotient divisor) a p = one_quotients divisor.number a p
+one_made (Remainder divisor) a p = one_remainders divisor.number a p
+one_made Size a p = let both = image_exactly size_of a p in both.0 ∙ sym both.1
 
 pub one_folded : (fold : Bool) (a : Ends) → IsOne a → IsOne (unless_folded fold a)
 one_folded true a p = refl

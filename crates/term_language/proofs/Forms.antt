@@ -4,7 +4,7 @@ use Rattle.std.proofs.lemmas.List.Elements.{All-nil, All-cons}
 use Rattle.std.specs.List.{list_all}
 use Rattle.std.specs.Ordering.{int_eq}
 use Rattle.box_problem.specs.Box.{Box}
-use Rattle.term_language.specs.Terms.{Item, Fixed, Free, Table, Term, Constant, Cell, Sum, Product, Quotient, Remainder, Least, Greatest, Size, Element, Number, Parts, no_part, part}
+use Rattle.term_language.specs.Terms.{Item, Fixed, Free, Table, Term, Constant, Cell, Sum, Product, Made, Selected, Element, Number, Parts, no_part, part}
 use Rattle.term_language.specs.Arrays.{item_at}
 use Rattle.term_language.specs.Forms.{Coefficient, Form, atom_form, is_constant, unless_zero, put, combined, times_form, product_form, sign}
 use Rattle.term_language.specs.Rules.{folded, item_form, element_form, form, forms, sum_form}
@@ -69,11 +69,8 @@ mutual
   over_form P root (Sum parts) reach = over_sum P root parts reach
   over_form P root (Product a b) reach =
       over_product P (form root a) (form root b) (over_form P root a (first P (mentions root a) (mentions root b) reach)) (over_form P root b (second P (mentions root a) (mentions root b) reach))
-  over_form P root (Quotient a c) reach = over_folded P _ _
-  over_form P root (Remainder a c) reach = over_folded P _ _
-  over_form P root (Least a later) reach = over_folded P _ _
-  over_form P root (Greatest a later) reach = over_folded P _ _
-  over_form P root (Size a) reach = over_folded P _ _
+  over_form P root (Made op a) reach = over_folded P _ _
+  over_form P root (Selected which a later) reach = over_folded P _ _
   over_form P root (Element table indices) reach =
       let item = named_item table (forms root indices) in
       subst (λ (f : Form). Over P f.cells) (sym (element_is_named table (forms root indices)))

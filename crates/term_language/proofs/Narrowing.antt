@@ -9,6 +9,10 @@ use Rattle.std.proofs.lemmas.Int.{ints, clamps}
 use Rattle.std.proofs.lemmas.Bool.{cases_lt}
 use Rattle.sopl_base.specs.declared.comparison.CmpOp.{CmpOp}
 use Rattle.sopl_base.specs.declared.comparison.CmpOp.TheVariants.{Eq, Ne, Lt, Le, Gt, Ge}
+use Rattle.sopl_base.specs.declared.extreme.Extreme.{Extreme}
+use Rattle.sopl_base.specs.declared.extreme.Extreme.TheVariants.{Least, Greatest}
+use Rattle.term_language.specs.declared.made.Operation.{Operation}
+use Rattle.term_language.specs.declared.made.Operation.TheVariants.{Quotient, Remainder, Size}
 use Rattle.sopl_base.proofs.Tests.{equal_tested, le_tested}
 use Rattle.sopl_base.proofs.Booleans.{impossible}
 use Rattle.box_problem.specs.Box.{Box, IsBox, Inside}
@@ -16,14 +20,14 @@ use Rattle.term_language.specs.declared.answers.Defined.{Defined}
 use Rattle.term_language.specs.declared.answers.Defined.TheVariants.{Never, Maybe, Always}
 use Rattle.term_language.specs.declared.answers.Truth.{Truth}
 use Rattle.term_language.specs.declared.answers.Truth.TheVariants.{False, Unknown, True}
-use Rattle.term_language.specs.Ends.{Ends, Lies, has, ends, exactly, plus, between, hull, scaled, times, quotients, remainders, least, greatest, size_of, sizes, cell_ends}
+use Rattle.term_language.specs.Ends.{Ends, Lies, has, ends, exactly, plus, between, hull, scaled, times, quotients, remainders, size_of, image, made, picked, cell_ends}
 use Rattle.term_language.specs.Forms.{Coefficient, Form, is_constant, cells_ends, whole, plus_form}
 use Rattle.term_language.specs.Marks.{both, opposite, and_truth, or_truth, truth_ends, judged, none_compares, all_compare, compared}
 use Rattle.term_language.specs.Rules.{unless_folded, product_atoms, difference_ends}
 use Rattle.term_language.specs.Laws.{Within, Sharper, Surer}
 use Rattle.term_language.proofs.Products.{in_scaled, in_times}
 use Rattle.term_language.proofs.FormValues.{by_if, by_bool, missing, and_first, and_second}
-use Rattle.term_language.proofs.Operations.{in_quotients, in_remainders, in_sizes, equal_tests, one_quotient, squeezed, divides, remainder_low, remainder_high}
+use Rattle.term_language.proofs.Operations.{Turns, in_image, size_turns, in_quotients, in_remainders, equal_tests, one_quotient, squeezed, divides, remainder_low, remainder_high}
 
 -- both ends lie in the wider interval
 low_lies : (a c : Ends) → Within a c → Lies a.low c
@@ -72,19 +76,30 @@ pub within_quotients : (k : ℤ) (a c : Ends) → Within a c → Within (quotien
 within_quotients k a c p =
     between_within (int_div a.low k) (int_div a.high k) (quotients c k) (in_quotients k a.low c (low_lies a c p)) (in_quotients k a.high c (high_lies a c p))
 
-pub within_least : (a b c d : Ends) → Within a c → Within b d → Within (least a b) (least c d)
-within_least a b c d p q = record {
+pub within_picked : (which : Extreme) (a b c d : Ends) → Within a c → Within b d → Within (picked which a b) (picked which c d)
+within_picked Least a b c d p q = record {
+  ordered = omega (arith, ints, clamps, p.ordered, q.ordered);
+  from_low = omega (arith, ints, clamps, p.from_low, q.from_low);
+  to_high = omega (arith, ints, clamps, p.to_high, q.to_high);
+}
+within_picked Greatest a b c d p q = record {
   ordered = omega (arith, ints, clamps, p.ordered, q.ordered);
   from_low = omega (arith, ints, clamps, p.from_low, q.from_low);
   to_high = omega (arith, ints, clamps, p.to_high, q.to_high);
 }
 
-pub within_greatest : (a b c d : Ends) → Within a c → Within b d → Within (greatest a b) (greatest c d)
-within_greatest a b c d p q = record {
-  ordered = omega (arith, ints, clamps, p.ordered, q.ordered);
-  from_low = omega (arith, ints, clamps, p.from_low, q.from_low);
-  to_high = omega (arith, ints, clamps, p.to_high, q.to_high);
-}
+-- images
+pub within_image : (f : ℤ → ℤ) → Turns f → (a c : Ends) → Within a c → Within (image f a) (image f c)
+within_image f turns a c p =
+    let ends_within = between_within (f a.low) (f a.high) (image f c) (in_image f turns a.low c (low_lies a c p)) (in_image f turns a.high c (high_lies a c p)) in
+    by_if (λ (e : Ends). Within e (image f c)) (has a (pos 0)) (hull (exactly (f (pos 0))) (between (f a.low) (f a.high))) (between (f a.low) (f a.high))
+    (λ inside.
+    let from = le_tested a.low (pos 0) (and_first (int_le a.low (pos 0)) (int_le (pos 0) a.high) inside) in
+    let to = le_tested (pos 0) a.high (and_second (int_le a.low (pos 0)) (int_le (pos 0) a.high) inside) in
+    let zero = in_image f turns (pos 0) c (record { from_low = omega (arith, ints, from, p.from_low); to_high = omega (arith, ints, to, p.to_high) }) in
+    hull_within (exactly (f (pos 0))) (between (f a.low) (f a.high)) (image f c)
+    (record { ordered = omega (arith, ints); from_low = zero.from_low; to_high = zero.to_high }) ends_within)
+    (λ outside. ends_within)
 
 -- cells and forms
 pub within_cell : (part whole : Box) (cell : ℕ) → IsBox whole → Inside part whole → Within (cell_ends part cell) (cell_ends whole cell)
@@ -121,24 +136,6 @@ above_zero z above = grind (arith, ints)
 
 not_above_zero : (z : ℤ) → int_lt (pos 0) z ≡ false → z ≤ℤ pos 0
 not_above_zero z below = grind (arith, ints)
-
--- sizes
-pub within_sizes : (a c : Ends) → Within a c → Within (sizes a) (sizes c)
-within_sizes a c p =
-    let low = in_sizes a.low c (low_lies a c p) in
-    let high = in_sizes a.high c (high_lies a c p) in
-    let own = in_sizes a.low a (record { from_low = omega (arith, ints); to_high = p.ordered }) in
-    record {
-      ordered = omega (arith, ints, own.from_low, own.to_high);
-      from_low =
-          by_if (λ z. (sizes c).low ≤ℤ z) (has a (pos 0)) (pos 0) (int_min (size_of a.low) (size_of a.high))
-          (λ inside.
-          let from = le_tested a.low (pos 0) (and_first (int_le a.low (pos 0)) (int_le (pos 0) a.high) inside) in
-          let to = le_tested (pos 0) a.high (and_second (int_le a.low (pos 0)) (int_le (pos 0) a.high) inside) in
-          (in_sizes (pos 0) c (record { from_low = omega (arith, ints, from, p.from_low); to_high = omega (arith, ints, to, p.to_high) })).from_low)
-          (λ outside. omega (arith, ints, clamps, low.from_low, high.from_low));
-      to_high = omega (arith, ints, clamps, low.to_high, high.to_high);
-    }
 
 -- remainders
 abbrev rem_low : ℤ → ℕ → ℤ
@@ -205,6 +202,12 @@ within_remainders k a c p =
     let high = in_remainders k a.high c (high_lies a c p) in
     record { ordered = one.to_high; from_low = low.from_low; to_high = high.to_high })
     (λ differ. many_within k a c p differ)
+
+-- what is made of one number
+pub within_made : (op : Operation) (a c : Ends) → Within a c → Within (made op a) (made op c)
+within_made (Quotient divisor) a c p = within_quotients divisor.number a c p
+within_made (Remainder divisor) a c p = within_remainders divisor.number a c p
+within_made Size a c p = within_image size_of size_turns a c p
 
 -- marks
 pub sharper_both : (m n k l : Defined) → Sharper m k → Sharper n l → Sharper (both m n) (both k l)

@@ -1,16 +1,16 @@
 -- Each term and condition on a box of one point.
 use Rattle.std.proofs.Common.{◌≡◌, true, false, [], ◌∷◌, refl, List}
 use Rattle.box_problem.specs.Box.{Box, IsBox, IsPoint}
-use Rattle.term_language.specs.Terms.{Term, Constant, Cell, Sum, Product, Quotient, Remainder, Least, Greatest, Size, Element, Number, Terms, no_term, term, Parts, no_part, part, Cond}
+use Rattle.term_language.specs.Terms.{Term, Constant, Cell, Sum, Product, Made, Selected, Element, Number, Terms, no_term, term, Parts, no_part, part, Cond}
 use Rattle.term_language.specs.Terms.{Compare, Not, All, Any, Implies, AllDifferent, Cumulative, Conds, no_cond, condition, Tasks, no_task, task}
-use Rattle.term_language.specs.Ends.{quotients, remainders, least, greatest, sizes, Ends}
+use Rattle.term_language.specs.Ends.{Ends, made, picked}
 use Rattle.term_language.specs.Forms.{sign, Form, whole}
 use Rattle.term_language.specs.Marks.{both, all_marks, opposite}
 use Rattle.term_language.specs.Globals.{never_differ, always_differ, TaskEnds, never_fit, always_fit}
 use Rattle.term_language.specs.Rules.{Near, folds, form, forms, element_form, atoms, sum_atoms, intervals, mark, marks, sum_mark, truth, all_truth, any_truth, interval, task_ends, task_mark}
 use Rattle.term_language.specs.Laws.{Exact, IsKnown, IsProper, AreProper, AreProperParts, IsProperCond, AreProperConds, AreProperTasks}
 use Rattle.term_language.proofs.Exactness.{IsOne, AllOne, exact_map, exact_one, exact_product, exact_extreme, exact_part, exact_more, known_compared, known_judged, known_not}
-use Rattle.term_language.proofs.Exactness.{known_and, known_or, one_whole, one_least, one_greatest, one_quotients, one_remainders, one_sizes, one_truth, exact_both}
+use Rattle.term_language.proofs.Exactness.{known_and, known_or, one_whole, one_picked, one_made, one_truth, exact_both}
 use Rattle.term_language.proofs.ElementPoints.{exact_element}
 use Rattle.term_language.proofs.DifferentPoints.{never_or_always}
 use Rattle.term_language.proofs.TaskParts as parts
@@ -37,22 +37,12 @@ mutual
   exact root b (Product a c) is_box one proper =
       exact_product b (form root a) (form root c) (atoms Near root b a) (atoms Near root b c) (mark Near root b a) (mark Near root b c) is_box one
       (exact root b a is_box one proper.0) (exact root b c is_box one proper.1)
-  exact root b (Quotient a c) is_box one proper =
-      exact_one b (folds (form root a ∷ []) (mark Near root root a)) (λ e. quotients e c) (form root a) (atoms Near root b a) (mark Near root b a) (one_quotients c) is_box one
-      (exact root b a is_box one proper)
-  exact root b (Remainder a c) is_box one proper =
-      exact_one b (folds (form root a ∷ []) (mark Near root root a)) (λ e. remainders e c) (form root a) (atoms Near root b a) (mark Near root b a) (one_remainders c) is_box one
-      (exact root b a is_box one proper)
-  exact root b (Least a later) is_box one proper =
-      exact_extreme b (folds (form root a ∷ forms root later) (both (mark Near root root a) (all_marks (marks Near root root later)))) least (form root a) (atoms Near root b a)
-      (intervals Near root b later) (mark Near root b a) (all_marks (marks Near root b later)) one_least is_box one
+  exact root b (Made op a) is_box one proper =
+      exact_one b (folds (form root a ∷ []) (mark Near root root a)) (made op) (form root a) (atoms Near root b a) (mark Near root b a) (one_made op) is_box one (exact root b a is_box one proper)
+  exact root b (Selected which a later) is_box one proper =
+      exact_extreme b (folds (form root a ∷ forms root later) (both (mark Near root root a) (all_marks (marks Near root root later)))) (picked which) (form root a) (atoms Near root b a)
+      (intervals Near root b later) (mark Near root b a) (all_marks (marks Near root b later)) (one_picked which) is_box one
       (exact root b a is_box one proper.0) (exact_all root b later is_box one proper.1)
-  exact root b (Greatest a later) is_box one proper =
-      exact_extreme b (folds (form root a ∷ forms root later) (both (mark Near root root a) (all_marks (marks Near root root later)))) greatest (form root a) (atoms Near root b a)
-      (intervals Near root b later) (mark Near root b a) (all_marks (marks Near root b later)) one_greatest is_box one
-      (exact root b a is_box one proper.0) (exact_all root b later is_box one proper.1)
-  exact root b (Size a) is_box one proper =
-      exact_one b (folds (form root a ∷ []) (mark Near root root a)) sizes (form root a) (atoms Near root b a) (mark Near root b a) one_sizes is_box one (exact root b a is_box one proper)
   exact root b (Element table at) is_box one proper =
       exact_element b (element_form table (forms root at)).plain table (all_marks (marks Near root b at)) (intervals Near root b at) is_box one proper.0.distinct
       (exact_all root b at is_box one proper.1)

@@ -1,5 +1,5 @@
--- Quotients, remainders, sizes and extremes of the numbers of intervals.
-use Rattle.std.proofs.Common.{◌≡◌, ℕ, zero, suc, ◌/◌, ◌<◌, ◌≤◌, ℤ, pos, negsuc, unsigned_abs, ◌-ℤ◌, ◌*ℤ◌, ◌≤ℤ◌, ◌<ℤ◌, int_lt, true, false, if◌then◌else◌, arith, refl, sym, ap, ◌∙◌}
+-- Quotients, remainders, images and extremes of the numbers of intervals.
+use Rattle.std.proofs.Common.{◌≡◌, ◌⊎◌, inl, inr, ℕ, zero, suc, ◌/◌, ◌<◌, ◌≤◌, ℤ, pos, negsuc, unsigned_abs, ◌-ℤ◌, ◌*ℤ◌, ◌≤ℤ◌, ◌<ℤ◌, int_lt, true, false, if◌then◌else◌, arith, refl, sym, ap, ◌∙◌}
 use Rattle.std.specs.Int.{int_min, int_max}
 use Rattle.std.specs.Int.RustNames.{int_div, int_rem}
 use Rattle.std.specs.Ordering.{int_eq}
@@ -7,7 +7,12 @@ use Rattle.std.proofs.Math.Nat.{div-mul-le_self, mod-le}
 use Rattle.std.proofs.lemmas.Nat.{le-div}
 use Rattle.std.proofs.lemmas.Int.{ints, clamps, by_lt_z, quot-rem, rem_below}
 use Rattle.sopl_base.proofs.Tests.{equal_tested}
-use Rattle.term_language.specs.Ends.{Ends, Lies, has, ends, quotients, remainders, least, greatest, size_of, sizes}
+use Rattle.sopl_base.specs.declared.extreme.Extreme.{Extreme}
+use Rattle.sopl_base.specs.declared.extreme.Extreme.TheVariants.{Least, Greatest}
+use Rattle.sopl_base.specs.Extremes.{chosen_by}
+use Rattle.term_language.specs.declared.made.Operation.{Operation}
+use Rattle.term_language.specs.declared.made.Operation.TheVariants.{Quotient, Remainder, Size}
+use Rattle.term_language.specs.Ends.{Ends, Lies, has, ends, exactly, between, hull, quotients, remainders, size_of, image, made_of, made, picked}
 use Rattle.term_language.proofs.FormValues.{by_if}
 
 -- quotients of numbers in order are in order
@@ -135,39 +140,62 @@ pub size_negative : (z : ℤ) → z ≤ℤ pos 0 → size_of z ≡ pos 0 -ℤ z
 size_negative (pos n) order = omega (arith, ints)
 size_negative (negsuc n) order = omega (arith, ints)
 
-size_high : (x : ℤ) (a : Ends) → Lies x a → size_of x ≤ℤ int_max (size_of a.low) (size_of a.high)
-size_high x a p =
-    by_lt_z x (pos 0)
-    (λ below. omega (arith, ints, clamps, p.from_low, size_negative x (omega (arith, ints)), size_negative a.low (omega (arith, ints, p.from_low))))
-    (λ above. omega (arith, ints, clamps, p.to_high, size_positive x above, size_positive a.high (omega (arith, ints, p.to_high))))
-
 has_zero : (a : Ends) → a.low ≤ℤ pos 0 → pos 0 ≤ℤ a.high → has a (pos 0) ≡ true
 has_zero a low high = grind (arith, ints)
 
-nearer : (x : ℤ) (a : Ends) → Lies x a → has a (pos 0) ≡ false → int_min (size_of a.low) (size_of a.high) ≤ℤ size_of x
-nearer x a p outside =
+-- an interval without 0 lies on one side of it
+one_side : (a : Ends) → has a (pos 0) ≡ false → (a.high ≤ℤ pos 0) ⊎ (pos 0 ≤ℤ a.low)
+one_side a outside =
     by_lt_z (pos 0) a.low
-    (λ above. omega (arith, ints, clamps, p.from_low, size_positive x (omega (arith, ints, p.from_low)), size_positive a.low (omega (arith, ints))))
+    (λ above. inr (omega (arith, ints)))
     (λ not_above.
     by_lt_z a.high (pos 0)
-    (λ below. omega (arith, ints, clamps, p.to_high, size_negative x (omega (arith, ints, p.to_high)), size_negative a.high (omega (arith, ints))))
+    (λ below. inl (omega (arith, ints)))
     (λ not_below. let zero_in = has_zero a not_above not_below in absurd (cc)))
 
-pub in_sizes : (x : ℤ) (a : Ends) → Lies x a → Lies (size_of x) (sizes a)
-in_sizes x a p = record {
-  from_low = by_if (λ z. z ≤ℤ size_of x) (has a (pos 0)) (pos 0) (int_min (size_of a.low) (size_of a.high)) (λ inside. omega (arith, ints)) (nearer x a p);
-  to_high = size_high x a p;
-}
+-- functions that rise or fall on each side of 0: what they make of a number lies between what they make of any two around it on its side
+abbrev pub Turns : (ℤ → ℤ) → Type 0
+Turns f = (x y z : ℤ) → x ≤ℤ y → y ≤ℤ z → (z ≤ℤ pos 0) ⊎ (pos 0 ≤ℤ x) → Lies (f y) (between (f x) (f z))
 
--- extremes
-pub in_least : (x y : ℤ) (a b : Ends) → Lies x a → Lies y b → Lies (int_min x y) (least a b)
-in_least x y a b p q = record {
+pub in_image : (f : ℤ → ℤ) → Turns f → (x : ℤ) (a : Ends) → Lies x a → Lies (f x) (image f a)
+in_image f turns x a p =
+    by_if (Lies (f x)) (has a (pos 0)) (hull (exactly (f (pos 0))) (between (f a.low) (f a.high))) (between (f a.low) (f a.high))
+    (λ inside.
+    by_lt_z x (pos 0)
+    (λ below.
+    let left : x ≤ℤ pos 0 = omega (arith, ints, below) in
+    let here = turns a.low x (pos 0) p.from_low left (inl (omega (arith, ints))) in
+    record { from_low = omega (arith, ints, clamps, here.from_low); to_high = omega (arith, ints, clamps, here.to_high) })
+    (λ above.
+    let here = turns (pos 0) x a.high above p.to_high (inr (omega (arith, ints))) in
+    record { from_low = omega (arith, ints, clamps, here.from_low); to_high = omega (arith, ints, clamps, here.to_high) }))
+    (λ outside. turns a.low x a.high p.from_low p.to_high (one_side a outside))
+
+pub size_turns : Turns size_of
+size_turns x y z low high (inl below) =
+    let at_x = size_negative x (omega (arith, ints, low, high, below)) in
+    let at_y = size_negative y (omega (arith, ints, high, below)) in
+    let at_z = size_negative z below in
+    record { from_low = omega (arith, ints, clamps, low, high, at_x, at_y, at_z); to_high = omega (arith, ints, clamps, low, high, at_x, at_y, at_z) }
+size_turns x y z low high (inr above) =
+    let at_x = size_positive x above in
+    let at_y = size_positive y (omega (arith, ints, low, above)) in
+    let at_z = size_positive z (omega (arith, ints, low, high, above)) in
+    record { from_low = omega (arith, ints, clamps, low, high, at_x, at_y, at_z); to_high = omega (arith, ints, clamps, low, high, at_x, at_y, at_z) }
+
+-- what is made of one number
+pub in_made : (op : Operation) (x : ℤ) (a : Ends) → Lies x a → Lies (made_of op x) (made op a)
+in_made (Quotient divisor) x a p = in_quotients divisor.number x a p
+in_made (Remainder divisor) x a p = in_remainders divisor.number x a p
+in_made Size x a p = in_image size_of size_turns x a p
+
+-- the least or the greatest
+pub in_picked : (which : Extreme) (x y : ℤ) (a b : Ends) → Lies x a → Lies y b → Lies (chosen_by which x y) (picked which a b)
+in_picked Least x y a b p q = record {
   from_low = omega (arith, ints, clamps, p.from_low, q.from_low);
   to_high = omega (arith, ints, clamps, p.to_high, q.to_high);
 }
-
-pub in_greatest : (x y : ℤ) (a b : Ends) → Lies x a → Lies y b → Lies (int_max x y) (greatest a b)
-in_greatest x y a b p q = record {
+in_picked Greatest x y a b p q = record {
   from_low = omega (arith, ints, clamps, p.from_low, q.from_low);
   to_high = omega (arith, ints, clamps, p.to_high, q.to_high);
 }

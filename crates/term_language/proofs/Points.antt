@@ -3,13 +3,12 @@ use Rattle.std.proofs.Common.{◌≡◌, ℕ, ℤ, ◌+ℤ◌, ◌*ℤ◌, Bool,
 use Rattle.std.proofs.Common.{arith, refl, sym, subst, ap, ap₂, ◌∙◌}
 use Rattle.std.proofs.lemmas.Int.{ints}
 use Rattle.std.specs.List.{fold, flat_map, list_all}
-use Rattle.std.specs.Int.{int_min, int_max}
-use Rattle.std.specs.Int.RustNames.{int_div, int_rem}
+use Rattle.sopl_base.specs.Extremes.{chosen_by}
 use Rattle.box_problem.specs.Box.{Box, IsBox, InBox}
-use Rattle.term_language.specs.Terms.{Item, Fixed, Free, Table, Term, Constant, Cell, Sum, Product, Quotient, Remainder, Least, Greatest, Size, Element, Number, Terms, no_term, term}
+use Rattle.term_language.specs.Terms.{Item, Fixed, Free, Table, Term, Constant, Cell, Sum, Product, Made, Selected, Element, Number, Terms, no_term, term}
 use Rattle.term_language.specs.Terms.{Parts, no_part, part, Cond, Compare, Not, All, Any, Implies, AllDifferent, Cumulative, Conds, no_cond, condition, Tasks, no_task, task}
 use Rattle.term_language.specs.Arrays.{Entry, indices, paired, entries, same_index, item_in, item_at}
-use Rattle.term_language.specs.Ends.{size_of}
+use Rattle.term_language.specs.Ends.{made_of}
 use Rattle.term_language.specs.Forms.{Form, is_constant, sign}
 use Rattle.term_language.specs.Rules.{Near, forms}
 use Rattle.term_language.specs.Values.{both_of, one_or_zero, compares, holds_of, cell_value, item_value, all_distinct, TaskValues, task_values, do_fit, value, values, sum_value, holds}
@@ -104,15 +103,11 @@ mutual
   like_value root p q (Product a b) proper reach =
       ap₂ (λ (v w : Option ℤ). both_of (λ x y. x *ℤ y) v w) (like_value root p q a proper.0 (first (Like p q) (mentions root a) (mentions root b) reach))
       (like_value root p q b proper.1 (second (Like p q) (mentions root a) (mentions root b) reach))
-  like_value root p q (Quotient a c) proper reach = ap (λ (v : Option ℤ). option_map (λ x. int_div x c) v) (like_value root p q a proper reach)
-  like_value root p q (Remainder a c) proper reach = ap (λ (v : Option ℤ). option_map (λ x. int_rem x c) v) (like_value root p q a proper reach)
-  like_value root p q (Least a later) proper reach =
-      ap₂ (λ (v : Option ℤ) (vs : Option (List ℤ)). both_of (λ x xs. fold int_min x xs) v vs) (like_value root p q a proper.0 (first (Like p q) (mentions root a) (terms_mention root later) reach))
+  like_value root p q (Made op a) proper reach = ap (option_map (made_of op)) (like_value root p q a proper reach)
+  like_value root p q (Selected which a later) proper reach =
+      ap₂ (λ (v : Option ℤ) (vs : Option (List ℤ)). both_of (λ x xs. fold (chosen_by which) x xs) v vs)
+      (like_value root p q a proper.0 (first (Like p q) (mentions root a) (terms_mention root later) reach))
       (like_values root p q later proper.1 (second (Like p q) (mentions root a) (terms_mention root later) reach))
-  like_value root p q (Greatest a later) proper reach =
-      ap₂ (λ (v : Option ℤ) (vs : Option (List ℤ)). both_of (λ x xs. fold int_max x xs) v vs) (like_value root p q a proper.0 (first (Like p q) (mentions root a) (terms_mention root later) reach))
-      (like_values root p q later proper.1 (second (Like p q) (mentions root a) (terms_mention root later) reach))
-  like_value root p q (Size a) proper reach = ap (λ (v : Option ℤ). option_map size_of v) (like_value root p q a proper reach)
   like_value root p q (Element table list) proper reach =
       let item = named_item table (forms root list) in
       like_element p q table (forms root list) (values p list) (values q list) (first (Like p q) (element_mentions table item) (terms_mention root list) reach) (fixed_values root p list proper.1)

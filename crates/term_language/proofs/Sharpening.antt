@@ -2,9 +2,9 @@
 use Rattle.std.proofs.Common.{pos, List}
 use Rattle.box_problem.specs.Box.{Box, IsBox, Inside}
 use Rattle.term_language.specs.declared.answers.Defined.{Defined}
-use Rattle.term_language.specs.Terms.{Term, Constant, Cell, Sum, Product, Quotient, Remainder, Least, Greatest, Size, Element, Number, Terms, no_term, term, Parts, no_part, part, Cond}
+use Rattle.term_language.specs.Terms.{Term, Constant, Cell, Sum, Product, Made, Selected, Element, Number, Terms, no_term, term, Parts, no_part, part, Cond}
 use Rattle.term_language.specs.Terms.{Compare, Not, All, Any, Implies, AllDifferent, Cumulative, Conds, no_cond, condition, Tasks, no_task, task}
-use Rattle.term_language.specs.Ends.{Ends, scaled, quotients, remainders, least, greatest, sizes}
+use Rattle.term_language.specs.Ends.{Ends, scaled, made, picked}
 use Rattle.term_language.specs.Forms.{sign, whole}
 use Rattle.term_language.specs.Marks.{both, all_marks, opposite}
 use Rattle.term_language.specs.Rules.{element_form, element_ends, forms, Reading, Wide, form, atoms, sum_atoms, intervals, mark, marks, sum_mark, truth, all_truth, any_truth, interval}
@@ -14,7 +14,7 @@ use Rattle.term_language.proofs.ElementParts.{within_element, sharper_element}
 use Rattle.term_language.proofs.DifferentParts.{surer_different}
 use Rattle.term_language.proofs.TaskParts.{TasksWithin, surer_tasks}
 use Rattle.term_language.specs.Globals.{TaskEnds}
-use Rattle.term_language.proofs.Narrowing.{within_exactly, within_plus, within_scaled, within_quotients, within_remainders, within_sizes, within_least, within_greatest, within_whole}
+use Rattle.term_language.proofs.Narrowing.{within_exactly, within_plus, within_scaled, within_made, within_picked, within_whole}
 use Rattle.term_language.proofs.Narrowing.{within_product, within_folded, within_difference, within_truth, AllWithin, within_fold, sharper_both, surer_not, surer_and, surer_or}
 use Rattle.term_language.proofs.Narrowing.{surer_compared}
 
@@ -43,45 +43,21 @@ mutual
         within = within_product b w (form root a) (form root c) (atoms reading root b a) (atoms reading root b c) (atoms Wide root w a) (atoms Wide root w c) is_box inside first.within second.within;
         sharper = sharper_both (mark reading root b a) (mark reading root b c) (mark Wide root w a) (mark Wide root w c) first.sharper second.sharper;
       }
-  narrow reading root b w (Quotient a c) is_box inside proper =
+  narrow reading root b w (Made op a) is_box inside proper =
       let first = narrow reading root b w a is_box inside proper in
       record {
-        within = within_folded _ (quotients (whole b (form root a) (atoms reading root b a)) c) (quotients (whole w (form root a) (atoms Wide root w a)) c)
-            (within_quotients c (whole b (form root a) (atoms reading root b a)) (whole w (form root a) (atoms Wide root w a))
+        within = within_folded _ (made op (whole b (form root a) (atoms reading root b a))) (made op (whole w (form root a) (atoms Wide root w a)))
+            (within_made op (whole b (form root a) (atoms reading root b a)) (whole w (form root a) (atoms Wide root w a))
             (within_whole b w (form root a) (atoms reading root b a) (atoms Wide root w a) is_box inside first.within));
         sharper = first.sharper;
       }
-  narrow reading root b w (Remainder a c) is_box inside proper =
-      let first = narrow reading root b w a is_box inside proper in
-      record {
-        within = within_folded _ (remainders (whole b (form root a) (atoms reading root b a)) c) (remainders (whole w (form root a) (atoms Wide root w a)) c)
-            (within_remainders c (whole b (form root a) (atoms reading root b a)) (whole w (form root a) (atoms Wide root w a))
-            (within_whole b w (form root a) (atoms reading root b a) (atoms Wide root w a) is_box inside first.within));
-        sharper = first.sharper;
-      }
-  narrow reading root b w (Least a later) is_box inside proper =
+  narrow reading root b w (Selected which a later) is_box inside proper =
       let first = narrow reading root b w a is_box inside proper.0 in
       let rest = narrow_all reading root b w later is_box inside proper.1 in
       record {
-        within = within_folded _ _ _ (within_fold least (whole b (form root a) (atoms reading root b a)) (whole w (form root a) (atoms Wide root w a)) (intervals reading root b later)
-            (intervals Wide root w later) within_least (within_whole b w (form root a) (atoms reading root b a) (atoms Wide root w a) is_box inside first.within) rest.within);
+        within = within_folded _ _ _ (within_fold (picked which) (whole b (form root a) (atoms reading root b a)) (whole w (form root a) (atoms Wide root w a)) (intervals reading root b later)
+            (intervals Wide root w later) (within_picked which) (within_whole b w (form root a) (atoms reading root b a) (atoms Wide root w a) is_box inside first.within) rest.within);
         sharper = sharper_both (mark reading root b a) (all_marks (marks reading root b later)) (mark Wide root w a) (all_marks (marks Wide root w later)) first.sharper rest.sharper;
-      }
-  narrow reading root b w (Greatest a later) is_box inside proper =
-      let first = narrow reading root b w a is_box inside proper.0 in
-      let rest = narrow_all reading root b w later is_box inside proper.1 in
-      record {
-        within = within_folded _ _ _ (within_fold greatest (whole b (form root a) (atoms reading root b a)) (whole w (form root a) (atoms Wide root w a)) (intervals reading root b later)
-            (intervals Wide root w later) within_greatest (within_whole b w (form root a) (atoms reading root b a) (atoms Wide root w a) is_box inside first.within) rest.within);
-        sharper = sharper_both (mark reading root b a) (all_marks (marks reading root b later)) (mark Wide root w a) (all_marks (marks Wide root w later)) first.sharper rest.sharper;
-      }
-  narrow reading root b w (Size a) is_box inside proper =
-      let first = narrow reading root b w a is_box inside proper in
-      record {
-        within = within_folded _ (sizes (whole b (form root a) (atoms reading root b a))) (sizes (whole w (form root a) (atoms Wide root w a)))
-            (within_sizes (whole b (form root a) (atoms reading root b a)) (whole w (form root a) (atoms Wide root w a))
-            (within_whole b w (form root a) (atoms reading root b a) (atoms Wide root w a) is_box inside first.within));
-        sharper = first.sharper;
       }
   narrow reading root b w (Element table at) is_box inside proper =
       let rest = narrow_all reading root b w at is_box inside proper.1 in

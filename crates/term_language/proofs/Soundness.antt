@@ -1,11 +1,10 @@
 -- Each term and condition at a point of a box.
 use Rattle.std.proofs.Common.{ℤ, List, Option, Some, None, IfSome}
-use Rattle.std.specs.Int.{int_min, int_max}
-use Rattle.std.specs.Int.RustNames.{int_div, int_rem}
+use Rattle.sopl_base.specs.Extremes.{chosen_by}
 use Rattle.box_problem.specs.Box.{Box, IsBox, InBox}
-use Rattle.term_language.specs.Terms.{Term, Constant, Cell, Sum, Product, Quotient, Remainder, Least, Greatest, Size, Element, Number, Terms, no_term, term, Parts, no_part, part, Cond}
+use Rattle.term_language.specs.Terms.{Term, Constant, Cell, Sum, Product, Made, Selected, Element, Number, Terms, no_term, term, Parts, no_part, part, Cond}
 use Rattle.term_language.specs.Terms.{Compare, Not, All, Any, Implies, AllDifferent, Cumulative, Conds, no_cond, condition, Tasks, no_task, task}
-use Rattle.term_language.specs.Ends.{Ends, Lies, quotients, remainders, least, greatest, size_of, sizes}
+use Rattle.term_language.specs.Ends.{Ends, Lies, made_of, made, picked}
 use Rattle.term_language.specs.Forms.{Form, sign, whole}
 use Rattle.term_language.specs.Marks.{both, all_marks, opposite}
 use Rattle.term_language.specs.Rules.{Reading, Near, form, forms, sum_form, atoms, sum_atoms, intervals, mark, marks, sum_mark, truth, all_truth, any_truth, interval, task_ends, task_mark}
@@ -17,7 +16,7 @@ use Rattle.term_language.proofs.Lists.{AreRead, read_none, read_more, read_extre
 use Rattle.term_language.proofs.Elements.{read_element}
 use Rattle.term_language.proofs.Different.{tells_different}
 use Rattle.term_language.proofs.Tasks.{TasksRead, tells_tasks, lie_tasks, marked_tasks}
-use Rattle.term_language.proofs.Operations.{in_quotients, in_remainders, in_sizes, in_least, in_greatest}
+use Rattle.term_language.proofs.Operations.{in_made, in_picked}
 use Rattle.term_language.proofs.Conditions.{tells_not, tells_and, tells_or, read_truth, tells_compared}
 
 -- a value lies in the whole interval
@@ -33,22 +32,13 @@ mutual
   read reading root b p (Product a c) is_box q proper =
       read_product b p (value p a) (value p c) (form root a) (form root c) (atoms reading root b a) (atoms reading root b c) (mark reading root b a) (mark reading root b c) is_box q
       (read reading root b p a is_box q proper.0) (read reading root b p c is_box q proper.1)
-  read reading root b p (Quotient a c) is_box q proper =
-      read_one b p (λ x. int_div x c) (λ e. quotients e c) (value p a) (form root a) (atoms reading root b a) (mark reading root b a) (mark Near root root a) (in_quotients c) is_box
-      q (read reading root b p a is_box q proper)
-  read reading root b p (Remainder a c) is_box q proper =
-      read_one b p (λ x. int_rem x c) (λ e. remainders e c) (value p a) (form root a) (atoms reading root b a) (mark reading root b a) (mark Near root root a) (in_remainders c) is_box
-      q (read reading root b p a is_box q proper)
-  read reading root b p (Least a later) is_box q proper =
-      read_extreme b p int_min least (value p a) (values p later) (form root a) (forms root later) (atoms reading root b a) (intervals reading root b later) (mark reading root b a)
-      (all_marks (marks reading root b later)) (both (mark Near root root a) (all_marks (marks Near root root later))) in_least is_box q
+  read reading root b p (Made op a) is_box q proper =
+      read_one b p (made_of op) (made op) (value p a) (form root a) (atoms reading root b a) (mark reading root b a) (mark Near root root a) (in_made op) is_box q
+      (read reading root b p a is_box q proper)
+  read reading root b p (Selected which a later) is_box q proper =
+      read_extreme b p (chosen_by which) (picked which) (value p a) (values p later) (form root a) (forms root later) (atoms reading root b a) (intervals reading root b later)
+      (mark reading root b a) (all_marks (marks reading root b later)) (both (mark Near root root a) (all_marks (marks Near root root later))) (in_picked which) is_box q
       (read reading root b p a is_box q proper.0) (read_all reading root b p later is_box q proper.1)
-  read reading root b p (Greatest a later) is_box q proper =
-      read_extreme b p int_max greatest (value p a) (values p later) (form root a) (forms root later) (atoms reading root b a) (intervals reading root b later) (mark reading root b a)
-      (all_marks (marks reading root b later)) (both (mark Near root root a) (all_marks (marks Near root root later))) in_greatest is_box q
-      (read reading root b p a is_box q proper.0) (read_all reading root b p later is_box q proper.1)
-  read reading root b p (Size a) is_box q proper =
-      read_one b p size_of sizes (value p a) (form root a) (atoms reading root b a) (mark reading root b a) (mark Near root root a) in_sizes is_box q (read reading root b p a is_box q proper)
   read reading root b p (Element table at) is_box q proper =
       read_element reading b p table (values p at) (forms root at) (intervals reading root b at) (all_marks (marks reading root b at)) is_box q proper.0.complete
       (read_all reading root b p at is_box q proper.1)

@@ -4,7 +4,11 @@ use Rattle.std.specs.List.{fold}
 use Rattle.std.specs.Int.{int_min, int_max}
 use Rattle.std.specs.Int.RustNames.{int_div, int_rem, unsigned_abs}
 use Rattle.std.specs.Ordering.{int_eq}
+use Rattle.sopl_base.specs.declared.extreme.Extreme.{Extreme}
+use Rattle.sopl_base.specs.Extremes.{chosen_by}
 use Rattle.box_problem.specs.Box.{Box, low, high}
+use Rattle.term_language.specs.declared.made.Operation.{Operation}
+use Rattle.term_language.specs.declared.made.Operation.TheVariants.{Quotient, Remainder, Size}
 
 -- all whole numbers from the lower to the upper end
 pub record Ends : Type 0 where
@@ -67,18 +71,27 @@ remainders a c =
     else ends (if int_lt a.low (pos 0) then int_max a.low (pos 1 -ℤ pos (unsigned_abs c)) else pos 0)
     (if int_lt (pos 0) a.high then int_min a.high (pos (unsigned_abs c) -ℤ pos 1) else pos 0)
 
--- the least and the greatest of two
-abbrev pub least : Ends → Ends → Ends
-least a b = ends (int_min a.low b.low) (int_min a.high b.high)
-
-abbrev pub greatest : Ends → Ends → Ends
-greatest a b = ends (int_max a.low b.low) (int_max a.high b.high)
-
 -- the size of a number
 abbrev pub size_of : ℤ → ℤ
 size_of z = pos (unsigned_abs z)
 
--- sizes: from 0 where 0 is among the numbers, else from the size of the end that is nearer to it
-abbrev pub sizes : Ends → Ends
-sizes a =
-    ends (if has a (pos 0) then pos 0 else int_min (size_of a.low) (size_of a.high)) (int_max (size_of a.low) (size_of a.high))
+-- what a function that rises or falls on each side of 0 makes of the numbers of an interval: from the least to the greatest of what it makes of
+-- both ends, and of 0 where 0 is among them
+abbrev pub image : (ℤ → ℤ) → Ends → Ends
+image f a =
+    if has a (pos 0) then hull (exactly (f (pos 0))) (between (f a.low) (f a.high)) else between (f a.low) (f a.high)
+
+-- what is made of a number, and of the numbers of an interval
+abbrev pub made_of : Operation → ℤ → ℤ
+made_of (Quotient divisor) z = int_div z divisor.number
+made_of (Remainder divisor) z = int_rem z divisor.number
+made_of Size z = size_of z
+
+abbrev pub made : Operation → Ends → Ends
+made (Quotient divisor) a = quotients a divisor.number
+made (Remainder divisor) a = remainders a divisor.number
+made Size a = image size_of a
+
+-- the least or the greatest of the numbers of two intervals
+abbrev pub picked : Extreme → Ends → Ends → Ends
+picked which a b = ends (chosen_by which a.low b.low) (chosen_by which a.high b.high)

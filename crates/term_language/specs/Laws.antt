@@ -5,7 +5,7 @@ use Rattle.term_language.specs.declared.answers.Defined.{Defined}
 use Rattle.term_language.specs.declared.answers.Defined.TheVariants.{Never, Maybe, Always}
 use Rattle.term_language.specs.declared.answers.Truth.{Truth}
 use Rattle.term_language.specs.declared.answers.Truth.TheVariants.{False, Unknown, True}
-use Rattle.term_language.specs.Terms.{Table, Term, Constant, Cell, Sum, Product, Quotient, Remainder, Least, Greatest, Size, Element, Number, Terms, no_term, term, Parts, no_part}
+use Rattle.term_language.specs.Terms.{Table, Term, Constant, Cell, Sum, Product, Made, Selected, Element, Number, Terms, no_term, term, Parts, no_part}
 use Rattle.term_language.specs.Terms.{part, Cond, Compare, Not, All, Any, Implies, AllDifferent, Cumulative, Conds, no_cond, condition, Tasks, no_task, task}
 use Rattle.term_language.specs.Arrays.{indices}
 use Rattle.term_language.specs.Ends.{Ends, Lies}
@@ -43,11 +43,8 @@ abbrev mutual
   IsProper (Cell cell) = Unit {0}
   IsProper (Sum parts) = AreProperParts parts
   IsProper (Product a b) = IsProper a × IsProper b
-  IsProper (Quotient a c) = IsProper a
-  IsProper (Remainder a c) = IsProper a
-  IsProper (Least a later) = IsProper a × AreProper later
-  IsProper (Greatest a later) = IsProper a × AreProper later
-  IsProper (Size a) = IsProper a
+  IsProper (Made op a) = IsProper a
+  IsProper (Selected which a later) = IsProper a × AreProper later
   IsProper (Element table at) = IsTable table × AreProper at
   IsProper (Number c) = IsProperCond c
 

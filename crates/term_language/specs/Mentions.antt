@@ -2,7 +2,7 @@
 use Rattle.std.specs.Prelude.{ℕ, List, [], ◌∷◌, ◌++◌, map, Option, Some, None, if◌then◌else◌}
 use Rattle.std.specs.List.{flat_map, list_all}
 use Rattle.box_problem.specs.Box.{Box}
-use Rattle.term_language.specs.Terms.{Item, Fixed, Free, Table, Term, Constant, Cell, Sum, Product, Quotient, Remainder, Least, Greatest, Size, Element, Number, Terms, no_term, term}
+use Rattle.term_language.specs.Terms.{Item, Fixed, Free, Table, Term, Constant, Cell, Sum, Product, Made, Selected, Element, Number, Terms, no_term, term}
 use Rattle.term_language.specs.Terms.{Parts, no_part, part, Cond, Compare, Not, All, Any, Implies, AllDifferent, Cumulative, Conds, no_cond, condition, Tasks, no_task, task}
 use Rattle.term_language.specs.Arrays.{item_at}
 use Rattle.term_language.specs.Forms.{Form, is_constant}
@@ -32,11 +32,8 @@ abbrev mutual
   mentions root (Cell cell) = cell ∷ []
   mentions root (Sum parts) = parts_mention root parts
   mentions root (Product a b) = mentions root a ++ mentions root b
-  mentions root (Quotient a c) = mentions root a
-  mentions root (Remainder a c) = mentions root a
-  mentions root (Least a later) = mentions root a ++ terms_mention root later
-  mentions root (Greatest a later) = mentions root a ++ terms_mention root later
-  mentions root (Size a) = mentions root a
+  mentions root (Made op a) = mentions root a
+  mentions root (Selected which a later) = mentions root a ++ terms_mention root later
   mentions root (Element table indices) =
       element_mentions table (named_item table (forms root indices)) ++ terms_mention root indices
   mentions root (Number c) = cond_mentions root c

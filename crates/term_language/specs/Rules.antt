@@ -1,17 +1,16 @@
 -- The rules on boxes: the linear form, the interval and the mark of a number expression, and the truth of a condition.
 use Rattle.std.specs.Prelude.{ℤ, pos, negsuc, Bool, true, false, ◌&&◌, List, [], ◌∷◌, map, Option, Some, None, if◌then◌else◌}
 use Rattle.std.specs.List.{fold, list_all}
-use Rattle.std.specs.Int.{int_min, int_max}
-use Rattle.std.specs.Int.RustNames.{int_div, int_rem}
+use Rattle.sopl_base.specs.Extremes.{chosen_by}
 use Rattle.box_problem.specs.Box.{Box}
 use Rattle.term_language.specs.declared.answers.Defined.{Defined}
 use Rattle.term_language.specs.declared.answers.Defined.TheVariants.{Never, Maybe, Always}
 use Rattle.term_language.specs.declared.answers.Truth.{Truth}
 use Rattle.term_language.specs.declared.answers.Truth.TheVariants.{False, True}
-use Rattle.term_language.specs.Terms.{Item, Fixed, Free, Table, Term, Constant, Cell, Sum, Product, Quotient, Remainder, Least, Greatest, Size, Element, Number, Terms, no_term, term}
+use Rattle.term_language.specs.Terms.{Item, Fixed, Free, Table, Term, Constant, Cell, Sum, Product, Made, Selected, Element, Number, Terms, no_term, term}
 use Rattle.term_language.specs.Terms.{Parts, no_part, part, Cond, Compare, Not, All, Any, Implies, AllDifferent, Cumulative, Conds, no_cond, condition, Tasks, no_task, task}
 use Rattle.term_language.specs.Arrays.{Entry, entries, item_at, reached, are_covered}
-use Rattle.term_language.specs.Ends.{Ends, exactly, plus, scaled, times, quotients, remainders, least, greatest, size_of, sizes, hull_of, cell_ends}
+use Rattle.term_language.specs.Ends.{Ends, exactly, plus, scaled, times, made_of, made, picked, hull_of, cell_ends}
 use Rattle.term_language.specs.Forms.{Form, number_form, cell_form, atom_form, is_constant, plus_form, product_form, sign, whole}
 use Rattle.term_language.specs.Marks.{both, all_marks, is_always, opposite, and_truth, or_truth, truth_ends, judged, compared}
 use Rattle.term_language.specs.Globals.{never_differ, always_differ, TaskEnds, never_fit, always_fit}
@@ -96,15 +95,10 @@ abbrev mutual
   form root (Cell cell) = cell_form cell
   form root (Sum parts) = sum_form root parts
   form root (Product a b) = product_form (form root a) (form root b)
-  form root (Quotient a c) = folded (folds (form root a ∷ []) (mark Near root root a)) (int_div (form root a).constant c)
-  form root (Remainder a c) = folded (folds (form root a ∷ []) (mark Near root root a)) (int_rem (form root a).constant c)
-  form root (Least a later) =
+  form root (Made op a) = folded (folds (form root a ∷ []) (mark Near root root a)) (made_of op (form root a).constant)
+  form root (Selected which a later) =
       folded (folds (form root a ∷ forms root later) (both (mark Near root root a) (all_marks (marks Near root root later))))
-      (chosen int_min (form root a) (forms root later))
-  form root (Greatest a later) =
-      folded (folds (form root a ∷ forms root later) (both (mark Near root root a) (all_marks (marks Near root root later))))
-      (chosen int_max (form root a) (forms root later))
-  form root (Size a) = folded (folds (form root a ∷ []) (mark Near root root a)) (size_of (form root a).constant)
+      (chosen (chosen_by which) (form root a) (forms root later))
   form root (Element table indices) = element_form table (forms root indices)
   form root (Number c) = atom_form
 
@@ -123,18 +117,11 @@ abbrev mutual
   atoms reading root b (Sum parts) = sum_atoms reading root b parts
   atoms reading root b (Product a c) =
       product_atoms b (form root a) (form root c) (atoms reading root b a) (atoms reading root b c)
-  atoms reading root b (Quotient a c) =
-      unless_folded (folds (form root a ∷ []) (mark Near root root a)) (quotients (whole b (form root a) (atoms reading root b a)) c)
-  atoms reading root b (Remainder a c) =
-      unless_folded (folds (form root a ∷ []) (mark Near root root a)) (remainders (whole b (form root a) (atoms reading root b a)) c)
-  atoms reading root b (Least a later) =
+  atoms reading root b (Made op a) =
+      unless_folded (folds (form root a ∷ []) (mark Near root root a)) (made op (whole b (form root a) (atoms reading root b a)))
+  atoms reading root b (Selected which a later) =
       unless_folded (folds (form root a ∷ forms root later) (both (mark Near root root a) (all_marks (marks Near root root later))))
-      (fold least (whole b (form root a) (atoms reading root b a)) (intervals reading root b later))
-  atoms reading root b (Greatest a later) =
-      unless_folded (folds (form root a ∷ forms root later) (both (mark Near root root a) (all_marks (marks Near root root later))))
-      (fold greatest (whole b (form root a) (atoms reading root b a)) (intervals reading root b later))
-  atoms reading root b (Size a) =
-      unless_folded (folds (form root a ∷ []) (mark Near root root a)) (sizes (whole b (form root a) (atoms reading root b a)))
+      (fold (picked which) (whole b (form root a) (atoms reading root b a)) (intervals reading root b later))
   atoms reading root b (Element table indices) =
       unless_folded (element_form table (forms root indices)).plain (element_ends reading b (intervals reading root b indices) table)
   atoms reading root b (Number c) = truth_ends (truth reading root b c)
@@ -155,11 +142,8 @@ abbrev mutual
   mark reading root b (Cell cell) = Always
   mark reading root b (Sum parts) = sum_mark reading root b parts
   mark reading root b (Product a c) = both (mark reading root b a) (mark reading root b c)
-  mark reading root b (Quotient a c) = mark reading root b a
-  mark reading root b (Remainder a c) = mark reading root b a
-  mark reading root b (Least a later) = both (mark reading root b a) (all_marks (marks reading root b later))
-  mark reading root b (Greatest a later) = both (mark reading root b a) (all_marks (marks reading root b later))
-  mark reading root b (Size a) = mark reading root b a
+  mark reading root b (Made op a) = mark reading root b a
+  mark reading root b (Selected which a later) = both (mark reading root b a) (all_marks (marks reading root b later))
   mark reading root b (Element table indices) =
       element_mark table (all_marks (marks reading root b indices)) (intervals reading root b indices)
   mark reading root b (Number c) = Always

@@ -1,6 +1,8 @@
 -- Number expressions and conditions over cells, as plain data. Names, binders and the scenario are put in; the cells alone are open.
 use Rattle.std.specs.Prelude.{ℕ, ℤ, Bool, List}
 use Rattle.sopl_base.specs.declared.comparison.CmpOp.{CmpOp}
+use Rattle.sopl_base.specs.declared.extreme.Extreme.{Extreme}
+use Rattle.term_language.specs.declared.made.Operation.{Operation}
 
 -- an element of an array: a number, or a cell
 pub data Item : Type 0 where
@@ -19,14 +21,10 @@ mutual
     Cell : ℕ → Term
     Sum : Parts → Term
     Product : Term → Term → Term
-    -- a quotient and a remainder by a number that is not 0
-    Quotient : Term → ℤ → Term
-    Remainder : Term → ℤ → Term
-    -- the least and the greatest of at least one
-    Least : Term → Terms → Term
-    Greatest : Term → Terms → Term
-    -- the size, as `abs` gives it
-    Size : Term → Term
+    -- what is made of one number; what it is divided by is not 0
+    Made : Operation → Term → Term
+    -- the least or the greatest of at least one
+    Selected : Extreme → Term → Terms → Term
     -- the element of an array at an index
     Element : Table → Terms → Term
     -- a condition as a number, 1 or 0

@@ -2,15 +2,14 @@
 use Rattle.std.specs.Prelude.{ℕ, ℤ, pos, ◌+ℤ◌, ◌*ℤ◌, int_lt, int_le, Bool, true, false, not, ◌&&◌, ◌||◌, List, [], ◌∷◌, map, slice_index_or, Option, Some, None, option_map}
 use Rattle.std.specs.Prelude.{option_and_then, if◌then◌else◌}
 use Rattle.std.specs.List.{fold, list_all, list_any}
-use Rattle.std.specs.Int.{int_min, int_max}
-use Rattle.std.specs.Int.RustNames.{int_div, int_rem}
 use Rattle.std.specs.Ordering.{int_eq}
+use Rattle.sopl_base.specs.Extremes.{chosen_by}
 use Rattle.sopl_base.specs.declared.comparison.CmpOp.{CmpOp}
 use Rattle.sopl_base.specs.declared.comparison.CmpOp.TheVariants.{Eq, Ne, Lt, Le, Gt, Ge}
-use Rattle.term_language.specs.Terms.{Item, Fixed, Free, Term, Constant, Cell, Sum, Product, Quotient, Remainder, Least, Greatest, Size, Element, Number, Terms, no_term, term, Parts}
+use Rattle.term_language.specs.Terms.{Item, Fixed, Free, Term, Constant, Cell, Sum, Product, Made, Selected, Element, Number, Terms, no_term, term, Parts}
 use Rattle.term_language.specs.Terms.{no_part, part, Cond, Compare, Not, All, Any, Implies, AllDifferent, Cumulative, Conds, no_cond, condition, Tasks, no_task, task}
 use Rattle.term_language.specs.Arrays.{item_at}
-use Rattle.term_language.specs.Ends.{size_of}
+use Rattle.term_language.specs.Ends.{made_of}
 use Rattle.term_language.specs.Forms.{sign}
 use Rattle.term_language.specs.Globals.{total}
 
@@ -80,11 +79,8 @@ abbrev mutual
   value point (Cell cell) = Some (cell_value point cell)
   value point (Sum parts) = sum_value point parts
   value point (Product a b) = both_of (λ x y. x *ℤ y) (value point a) (value point b)
-  value point (Quotient a c) = option_map (λ x. int_div x c) (value point a)
-  value point (Remainder a c) = option_map (λ x. int_rem x c) (value point a)
-  value point (Least a later) = both_of (λ x xs. fold int_min x xs) (value point a) (values point later)
-  value point (Greatest a later) = both_of (λ x xs. fold int_max x xs) (value point a) (values point later)
-  value point (Size a) = option_map size_of (value point a)
+  value point (Made op a) = option_map (made_of op) (value point a)
+  value point (Selected which a later) = both_of (λ x xs. fold (chosen_by which) x xs) (value point a) (values point later)
   value point (Element table indices) =
       option_map (item_value point) (option_and_then (item_at table) (values point indices))
   value point (Number c) = Some (one_or_zero (holds point c))

@@ -4,7 +4,9 @@ use Rattle.box_problem.specs.Box.{Box}
 use Rattle.term_language.specs.declared.answers.Defined.{Defined}
 use Rattle.term_language.specs.declared.answers.Truth.{Truth}
 use Rattle.sopl_base.specs.declared.comparison.CmpOp.TheVariants.{Eq}
-use Rattle.term_language.specs.Terms.{Fixed, Free, Table, Term, Constant, Cell, Sum, Element, Number, Terms, no_term, term, no_part, part, Cond, Compare, Tasks, no_task, task}
+use Rattle.sopl_base.specs.declared.extreme.Extreme.TheVariants.{Least, Greatest}
+use Rattle.term_language.specs.declared.made.Operation.TheVariants.{Quotient, Remainder, Size}
+use Rattle.term_language.specs.Terms.{Fixed, Free, Table, Term, Constant, Cell, Sum, Made, Selected, Element, Number, Terms, no_term, term, no_part, part, Cond, Compare, Tasks, no_task, task}
 use Rattle.term_language.specs.Rules.{Reading, Near, interval, mark, truth}
 
 -- a number below 0
@@ -45,6 +47,23 @@ two a b = term a (term b no_term)
 
 abbrev pub three : Term → Term → Term → Terms
 three a b c = term a (term b (term c no_term))
+
+-- quotients and remainders, and sizes
+abbrev pub quotient : Term → ℤ → Term
+quotient a c = Made (Quotient (record { number = c })) a
+
+abbrev pub remainder : Term → ℤ → Term
+remainder a c = Made (Remainder (record { number = c })) a
+
+abbrev pub absolute : Term → Term
+absolute a = Made Size a
+
+-- the least and the greatest of several
+abbrev pub least : Term → Terms → Term
+least a later = Selected Least a later
+
+abbrev pub greatest : Term → Terms → Term
+greatest a later = Selected Greatest a later
 
 -- 1, 2 and 9 at 1, 2 and 3; nothing at all; the cells x and y at 0 and 1
 abbrev pub prices : Table

@@ -7,6 +7,7 @@
 
 mod answers;
 mod laws;
+mod made;
 mod mention_laws;
 mod mention_vectors;
 mod worked;
@@ -16,6 +17,7 @@ pub use laws::{
     intervals_narrow, marks_sharpen, marks_tell, points_exact, points_known, sizes_bound,
     tasks_fit_at_all_times, truths_sharpen, truths_tell, values_lie,
 };
+pub use made::{Divisor, Operation};
 pub use mention_laws::{
     forms_are_mentioned, holding_agrees, intervals_agree, marks_agree, truths_agree, values_agree,
 };

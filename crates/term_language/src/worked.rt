@@ -2,12 +2,13 @@ ghost use Rattle.std.specs.Prelude.{◌≡◌, pos, true, false, [], ◌∷◌, 
 ghost use Rattle.sopl_base.specs.declared.comparison.CmpOp.TheVariants.{Eq, Ne, Lt, Le, Gt, Ge};
 ghost use Rattle.term_language.specs.declared.answers.Defined.TheVariants.{Never, Maybe, Always};
 ghost use Rattle.term_language.specs.declared.answers.Truth.TheVariants.{False, Unknown, True};
-ghost use Rattle.term_language.specs.Terms.{Constant, Product, Quotient, Remainder, Least, Greatest, Size, Element, Number, Sum, no_part, no_term, Compare, Not, All, Any, Implies};
+ghost use Rattle.term_language.specs.Terms.{Constant, Product, Element, Number, Sum, no_part, no_term, Compare, Not, All, Any, Implies};
 ghost use Rattle.term_language.specs.Terms.{AllDifferent, Cumulative, no_cond, condition, no_task};
 ghost use Rattle.term_language.specs.Forms.{number_form, cell_form, atom_form};
 ghost use Rattle.term_language.specs.Rules.{Wide, form};
 ghost use Rattle.term_language.specs.Values.{value, holds};
 ghost use Rattle.term_language.specs.Sizes.{size};
+ghost use Rattle.term_language.specs.WorkedIntervals.{absolute, greatest, least, quotient, remainder};
 ghost use Rattle.term_language.specs.WorkedIntervals.{minus, box, x, y, z, number, sum, difference, one, two, three, prices, empty, cells, grid, price_at, true_number, seen, seen_by};
 ghost use Rattle.term_language.specs.WorkedIntervals.{over, truth_over, two_tasks};
 
@@ -19,16 +20,16 @@ pub fn worked_intervals()
         ∷ seen (minus 11) (pos 14) Always ∷ seen (minus 18) (pos 14) Always ∷ seen (pos 0) (pos 0) Always ∷ [] }
     ensures products { over (box (minus 7) (pos 9) (minus 5) (pos 4) (pos 0) (pos 0)) (Product x y) ≡ seen (minus 45) (pos 36) Always }
     ensures negative { over (box (minus 7) (minus 2) (minus 5) (minus 4) (pos 0) (pos 0)) (Product x y) ≡ seen (pos 8) (pos 35) Always }
-    ensures quotients { map (over (box (minus 7) (pos 9) (pos 0) (pos 0) (pos 0) (pos 0))) (Quotient x (pos 2) ∷ Quotient x (minus 2) ∷ [])
+    ensures quotients { map (over (box (minus 7) (pos 9) (pos 0) (pos 0) (pos 0) (pos 0))) (quotient x (pos 2) ∷ quotient x (minus 2) ∷ [])
         ≡ seen (minus 3) (pos 4) Always ∷ seen (minus 4) (pos 3) Always ∷ [] }
     ensures remainders { map (over (box (minus 7) (pos 9) (pos 5) (pos 7) (pos 3) (pos 9)))
-        (Remainder x (pos 4) ∷ Remainder x (minus 4) ∷ Remainder y (pos 4) ∷ Remainder z (pos 4) ∷ Remainder y (pos 100) ∷ [])
+        (remainder x (pos 4) ∷ remainder x (minus 4) ∷ remainder y (pos 4) ∷ remainder z (pos 4) ∷ remainder y (pos 100) ∷ [])
         ≡ seen (minus 3) (pos 3) Always ∷ seen (minus 3) (pos 3) Always ∷ seen (pos 1) (pos 3) Always
         ∷ seen (pos 0) (pos 3) Always ∷ seen (pos 5) (pos 7) Always ∷ [] }
-    ensures across_a_multiple { over (box (minus 2) (pos 1) (pos 0) (pos 0) (pos 0) (pos 0)) (Remainder x (pos 2)) ≡ seen (minus 1) (pos 1) Always }
-    ensures extremes { map (over (box (pos 1) (pos 5) (pos 2) (pos 3) (pos 0) (pos 9))) (Least x (one y) ∷ Greatest x (one y) ∷ Least x (two y z) ∷ [])
+    ensures across_a_multiple { over (box (minus 2) (pos 1) (pos 0) (pos 0) (pos 0) (pos 0)) (remainder x (pos 2)) ≡ seen (minus 1) (pos 1) Always }
+    ensures extremes { map (over (box (pos 1) (pos 5) (pos 2) (pos 3) (pos 0) (pos 9))) (least x (one y) ∷ greatest x (one y) ∷ least x (two y z) ∷ [])
         ≡ seen (pos 1) (pos 3) Always ∷ seen (pos 2) (pos 5) Always ∷ seen (pos 0) (pos 3) Always ∷ [] }
-    ensures sizes { map (over (box (minus 7) (pos 3) (minus 7) (minus 3) (pos 3) (pos 7))) (Size x ∷ Size y ∷ Size z ∷ [])
+    ensures sizes { map (over (box (minus 7) (pos 3) (minus 7) (minus 3) (pos 3) (pos 7))) (absolute x ∷ absolute y ∷ absolute z ∷ [])
         ≡ seen (pos 0) (pos 7) Always ∷ seen (pos 3) (pos 7) Always ∷ seen (pos 3) (pos 7) Always ∷ [] }
     ensures conditions { map (over (box (pos 0) (pos 3) (pos 4) (pos 5) (pos 0) (pos 0)))
         (Number (Compare Lt x y) ∷ Number (Compare Gt x y) ∷ Number (Compare Eq x (number 2)) ∷ [])
@@ -61,13 +62,13 @@ pub fn worked_forms()
         (price_at (number 2) ∷ price_at (sum (difference x x) (number 3)) ∷ Element cells (one (number 1)) ∷ price_at (number 7) ∷ price_at x ∷ [])
         ≡ number_form (pos 2) ∷ number_form (pos 9) ∷ cell_form 1 ∷ atom_form ∷ atom_form ∷ [] }
     ensures folded { map (form (box (pos 1) (pos 9) (pos 0) (pos 9) (pos 0) (pos 9)))
-        (Quotient (Constant (minus 7)) (pos 2) ∷ Remainder (Constant (minus 7)) (pos 2) ∷ Least (number 5) (two (number 3) (number 4)) ∷ Size (Constant (minus 4)) ∷ [])
+        (quotient (Constant (minus 7)) (pos 2) ∷ remainder (Constant (minus 7)) (pos 2) ∷ least (number 5) (two (number 3) (number 4)) ∷ absolute (Constant (minus 4)) ∷ [])
         ≡ number_form (minus 3) ∷ number_form (minus 1) ∷ number_form (pos 3) ∷ number_form (pos 4) ∷ [] }
     ensures of_a_condition { over (box (minus 2) (pos 3) (pos 0) (pos 0) (pos 0) (pos 0)) (difference (Product true_number x) x) ≡ seen (minus 5) (pos 5) Always }
     ensures undefined { map (over (box (pos 0) (pos 0) (pos 0) (pos 0) (pos 0) (pos 0)))
-        (price_at (number 7) ∷ Product (number 0) (price_at (number 7)) ∷ Size (sum (Product (number 0) (price_at (number 7))) (number 3)) ∷ [])
+        (price_at (number 7) ∷ Product (number 0) (price_at (number 7)) ∷ absolute (sum (Product (number 0) (price_at (number 7))) (number 3)) ∷ [])
         ≡ seen (pos 1) (pos 9) Never ∷ seen (pos 0) (pos 0) Never ∷ seen (pos 3) (pos 3) Never ∷ [] }
-    ensures atom { form (box (pos 0) (pos 0) (pos 0) (pos 0) (pos 0) (pos 0)) (Size (sum (Product (number 0) (price_at (number 7))) (number 3))) ≡ atom_form }
+    ensures atom { form (box (pos 0) (pos 0) (pos 0) (pos 0) (pos 0) (pos 0)) (absolute (sum (Product (number 0) (price_at (number 7))) (number 3))) ≡ atom_form }
     ensures mark_kept { over (box (pos 3) (pos 4) (pos 0) (pos 0) (pos 0) (pos 0)) (difference (price_at x) (price_at x)) ≡ seen (pos 0) (pos 0) Maybe }
 {}
 
@@ -107,7 +108,7 @@ pub fn worked_tasks()
 /// Values and truths at the point where x, y and z are 7, -7 and 2.
 pub fn worked_values()
     ensures numbers { map (value (pos 7 ∷ minus 7 ∷ pos 2 ∷ []))
-        (difference x y ∷ Product x y ∷ Quotient y (pos 2) ∷ Remainder y (pos 2) ∷ Least x (two y z) ∷ Greatest x (two y z) ∷ Size y ∷ Number (Compare Lt x y) ∷ Sum no_part ∷ [])
+        (difference x y ∷ Product x y ∷ quotient y (pos 2) ∷ remainder y (pos 2) ∷ least x (two y z) ∷ greatest x (two y z) ∷ absolute y ∷ Number (Compare Lt x y) ∷ Sum no_part ∷ [])
         ≡ Some (pos 14) ∷ Some (minus 49) ∷ Some (minus 3) ∷ Some (minus 1) ∷ Some (minus 7) ∷ Some (pos 7) ∷ Some (pos 7) ∷ Some (pos 0) ∷ Some (pos 0) ∷ [] }
     ensures elements { map (value (pos 7 ∷ minus 7 ∷ pos 2 ∷ []))
         (price_at z ∷ price_at x ∷ sum (price_at x) x ∷ Product (number 0) (price_at x) ∷ Element grid (two z z) ∷ [])

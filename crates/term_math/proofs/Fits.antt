@@ -28,9 +28,6 @@ fit_at k a n bounds room = record {
   high = fits_signed_from_abs w64 (k *ℤ a.high) (omega (arith, unsigned_abs-mul k a.high, mul-le-mul_left (unsigned_abs k) bounds.high, room));
 }
 
-pub bounds_more : (a : rule.Ends) (m n : ℕ) → Bounds a m → m ≤ n → Bounds a n
-bounds_more a m n bounds more = record { low = omega (arith, bounds.low, more); high = omega (arith, bounds.high, more) }
-
 -- the cells of a form
 pub cells_bounds : (root b : Box) (cells : List Coefficient) → IsBox root → Inside b root → Bounds (cells_ends b (cells_of cells)) (cells_weight root (cells_of cells))
 cells_bounds root b cells is_box inside =

@@ -1,5 +1,5 @@
 -- An element whose indices are known one after the other is what it is by all their intervals.
-use Rattle.std.proofs.Common.{◌≡◌, suc, Vec, Global, ◌<◌, ℤ, Bool, true, false, List, [], ◌∷◌, ◌++◌, map, length, Option, None, Some, option_map, if◌then◌else◌, arith, refl, ap, sym, ◌∙◌}
+use Rattle.std.proofs.Common.{◌≡◌, suc, Vec, Global, ℤ, Bool, true, false, List, [], ◌∷◌, ◌++◌, map, length, Option, None, Some, option_map, if◌then◌else◌, arith, refl, ap, sym, ◌∙◌}
 use Rattle.box_problem.specs.Box.{Box}
 use Rattle.term_language.specs.Arrays.{Entry, indices, entries, reached, are_covered}
 use Rattle.term_language.specs.Ends.{Ends, hull_of}
@@ -85,10 +85,6 @@ last_known (q ∷ rs) r (one ∷ sets) set known = ap (option_map (with_dimensio
 pub sets_missing : (rs : List Ends) (r : Ends) (sets : List (List ℤ)) (known : Known) → length sets ≡ 0 → with_dimensions (rs ++ r ∷ []) sets known ≡ None
 sets_missing rs r [] known none = no_more_sets rs r known
 sets_missing rs r (set ∷ sets) known none = absurd (omega (arith, none))
-
-pub ranges_missing : (sets : List (List ℤ)) (known : Known) → 0 < length sets → with_dimensions [] sets known ≡ None
-ranges_missing [] known some = absurd (omega (arith, some))
-ranges_missing (set ∷ sets) known some = refl
 
 -- what was found, and what is seen then
 pub none_ends : (b : Box) (table : Table) (found : List Ends) (a : Ends) → grown None found ≡ None → a ≡ hull_of (map (item_ends b) table.items) → a ≡ seen_ends b table found

@@ -216,10 +216,6 @@ entries_items b (xs ∷ lists) (item ∷ items) complete = ap (λ (es : List End
 pub all_read : (b : Box) (table : Table) → length table.items ≡ length (indices table.sets) → item_intervals b (entries table) ≡ map (item_ends b) table.items
 all_read b table complete = entries_items b (indices table.sets) table.items complete
 
-pub no_intervals : (b : Box) (es : List Entry) → item_intervals b es ≡ [] → es ≡ []
-no_intervals b [] none = refl
-no_intervals b (e ∷ es) none = absurd (cc)
-
 -- how many elements each number of the first set has
 pub width_is : (elements : List Element) (sets : List (List ℤ)) (numbers : List ℤ) (behind : List (List ℤ)) (width i : ℕ)
     → ((w : ℕ) → 0 < length numbers → length elements ≡ length numbers * w → width ≡ w) → i < length numbers → sets ≡ numbers ∷ behind → length elements ≡ length (indices sets)

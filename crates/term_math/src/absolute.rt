@@ -26,18 +26,14 @@ fn has_zero(ends: &Ends) -> bool
     ends.low <= 0 && 0 <= ends.high
 }
 
-/// The interval of sizes: from 0 where 0 is among the numbers, else from the size of the end that is nearer to it.
+/// The interval of sizes: from the least to the greatest of those of both ends, and of 0 where 0 is among the numbers.
 pub fn sizes(ends: &Ends) -> Ends
     requires small { IsSmall (ends_of ends.now) }
-    ensures { ends_of result ≡ rule.sizes (ends_of ends.now) }
+    ensures { ends_of result ≡ rule.image rule.size_of (ends_of ends.now) }
 {
-    let at = sizes_at(ends);
-    let high = at.low.max(at.high);
+    let at = sizes_at(ends).sorted();
     if has_zero(ends) {
-        return Ends { low: 0, high };
+        return Ends::zero().hull(&at);
     }
-    Ends {
-        low: at.low.min(at.high),
-        high,
-    }
+    at
 }

@@ -8,35 +8,28 @@ ghost use Rattle.term_math.specs.Shown.{ends_of};
 ghost use Rattle.term_math.specs.Made.{IsDivisor, IsSmall};
 
 use crate::ends::Ends;
+use term_language::Divisor;
 
-/// A number that others are divided by.
-#[derive(Clone, Copy, Debug, PartialEq, Eq)]
-pub struct Divisor {
-    pub number: i64,
+/// The size of a divisor.
+#[tactic(auto, using(crate::proofs::Room::turned_fits))]
+fn divisor_size(divisor: &Divisor) -> Divisor
+    requires divisor { IsDivisor divisor.now.number }
+    ensures { result.number ≡ rule.size_of divisor.now.number }
+{
+    Divisor {
+        number: divisor.number.abs(),
+    }
 }
 
-impl Divisor {
-    /// Its size.
-    #[tactic(auto, using(crate::proofs::Room::turned_fits))]
-    fn size(&self) -> Divisor
-        requires divisor { IsDivisor self.now.number }
-        ensures { result.number ≡ rule.size_of self.now.number }
-    {
-        Divisor {
-            number: self.number.abs(),
-        }
-    }
-
-    /// The least and the greatest number that may be left: their size is less than that of the divisor.
-    fn remainders(&self) -> Ends
-        requires divisor { IsDivisor self.now.number }
-        ensures { ends_of result ≡ rule.ends (pos 1 -ℤ pos (unsigned_abs self.now.number)) (pos (unsigned_abs self.now.number) -ℤ pos 1) }
-    {
-        let size = self.size();
-        Ends {
-            low: 1 - size.number,
-            high: size.number - 1,
-        }
+/// The least and the greatest number that may be left: their size is less than that of the divisor.
+fn all_remainders(divisor: &Divisor) -> Ends
+    requires divisor { IsDivisor divisor.now.number }
+    ensures { ends_of result ≡ rule.ends (pos 1 -ℤ pos (unsigned_abs divisor.now.number)) (pos (unsigned_abs divisor.now.number) -ℤ pos 1) }
+{
+    let size = divisor_size(divisor);
+    Ends {
+        low: 1 - size.number,
+        high: size.number - 1,
     }
 }
 
@@ -86,7 +79,7 @@ fn across_a_multiple(ends: &Ends, divisor: &Divisor) -> Ends
         (if int_lt ends.now.low (pos 0) then int_max ends.now.low (pos 1 -ℤ pos (unsigned_abs divisor.now.number)) else pos 0)
         (if int_lt (pos 0) ends.now.high then int_min ends.now.high (pos (unsigned_abs divisor.now.number) -ℤ pos 1) else pos 0) }
 {
-    let all = divisor.remainders();
+    let all = all_remainders(divisor);
     let both = Ends {
         low: ends.low.max(all.low),
         high: ends.high.min(all.high),

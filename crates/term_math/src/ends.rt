@@ -58,7 +58,7 @@ impl Ends {
     }
 
     /// The least interval that has both ends, in any order.
-    fn sorted(&self) -> Ends
+    pub(crate) fn sorted(&self) -> Ends
         ensures { ends_of result ≡ rule.between self.now.low self.now.high }
     {
         Ends {

@@ -22,6 +22,3 @@ pub struct Table {
     pub ghost ascend: { ascending ≡ true → all_ascend sets.items ≡ true },
     pub ghost hulled: { (b : Box) → ForSome fixed (λ hull. ends_of hull ≡ ends.hull_of (map (rule.item_ends b) (items_of elements.items))) },
 }
-
-#[cfg(test)]
-mod tests;

@@ -5,13 +5,13 @@ ghost use Rattle.term_language.specs.Ends as ends;
 ghost use Rattle.term_language.specs.Forms.{sign};
 ghost use Rattle.term_language.specs.Marks as marks;
 ghost use Rattle.term_language.specs.declared.answers.Defined.TheVariants.{Always, Never};
-ghost use Rattle.term_math.specs.Made.{picked};
 ghost use Rattle.term_math.specs.Sights.{sight_of};
 ghost use Rattle.term_math.specs.Shown.{IsFit, ends_at, ends_of};
 
 use crate::ends::{Ends, Factor};
-use crate::extremes::Extreme;
 use crate::marks::both;
+use crate::operations::taken;
+use sopl_base::Extreme;
 use term_language::Defined;
 
 /// An interval in which a number lies where it is defined, and its mark: of a term, of the non-linear part of one, or of an element.
@@ -61,12 +61,12 @@ impl AbstractValue {
     /// The one that is taken of this number and another, where the whole intervals of both are given.
     pub fn or_other(&self, extreme: Extreme, other: &AbstractValue) -> AbstractValue
         ensures { sight_of result ≡ record {
-          ends = picked extreme (ends_of self.now.ends) (ends_of other.now.ends);
+          ends = ends.picked extreme (ends_of self.now.ends) (ends_of other.now.ends);
           mark = marks.both self.now.mark other.now.mark;
         } }
     {
         AbstractValue {
-            ends: extreme.taken(&self.ends, &other.ends),
+            ends: taken(extreme, &self.ends, &other.ends),
             mark: both(self.mark, other.mark),
         }
     }

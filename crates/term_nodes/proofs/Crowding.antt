@@ -10,7 +10,7 @@ use Rattle.term_language.specs.Globals.{is_inside, are_crowded, never_differ, ar
 use Rattle.term_language.specs.Marks.{judged}
 use Rattle.term_language.specs.Rules.{Reading, interval, intervals}
 use Rattle.term_language.specs.declared.answers.Defined.{Defined}
-use Rattle.term_language.specs.declared.answers.Defined.TheVariants.{Never, Maybe, Always}
+use Rattle.term_language.specs.declared.answers.Defined.TheVariants.{Maybe, Always}
 use Rattle.term_language.specs.declared.answers.Truth.{Truth}
 use Rattle.term_language.specs.declared.answers.Truth.TheVariants.{False, Unknown, True}
 use Rattle.term_language.proofs.Sharpening.{intervals_narrow}
@@ -129,12 +129,6 @@ first_below limit left later x split below = (subst (AllBelow limit) split below
 
 pub later_below : (limit : ℕ) (left later : List ℕ) (x : ℕ) → left ≡ x ∷ later → AllBelow limit left → AllBelow limit later
 later_below limit left later x split below = (subst (AllBelow limit) split below).1
-
--- what is told of these
-judged_never : (m : Defined) (holds : Bool) → judged m true holds ≡ False
-judged_never Never holds = refl
-judged_never Maybe holds = refl
-judged_never Always holds = refl
 
 pub maybe_never : (never always : Bool) (t : Bool) → t ≡ never → t ≡ true → judged Maybe never always ≡ False
 maybe_never never always t told met = ap (λ (p : Bool). judged Maybe p always) (sym told ∙ met)

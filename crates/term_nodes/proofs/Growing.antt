@@ -10,7 +10,6 @@ use Rattle.term_nodes.specs.declared.items.Item.{Item}
 use Rattle.term_language.specs.Terms as rule
 use Rattle.term_language.specs.Forms as forms
 use Rattle.term_language.specs.Rules.{form}
-use Rattle.term_math.specs.Made.{operation_term, extreme_term}
 use Rattle.term_nodes.specs.Things.{Thing, a_term, a_cond, term_in, cond_in, table_in, term_at, cond_at, table_at, thing_at, thing_of, parts_at, terms_at, conds_at, tasks_at, things, things_from}
 use Rattle.term_nodes.specs.Built.{IsAt, IsBuilt, IsNew, IsBelow, IsSound, IsRight, PartsBelow, AllBelow, TasksBelow, facts_of}
 use Rattle.term_nodes.proofs.Reading.{length_things}
@@ -78,10 +77,10 @@ thing_stays all more n (node.Constant z) most below = refl
 thing_stays all more n (node.Cell cell) most below = refl
 thing_stays all more n (node.Sum parts) most below = ap (λ (ps : rule.Parts). a_term (rule.Sum ps)) (parts_stay all more n parts.items most below)
 thing_stays all more n (node.Product a b) most below = two_terms (λ s t. a_term (rule.Product s t)) all more n a b most below.0 below.1
-thing_stays all more n (node.Operation op a) most below = ap (λ (t : rule.Term). a_term (operation_term op t)) (term_stays all more n a most below)
+thing_stays all more n (node.Operation op a) most below = ap (λ (t : rule.Term). a_term (rule.Made op t)) (term_stays all more n a most below)
 thing_stays all more n (node.Extreme e first later) most below =
-    ap (λ (t : rule.Term). a_term (extreme_term e t (terms_at (all ++ more ∷ []) later.items))) (term_stays all more n first most below.0)
-    ∙ ap (λ (ts : rule.Terms). a_term (extreme_term e (term_at all first) ts)) (terms_stay all more n later.items most below.1)
+    ap (λ (t : rule.Term). a_term (rule.Selected e t (terms_at (all ++ more ∷ []) later.items))) (term_stays all more n first most below.0)
+    ∙ ap (λ (ts : rule.Terms). a_term (rule.Selected e (term_at all first) ts)) (terms_stay all more n later.items most below.1)
 thing_stays all more n (node.Element table at) most below =
     ap (λ (t : rule.Table). a_term (rule.Element t (terms_at (all ++ more ∷ []) at.items))) (table_stays all more n table most below.0)
     ∙ ap (λ (ts : rule.Terms). a_term (rule.Element (table_at all table) ts)) (terms_stay all more n at.items most below.1)

@@ -4,11 +4,7 @@ use Rattle.box_problem.specs.Box.{Box}
 use Rattle.term_language.specs.Marks.{is_always}
 use Rattle.term_language.specs.Rules.{Reading, Wide, form, mark}
 use Rattle.term_language.specs.Terms as rule
-use Rattle.term_math.specs.declared.operations.Operation.{Operation}
-use Rattle.term_math.specs.declared.operations.Operation.TheVariants.{Quotient, Remainder, Size}
-use Rattle.term_math.specs.declared.extremes.Extreme.{Extreme}
-use Rattle.term_math.specs.declared.extremes.Extreme.TheVariants.{Least, Greatest}
-use Rattle.term_math.specs.Made.{operation_term, extreme_term}
+use Rattle.term_language.specs.declared.made.Operation.{Operation}
 use Rattle.term_nodes.specs.declared.nodes.Node.{Node}
 use Rattle.term_nodes.specs.declared.nodes.Node.TheVariants as node
 use Rattle.term_nodes.specs.declared.items.Item.{Item}
@@ -25,15 +21,6 @@ no_some a is = absurd (cc)
 
 some_no : (x : ℕ) → (◌≡◌ {A = Option ℕ}) (Some x) None → ⊥
 some_no x is = absurd (cc)
-
-operand_made : (op : Operation) (t : rule.Term) → left_operand (operation_term op t) ≡ t
-operand_made (Quotient divisor) t = refl
-operand_made (Remainder divisor) t = refl
-operand_made Size t = refl
-
-operand_taken : (e : Extreme) (t : rule.Term) (later : rule.Terms) → left_operand (extreme_term e t later) ≡ extreme_term e t later
-operand_taken Least t later = refl
-operand_taken Greatest t later = refl
 
 -- where a node has a left operand
 below_node : (id : ℕ) (n : Node) (a : ℕ) → left_in n ≡ Some a → IsBelow id n → a < id
@@ -59,7 +46,7 @@ operand_of_node all (node.Constant z) a is = absurd (no_some a is)
 operand_of_node all (node.Cell cell) a is = absurd (no_some a is)
 operand_of_node all (node.Sum parts) a is = absurd (no_some a is)
 operand_of_node all (node.Product x y) a is = ap (term_at all) (sym (some_is x a is))
-operand_of_node all (node.Operation op x) a is = ap (term_at all) (sym (some_is x a is)) ∙ sym (operand_made op (term_at all x))
+operand_of_node all (node.Operation op x) a is = ap (term_at all) (sym (some_is x a is))
 operand_of_node all (node.Extreme e first later) a is = absurd (no_some a is)
 operand_of_node all (node.Element table at) a is = absurd (no_some a is)
 operand_of_node all (node.Number c) a is = absurd (no_some a is)
@@ -79,7 +66,7 @@ alone_in_node all (node.Cell cell) is = refl
 alone_in_node all (node.Sum parts) is = refl
 alone_in_node all (node.Product x y) is = absurd (some_no x is)
 alone_in_node all (node.Operation op x) is = absurd (some_no x is)
-alone_in_node all (node.Extreme e first later) is = operand_taken e (term_at all first) _
+alone_in_node all (node.Extreme e first later) is = refl
 alone_in_node all (node.Element table at) is = refl
 alone_in_node all (node.Number c) is = refl
 alone_in_node all (node.Compare c) is = refl

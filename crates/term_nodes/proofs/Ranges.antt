@@ -1,11 +1,11 @@
 -- What is made of one number over a box, and the least and the greatest of several.
-use Rattle.std.proofs.Common.{◌≡◌, ℕ, ◌+◌, ◌<◌, ◌≤◌, pos, Bool, true, false, List, [], ◌∷◌, length, get_or, drop, arith, refl, ap, subst, sym, ◌∙◌}
+use Rattle.std.proofs.Common.{◌≡◌, ℕ, ◌+◌, ◌<◌, ◌≤◌, ℤ, pos, Bool, true, false, List, [], ◌∷◌, length, get_or, drop, arith, refl, ap, subst, sym, ◌∙◌}
 use Rattle.std.specs.List.{fold}
 use Rattle.std.proofs.lemmas.List.{at_drop_more, at_drop_all}
 use Rattle.box_problem.specs.Box.{Box}
 use Rattle.term_language.specs.Ends as ends
 use Rattle.term_language.specs.Marks.{both, all_marks}
-use Rattle.term_language.specs.Rules.{Reading, Near, Wide, form, forms, atoms, mark, marks, interval, intervals, folds, folded, unless_folded, chosen}
+use Rattle.term_language.specs.Rules.{Reading, Near, Wide, form, forms, mark, marks, interval, intervals, folds, folded, unless_folded, chosen}
 use Rattle.term_language.specs.Sizes.{size}
 use Rattle.term_language.specs.Terms as rule
 use Rattle.term_language.specs.declared.answers.Defined.{Defined}
@@ -14,10 +14,11 @@ use Rattle.term_language.proofs.Sharpening.{intervals_narrow}
 use Rattle.term_language.proofs.Marks.{both_always, both_grouped}
 use Rattle.term_language.proofs.Shared.{bounds_within}
 use Rattle.term_math.specs.Shown.{box_in}
-use Rattle.term_math.specs.declared.extremes.Extreme.{Extreme}
-use Rattle.term_math.specs.declared.operations.Operation.{Operation}
-use Rattle.term_math.specs.Made.{IsSmall, operation_term, extreme_term, made, made_of, chosen_by, picked}
-use Rattle.term_math.proofs.Rules.{operation_form, operation_atoms, operation_mark, extreme_form, extreme_atoms, extreme_mark}
+use Rattle.sopl_base.specs.declared.extreme.Extreme.{Extreme}
+use Rattle.term_language.specs.declared.made.Operation.{Operation}
+use Rattle.sopl_base.specs.Extremes.{chosen_by}
+use Rattle.term_language.specs.Ends.{made, made_of, picked}
+use Rattle.term_math.specs.Made.{IsSmall}
 use Rattle.term_nodes.specs.declared.evaluation.Evaluator.{Evaluator}
 use Rattle.term_nodes.specs.Seen.{reading_of, CanRead, Sight, sight, extreme_range}
 use Rattle.term_nodes.specs.Things.{Thing, term_at, terms_at, things}
@@ -45,51 +46,42 @@ folded_plain false z = refl
 pub same_sight : (a c : ends.Ends) (m n : Defined) → a ≡ c → m ≡ n → (◌≡◌ {A = Sight}) (record { ends = a; mark = m }) (record { ends = c; mark = n })
 same_sight a c m n p q = (ap (λ (e : ends.Ends). record { ends = e; mark = m }) p) ∙ ap (λ (k : Defined). record { ends = c; mark = k }) q
 
-operation_folds : (root : Box) (op : Operation) (t : rule.Term) → (form root (operation_term op t)).plain ≡ folds (form root t ∷ []) (mark Near root root t)
-operation_folds root op t = ap (λ f. f.plain) (operation_form root op t) ∙ folded_plain (folds (form root t ∷ []) (mark Near root root t)) (made_of op (form root t).constant)
+-- a term that folds to a number, or is an atom: where it is plain it has no interval of its own, and else the one that is told
+folded_seen : (fold_it : Bool) (z : ℤ) (c a : ends.Ends) (m n : Defined) (plain : Bool) → plain ≡ (folded fold_it z).plain → plain ≡ true → a ≡ ends.exactly (pos 0) → m ≡ n
+    → (◌≡◌ {A = Sight}) (record { ends = a; mark = m }) (record { ends = unless_folded fold_it c; mark = n })
+folded_seen fold_it z c a m n plain plain_is met zero marked =
+    same_sight a (unless_folded fold_it c) m n (zero ∙ ap (λ (f : Bool). unless_folded f c) (sym met ∙ plain_is ∙ folded_plain fold_it z)) marked
 
-operation_seen : (reading : Reading) (root b : Box) (op : Operation) (t : rule.Term) (plain : Bool) (a : ends.Ends) (m : Defined) → plain ≡ (form root (operation_term op t)).plain → a
-    ≡ unless_folded plain (made op (interval reading root b t)) → m ≡ mark reading root b t → (◌≡◌ {A = Sight}) (record { ends = a; mark = m }) (sight reading root b (operation_term op t))
-operation_seen reading root b op t plain a m plain_is is marked =
-    same_sight a (atoms reading root b (operation_term op t)) m (mark reading root b (operation_term op t))
-    (is ∙ ap (λ (f : Bool). unless_folded f (made op (interval reading root b t))) (plain_is ∙ operation_folds root op t) ∙ sym (operation_atoms reading root b op t))
-    (marked ∙ sym (operation_mark reading root b op t))
+alone_seen : (fold_it : Bool) (z : ℤ) (c a : ends.Ends) (m n : Defined) (plain : Bool) → plain ≡ (folded fold_it z).plain → plain ≡ false → a ≡ c → m ≡ n
+    → (◌≡◌ {A = Sight}) (record { ends = a; mark = m }) (record { ends = unless_folded fold_it c; mark = n })
+alone_seen fold_it z c a m n plain plain_is unmet is marked =
+    same_sight a (unless_folded fold_it c) m n (is ∙ ap (λ (f : Bool). unless_folded f c) (sym unmet ∙ plain_is ∙ folded_plain fold_it z)) marked
 
-pub operation_folded : (reading : Reading) (root b : Box) (op : Operation) (t : rule.Term) (plain : Bool) (a : ends.Ends) (m : Defined) → plain ≡ (form root (operation_term op t)).plain → plain ≡ true → a
-    ≡ ends.exactly (pos 0) → m ≡ mark reading root b t → (◌≡◌ {A = Sight}) (record { ends = a; mark = m }) (sight reading root b (operation_term op t))
+pub operation_folded : (reading : Reading) (root b : Box) (op : Operation) (t : rule.Term) (plain : Bool) (a : ends.Ends) (m : Defined) → plain ≡ (form root (rule.Made op t)).plain → plain ≡ true → a
+    ≡ ends.exactly (pos 0) → m ≡ mark reading root b t → (◌≡◌ {A = Sight}) (record { ends = a; mark = m }) (sight reading root b (rule.Made op t))
 operation_folded reading root b op t plain a m plain_is met zero marked =
-    operation_seen reading root b op t plain a m plain_is (zero ∙ ap (λ (f : Bool). unless_folded f (made op (interval reading root b t))) (sym met)) marked
+    folded_seen (folds (form root t ∷ []) (mark Near root root t)) (made_of op (form root t).constant) (made op (interval reading root b t)) a m (mark reading root b t) plain plain_is met zero marked
 
-pub operation_alone : (reading : Reading) (root b : Box) (op : Operation) (t : rule.Term) (plain : Bool) (a : ends.Ends) (m : Defined) → plain ≡ (form root (operation_term op t)).plain → plain ≡ false → a
-    ≡ made op (interval reading root b t) → m ≡ mark reading root b t → (◌≡◌ {A = Sight}) (record { ends = a; mark = m }) (sight reading root b (operation_term op t))
+pub operation_alone : (reading : Reading) (root b : Box) (op : Operation) (t : rule.Term) (plain : Bool) (a : ends.Ends) (m : Defined) → plain ≡ (form root (rule.Made op t)).plain → plain ≡ false → a
+    ≡ made op (interval reading root b t) → m ≡ mark reading root b t → (◌≡◌ {A = Sight}) (record { ends = a; mark = m }) (sight reading root b (rule.Made op t))
 operation_alone reading root b op t plain a m plain_is unmet is marked =
-    operation_seen reading root b op t plain a m plain_is (is ∙ ap (λ (f : Bool). unless_folded f (made op (interval reading root b t))) (sym unmet)) marked
+    alone_seen (folds (form root t ∷ []) (mark Near root root t)) (made_of op (form root t).constant) (made op (interval reading root b t)) a m (mark reading root b t) plain plain_is unmet is marked
 
--- whether the least or the greatest of terms is folded
-extreme_folds : (root : Box) (e : Extreme) (t : rule.Term) (later : rule.Terms) → (form root (extreme_term e t later)).plain
-    ≡ folds (form root t ∷ forms root later) (both (mark Near root root t) (all_marks (marks Near root root later)))
-extreme_folds root e t later =
-    ap (λ f. f.plain) (extreme_form root e t later)
-    ∙ folded_plain (folds (form root t ∷ forms root later) (both (mark Near root root t) (all_marks (marks Near root root later)))) (chosen (chosen_by e) (form root t) (forms root later))
+-- whether the least or the greatest of terms folds
+abbrev all_fold : Box → rule.Term → rule.Terms → Bool
+all_fold root t later = folds (form root t ∷ forms root later) (both (mark Near root root t) (all_marks (marks Near root root later)))
 
-extreme_seen : (reading : Reading) (root b : Box) (e : Extreme) (t : rule.Term) (later : rule.Terms) (plain : Bool) (a : ends.Ends) (m : Defined) → plain ≡ (form root (extreme_term e t later)).plain → a
-    ≡ unless_folded plain (extreme_range reading root b e t later).ends → m ≡ (extreme_range reading root b e t later).mark
-    → (◌≡◌ {A = Sight}) (record { ends = a; mark = m }) (sight reading root b (extreme_term e t later))
-extreme_seen reading root b e t later plain a m plain_is is marked =
-    same_sight a (atoms reading root b (extreme_term e t later)) m (mark reading root b (extreme_term e t later))
-    (is ∙ ap (λ (f : Bool). unless_folded f (extreme_range reading root b e t later).ends) (plain_is ∙ extreme_folds root e t later) ∙ sym (extreme_atoms reading root b e t later))
-    (marked ∙ sym (extreme_mark reading root b e t later))
-
-pub extreme_folded : (reading : Reading) (root b : Box) (e : Extreme) (t : rule.Term) (later : rule.Terms) (plain : Bool) (a : ends.Ends) (r : Sight) → plain ≡ (form root (extreme_term e t later)).plain
-    → plain ≡ true → a ≡ ends.exactly (pos 0) → r ≡ extreme_range reading root b e t later → (◌≡◌ {A = Sight}) (record { ends = a; mark = r.mark }) (sight reading root b (extreme_term e t later))
+pub extreme_folded : (reading : Reading) (root b : Box) (e : Extreme) (t : rule.Term) (later : rule.Terms) (plain : Bool) (a : ends.Ends) (r : Sight) → plain ≡ (form root (rule.Selected e t later)).plain
+    → plain ≡ true → a ≡ ends.exactly (pos 0) → r ≡ extreme_range reading root b e t later → (◌≡◌ {A = Sight}) (record { ends = a; mark = r.mark }) (sight reading root b (rule.Selected e t later))
 extreme_folded reading root b e t later plain a r plain_is met zero is =
-    extreme_seen reading root b e t later plain a r.mark plain_is (zero ∙ ap (λ (f : Bool). unless_folded f (extreme_range reading root b e t later).ends) (sym met)) (ap (λ (s : Sight). s.mark) is)
+    folded_seen (all_fold root t later) (chosen (chosen_by e) (form root t) (forms root later)) (extreme_range reading root b e t later).ends a r.mark (extreme_range reading root b e t later).mark plain
+    plain_is met zero (ap (λ (s : Sight). s.mark) is)
 
-pub extreme_alone : (reading : Reading) (root b : Box) (e : Extreme) (t : rule.Term) (later : rule.Terms) (plain : Bool) (r : Sight) → plain ≡ (form root (extreme_term e t later)).plain → plain ≡ false
-    → r ≡ extreme_range reading root b e t later → r ≡ sight reading root b (extreme_term e t later)
+pub extreme_alone : (reading : Reading) (root b : Box) (e : Extreme) (t : rule.Term) (later : rule.Terms) (plain : Bool) (r : Sight) → plain ≡ (form root (rule.Selected e t later)).plain → plain ≡ false
+    → r ≡ extreme_range reading root b e t later → r ≡ sight reading root b (rule.Selected e t later)
 extreme_alone reading root b e t later plain r plain_is unmet is =
-    is ∙ extreme_seen reading root b e t later plain (extreme_range reading root b e t later).ends (extreme_range reading root b e t later).mark plain_is
-    (ap (λ (f : Bool). unless_folded f (extreme_range reading root b e t later).ends) (sym unmet)) refl
+    is ∙ alone_seen (all_fold root t later) (chosen (chosen_by e) (form root t) (forms root later)) (extreme_range reading root b e t later).ends (extreme_range reading root b e t later).ends
+    (extreme_range reading root b e t later).mark (extreme_range reading root b e t later).mark plain plain_is unmet refl refl
 
 -- one after the other is taken, from the first to the last
 abbrev pub taken : Reading → Box → Box → Extreme → ends.Ends → Defined → rule.Terms → Sight

@@ -2,12 +2,12 @@
 use Rattle.std.proofs.Common.{◌≡◌, ℕ, ◌+◌, ◌<◌, ◌≤◌, List, [], ◌∷◌, ◌++◌, length, get_or, arith, ap, sym, ◌∙◌, length-append}
 use Rattle.std.proofs.lemmas.List.{get_or_past}
 use Rattle.box_problem.specs.Box.{Box}
-use Rattle.term_language.specs.Rules.{Near, Wide, form, mark, truth}
+use Rattle.term_language.specs.Rules.{Near, Wide, form, mark}
 use Rattle.term_language.specs.Sizes.{atoms_weight}
 use Rattle.term_math.specs.Shown.{ends_of, form_of}
 use Rattle.term_nodes.specs.declared.items.Item.{Item}
 use Rattle.term_nodes.specs.Seen.{Sight, sight}
-use Rattle.term_nodes.specs.Things.{Thing, nothing, cond_in, term_in, cond_at, term_at, thing_at, thing_of, things, things_from}
+use Rattle.term_nodes.specs.Things.{Thing, nothing, term_in, term_at, thing_at, thing_of, things, things_from}
 use Rattle.term_nodes.specs.Built as built
 use Rattle.term_nodes.specs.Built.{IsAt, IsBuilt}
 
@@ -30,12 +30,6 @@ pub form_is : (root : Box) (items : List Item) (id : ℕ) (item : Item) → IsBu
 form_is root items id item all below at =
     let here = all.each id item below at in
     ap (λ (f : built.Facts). f.form) here.kept ∙ ap (λ (t : Thing). form root (term_in t)) (sym here.thing)
-
-pub truth_is : (root : Box) (items : List Item) (id : ℕ) (item : Item) → IsBuilt root items → id < length items → item ≡ get_or items id item → item.facts.truth
-    ≡ truth Wide root root (cond_at (things items) id)
-truth_is root items id item all below at =
-    let here = all.each id item below at in
-    ap (λ (f : built.Facts). f.truth) here.kept ∙ ap (λ (t : Thing). truth Wide root root (cond_in t)) (sym here.thing)
 
 pub wide_is : (root : Box) (items : List Item) (id : ℕ) (item : Item) → IsBuilt root items → id < length items → item ≡ get_or items id item
     → (◌≡◌ {A = Sight}) (record { ends = ends_of item.facts.wide; mark = item.facts.wide_mark }) (sight Wide root root (term_at (things items) id))

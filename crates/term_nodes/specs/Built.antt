@@ -51,17 +51,7 @@ of_truth t = record {
   truth = t;
 }
 
--- and of a term of cells alone that is Always defined, and of a condition as a number
-abbrev pub of_form : forms.Form → Facts
-of_form f = record {
-  form = f;
-  mark = Always;
-  wide_mark = Always;
-  wide = ends.exactly (pos 0);
-  weight = 0;
-  truth = True;
-}
-
+-- and of a condition as a number
 abbrev pub of_atom : Truth → Facts
 of_atom t = record {
   form = forms.atom_form;

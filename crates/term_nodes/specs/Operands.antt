@@ -1,6 +1,6 @@
--- Left operands: the first factor of a product, and what a quotient, a remainder or a size is made of. A chain of these is as long as its text.
+-- Left operands: the first factor of a product, and the number that something is made of. A chain of these is as long as its text.
 use Rattle.std.specs.Prelude.{ℕ, zero, suc, Option, Some, None}
-use Rattle.term_language.specs.Terms.{Term, Product, Quotient, Remainder, Size}
+use Rattle.term_language.specs.Terms.{Term, Product, Made}
 use Rattle.term_nodes.specs.declared.nodes.Node.{Node}
 use Rattle.term_nodes.specs.declared.nodes.Node.TheVariants as node
 
@@ -13,9 +13,7 @@ left_in other = None
 -- a term's left operand; a term that has none stands for itself
 abbrev pub left_operand : Term → Term
 left_operand (Product a b) = a
-left_operand (Quotient a divisor) = a
-left_operand (Remainder a divisor) = a
-left_operand (Size a) = a
+left_operand (Made op a) = a
 left_operand t = t
 
 -- what is reached by so many steps, each to the left operand

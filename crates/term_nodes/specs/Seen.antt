@@ -7,8 +7,8 @@ use Rattle.term_language.specs.Marks.{both, all_marks}
 use Rattle.term_language.specs.Terms.{Table, Term, Terms, Parts}
 use Rattle.term_language.specs.Rules as rule
 use Rattle.term_language.specs.declared.answers.Defined.{Defined}
-use Rattle.term_math.specs.declared.extremes.Extreme.{Extreme}
-use Rattle.term_math.specs.Made.{picked}
+use Rattle.sopl_base.specs.declared.extreme.Extreme.{Extreme}
+use Rattle.term_language.specs.Ends.{picked}
 use Rattle.term_math.specs.Shown.{box_in}
 pub use Rattle.term_math.specs.Sights.{Sight, sight_of}
 use Rattle.term_math.specs.Within.{Known, all_covered, allowed_ends, seen_ends, seen_mark, with_dimensions}

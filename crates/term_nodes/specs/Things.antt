@@ -1,7 +1,6 @@
 -- Which term, condition or array a node is.
 use Rattle.std.specs.Prelude.{ℕ, pos, List, [], ◌∷◌, ◌++◌, slice_index_or}
 use Rattle.term_language.specs.Terms as rule
-use Rattle.term_math.specs.Made.{operation_term, extreme_term}
 use Rattle.term_math.specs.Kept.{table_of}
 use Rattle.term_nodes.specs.declared.nodes.Node.{Node}
 use Rattle.term_nodes.specs.declared.nodes.Node.TheVariants as node
@@ -73,8 +72,8 @@ thing_of all (node.Constant z) = a_term (rule.Constant z)
 thing_of all (node.Cell cell) = a_term (rule.Cell cell)
 thing_of all (node.Sum parts) = a_term (rule.Sum (parts_at all parts.items))
 thing_of all (node.Product a b) = a_term (rule.Product (term_at all a) (term_at all b))
-thing_of all (node.Operation op a) = a_term (operation_term op (term_at all a))
-thing_of all (node.Extreme e first later) = a_term (extreme_term e (term_at all first) (terms_at all later.items))
+thing_of all (node.Operation op a) = a_term (rule.Made op (term_at all a))
+thing_of all (node.Extreme e first later) = a_term (rule.Selected e (term_at all first) (terms_at all later.items))
 thing_of all (node.Element table at) = a_term (rule.Element (table_at all table) (terms_at all at.items))
 thing_of all (node.Number c) = a_term (rule.Number (cond_at all c))
 thing_of all (node.Compare c) = a_cond (rule.Compare c.op (term_at all c.left) (term_at all c.right))

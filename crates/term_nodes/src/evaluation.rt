@@ -11,7 +11,7 @@ ghost use Rattle.term_math.specs.Ascending.{all_ascend};
 ghost use Rattle.term_math.specs.Shown.{box_in, ends_of, form_of};
 ghost use Rattle.term_math.specs.Kept.{sets_of, table_of};
 ghost use Rattle.term_math.specs.Within.{known_of, ranges_of, with_dimensions};
-ghost use Rattle.term_math.specs.Made.{IsPossible, extreme_term, operation_term};
+ghost use Rattle.term_math.specs.Made.{IsPossible};
 ghost use Rattle.term_nodes.specs.Things.{cond_at, cond_in, conds_at, parts_at, table_at, term_at, terms_at, thing_of, things};
 ghost use Rattle.term_nodes.specs.Built.{AllBelow, IsBelow, IsRight, IsSoundTerm, PartsBelow};
 ghost use Rattle.term_nodes.specs.Operands.{left_operand, steps_down};
@@ -22,7 +22,7 @@ use crate::nodes::{Comparison, Node, Signed};
 use term_language::{Defined, Truth};
 use term_math::{
     AbstractValue, BoxView, Ends, Extreme, Indices, Operation, Ranges, Table, and_truth, both,
-    compared, factor, opposite, or_truth, truth_ends,
+    compared, factor, made, opposite, or_truth, truth_ends,
 };
 
 /// Nodes, the root box, and a box inside it; or the root box by the wide reading, where what is kept of each node says what it is.
@@ -259,9 +259,9 @@ impl<'a> Evaluator<'a> {
         requires ready { CanRead self.now }
         requires exists { a < length self.now.items.now }
         requires possible { IsPossible operation.now }
-        requires plain { plain ≡ (rule.form (box_in self.now.root) (operation_term operation.now (term_at (things self.now.items.now) a))).plain }
+        requires plain { plain ≡ (rule.form (box_in self.now.root) (term.Made operation.now (term_at (things self.now.items.now) a))).plain }
         requires seen { sight_of below.now ≡ sight (reading_of self.now) (box_in self.now.root) (box_in self.now.view) (term_at (things self.now.items.now) a) }
-        ensures { sight_of result ≡ sight (reading_of self.now) (box_in self.now.root) (box_in self.now.view) (operation_term operation.now (term_at (things self.now.items.now) a)) }
+        ensures { sight_of result ≡ sight (reading_of self.now) (box_in self.now.root) (box_in self.now.view) (term.Made operation.now (term_at (things self.now.items.now) a)) }
     {
         let range = self.whole(a, below);
         if plain {
@@ -271,7 +271,7 @@ impl<'a> Evaluator<'a> {
             };
         }
         AbstractValue {
-            ends: operation.made(&range.ends),
+            ends: made(operation, &range.ends),
             mark: range.mark,
         }
     }
@@ -291,9 +291,9 @@ impl<'a> Evaluator<'a> {
         requires exists { limit ≤ length self.now.items.now }
         requires first { first < limit }
         requires below { AllBelow limit later.now }
-        requires plain { plain ≡ (rule.form (box_in self.now.root) (extreme_term extreme (term_at (things self.now.items.now) first) (terms_at (things self.now.items.now) later.now))).plain }
+        requires plain { plain ≡ (rule.form (box_in self.now.root) (term.Selected extreme (term_at (things self.now.items.now) first) (terms_at (things self.now.items.now) later.now))).plain }
         ensures { sight_of result ≡ sight (reading_of self.now) (box_in self.now.root) (box_in self.now.view)
-            (extreme_term extreme (term_at (things self.now.items.now) first) (terms_at (things self.now.items.now) later.now)) }
+            (term.Selected extreme (term_at (things self.now.items.now) first) (terms_at (things self.now.items.now) later.now)) }
     {
         let range = self.extreme_range(limit, extreme, first, later);
         if plain {

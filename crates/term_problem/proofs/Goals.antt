@@ -4,6 +4,7 @@ use Rattle.std.proofs.lemmas.Int.{ints}
 use Rattle.std.specs.List.{AllByRecursion}
 use Rattle.sopl_base.specs.declared.direction.Direction.{Direction}
 use Rattle.sopl_base.specs.declared.direction.Direction.TheVariants.{Minimize, Maximize, Nothing}
+use Rattle.sopl_base.specs.declared.extreme.Extreme.TheVariants.{Least, Greatest}
 use Rattle.box_problem.specs.Box.{Box, IsBox, InBox, IsPoint}
 use Rattle.term_language.specs.declared.answers.Defined.{Defined}
 use Rattle.term_language.specs.declared.answers.Defined.TheVariants.{Never, Maybe, Always}
@@ -14,10 +15,10 @@ use Rattle.term_language.specs.Marks.{both}
 use Rattle.term_language.specs.Rules.{Near, form, atoms, mark, interval}
 use Rattle.term_language.specs.Terms.{Term}
 use Rattle.term_language.specs.Values.{value}
-use Rattle.term_language.proofs.Exactness.{IsOne, exact_part, one_whole, one_least, one_greatest}
+use Rattle.term_language.proofs.Exactness.{IsOne, exact_part, one_whole, one_picked}
 use Rattle.term_language.proofs.Layers.{IsRead, both_hold, read_number, read_part}
 use Rattle.term_language.proofs.OnPoints.{points_exact}
-use Rattle.term_language.proofs.Operations.{in_least, in_greatest}
+use Rattle.term_language.proofs.Operations.{in_picked}
 use Rattle.term_language.proofs.Soundness.{read, values_lie, lies_some}
 use Rattle.term_problem.specs.Points.{expected_value, worse, worst_value, goal_value}
 use Rattle.term_problem.specs.Problems.{GoalTerms}
@@ -39,13 +40,13 @@ exact_there Always fact v exact marked there = exact
 
 -- the worse of two
 worse_lies : (direction : Direction) (x y : ℤ) (a c : Ends) → Lies x a → Lies y c → Lies (worse direction x y) (worse_ends direction a c)
-worse_lies Minimize x y a c p q = in_greatest x y a c p q
-worse_lies Maximize x y a c p q = in_least x y a c p q
+worse_lies Minimize x y a c p q = in_picked Greatest x y a c p q
+worse_lies Maximize x y a c p q = in_picked Least x y a c p q
 worse_lies Nothing x y a c p q = p
 
 one_worse : (direction : Direction) (a c : Ends) → IsOne a → IsOne c → IsOne (worse_ends direction a c)
-one_worse Minimize a c p q = one_greatest a c p q
-one_worse Maximize a c p q = one_least a c p q
+one_worse Minimize a c p q = one_picked Greatest a c p q
+one_worse Maximize a c p q = one_picked Least a c p q
 one_worse Nothing a c p q = p
 
 module _ (root b : Box) (point : List ℤ) (is_box : IsBox b) (inside : InBox b point) where

@@ -47,10 +47,6 @@ module _ (m n : Mentions) (id : ℕ) (cells : Vec ℕ Global) (puts : Puts m n i
 pub put_there : (n : Mentions) (id : ℕ) (cells : Vec ℕ Global) → get nat_cmp n.lists id ≡ Some cells → IsTrue (HasList n id)
 put_there n id cells is = ap is_some is
 
--- a list that is read
-pub list_read : (m : Mentions) (id : ℕ) (cells : Vec ℕ Global) (f : ℕ → List ℕ) → AreLists f m → get nat_cmp m.lists id ≡ Some cells → IsListOf (f id) cells.items
-list_read m id cells f all is = subst (λ (o : Option (Vec ℕ Global)). IfSome o (λ (c : Vec ℕ Global). IsListOf (f id) c.items)) is (all id)
-
 -- what is listed of a condition and of a term
 module _ (root b : Box) (all others : List Thing) (id : ℕ) (cells : List ℕ) (root_is : b ≡ root) (things_are : others ≡ all) where
   pub cond_listed : ((cell : ℕ) → Contains cells cell ↔ Contains (cond_mentions b (cond_at others id)) cell) → IsStrictlyIncreasing cells → IsListOf (cond_lists root all id) cells

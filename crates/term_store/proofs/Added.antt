@@ -1,14 +1,10 @@
 -- What is added is right.
-use Rattle.std.proofs.Common.{◌≡◌, ◌∙◌, refl, ap, sym, subst, arith, ℕ, ℤ, ◌<◌, ◌≤◌, ◌^◌, Bool, List, [], ◌∷◌, ◌++◌, length, length-append, Vec, Global, Ok, Err, inl, inr}
-use Rattle.std.specs.declared.alloc.AllocError.{AllocError}
-use Rattle.sopl_base.specs.declared.fault.Fault.{Fault}
+use Rattle.std.proofs.Common.{◌≡◌, ◌∙◌, ap, sym, subst, arith, ℕ, ℤ, ◌<◌, ◌≤◌, ◌^◌, Bool, List, [], ◌∷◌, ◌++◌, length, length-append, Vec, Global, Ok, inr}
 use Rattle.box_problem.specs.Box.{Box}
 use Rattle.term_language.specs.Laws.{IsProper, IsProperCond, IsTable}
 use Rattle.term_language.specs.Sizes.{size}
 use Rattle.term_language.specs.Terms as rule
-use Rattle.term_math.proofs.Rules.{extreme_proper, operation_proper}
-use Rattle.term_math.specs.Made.{extreme_term}
-use Rattle.term_math.specs.declared.extremes.Extreme.{Extreme}
+use Rattle.sopl_base.specs.declared.extreme.Extreme.{Extreme}
 use Rattle.term_nodes.specs.declared.items.Facts as own
 use Rattle.term_nodes.specs.declared.items.Item.{Item}
 use Rattle.term_nodes.specs.declared.nodes.Node.{Node}
@@ -16,12 +12,12 @@ use Rattle.term_nodes.specs.declared.nodes.Node.TheVariants as node
 use Rattle.term_nodes.specs.declared.nodes.Signed.{Signed}
 use Rattle.term_nodes.specs.declared.nodes.Task.{Task}
 use Rattle.term_nodes.specs.Built.{AllBelow, IsAt, IsBelow, IsBuilt, IsNew, IsRight, PartsBelow, TasksBelow, facts_of, kept}
-use Rattle.term_nodes.specs.Things.{Thing, a_cond, a_table, a_term, cond_in, conds_at, no_table, parts_at, table_at, table_in, tasks_at, term_at, term_in, terms_at, thing_at, thing_of, things}
+use Rattle.term_nodes.specs.Things.{Thing, a_cond, a_term, cond_in, conds_at, no_table, parts_at, table_at, table_in, tasks_at, term_at, term_in, terms_at, thing_at, thing_of, things}
 use Rattle.term_nodes.proofs.Growing.{last_is, stays}
 use Rattle.term_nodes.proofs.Reading.{length_things}
 use Rattle.term_nodes.proofs.Ready.{no_table_is, small_term, table_proper, terms_proper}
-use Rattle.term_store.specs.Additions.{AddsCond, AddsTable, AddsTerm, Grows, IsNodeFor, Stands, cond_ids, extreme_at, signed_of, task_ids, term_ids}
-use Rattle.term_store.specs.Stores.{IsAdded, IsMeasured}
+use Rattle.term_store.specs.Additions.{AddsTerm, Grows, IsNodeFor, Stands, cond_ids, extreme_at, signed_of, task_ids, term_ids}
+use Rattle.term_store.specs.Stores.{IsAdded}
 use Rattle.term_store.specs.declared.ids.CondId.{CondId}
 use Rattle.term_store.specs.declared.ids.TableId.{TableId}
 use Rattle.term_store.specs.declared.ids.TermId.{TermId}
@@ -44,7 +40,7 @@ module _ (root : Box) (all : List Thing) where
   extreme_node e first later parts list are same there =
       let both = subst (λ (l : List TermId). AllBelow (length all) (term_ids l)) are there in
       record {
-        is = ap (λ (l : List ℕ). a_term (extreme_term e (term_at all first.0) (terms_at all l))) same ∙ ap (λ (l : List TermId). a_term (extreme_at e all l)) (sym are);
+        is = ap (λ (l : List ℕ). a_term (rule.Selected e (term_at all first.0) (terms_at all l))) same ∙ ap (λ (l : List TermId). a_term (extreme_at e all l)) (sym are);
         below = (both.0, subst (AllBelow (length all)) (sym same) both.1);
         right = tt;
       }
@@ -100,9 +96,9 @@ module _ (root : Box) (items : List Item) (all : IsBuilt root items) where
   proper_node (node.Cell cell) = (tt, tt)
   proper_node (node.Sum parts) = (parts_proper root items parts.items all, tt)
   proper_node (node.Product a b) = ((proper a, proper b), tt)
-  proper_node (node.Operation op a) = (operation_proper op (term_at (things items) a) (proper a), tt)
+  proper_node (node.Operation op a) = (proper a, tt)
   proper_node (node.Extreme e first later) =
-      (extreme_proper e (term_at (things items) first) (terms_at (things items) later.items) (proper first) (terms_proper root items later.items all), tt)
+      ((proper first, terms_proper root items later.items all), tt)
   proper_node (node.Element table at) = ((table_proper root items table all, terms_proper root items at.items all), tt)
   proper_node (node.Number c) = (proper_at root items c all, tt)
   proper_node (node.Compare c) = (tt, (proper c.left, proper c.right))
@@ -151,12 +147,6 @@ grows_added before after id thing added = record {
   same = λ i below. ap (λ (ts : List Thing). thing_at ts i) added.added ∙ stays before thing i below;
 }
 
-pub grows_same : (before after : List Thing) → after ≡ before → Grows before after
-grows_same before after is = record {
-  more = omega (arith, ap length is);
-  same = λ i below. ap (λ (ts : List Thing). thing_at ts i) is;
-}
-
 added_stands : (before after : List Thing) (id : ℕ) (thing : Thing) → IsAdded before after id thing → Stands after id thing
 added_stands before after id thing added = record {
   exists = omega (arith, added.number, ap length added.added, length-append before (thing ∷ []));
@@ -172,38 +162,3 @@ term_added root before after t thing new is added small = record {
   measured = subst (λ (x : Thing). size root (term_in x) ≤ 2 ^ 40) is small;
   err = tt;
 }
-
-pub term_there : (root : Box) (all : List Thing) (t : rule.Term) (id : TermId) → Stands all id.0 (a_term t) → size root t ≤ 2 ^ 40 → AddsTerm root all all t (Ok id)
-term_there root all t id stands small = record { grows = grows_same all all refl; stands = stands; most = inl refl; measured = small; err = tt }
-
-pub term_refused : (root : Box) (before after : List Thing) (t : rule.Term) (thing : Thing) (fault : Fault) → thing ≡ a_term t → after ≡ before
-    → IsMeasured {A = TermId} (size root (term_in thing)) (Err fault) → AddsTerm root before after t (Err fault)
-term_refused root before after t thing fault is same measured = record {
-  grows = grows_same before after same;
-  stands = tt;
-  most = inl same;
-  measured = subst (λ (x : Thing). IsMeasured {A = TermId} (size root (term_in x)) (Err fault)) is measured;
-  err = same;
-}
-
-pub cond_added : (before after : List Thing) (c : rule.Cond) (thing : Thing) (new : CondId) → thing ≡ a_cond c → IsAdded before after new.0 thing → AddsCond before after c (Ok new)
-cond_added before after c thing new is added = record {
-  grows = grows_added before after new.0 thing added;
-  stands = subst (Stands after new.0) is (added_stands before after new.0 thing added);
-  most = inr (added.added ∙ ap (λ (x : Thing). before ++ x ∷ []) is);
-  err = tt;
-}
-
-pub cond_refused : (before after : List Thing) (c : rule.Cond) (e : AllocError) → after ≡ before → AddsCond before after c (Err e)
-cond_refused before after c e same = record { grows = grows_same before after same; stands = tt; most = inl same; err = same }
-
-pub table_added : (before after : List Thing) (table : rule.Table) (new : TableId) → IsAdded before after new.0 (a_table table) → AddsTable before after table (Ok new)
-table_added before after table new added = record {
-  grows = grows_added before after new.0 (a_table table) added;
-  stands = added_stands before after new.0 (a_table table) added;
-  most = inr added.added;
-  err = tt;
-}
-
-pub table_refused : (before after : List Thing) (table : rule.Table) (e : AllocError) → after ≡ before → AddsTable before after table (Err e)
-table_refused before after table e same = record { grows = grows_same before after same; stands = tt; most = inl same; err = same }

@@ -1,25 +1,21 @@
 -- What stands at the numbers of a store, and what is known of its simplest terms.
-use Rattle.std.proofs.Common.{◌≡◌, inl, inr, ℕ, pos, ◌<◌, ◌≤◌, ◌^◌, List, [], ◌∷◌, length, get_or, arith, refl, ap, subst, sym, ◌∙◌}
+use Rattle.std.proofs.Common.{◌≡◌, inl, inr, ℕ, pos, ◌<◌, List, [], ◌∷◌, length, get_or, arith, ap, subst, sym, ◌∙◌}
 use Rattle.std.proofs.lemmas.Bool.{cases_lt}
 use Rattle.std.proofs.lemmas.List.{get_or_default}
 use Rattle.box_problem.specs.Box.{Box}
 use Rattle.term_language.specs.Terms as rule
 use Rattle.term_language.specs.Terms.{Item, Fixed, Free}
-use Rattle.term_language.specs.Marks.{truth_ends}
 use Rattle.term_language.specs.Rules.{Wide, truth}
-use Rattle.term_language.specs.Forms.{atom_form}
-use Rattle.term_language.specs.Sizes.{size, weight_of}
-use Rattle.term_language.specs.declared.answers.Defined.TheVariants.{Always}
+use Rattle.term_language.specs.Sizes.{size}
 use Rattle.term_language.specs.declared.answers.Truth.{Truth}
-use Rattle.term_language.specs.declared.answers.Truth.TheVariants.{False, Unknown, True}
 use Rattle.term_language.specs.Laws.{IsProperCond, AreProperConds, AreProperTasks}
 use Rattle.term_nodes.specs.declared.items.Item as stored
 use Rattle.term_nodes.specs.Things.{Thing, a_cond, a_table, a_term, term_in, cond_in, cond_at, conds_at, tasks_at, things}
-use Rattle.term_nodes.specs.Built.{IsAt, IsBuilt, AllBelow, facts_of, of_atom, of_truth}
+use Rattle.term_nodes.specs.Built.{IsAt, IsBuilt, AllBelow, facts_of, of_truth}
 use Rattle.term_nodes.proofs.Reading.{length_things, nothing_past}
-use Rattle.term_nodes.proofs.Ready.{nothing_small, small_term}
+use Rattle.term_nodes.proofs.Ready.{small_term}
 use Rattle.term_nodes.specs.declared.nodes.Task.{Task}
-use Rattle.term_store.specs.Atoms.{leaf_of, of_item, size_of_item}
+use Rattle.term_store.specs.Atoms.{leaf_of, size_of_item}
 
 pub proper_at : (root : Box) (items : List stored.Item) (id : ℕ) → IsBuilt root items → IsProperCond (cond_at (things items) id)
 proper_at root [] id all = tt
@@ -59,29 +55,8 @@ pub leaf_size : (root : Box) (item : Item) → size_of_item root item ≡ size r
 leaf_size root (Fixed z) = omega arith
 leaf_size root (Free cell) = omega arith
 
-pub leaf_known : (root : Box) (item : Item) → of_item item Always Always ≡ facts_of root (a_term (leaf_of item))
-leaf_known root (Fixed z) = refl
-leaf_known root (Free cell) = refl
-
--- conditions as numbers
-truth_weight : (t : Truth) → weight_of (truth_ends t) ≡ 1
-truth_weight False = refl
-truth_weight Unknown = refl
-truth_weight True = refl
-
-pub number_small : (root : Box) (c : rule.Cond) → size root (rule.Number c) ≤ 2 ^ 40
-number_small root c = omega (arith, truth_weight (truth Wide root root c))
-
-pub number_known : (root : Box) (c : rule.Cond) (t : Truth) → t ≡ truth Wide root root c → of_atom t ≡ facts_of root (a_term (rule.Number c))
-number_known root c t is =
-    ap of_atom is
-    ∙ ap (λ (w : ℕ). record { form = atom_form; mark = Always; wide_mark = Always; wide = truth_ends (truth Wide root root c); weight = w; truth = True }) (sym (truth_weight (truth Wide root root c)))
-
 -- conditions, and arrays, of which nothing is known
 pub cond_known : (root : Box) (thing : Thing) (t : Truth) → term_in thing ≡ rule.Constant (pos 0) → t ≡ truth Wide root root (cond_in thing) → of_truth t ≡ facts_of root thing
 cond_known root (a_term x) t no_term is = ap of_truth is ∙ ap (λ (y : rule.Term). facts_of root (a_term y)) (sym no_term)
 cond_known root (a_cond c) t no_term is = ap of_truth is
 cond_known root (a_table x) t no_term is = ap of_truth is
-
-pub cond_small : (root : Box) (thing : Thing) → term_in thing ≡ rule.Constant (pos 0) → size root (term_in thing) ≤ 2 ^ 40
-cond_small root thing no_term = subst (λ (t : rule.Term). size root t ≤ 2 ^ 40) (sym no_term) (nothing_small root).small

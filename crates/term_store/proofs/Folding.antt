@@ -14,12 +14,13 @@ use Rattle.term_language.specs.declared.answers.Defined.{Defined}
 use Rattle.term_language.specs.declared.answers.Truth.TheVariants.{True}
 use Rattle.term_language.proofs.Bounds.{bounded_whole}
 use Rattle.term_language.proofs.FormValues.{and_first, and_second}
-use Rattle.term_math.specs.declared.extremes.Extreme.{Extreme}
-use Rattle.term_math.specs.declared.operations.Operation.{Operation}
-use Rattle.term_math.specs.Made.{IsSmall, operation_term, extreme_term, made, made_of, chosen_by, picked}
+use Rattle.sopl_base.specs.declared.extreme.Extreme.{Extreme}
+use Rattle.term_language.specs.declared.made.Operation.{Operation}
+use Rattle.sopl_base.specs.Extremes.{chosen_by}
+use Rattle.term_language.specs.Ends.{made, made_of, picked}
+use Rattle.term_math.specs.Made.{IsSmall}
 use Rattle.term_math.proofs.Constants.{constant_interval, constant_intervals}
-use Rattle.term_math.proofs.Rules.{operation_form, operation_atoms, operation_mark, operation_weight, extreme_form, extreme_atoms, extreme_mark}
-use Rattle.term_math.proofs.Rules.{extreme_weight, made_exactly, fold_exactly, folded_size}
+use Rattle.term_math.proofs.Rules.{made_exactly, fold_exactly, folded_size}
 use Rattle.term_nodes.specs.declared.items.Item.{Item}
 use Rattle.term_nodes.specs.Things.{Thing, a_term, term_at, terms_at, things}
 use Rattle.term_nodes.specs.Built.{Facts, IsBuilt, facts_of}
@@ -54,9 +55,14 @@ module _ (root : Box) (t : rule.Term) (folds_it : Bool) (z : ℤ) (a : ends.Ends
       is_weight ∙ ap (λ (f : Form). alone_weight f (atoms Wide root root t)) form_is
       ∙ ap (λ (e : ends.Ends). alone_weight (folded folds_it a.high) e) is_atoms
 
-  pub facts_are : (near far : Defined) → mark Near root root t ≡ near → mark Wide root root t ≡ far → of_folded folds_it near (record { ends = a; mark = far }) ≡ facts_of root (a_term t)
-  facts_are near far is_near is_far =
-      sym (
+  -- all that is kept of it is right, where each piece is
+  pub kept_as : (near far m : Defined) (b : Bool) (s : Sight) → mark Near root root t ≡ near → mark Wide root root t ≡ far → b ≡ folds_it → m ≡ near
+      → s ≡ record { ends = a; mark = far } → of_folded b m s ≡ facts_of root (a_term t)
+  kept_as near far m b s is_near is_far b_is m_is s_is =
+      ap (λ (x : Bool). of_folded x m s) b_is
+      ∙ ap (λ (x : Defined). of_folded folds_it x s) m_is
+      ∙ ap (of_folded folds_it near) s_is
+      ∙ sym (
       ap (λ (f : Form). known f (mark Near root root t) (mark Wide root root t) (atoms Wide root root t) (atoms_weight root t)) form_is
       ∙ ap (λ (m : Defined). known (folded folds_it a.high) m (mark Wide root root t) (atoms Wide root root t) (atoms_weight root t)) is_near
       ∙ ap (λ (m : Defined). known (folded folds_it a.high) near m (atoms Wide root root t) (atoms_weight root t)) is_far
@@ -64,9 +70,12 @@ module _ (root : Box) (t : rule.Term) (folds_it : Bool) (z : ℤ) (a : ends.Ends
       ∙ ap (known (folded folds_it a.high) near far (unless_folded folds_it a)) weight_is
       )
 
-  pub size_is : size_of_folded folds_it a ≡ size root t
-  size_is =
-      sym (
+  -- and so is its size
+  pub measured_as : (far : Defined) (b : Bool) (s : Sight) → b ≡ folds_it → s ≡ record { ends = a; mark = far } → size_of_folded b s.ends ≡ size root t
+  measured_as far b s b_is s_is =
+      ap (λ (x : Bool). size_of_folded x s.ends) b_is
+      ∙ ap (λ (x : Sight). size_of_folded folds_it x.ends) s_is
+      ∙ sym (
       ap (λ (f : Form). unsigned_abs f.constant + cells_weight root f.cells + atoms_weight root t) form_is
       ∙ ap (λ (n : ℕ). unsigned_abs (folded folds_it a.high).constant + cells_weight root (folded folds_it a.high).cells + n) weight_is
       ∙ folded_size root folds_it a.high a
@@ -79,40 +88,23 @@ operation_number root op t is_box proper fold_it =
     let constant : is_constant (form root t) ≡ true = and_first (is_constant (form root t)) true (and_first (is_constant (form root t) && true) (is_always (mark Near root root t)) fold_it) in
     sym (ap (λ (e : ends.Ends). (made op e).high) (constant_interval Wide root root t is_box proper constant) ∙ made_exactly op (form root t).constant)
 
-pub operation_facts : (root : Box) (op : Operation) (t : rule.Term) → IsBox root → IsProper t
-    → of_folded (folds (form root t ∷ []) (mark Near root root t)) (mark Near root root t) (record { ends = made op (interval Wide root root t); mark = mark Wide root root t })
-    ≡ facts_of root (a_term (operation_term op t))
-operation_facts root op t is_box proper =
-    facts_are root (operation_term op t) (folds (form root t ∷ []) (mark Near root root t)) (made_of op (form root t).constant) (made op (interval Wide root root t)) (operation_form root op t)
-    (operation_atoms Wide root root op t) (operation_weight root op t) (operation_number root op t is_box proper)
-    (mark Near root root t) (mark Wide root root t) (operation_mark Near root root op t) (operation_mark Wide root root op t)
-
-pub operation_size : (root : Box) (op : Operation) (t : rule.Term) → IsBox root → IsProper t → size_of_folded (folds (form root t ∷ []) (mark Near root root t)) (made op (interval Wide root root t))
-    ≡ size root (operation_term op t)
-operation_size root op t is_box proper =
-    size_is root (operation_term op t) (folds (form root t ∷ []) (mark Near root root t)) (made_of op (form root t).constant) (made op (interval Wide root root t)) (operation_form root op t)
-    (operation_atoms Wide root root op t) (operation_weight root op t) (operation_number root op t is_box proper)
-
 pub operation_kept : (root : Box) (items : List Item) (op : Operation) (id : ℕ) (b : Bool) (m : Defined) (s : Sight) → IsBox root → IsBuilt root items → b
     ≡ folds (form root (term_at (things items) id) ∷ []) (mark Near root root (term_at (things items) id)) → m ≡ mark Near root root (term_at (things items) id) → s
     ≡ record { ends = made op (interval Wide root root (term_at (things items) id)); mark = mark Wide root root (term_at (things items) id) } → of_folded b m s
-    ≡ facts_of root (a_term (operation_term op (term_at (things items) id)))
+    ≡ facts_of root (a_term (rule.Made op (term_at (things items) id)))
 operation_kept root items op id b m s is_box all b_is m_is s_is =
     let t = term_at (things items) id in
-    ap (λ (x : Bool). of_folded x m s) b_is
-    ∙ ap (λ (x : Defined). of_folded (folds (form root t ∷ []) (mark Near root root t)) x s) m_is
-    ∙ ap (of_folded (folds (form root t ∷ []) (mark Near root root t)) (mark Near root root t)) s_is
-    ∙ operation_facts root op t is_box (small_term root items id all).proper
+    kept_as root (rule.Made op t) (folds (form root t ∷ []) (mark Near root root t)) (made_of op (form root t).constant) (made op (interval Wide root root t)) refl refl refl
+    (operation_number root op t is_box (small_term root items id all).proper) (mark Near root root t) (mark Wide root root t) m b s refl refl b_is m_is s_is
 
 pub operation_measured : (root : Box) (items : List Item) (op : Operation) (id : ℕ) (b : Bool) (s : Sight) → IsBox root → IsBuilt root items → b
     ≡ folds (form root (term_at (things items) id) ∷ []) (mark Near root root (term_at (things items) id)) → s
     ≡ record { ends = made op (interval Wide root root (term_at (things items) id)); mark = mark Wide root root (term_at (things items) id) } → size_of_folded b s.ends
-    ≡ size root (operation_term op (term_at (things items) id))
+    ≡ size root (rule.Made op (term_at (things items) id))
 operation_measured root items op id b s is_box all b_is s_is =
     let t = term_at (things items) id in
-    ap (λ (x : Bool). size_of_folded x s.ends) b_is
-    ∙ ap (λ (x : Sight). size_of_folded (folds (form root t ∷ []) (mark Near root root t)) x.ends) s_is
-    ∙ operation_size root op t is_box (small_term root items id all).proper
+    measured_as root (rule.Made op t) (folds (form root t ∷ []) (mark Near root root t)) (made_of op (form root t).constant) (made op (interval Wide root root t)) refl refl refl
+    (operation_number root op t is_box (small_term root items id all).proper) (mark Wide root root t) b s b_is s_is
 
 -- the least and the greatest of several
 extreme_number : (root : Box) (e : Extreme) (t : rule.Term) (later : rule.Terms) → IsBox root → IsProper t → AreProper later
@@ -129,24 +121,6 @@ extreme_number root e t later is_box proper others fold_it =
     ∙ ap (λ (a : ends.Ends). a.high) (fold_exactly e (form root t).constant numbers)
     )
 
-pub extreme_facts : (root : Box) (e : Extreme) (t : rule.Term) (later : rule.Terms) → IsBox root → IsProper t → AreProper later
-    → of_folded (folds (form root t ∷ forms root later) (both (mark Near root root t) (all_marks (marks Near root root later)))) (both (mark Near root root t) (all_marks (marks Near root root later)))
-    (extreme_range Wide root root e t later) ≡ facts_of root (a_term (extreme_term e t later))
-extreme_facts root e t later is_box proper others =
-    facts_are root (extreme_term e t later) (folds (form root t ∷ forms root later) (both (mark Near root root t) (all_marks (marks Near root root later))))
-    (chosen (chosen_by e) (form root t) (forms root later)) (extreme_range Wide root root e t later).ends (extreme_form root e t later) (extreme_atoms Wide root root e t later)
-    (extreme_weight root e t later) (extreme_number root e t later is_box proper others)
-    (both (mark Near root root t) (all_marks (marks Near root root later))) (extreme_range Wide root root e t later).mark (extreme_mark Near root root e t later)
-    (extreme_mark Wide root root e t later)
-
-pub extreme_size : (root : Box) (e : Extreme) (t : rule.Term) (later : rule.Terms) → IsBox root → IsProper t → AreProper later
-    → size_of_folded (folds (form root t ∷ forms root later) (both (mark Near root root t) (all_marks (marks Near root root later)))) (extreme_range Wide root root e t later).ends
-    ≡ size root (extreme_term e t later)
-extreme_size root e t later is_box proper others =
-    size_is root (extreme_term e t later) (folds (form root t ∷ forms root later) (both (mark Near root root t) (all_marks (marks Near root root later))))
-    (chosen (chosen_by e) (form root t) (forms root later)) (extreme_range Wide root root e t later).ends (extreme_form root e t later) (extreme_atoms Wide root root e t later)
-    (extreme_weight root e t later) (extreme_number root e t later is_box proper others)
-
 abbrev all_fold : Box → rule.Term → rule.Terms → Bool
 all_fold root t later = folds (form root t ∷ forms root later) (both (mark Near root root t) (all_marks (marks Near root root later)))
 
@@ -154,24 +128,22 @@ pub extreme_kept : (root : Box) (items : List Item) (e : Extreme) (first : ℕ) 
     ≡ all_fold root (term_at (things items) first) (terms_at (things items) later) → m
     ≡ both (mark Near root root (term_at (things items) first)) (all_marks (marks Near root root (terms_at (things items) later))) → s
     ≡ extreme_range Wide root root e (term_at (things items) first) (terms_at (things items) later) → of_folded b m s
-    ≡ facts_of root (a_term (extreme_term e (term_at (things items) first) (terms_at (things items) later)))
+    ≡ facts_of root (a_term (rule.Selected e (term_at (things items) first) (terms_at (things items) later)))
 extreme_kept root items e first later b m s is_box all b_is m_is s_is =
     let t = term_at (things items) first in
     let ts = terms_at (things items) later in
-    ap (λ (x : Bool). of_folded x m s) b_is
-    ∙ ap (λ (x : Defined). of_folded (all_fold root t ts) x s) m_is
-    ∙ ap (of_folded (all_fold root t ts) (both (mark Near root root t) (all_marks (marks Near root root ts)))) s_is
-    ∙ extreme_facts root e t ts is_box (small_term root items first all).proper (terms_proper root items later all)
+    kept_as root (rule.Selected e t ts) (all_fold root t ts) (chosen (chosen_by e) (form root t) (forms root ts)) (extreme_range Wide root root e t ts).ends refl refl refl
+    (extreme_number root e t ts is_box (small_term root items first all).proper (terms_proper root items later all)) (both (mark Near root root t) (all_marks (marks Near root root ts)))
+    (extreme_range Wide root root e t ts).mark m b s refl refl b_is m_is s_is
 
 pub extreme_measured : (root : Box) (items : List Item) (e : Extreme) (first : ℕ) (later : List ℕ) (b : Bool) (s : Sight) → IsBox root → IsBuilt root items → b
     ≡ all_fold root (term_at (things items) first) (terms_at (things items) later) → s ≡ extreme_range Wide root root e (term_at (things items) first) (terms_at (things items) later)
-    → size_of_folded b s.ends ≡ size root (extreme_term e (term_at (things items) first) (terms_at (things items) later))
+    → size_of_folded b s.ends ≡ size root (rule.Selected e (term_at (things items) first) (terms_at (things items) later))
 extreme_measured root items e first later b s is_box all b_is s_is =
     let t = term_at (things items) first in
     let ts = terms_at (things items) later in
-    ap (λ (x : Bool). size_of_folded x s.ends) b_is
-    ∙ ap (λ (x : Sight). size_of_folded (all_fold root t ts) x.ends) s_is
-    ∙ extreme_size root e t ts is_box (small_term root items first all).proper (terms_proper root items later all)
+    measured_as root (rule.Selected e t ts) (all_fold root t ts) (chosen (chosen_by e) (form root t) (forms root ts)) (extreme_range Wide root root e t ts).ends refl refl refl
+    (extreme_number root e t ts is_box (small_term root items first all).proper (terms_proper root items later all)) (extreme_range Wide root root e t ts).mark b s b_is s_is
 
 -- steps over several terms
 pub next_constants : (root : Box) (all : List Thing) (xs : List ℕ) (i x : ℕ) → i < length xs → x ≡ get_or xs i x → list_all is_constant (forms root (terms_at all (drop i xs)))

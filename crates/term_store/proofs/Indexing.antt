@@ -20,7 +20,7 @@ use Rattle.term_nodes.specs.Built.{IsBuilt, facts_of}
 use Rattle.term_nodes.specs.Seen.{Sight}
 use Rattle.term_math.proofs.Reaching.{all_read}
 use Rattle.term_store.specs.Atoms.{any_element, of_folded, size_of_folded}
-use Rattle.term_store.proofs.Folding.{facts_are, size_is}
+use Rattle.term_store.proofs.Folding.{kept_as, measured_as}
 
 -- the item that an element is, if its indices are numbers
 abbrev pub numbers : Box → rule.Terms → List ℤ
@@ -44,14 +44,14 @@ module _ (root : Box) (table : rule.Table) (ts : rule.Terms) (is_table : IsTable
   pub any_kept : (near : Defined) (wide : Sight) → near ≡ mark Near root root (rule.Element table ts) → wide ≡ any_element root table ts → of_folded false near wide
       ≡ facts_of root (a_term (rule.Element table ts))
   any_kept near wide is_near is_wide =
-      ap (of_folded false near) is_wide
-      ∙ facts_are root (rule.Element table ts) false (pos 0) (any_element root table ts).ends (sym none) any_atoms refl (λ same. absurd (cc))
-      near (mark Wide root root (rule.Element table ts)) (sym is_near) refl
+      kept_as root (rule.Element table ts) false (pos 0) (any_element root table ts).ends (sym none) any_atoms refl (λ same. absurd (cc))
+      near (mark Wide root root (rule.Element table ts)) near false wide (sym is_near) refl refl refl is_wide
 
   pub any_sized : (a : ends.Ends) → a ≡ (any_element root table ts).ends → size_of_folded false a ≡ size root (rule.Element table ts)
   any_sized a is =
       ap (size_of_folded false) is
-      ∙ size_is root (rule.Element table ts) false (pos 0) (any_element root table ts).ends (sym none) any_atoms refl (λ same. absurd (cc))
+      ∙ measured_as root (rule.Element table ts) false (pos 0) (any_element root table ts).ends (sym none) any_atoms refl (λ same. absurd (cc))
+      (mark Wide root root (rule.Element table ts)) false (any_element root table ts) refl refl
 
 -- the hull of all elements of an array
 pub hull_found : (b : Box) (t : own.Table) (table : rule.Table) (a : ends.Ends) → table_of t ≡ table → a ≡ ends.hull_of (map (item_ends b) (items_of t.elements.items)) → a

@@ -8,7 +8,7 @@ use Rattle.sopl_base.proofs.Integers.{zero_plus}
 use Rattle.term_language.specs.Arrays.{item_at}
 use Rattle.box_problem.specs.Box.{Box}
 use Rattle.term_language.specs.Forms.{Coefficient, Form, number_form, atom_form, is_constant, unless_zero, put, combined, plus_form, times_form, product_form, sign}
-use Rattle.term_language.specs.Terms.{Item, Fixed, Free, Term, Constant, Cell, Sum, Product, Quotient, Remainder, Least, Greatest, Size, Element, Number, Parts, no_part, part, Table}
+use Rattle.term_language.specs.Terms.{Item, Fixed, Free, Term, Constant, Cell, Sum, Product, Made, Selected, Element, Number, Parts, no_part, part, Table}
 use Rattle.term_language.specs.Rules.{form, forms, sum_form, folded, item_form, element_form}
 use Rattle.term_language.proofs.FormValues.{by_if, same_cell}
 use Rattle.term_language.proofs.Products.{one-*ℤ}
@@ -90,11 +90,8 @@ mutual
   form_ordered root (Cell cell) = (tt, refl, tt)
   form_ordered root (Sum parts) = sum_ordered root parts
   form_ordered root (Product a c) = product_ordered (form root a) (form root c)
-  form_ordered root (Quotient a c) = folded_ordered _ _
-  form_ordered root (Remainder a c) = folded_ordered _ _
-  form_ordered root (Least a later) = folded_ordered _ _
-  form_ordered root (Greatest a later) = folded_ordered _ _
-  form_ordered root (Size a) = folded_ordered _ _
+  form_ordered root (Made op a) = folded_ordered _ _
+  form_ordered root (Selected which a later) = folded_ordered _ _
   form_ordered root (Element table at) = element_ordered table (forms root at)
   form_ordered root (Number c) = tt
 

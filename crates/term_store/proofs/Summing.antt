@@ -1,5 +1,5 @@
 -- Steps of what is known of a sum, from the last part to the first.
-use Rattle.std.proofs.Common.{◌≡◌, ℕ, ◌+◌, ◌-◌, ◌*◌, ◌<◌, ◌≤◌, ◌^◌, zero, suc, ℤ, ◌*ℤ◌, unsigned_abs, List, [], ◌∷◌, length, get_or, drop, arith, ap, subst, sym, ◌∙◌}
+use Rattle.std.proofs.Common.{◌≡◌, ℕ, ◌+◌, ◌-◌, ◌*◌, ◌<◌, ◌≤◌, ◌^◌, zero, suc, ℤ, ◌*ℤ◌, unsigned_abs, List, [], ◌∷◌, length, get_or, drop, arith, ap, sym, ◌∙◌}
 use Rattle.std.proofs.lemmas.Int.{unsigned_abs-mul}
 use Rattle.std.proofs.lemmas.List.{at_drop_more, at_drop_all}
 use Rattle.sopl_base.proofs.Sizes.{plus_size}
@@ -7,10 +7,9 @@ use Rattle.sopl_base.proofs.Naturals.{spread_left}
 use Rattle.box_problem.specs.Box.{Box}
 use Rattle.term_language.specs.Ends as ends
 use Rattle.term_language.specs.Forms as forms
-use Rattle.term_language.specs.Terms as rule
 use Rattle.term_language.specs.Marks.{both}
 use Rattle.term_language.specs.Rules.{Near, form, sum_form, mark, sum_mark}
-use Rattle.term_language.specs.Sizes.{weight_of, atoms_weight, sum_weight, size}
+use Rattle.term_language.specs.Sizes.{weight_of, atoms_weight, sum_weight}
 use Rattle.term_language.specs.Laws.{AreProperParts}
 use Rattle.term_language.proofs.Bounds.{sign_size}
 use Rattle.term_math.specs.Sums.{mass_of, weight_in, weighted}
@@ -18,8 +17,7 @@ use Rattle.term_math.proofs.Weights.{combined_weighted, cells_weighted, mass_wei
 use Rattle.term_nodes.specs.declared.nodes.Signed.{Signed}
 use Rattle.term_nodes.specs.declared.items.Item.{Item}
 use Rattle.term_nodes.specs.Things.{Thing, term_at, parts_at, things}
-use Rattle.term_nodes.specs.Built.{IsBuilt, PartsBelow}
-use Rattle.term_nodes.proofs.Reading.{length_things}
+use Rattle.term_nodes.specs.Built.{IsBuilt}
 use Rattle.term_nodes.proofs.Ready.{small_term}
 
 -- marks
@@ -115,10 +113,6 @@ pub weight_room : (root : Box) (items : List Item) (xs : List Signed) (f : forms
 weight_room root items xs f weight all few is weight_is =
     omega (arith, ap (weight_in root) is, weight_is, sum_light root items xs all, atoms_light root items xs all, few)
 
-pub sum_size : (root : Box) (items : List Item) (xs : List Signed) (f : forms.Form) (weight : ℕ) → f ≡ sum_form root (parts_at (things items) xs) → weight
-    ≡ sum_weight root (parts_at (things items) xs) → weight_in root f + weight ≡ size root (rule.Sum (parts_at (things items) xs))
-sum_size root items xs f weight is weight_is = omega (arith, ap (weight_in root) is, weight_is)
-
 pub form_small : (root : Box) (f : forms.Form) (weight : ℕ) → weight_in root f + weight ≤ 2 ^ 40 → mass_of f < 2 ^ 63
 form_small root f weight small = omega (arith, mass_light root f, small)
 
@@ -135,9 +129,6 @@ next_weight root all xs i x below at =
 
 pub no_sum_weight : (root : Box) (all : List Thing) (xs : List Signed) (i : ℕ) → length xs ≤ i → sum_weight root (parts_at all (drop i xs)) ≡ 0
 no_sum_weight root all xs i past = at_drop_all (λ ys. sum_weight root (parts_at all ys)) xs i past
-
-pub parts_there : (items : List Item) (xs : List Signed) → PartsBelow (length (things items)) xs → PartsBelow (length items) xs
-parts_there items xs there = subst (λ (n : ℕ). PartsBelow n xs) (length_things items) there
 
 pub all_weight : (root : Box) (all : List Thing) (xs : List Signed) (i sum : ℕ) → i ≤ 0 → sum ≡ sum_weight root (parts_at all (drop i xs)) → sum ≡ sum_weight root (parts_at all xs)
 all_weight root all xs i sum none is =

@@ -5,8 +5,8 @@ use Rattle.box_problem.specs.Box.{Box}
 use Rattle.sopl_base.specs.declared.fault.Fault.{Fault}
 use Rattle.term_language.specs.Sizes.{size}
 use Rattle.term_language.specs.Terms as rule
-use Rattle.term_math.specs.Made.{IsPossible, extreme_term, operation_term}
-use Rattle.term_math.specs.declared.extremes.Extreme.{Extreme}
+use Rattle.term_math.specs.Made.{IsPossible}
+use Rattle.sopl_base.specs.declared.extreme.Extreme.{Extreme}
 use Rattle.term_nodes.specs.Built.{AllBelow, IsBelow, IsRight, PartsBelow, TasksBelow}
 use Rattle.term_nodes.specs.Things.{Thing, a_cond, a_table, a_term, cond_at, conds_at, parts_at, table_at, tasks_at, term_at, terms_at, thing_at, thing_of}
 use Rattle.term_nodes.specs.declared.nodes.Node.{Node}
@@ -37,7 +37,7 @@ task_ids tasks = map (λ (t : TermId × TermId × TermId). record { start = t.0.
 -- the least or the greatest of several terms, of which there is at least one
 abbrev pub extreme_at : Extreme → List Thing → List TermId → rule.Term
 extreme_at e all [] = rule.Constant (pos 0)
-extreme_at e all (first ∷ later) = extreme_term e (term_at all first.0) (terms_at all (term_ids later))
+extreme_at e all (first ∷ later) = rule.Selected e (term_at all first.0) (terms_at all (term_ids later))
 
 -- the term and the condition that are added, by what stands at the numbers of their operands
 abbrev pub new_term : List Thing → NewTerm → rule.Term
@@ -45,7 +45,7 @@ new_term all (new.Constant z) = rule.Constant z
 new_term all (new.Cell cell) = rule.Cell cell
 new_term all (new.Sum parts) = rule.Sum (parts_at all (signed_of parts.now))
 new_term all (new.Product a b) = rule.Product (term_at all a.0) (term_at all b.0)
-new_term all (new.Operation op a) = operation_term op (term_at all a.0)
+new_term all (new.Operation op a) = rule.Made op (term_at all a.0)
 new_term all (new.Extreme e parts) = extreme_at e all parts.now
 new_term all (new.Element table at) = rule.Element (table_at all table.0) (terms_at all (term_ids at.now))
 new_term all (new.Number c) = rule.Number (cond_at all c.0)

@@ -1,10 +1,10 @@
 //! What is known of the least and the greatest of several.
 
 ghost use Rattle.std.specs.Prelude.{◌≡◌, ◌<◌, ◌∷◌, length, IfOk};
+ghost use Rattle.term_language.specs.Terms.{Selected};
 ghost use Rattle.term_language.specs.Marks as marks;
 ghost use Rattle.term_language.specs.Rules as rule;
 ghost use Rattle.term_language.specs.Sizes as sizes;
-ghost use Rattle.term_math.specs.Made.{extreme_term};
 ghost use Rattle.term_nodes.specs.Built.{AllBelow, facts_of, kept};
 ghost use Rattle.term_nodes.specs.Things.{a_term, term_at, terms_at};
 ghost use Rattle.term_store.specs.Stores.{IsMeasured, IsSoundStore, all, root_of};
@@ -66,8 +66,8 @@ impl TermStore {
         requires sound { IsSoundStore self.now }
         requires first { first < length self.now.items.items }
         requires exist { AllBelow (length self.now.items.items) later.now }
-        ensures facts { IfOk result (λ facts. kept facts ≡ facts_of (root_of self.now) (a_term (extreme_term extreme (term_at (all self.now) first) (terms_at (all self.now) later.now)))) }
-        ensures measured { IsMeasured (sizes.size (root_of self.now) (extreme_term extreme (term_at (all self.now) first) (terms_at (all self.now) later.now))) result }
+        ensures facts { IfOk result (λ facts. kept facts ≡ facts_of (root_of self.now) (a_term (Selected extreme (term_at (all self.now) first) (terms_at (all self.now) later.now)))) }
+        ensures measured { IsMeasured (sizes.size (root_of self.now) (Selected extreme (term_at (all self.now) first) (terms_at (all self.now) later.now))) result }
     {
         let folds = self.operands_fold(first, later);
         let mark = self.marks_known(first, later);

@@ -1,9 +1,11 @@
 //! What is known of quotients, remainders and sizes.
 
 ghost use Rattle.std.specs.Prelude.{◌≡◌, ◌<◌, [], ◌∷◌, length, IfOk};
+ghost use Rattle.term_language.specs.Terms.{Made};
 ghost use Rattle.term_language.specs.Rules as rule;
 ghost use Rattle.term_language.specs.Sizes as sizes;
-ghost use Rattle.term_math.specs.Made.{IsPossible, made, operation_term};
+ghost use Rattle.term_language.specs.Ends as ends;
+ghost use Rattle.term_math.specs.Made.{IsPossible};
 ghost use Rattle.term_nodes.specs.Built.{facts_of, kept};
 ghost use Rattle.term_nodes.specs.Seen.{sight_of};
 ghost use Rattle.term_nodes.specs.Things.{a_term, term_at};
@@ -13,7 +15,7 @@ use crate::folded::folded_facts;
 use crate::store::TermStore;
 use sopl_base::Fault;
 use term_language::Defined;
-use term_math::{AbstractValue, Operation};
+use term_math::{AbstractValue, Operation, made};
 use term_nodes::Facts;
 
 impl TermStore {
@@ -39,13 +41,13 @@ impl TermStore {
         requires exists { id < length self.now.items.items }
         requires possible { IsPossible operation.now }
         ensures { sight_of result ≡ record {
-          ends = made operation.now (rule.interval rule.Wide (root_of self.now) (root_of self.now) (term_at (all self.now) id));
+          ends = ends.made operation.now (rule.interval rule.Wide (root_of self.now) (root_of self.now) (term_at (all self.now) id));
           mark = rule.mark rule.Wide (root_of self.now) (root_of self.now) (term_at (all self.now) id);
         } }
     {
         let range = self.range_known(id);
         AbstractValue {
-            ends: operation.made(&range.ends),
+            ends: made(operation, &range.ends),
             mark: range.mark,
         }
     }
@@ -55,8 +57,8 @@ impl TermStore {
         requires sound { IsSoundStore self.now }
         requires exists { id < length self.now.items.items }
         requires possible { IsPossible operation.now }
-        ensures facts { IfOk result (λ facts. kept facts ≡ facts_of (root_of self.now) (a_term (operation_term operation.now (term_at (all self.now) id)))) }
-        ensures measured { IsMeasured (sizes.size (root_of self.now) (operation_term operation.now (term_at (all self.now) id))) result }
+        ensures facts { IfOk result (λ facts. kept facts ≡ facts_of (root_of self.now) (a_term (Made operation.now (term_at (all self.now) id)))) }
+        ensures measured { IsMeasured (sizes.size (root_of self.now) (Made operation.now (term_at (all self.now) id))) result }
     {
         let folds = self.operand_folds(id);
         let mark = self.mark_known(id);

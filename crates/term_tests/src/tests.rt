@@ -4,10 +4,10 @@ ghost use Rattle.term_math.specs.Kept.{table_of};
 ghost use Rattle.term_math.specs.Made.{IsPossible};
 ghost use Rattle.term_store.specs.Stores.{IsSoundStore};
 
-use sopl_base::{CmpOp, Fault, Interval};
+use sopl_base::{CmpOp, Extreme, Fault, Interval};
 use std::alloc::{AllocError, Global};
-use term_language::{Defined, Truth};
-use term_math::{Divisor, Element, Extreme, Operation, Table};
+use term_language::{Defined, Divisor, Operation, Truth};
+use term_math::{Element, Table};
 use term_store::{NewCond, NewTerm, TableId, TermId, TermStore};
 
 /// A store over x from -7 to 9 and y from -5 to 4.

@@ -9,18 +9,13 @@ use Rattle.sopl_ast.specs.Known.{Known}
 use Rattle.sopl_ast.specs.UnfoldEvents.{Counted, excess, first_failure, most_counted}
 use Rattle.unfold_constants.specs.Choosing.{OpenChoice, Among, advanced, left, remaining, entered, give_name, leave_name}
 use Rattle.unfold_constants.specs.CountedAnswers.{Answers, Fails}
-use Rattle.unfold_constants.specs.Evaluation.{Step, ◌>>=◌, continued, done, for_each, count_one}
+use Rattle.unfold_constants.specs.Evaluation.{Step, ◌>>=◌, continued, for_each, count_one}
 use Rattle.unfold_constants.proofs.Bindings.{take_prefix}
 
 -- a step behind a step behind a step
 pub continued_twice : {A B C : Type 0} (r : Result (A × ℕ) Fault) (f : A → Step B) (g : B → Step C) → continued (continued r f) g ≡ continued r (λ x. f x >>= g)
 continued_twice (Ok x) f g = refl
 continued_twice (Err fault) f g = refl
-
--- nothing behind a step
-continued_done : {A : Type 0} (r : Result (A × ℕ) Fault) → continued r done ≡ r
-continued_done (Ok x) = refl
-continued_done (Err fault) = refl
 
 abbrev unwrap_count : ℕ → Result ℕ Fault → ℕ
 unwrap_count d (Ok n) = n
@@ -61,10 +56,6 @@ pub refused : {A B : Type 0} (view : A → B) (count : ℕ) (result : Result A F
 refused view count result fault outcome is fails = subst (λ r. Answers view count r outcome) (sym is) fails
 
 module _ {S F A : Type 0} (give : F → ℤ → S → S) (leave : F → S → S) (law : (f : F) (n : ℤ) (here : S) → leave f (give f n here) ≡ here) (inside : ℕ → S → A → Step A) where
-  -- no choice is open yet
-  pub begun : (here : S) (found : A) (count : ℕ) → entered give leave inside here [] found count ≡ inside 0 here found count
-  begun here found count = continued_done (inside 0 here found count)
-
   -- a choice takes its next number
   next_taken : (here : S) (f : F) (n : ℤ) (ns : List ℤ) (outer : List (OpenChoice F)) (found : A) (count : ℕ)
       → remaining give leave inside here (Among f (n ∷ ns) ∷ outer) found count
@@ -123,14 +114,6 @@ module _ {S F A : Type 0} (give : F → ℤ → S → S) (leave : F → S → S)
       subst (Fails fault)
       (sym (turned here opened next opened_next found count (sym (ap (λ (b : Bool). if b then Some (next, opened_next) else None) found_more) ∙ is)))
       (fails_on fault (count_one count) (λ u. entered give leave inside next opened_next found) (count_fails count fault one))
-
-  -- all is done inside the innermost choice, which gives its number up
-  pub leaves : (here : S) (opened : List (OpenChoice F)) (found : A) (count : ℕ) (next : S) (opened_next : List (OpenChoice F)) (found_next : A) (behind : ℕ)
-      → next ≡ left leave here opened → opened_next ≡ opened → inside (length opened) here found count ≡ Ok (found_next, behind)
-      → entered give leave inside here opened found count ≡ remaining give leave inside next opened_next found_next behind
-  leaves here opened found count next opened_next found_next behind is_left same is =
-      ap (λ r. continued r (λ more. remaining give leave inside (left leave here opened) opened more)) is
-      ∙ (λ i. remaining give leave inside (sym is_left i) (sym same i) found_next behind)
 
   -- a choice is opened inside the innermost
   pub opens : (here : S) (opened : List (OpenChoice F)) (found : A) (count : ℕ) (next : S) (opened_next : List (OpenChoice F)) (f : F) (range : Step (List ℤ)) (ns : List ℤ) (behind : ℕ)

@@ -1,6 +1,6 @@
 -- The next binder, where so many have values.
-use Rattle.std.proofs.Common.{◌≡◌, sym, ap, ◌∙◌, ℕ, suc, ◌+◌, ◌<◌, ◌≤◌, ℤ, List, ◌∷◌, length, drop, get_or, None, Some, arith}
-use Rattle.std.proofs.lemmas.List.{at_drop_more, at_drop_all}
+use Rattle.std.proofs.Common.{◌≡◌, sym, ap, ◌∙◌, ℕ, suc, ◌+◌, ◌<◌, ℤ, List, ◌∷◌, length, drop, get_or, None, Some, arith}
+use Rattle.std.proofs.lemmas.List.{at_drop_more}
 use Rattle.sopl_ast.specs.Known.{Known, with_bound}
 use Rattle.sopl_ast.specs.Lists.{BinderTree, binders}
 use Rattle.unfold_constants.specs.Evaluation as w
@@ -19,14 +19,8 @@ module _ (whole : ℕ) (bs : List BinderTree) (body : Known → List ℤ → Ste
       ≡ range_numbers here (Some whole) b.range >>= (λ ns. for_each (λ n more. w.inside whole bs body (suc d) (with_bound b.name n here) more) ns found)
   number_next b below at = ap (λ rest. w.over here whole rest body found) (next_binder bs d b below at)
 
-  pub number_last : length bs ≤ d → w.inside whole bs body d here found ≡ body here found
-  number_last past = at_drop_all (λ rest. w.over here whole (binders rest) body found) bs d past
-
 module _ (bs : List BinderTree) (body : Known → Step (Unit {0})) (here : Known) (d : ℕ) where
   pub walk_next : (b : BinderTree) → d < length bs → b ≡ get_or bs d b
       → k.inside bs body d here tt
       ≡ range_numbers here None b.range >>= (λ ns. for_each (λ n more. k.inside bs body (suc d) (with_bound b.name n here) more) ns tt)
   walk_next b below at = ap (λ rest. k.over here rest body) (next_binder bs d b below at)
-
-  pub walk_last : length bs ≤ d → k.inside bs body d here tt ≡ body here
-  walk_last past = at_drop_all (λ rest. k.over here (binders rest) body) bs d past

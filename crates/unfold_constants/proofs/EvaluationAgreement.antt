@@ -1,19 +1,19 @@
 -- Evaluating a constant expression step by step agrees with what is met in it and with what it is worth.
-use Rattle.std.proofs.Common.{◌≡◌, refl, sym, ap, subst, ◌∙◌, ℕ, ℤ, pos, neg_ℤ, ◌+ℤ◌, unsigned_abs, not, ◌||◌, List, [], ◌∷◌, ◌++◌, Option, Some, None, option_map, option_and_then}
+use Rattle.std.proofs.Common.{◌≡◌, refl, sym, ap, subst, ◌∙◌, ℕ, ℤ, pos, neg_ℤ, ◌+ℤ◌, not, ◌||◌, List, [], ◌∷◌, ◌++◌, Option, Some, None, option_map, option_and_then}
 use Rattle.std.proofs.Common.{T, is_some, if◌then◌else◌}
 use Rattle.std.proofs.lemmas.List.{append-nil}
 use Rattle.std.specs.Option.{unwrap_or}
 use Rattle.std.specs.List.{flat_map, list_all, list_any}
-use Rattle.std.specs.Int.{int_min, int_max}
+use Rattle.sopl_base.specs.Extremes.{chosen_by}
 use Rattle.sopl_base.proofs.Options.{zero_before}
 use Rattle.sopl_ast.specs.Tree as t
 use Rattle.sopl_ast.specs.Tree.{Tree, Shape, Trees, Terms, Factors, Binders, Range, Node, no_tree, tree, no_term, term, no_factor, factor, no_binder, binder, Named, Ends, place_of}
 use Rattle.sopl_ast.specs.Constants as c
 use Rattle.sopl_ast.specs.Constants.{is_true, applied_within, within}
 use Rattle.sopl_ast.specs.Known.{Known, with_bound, known_value}
-use Rattle.sopl_ast.specs.Numbers.{both_of, all_of, joined, up_to, count_between, total, all_distinct, are_within, one_or_zero, compares, extreme, applied}
-use Rattle.sopl_ast.specs.UnfoldEvents.{UnfoldEvent, Counted, no_value, too_many, constant_events, inside_events, constants_events, constant_terms_events}
-use Rattle.sopl_ast.specs.UnfoldEvents.{constant_factors_events, binding_events, range_events}
+use Rattle.sopl_ast.specs.Numbers.{both_of, all_of, joined, up_to, count_between, total, all_distinct, are_within, one_or_zero, compares, extreme, applied, called}
+use Rattle.sopl_ast.specs.UnfoldEvents.{UnfoldEvent, Counted, no_value, too_many, constant_events, inside_events, all_events, terms_events}
+use Rattle.sopl_ast.specs.UnfoldEvents.{factors_events, binding_events, range_events}
 use Rattle.unfold_constants.specs.Evaluation as w
 use Rattle.unfold_tables.specs.Tables.{tasks_of}
 use Rattle.unfold_constants.specs.Evaluation.{Step, ◌>>=◌, done, given, checked_between, for_each}
@@ -67,8 +67,8 @@ agree_three known whole bs e f g over a b d =
 
 -- values that are found behind nothing
 from_nothing : (known : Known) (whole : ℕ) (es : Trees)
-    → Agrees (w.numbers known whole [] es) (constants_events known whole es) (option_map (λ xs. [] ++ xs) (c.values known es))
-    → Agrees (w.numbers known whole [] es) (constants_events known whole es) (c.values known es)
+    → Agrees (w.numbers known whole [] es) (all_events (Some whole) known es) (option_map (λ xs. [] ++ xs) (c.values known es))
+    → Agrees (w.numbers known whole [] es) (all_events (Some whole) known es) (c.values known es)
 from_nothing known whole es a = agree_value (nothing_before (c.values known es)) a
 
 -- what two ends are, and what lies between them
@@ -97,17 +97,17 @@ mutual
       here : (x : Option ℤ) → Some (c.untested known shape) ≡ Some x → option_and_then within (c.untested known shape) ≡ option_and_then within x
       here x is = ap (λ o. option_and_then within (unwrap_or o None)) is
 
-  agree_untested : (shape : Shape) (known : Known) (whole : ℕ) → Agrees (w.untested known whole shape) (inside_events known whole shape) (Some (c.untested known shape))
+  agree_untested : (shape : Shape) (known : Known) (whole : ℕ) → Agrees (w.untested known whole shape) (inside_events (Some whole) known shape) (Some (c.untested known shape))
   agree_untested (t.Lit z) known whole = agree_done _ _ refl
   agree_untested (t.Name name) known whole = agree_done _ _ refl
   agree_untested (t.Index name es) known whole =
       agree_then (known_value known name) (from_nothing known whole es (agree_numbers es known whole [])) (λ xs is. ap (λ v. Some (option_and_then (known_value known name) v)) is)
-  agree_untested (t.Neg e) known whole = agree_then (λ x. Some (neg_ℤ x)) (agree_number e known whole) (λ x is. ap (λ v. Some (option_map neg_ℤ v)) is)
+  agree_untested (t.Call f e) known whole = agree_then (λ x. Some (called f x)) (agree_number e known whole) (λ x is. ap (λ v. Some (option_map (called f) v)) is)
   agree_untested (t.Add parts) known whole =
       agree_then (λ x. Some x) (agree_value (zero_before (c.sum_of known parts)) (agree_sum parts known whole (pos 0))) (λ x is. ap Some is)
   agree_untested (t.Mul first others) known whole =
       agree_then (λ x. Some x) (agree_bind (agree_number first known whole) (λ x is.
-      subst (λ v. Agrees (w.product known whole x others) (constant_factors_events known whole v others) (c.product_of known v others)) (sym is) (agree_product others known whole x)))
+      subst (λ v. Agrees (w.product known whole x others) (factors_events (Some whole) known v others) (c.product_of known v others)) (sym is) (agree_product others known whole x)))
       (λ x is. ap Some is)
   agree_untested (t.Cmp op a b) known whole =
       agree_both (λ x y. Some (one_or_zero (compares op x y))) (agree_number a known whole) (agree_number b known whole)
@@ -126,12 +126,8 @@ mutual
   agree_untested (t.Sum bs e) known whole =
       agree_then (λ xs. Some (total xs)) (agree_one known whole bs e (agree_over bs known whole) (λ here. agree_number e here whole))
       (λ xs is. ap (λ v. Some (option_map total v)) is)
-  agree_untested (t.Least es) known whole =
-      agree_then (extreme int_min) (from_nothing known whole es (agree_numbers es known whole [])) (λ xs is. ap (λ v. Some (option_and_then (extreme int_min) v)) is)
-  agree_untested (t.Greatest es) known whole =
-      agree_then (extreme int_max) (from_nothing known whole es (agree_numbers es known whole [])) (λ xs is. ap (λ v. Some (option_and_then (extreme int_max) v)) is)
-  agree_untested (t.Abs e) known whole =
-      agree_then (λ x. Some (pos (unsigned_abs x))) (agree_number e known whole) (λ x is. ap (λ v. Some (option_map (λ y. pos (unsigned_abs y)) v)) is)
+  agree_untested (t.Selected which es) known whole =
+      agree_then (extreme (chosen_by which)) (from_nothing known whole es (agree_numbers es known whole [])) (λ xs is. ap (λ v. Some (option_and_then (extreme (chosen_by which)) v)) is)
   agree_untested (t.AllDifferent bs e) known whole =
       agree_then (λ xs. Some (one_or_zero (all_distinct xs))) (agree_one known whole bs e (agree_over bs known whole) (λ here. agree_number e here whole))
       (λ xs is. ap (λ v. Some (option_map (λ ys. one_or_zero (all_distinct ys)) v)) is)
@@ -144,7 +140,7 @@ mutual
       ((sym (task_each (λ here. c.value here start) (λ here. c.value here duration) (λ here. c.value here demand) (c.bindings known bs)) ∙ ap (option_map tasks_of) p) i) (q i)))
 
   pub agree_numbers : (es : Trees) (known : Known) (whole : ℕ) (found : List ℤ)
-      → Agrees (w.numbers known whole found es) (constants_events known whole es) (option_map (λ xs. found ++ xs) (c.values known es))
+      → Agrees (w.numbers known whole found es) (all_events (Some whole) known es) (option_map (λ xs. found ++ xs) (c.values known es))
   agree_numbers no_tree known whole found = agree_done found (Some (found ++ [])) (ap Some (append-nil found))
   agree_numbers (tree e es) known whole found =
       agree_bind (agree_number e known whole) (λ x is.
@@ -153,7 +149,7 @@ mutual
       (agree_numbers es known whole (found ++ x ∷ [])))
 
   agree_sum : (parts : Terms) (known : Known) (whole : ℕ) (before : ℤ)
-      → Agrees (w.sum known whole before parts) (constant_terms_events known whole parts) (option_map (λ s. before +ℤ s) (c.sum_of known parts))
+      → Agrees (w.sum known whole before parts) (terms_events (Some whole) known parts) (option_map (λ s. before +ℤ s) (c.sum_of known parts))
   agree_sum no_term known whole before = agree_done before (Some (before +ℤ pos 0)) (nothing_behind before)
   agree_sum (term minus e more) known whole before =
       agree_bind (agree_number e known whole) (λ x is.
@@ -163,7 +159,7 @@ mutual
       (agree_sum more known whole (before +ℤ (if minus then neg_ℤ x else x))))
 
   agree_product : (parts : Factors) (known : Known) (whole : ℕ) (before : ℤ)
-      → Agrees (w.product known whole before parts) (constant_factors_events known whole (Some before) parts) (c.product_of known (Some before) parts)
+      → Agrees (w.product known whole before parts) (factors_events (Some whole) known (Some before) parts) (c.product_of known (Some before) parts)
   agree_product no_factor known whole before = agree_done before (Some before) refl
   agree_product (factor op e more) known whole before =
       agree_bind_two (agree_number e known whole)
@@ -171,7 +167,7 @@ mutual
       subst (λ v. Agrees (given whole (option_and_then within (applied op before x))) (no_value v whole) v) (ap (applied_within op (Some before)) (sym is))
       (agree_given whole (option_and_then within (applied op before x))))
       (λ y is.
-      subst (λ v. Agrees (w.product known whole y more) (constant_factors_events known whole v more) (c.product_of known v more)) (sym is) (agree_product more known whole y))
+      subst (λ v. Agrees (w.product known whole y more) (factors_events (Some whole) known v more) (c.product_of known v more)) (sym is) (agree_product more known whole y))
 
   agree_over : (bs : Binders) (known : Known) (whole : ℕ) → Over known whole bs
   agree_over no_binder known whole body each result adds found =

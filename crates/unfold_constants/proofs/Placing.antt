@@ -57,16 +57,6 @@ past_end p (x ∷ xs) (suc n) (suc m) long h =
     let s = or_parts (p x) (list_any p (take n xs)) h in
     or_from (p x) (list_any p (take m xs)) s.0 (past_end p xs n m (omega (arith, long)) s.1)
 
--- a shorter list
-shorter_taken : {A : Type 0} (p : A → Bool) (xs : List A) (k n m : ℕ) → m ≤ n → list_any p (take n xs) ≡ false → list_any p (take m (take k xs)) ≡ false
-shorter_taken p xs zero n m most h = none_taken p m
-shorter_taken p [] (suc k) n m most h = none_taken p m
-shorter_taken p (x ∷ xs) (suc k) n zero most h = refl
-shorter_taken p (x ∷ xs) (suc k) zero (suc m) most h = absurd (omega (arith, most))
-shorter_taken p (x ∷ xs) (suc k) (suc n) (suc m) most h =
-    let s = or_parts (p x) (list_any p (take n xs)) h in
-    or_from (p x) (list_any p (take m (take k xs))) s.0 (shorter_taken p xs k n m (omega (arith, most)) s.1)
-
 -- What is passed by.
 
 -- no name is bound
@@ -137,22 +127,6 @@ pub passed_pushed : (pushed indexed : Bool) (ps : Places) (bs new : List Bound) 
     → Passed indexed ps bs → Passed indexed ps new
 passed_pushed true indexed ps bs new x is placed near passed = subst (Passed indexed ps) (sym is) (passed_more indexed ps bs x placed near passed)
 passed_pushed false indexed ps bs new x is placed near passed = subst (Passed indexed ps) (sym is) passed
-
--- one name fewer
-pub passed_fewer : (indexed : Bool) (ps : Places) (bs : List Bound) (k : ℕ) → Passed indexed ps bs → Passed indexed ps (take k bs)
-passed_fewer indexed ps bs k passed name = on indexed (passed name)
-  where
-    on : (b : Bool) → list_any (has_name name) (take (start_in b name ps (length bs)) bs) ≡ false
-        → list_any (has_name name) (take (start_in b name ps (length (take k bs))) (take k bs)) ≡ false
-    on false all = refl
-    on true all = by (kept_place name ps) all
-      where
-        by : (o : Option ℕ) → list_any (has_name name) (take (unwrap_or o (length bs)) bs) ≡ false
-            → list_any (has_name name) (take (unwrap_or o (length (take k bs))) (take k bs)) ≡ false
-        by None h =
-            shorter_taken (has_name name) bs k (length bs + length (take k bs)) (length (take k bs)) (omega arith)
-            (past_end (has_name name) bs (length bs) (length bs + length (take k bs)) (omega arith) h)
-        by (Some n) h = shorter_taken (has_name name) bs k n n (omega arith) h
 
 -- what is passed by does not bind the name
 pub bound_passed : (name : List ℕ) (index : List ℤ) (n : ℕ) (bs : List Bound) → list_any (has_name name) (take n bs) ≡ false

@@ -1,10 +1,11 @@
 -- Walking through an expression of a constraint step by step agrees with what is met in it.
-use Rattle.std.proofs.Common.{refl, sym, subst, ℕ, ℤ, pos, Bool, true, false, not, List, [], ◌∷◌, ◌++◌, None, int_eq}
+use Rattle.std.proofs.Common.{refl, sym, subst, ℕ, ℤ, pos, Bool, true, false, not, List, [], ◌∷◌, ◌++◌, Option, None, int_eq}
 use Rattle.std.specs.List.{flat_map}
 use Rattle.std.specs.Option.{unwrap_or}
 use Rattle.sopl_ast.specs.declared.operators.MulOp.TheVariants.{Times, Div, Mod}
 use Rattle.sopl_ast.specs.Tree as t
 use Rattle.sopl_ast.specs.Tree.{Tree, Shape, Trees, Terms, Factors, Binders, Node, no_tree, tree, no_term, term, no_factor, factor, no_binder, binder, place_of}
+use Rattle.sopl_ast.specs.Constants.{value}
 use Rattle.sopl_ast.specs.Known.{Known, with_bound}
 use Rattle.sopl_ast.specs.UnfoldEvents as m
 use Rattle.sopl_ast.specs.UnfoldEvents.{UnfoldEvent, Counted, refused_unless, is_zero}
@@ -46,22 +47,20 @@ mutual
   pub meets_walk : (e : Tree) (known : Known) → Meets (k.walk known e) (m.expression_events known e)
   meets_walk (Node at shape) known = meets_shape shape known
 
-  meets_shape : (shape : Shape) (known : Known) → Meets (k.walk_shape known shape) (m.parts_events known shape)
+  meets_shape : (shape : Shape) (known : Known) → Meets (k.walk_shape known shape) (m.inside_events None known shape)
   meets_shape (t.Lit z) known = meets_done
   meets_shape (t.Name name) known = meets_done
   meets_shape (t.Index name es) known = meets_trees es known
-  meets_shape (t.Neg e) known = meets_walk e known
+  meets_shape (t.Call f e) known = meets_walk e known
   meets_shape (t.Add parts) known = meets_terms parts known
-  meets_shape (t.Mul first others) known = meets_bind (meets_walk first known) (meets_factors others known)
+  meets_shape (t.Mul first others) known = meets_bind (meets_walk first known) (meets_factors others known (value known first))
   meets_shape (t.Cmp op a b) known = meets_bind (meets_walk a known) (meets_walk b known)
   meets_shape (t.Not e) known = meets_walk e known
   meets_shape (t.And es) known = meets_trees es known
   meets_shape (t.Or es) known = meets_trees es known
   meets_shape (t.Implies a b) known = meets_bind (meets_walk a known) (meets_walk b known)
   meets_shape (t.Sum bs e) known = meets_over bs known _ (λ here. m.expression_events here e) (λ here. meets_last (meets_walk e here))
-  meets_shape (t.Least es) known = meets_trees es known
-  meets_shape (t.Greatest es) known = meets_trees es known
-  meets_shape (t.Abs e) known = meets_walk e known
+  meets_shape (t.Selected which es) known = meets_trees es known
   meets_shape (t.AllDifferent bs e) known = meets_over bs known _ (λ here. m.expression_events here e) (λ here. meets_last (meets_walk e here))
   meets_shape (t.Cumulative bs start duration demand capacity) known =
       meets_bind
@@ -69,19 +68,19 @@ mutual
       (λ here. meets_bind (meets_walk start here) (meets_bind (meets_walk duration here) (meets_last (meets_walk demand here)))))
       (meets_walk capacity known)
 
-  pub meets_trees : (es : Trees) (known : Known) → Meets (k.walk_all known es) (m.expressions_events known es)
+  pub meets_trees : (es : Trees) (known : Known) → Meets (k.walk_all known es) (m.all_events None known es)
   meets_trees no_tree known = meets_done
   meets_trees (tree e es) known = meets_bind (meets_walk e known) (meets_trees es known)
 
-  meets_terms : (parts : Terms) (known : Known) → Meets (k.walk_terms known parts) (m.terms_events known parts)
+  meets_terms : (parts : Terms) (known : Known) → Meets (k.walk_terms known parts) (m.terms_events None known parts)
   meets_terms no_term known = meets_done
   meets_terms (term minus e more) known = meets_bind (meets_walk e known) (meets_terms more known)
 
-  meets_factors : (parts : Factors) (known : Known) → Meets (k.walk_factors known parts) (m.factors_events known parts)
-  meets_factors no_factor known = meets_done
-  meets_factors (factor Times e more) known = meets_bind (meets_walk e known) (meets_factors more known)
-  meets_factors (factor Div e more) known = meets_bind (meets_divisor known e) (meets_factors more known)
-  meets_factors (factor Mod e more) known = meets_bind (meets_divisor known e) (meets_factors more known)
+  meets_factors : (parts : Factors) (known : Known) (before : Option ℤ) → Meets (k.walk_factors known parts) (m.factors_events None known before parts)
+  meets_factors no_factor known before = meets_done
+  meets_factors (factor Times e more) known before = meets_bind (meets_walk e known) (meets_factors more known before)
+  meets_factors (factor Div e more) known before = meets_bind (meets_divisor known e) (meets_factors more known before)
+  meets_factors (factor Mod e more) known before = meets_bind (meets_divisor known e) (meets_factors more known before)
 
   pub meets_over : (bs : Binders) (known : Known) (body : Known → Step (Unit {0})) (each : Known → List UnfoldEvent) → ((here : Known) → Meets (body here) (each here))
       → Meets (k.over known bs body) (m.binding_events known None bs each)

@@ -3,8 +3,7 @@
 use Rattle.std.specs.Prelude.{ℕ, ◌+◌, nat_lt, ℤ, pos, neg_ℤ, ◌+ℤ◌, not, ◌||◌, List, [], ◌∷◌, ◌++◌, drop, nat_le, Option, Some, None, option_and_then, Result, Ok, Err, if◌then◌else◌}
 use Rattle.std.specs.Option.{unwrap_or}
 use Rattle.std.specs.List.{list_all, list_any}
-use Rattle.std.specs.Int.{int_min, int_max}
-use Rattle.std.specs.Int.RustNames.{unsigned_abs}
+use Rattle.sopl_base.specs.Extremes.{chosen_by}
 use Rattle.sopl_base.specs.declared.fault.Fault.{Fault}
 use Rattle.sopl_base.specs.declared.fault.Fault.TheVariants.{Text, Limit}
 use Rattle.sopl_ast.specs.declared.operators.MulOp.{MulOp}
@@ -12,7 +11,7 @@ use Rattle.sopl_ast.specs.Tree as t
 use Rattle.sopl_ast.specs.Tree.{Tree, Shape, Trees, Terms, Factors, Binders, Range, Node, no_tree, tree, no_term, term, no_factor, factor, no_binder, binder, Named, Ends, place_of}
 use Rattle.sopl_ast.specs.Lists.{BinderTree, trees, binders}
 use Rattle.unfold_tables.specs.Tables.{tasks_of}
-use Rattle.sopl_ast.specs.Numbers.{up_to, count_between, total, extreme, one_or_zero, compares, applied, all_distinct, are_within}
+use Rattle.sopl_ast.specs.Numbers.{up_to, count_between, total, extreme, one_or_zero, compares, applied, called, all_distinct, are_within}
 use Rattle.sopl_ast.specs.Known.{Known, with_bound, known_value, set_named, ascending}
 use Rattle.sopl_ast.specs.Constants.{within, is_true}
 use Rattle.sopl_ast.specs.UnfoldEvents.{excess, most_counted, most_numbers}
@@ -64,7 +63,7 @@ abbrev mutual
   untested known whole (t.Lit z) = done (Some z)
   untested known whole (t.Name name) = done (known_value known name [])
   untested known whole (t.Index name es) = numbers known whole [] es >>= (λ index. done (known_value known name index))
-  untested known whole (t.Neg e) = number known whole e >>= (λ x. done (Some (neg_ℤ x)))
+  untested known whole (t.Call f e) = number known whole e >>= (λ x. done (Some (called f x)))
   untested known whole (t.Add parts) = sum known whole (pos 0) parts >>= (λ x. done (Some x))
   untested known whole (t.Mul first others) = (number known whole first >>= (λ x. product known whole x others)) >>= (λ x. done (Some x))
   untested known whole (t.Cmp op a b) = number known whole a >>= (λ x. number known whole b >>= (λ y. done (Some (one_or_zero (compares op x y)))))
@@ -73,9 +72,7 @@ abbrev mutual
   untested known whole (t.Or es) = numbers known whole [] es >>= (λ xs. done (Some (one_or_zero (list_any is_true xs))))
   untested known whole (t.Implies a b) = number known whole a >>= (λ x. number known whole b >>= (λ y. done (Some (one_or_zero (not (is_true x) || is_true y)))))
   untested known whole (t.Sum bs e) = over known whole bs (λ here found. number here whole e >>= (λ x. done (found ++ x ∷ []))) [] >>= (λ xs. done (Some (total xs)))
-  untested known whole (t.Least es) = numbers known whole [] es >>= (λ xs. done (extreme int_min xs))
-  untested known whole (t.Greatest es) = numbers known whole [] es >>= (λ xs. done (extreme int_max xs))
-  untested known whole (t.Abs e) = number known whole e >>= (λ x. done (Some (pos (unsigned_abs x))))
+  untested known whole (t.Selected which es) = numbers known whole [] es >>= (λ xs. done (extreme (chosen_by which) xs))
   untested known whole (t.AllDifferent bs e) = over known whole bs (λ here found. number here whole e >>= (λ x. done (found ++ x ∷ []))) [] >>= (λ xs. done (Some (one_or_zero (all_distinct xs))))
   untested known whole (t.Cumulative bs start duration demand capacity) =
       over known whole bs (λ here found.

@@ -28,7 +28,7 @@ abbrev mutual
   walk_shape known (t.Lit z) = done tt
   walk_shape known (t.Name name) = done tt
   walk_shape known (t.Index name es) = walk_all known es
-  walk_shape known (t.Neg e) = walk known e
+  walk_shape known (t.Call f e) = walk known e
   walk_shape known (t.Add parts) = walk_terms known parts
   walk_shape known (t.Mul first others) = walk known first >>= (λ u. walk_factors known others)
   walk_shape known (t.Cmp op a b) = walk known a >>= (λ u. walk known b)
@@ -37,9 +37,7 @@ abbrev mutual
   walk_shape known (t.Or es) = walk_all known es
   walk_shape known (t.Implies a b) = walk known a >>= (λ u. walk known b)
   walk_shape known (t.Sum bs e) = over known bs (λ here. walk here e >>= (λ u. done tt))
-  walk_shape known (t.Least es) = walk_all known es
-  walk_shape known (t.Greatest es) = walk_all known es
-  walk_shape known (t.Abs e) = walk known e
+  walk_shape known (t.Selected which es) = walk_all known es
   walk_shape known (t.AllDifferent bs e) = over known bs (λ here. walk here e >>= (λ u. done tt))
   walk_shape known (t.Cumulative bs start duration demand capacity) =
       over known bs (λ here. walk here start >>= (λ u. walk here duration >>= (λ u. walk here demand >>= (λ u. done tt)))) >>= (λ u. walk known capacity)

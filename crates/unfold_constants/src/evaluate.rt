@@ -20,7 +20,7 @@ ghost use Rattle.unfold_constants.specs.Evaluation.{each_of, inside};
 use crate::binder_walk::BinderWalk;
 use crate::constant_scope::ConstantScope;
 use sopl_ast::{Binder, Binders, Expr, Exprs, Factors, Kind, MulOp, Name, RangeText};
-use sopl_base::{CmpOp, Fault, Wide, codes};
+use sopl_base::{CmpOp, Extreme, Fault, Wide, codes};
 use unfold_tables::{
     Count, Ends, Numbers, add, all_distinct, all_true, applied, are_within, checked_between,
     compares, extreme, is_true, one_or_zero, some_true, total, with_number,
@@ -115,7 +115,7 @@ impl<'a> ConstantScope<'a> {
             Kind::Lit(value) => Ok(Some(i128::from(*value))),
             Kind::Name(name) => Ok(wide(self.value(name, &[]))),
             Kind::Index(name, indices) => self.element(count, whole, name, indices),
-            Kind::Neg(e) => Ok(Some(-i128::from(self.number(count, whole, e)?))),
+            Kind::Call(function, e) => Ok(Some(function.of(self.number(count, whole, e)?))),
             Kind::Add(parts) => Ok(Some(self.sum(count, whole, parts.as_slice())?.value)),
             Kind::Mul(parts) => Ok(Some(i128::from(self.product(count, whole, parts)?))),
             Kind::Cmp(op, a, b) => self.compared(count, whole, *op, a, b),
@@ -124,9 +124,7 @@ impl<'a> ConstantScope<'a> {
             Kind::Or(parts) => self.some(count, whole, parts),
             Kind::Implies(a, b) => self.implied(count, whole, a, b),
             Kind::Sum(over, e) => self.summed(count, whole, over, e),
-            Kind::Least(parts) => self.least(count, whole, parts),
-            Kind::Greatest(parts) => self.greatest(count, whole, parts),
-            Kind::Abs(e) => Ok(Some(i128::from(self.number(count, whole, e)?.unsigned_abs()))),
+            Kind::Selected(which, parts) => self.selected(count, whole, *which, parts),
             Kind::AllDifferent(over, e) => self.differ(count, whole, over, e),
             Kind::Cumulative(over, start, duration, demand, capacity) => {
                 let task = TaskText {
@@ -205,32 +203,19 @@ impl<'a> ConstantScope<'a> {
         Ok(condition(!is_true(x) || is_true(y)))
     }
 
-    /// The least of the values of some expressions.
+    /// The least or the greatest of the values of some expressions.
     #[cycle(evaluate)]
-    fn least(
+    fn selected(
         &self,
         count: &mut Count,
         whole: usize,
+        which: Extreme,
         parts: &'a Exprs,
     ) -> Result<Option<i128>, Fault>
-        ensures { Answers (λ x. x) count.new.counted result (spec.untested (known_in self.now) whole (t.Least (trees parts.now)) count.old.counted) }
+        ensures { Answers (λ x. x) count.new.counted result (spec.untested (known_in self.now) whole (t.Selected which (trees parts.now)) count.old.counted) }
     {
         let xs = self.numbers(count, whole, parts.as_slice())?;
-        Ok(wide(extreme(false, xs.as_slice())))
-    }
-
-    /// The greatest of the values of some expressions.
-    #[cycle(evaluate)]
-    fn greatest(
-        &self,
-        count: &mut Count,
-        whole: usize,
-        parts: &'a Exprs,
-    ) -> Result<Option<i128>, Fault>
-        ensures { Answers (λ x. x) count.new.counted result (spec.untested (known_in self.now) whole (t.Greatest (trees parts.now)) count.old.counted) }
-    {
-        let xs = self.numbers(count, whole, parts.as_slice())?;
-        Ok(wide(extreme(true, xs.as_slice())))
+        Ok(wide(extreme(which, xs.as_slice())))
     }
 
     /// The sum of the values that an expression takes.

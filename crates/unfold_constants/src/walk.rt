@@ -25,12 +25,9 @@ impl<'a> ConstantScope<'a> {
     {
         match &e.kind {
             Kind::Lit(_) | Kind::Name(_) => Ok(()),
-            Kind::Index(_, parts)
-            | Kind::And(parts)
-            | Kind::Or(parts)
-            | Kind::Least(parts)
-            | Kind::Greatest(parts) => self.walk_all(count, parts.as_slice()),
-            Kind::Neg(part) | Kind::Not(part) | Kind::Abs(part) => self.walk(count, part),
+            Kind::Index(_, parts) | Kind::And(parts) | Kind::Or(parts) | Kind::Selected(_, parts) =>
+                self.walk_all(count, parts.as_slice()),
+            Kind::Call(_, part) | Kind::Not(part) => self.walk(count, part),
             Kind::Add(parts) => self.walk_terms(count, parts.as_slice()),
             Kind::Mul(parts) => self.walk_product(count, parts),
             Kind::Cmp(_, a, b) | Kind::Implies(a, b) => {

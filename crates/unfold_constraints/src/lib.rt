@@ -1,5 +1,5 @@
 //! What the constraints of a text unfold to: the instances of hard constraints and of chance constraints, and the conditions that they stand for.
-//! Its tests stand in `tests`; whole texts are unfolded by those of `compile_tests`.
+//! Its tests stand in `ground_tests`; whole texts are unfolded by those of `compile_tests`.
 #![tactic(auto)]
 
 mod calls;
@@ -8,8 +8,6 @@ mod leaves;
 mod listing;
 mod numbering;
 mod place;
-#[cfg(test)]
-mod tests;
 mod thresholds;
 mod walk;
 

@@ -101,9 +101,6 @@ stage_bounded known (Some e) is =
 
 -- Outcomes.
 
-eq_turned : (x y : ℤ) → int_eq x y ≡ true → int_eq y x ≡ true
-eq_turned x y h = grind (arith, ints)
-
 none_of : (a b : Bool) → not (a || b) ≡ true → (a ≡ false) × (not b ≡ true)
 none_of true b is = absurd (true≢false (sym is))
 none_of false b is = (refl, is)

@@ -106,5 +106,5 @@ value_small known (Node at shape) x is = sized (untested known shape) x is
 
 pub value_given : (known : Known) (whole : ℕ) (e : Tree) → NothingFails (constant_events known whole e) → (x : ℤ) × (value known e ≡ Some x) × IsConstant x
 value_given known whole (Node at shape) is =
-    let there = given whole (value known (Node at shape)) (parts_pass (inside_events known whole shape) (no_value (value known (Node at shape)) whole) is).1 in
+    let there = given whole (value known (Node at shape)) (parts_pass (inside_events (Some whole) known shape) (no_value (value known (Node at shape)) whole) is).1 in
     (there.0, there.1, value_small known (Node at shape) there.0 there.1)

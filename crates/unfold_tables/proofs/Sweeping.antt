@@ -1,5 +1,5 @@
 -- What changes come to from one time to the next.
-use Rattle.std.proofs.Common.{◌≡◌, refl, sym, ap, subst, ◌∙◌, ℕ, zero, suc, ◌+◌, ◌<◌, ◌≤◌, ℤ, pos, ◌+ℤ◌, ◌-ℤ◌, ◌<ℤ◌, ◌≤ℤ◌, int_le, int_lt, Bool, true, false, true≢false, not, ◌&&◌, cond, arith}
+use Rattle.std.proofs.Common.{◌≡◌, refl, sym, ap, subst, ◌∙◌, ℕ, zero, suc, ◌+◌, ◌<◌, ◌≤◌, ℤ, pos, ◌+ℤ◌, ◌-ℤ◌, ◌<ℤ◌, int_le, int_lt, Bool, true, false, true≢false, not, ◌&&◌, cond, arith}
 use Rattle.std.proofs.Common.{List, [], ◌∷◌, length, get_or, drop, map, Option, Some, None, IfSome, if◌then◌else◌}
 use Rattle.std.proofs.lemmas.Int.{ints}
 use Rattle.std.proofs.lemmas.List.{at_drop_more, at_drop_all}
@@ -14,11 +14,11 @@ use Rattle.std.specs.declared.cmp.Ordering.{Ordering}
 use Rattle.std.specs.declared.cmp.Ordering.TheVariants.{Less, Equal, Greater}
 use Rattle.sopl_base.specs.declared.wide.Wide.{Wide}
 use Rattle.sopl_base.proofs.Integers.{zero_plus}
-use Rattle.sopl_base.proofs.Tests.{equal_tested, le_test, le_tested, le_untest, lt_test, lt_untest, lt_untested}
+use Rattle.sopl_base.proofs.Tests.{equal_tested, le_test, le_tested, le_untest, lt_untest, lt_untested}
 use Rattle.sopl_ast.specs.Numbers.{Task, asked, demanded}
 use Rattle.unfold_tables.specs.declared.changes.Change.{Change}
 use Rattle.unfold_tables.specs.declared.tasks.TaskNumbers.{TaskNumbers}
-use Rattle.unfold_tables.specs.Changing.{After, AreLevels, Rise, change_in, changes_in, level, part}
+use Rattle.unfold_tables.specs.Changing.{After, Rise, changes_in, level, part}
 use Rattle.unfold_tables.specs.Tables.{task_in}
 
 abbrev nothing : Wide
@@ -168,19 +168,6 @@ module _ (cs : List Change) (i : ℕ) (c : Change) (sum total : Wide) (below : i
       on : (b : Bool) → int_eq c.time time ≡ b → IfSome (cond b (Some sum) (get int_cmp old time)) (λ (w : Wide). w.value ≡ level time cs)
       on true same = subst (λ (t : ℤ). sum.value ≡ level t cs) (equal_tested c.time time same) here
       on false other = kept time
-
--- what is kept of changes is what tasks ask for, where these are their changes
-pub levels_so : (tasks : List Task) (es : List (ℤ × Wide)) (levels : BTreeMap ℤ Wide) → ((time : ℤ) → level time (changes_in es) ≡ demanded time tasks)
-    → ((time : ℤ) → IfSome (get int_cmp levels time) (λ (w : Wide). w.value ≡ level time (changes_in es))) → AreLevels tasks levels
-levels_so tasks es levels same kept time = on (get int_cmp levels time) (kept time)
-  where
-    on : (o : Option Wide) → IfSome o (λ (w : Wide). w.value ≡ level time (changes_in es)) → IfSome o (λ (w : Wide). w.value ≡ demanded time tasks)
-    on None is = tt
-    on (Some w) is = is ∙ same time
-
--- nothing is kept
-pub none_kept : (P : ℤ → Wide → Type 0) (levels : BTreeMap ℤ Wide) → levels.entries ≡ [] → (time : ℤ) → IfSome (get int_cmp levels time) (P time)
-none_kept P levels empty time = subst (λ (es : List (ℤ × Wide)). IfSome (lookup (is_at (int_cmp time)) es) (P time)) (sym empty) tt
 
 -- Tasks that fit, one after the other.
 

@@ -1,21 +1,7 @@
 -- Whether numbers are too many.
-use Rattle.std.proofs.Common.{◌≡◌, refl, sym, ap, subst, ◌∙◌, ℕ, ◌<◌, ◌≤◌, ℤ, pos, int_lt, nat_le, zero, suc, of_z, ◌+ℤ◌, length, Bool, true, false, not, T, arith}
+use Rattle.std.proofs.Common.{◌≡◌, refl, sym, ap, subst, ◌∙◌, ℕ, ℤ, pos, zero, suc, of_z, ◌+ℤ◌, length, Bool, true, false, not, T}
 use Rattle.std.specs.Int.{w128}
-use Rattle.std.proofs.lemmas.Int.{ints}
 use Rattle.sopl_ast.specs.Numbers.{counted_up, count_between, up_to}
-use Rattle.std.proofs.lemmas.Bool.{le-leb, lt-leb}
-
--- they are too many
-pub above : (n : ℕ) → int_lt (pos 65536) (pos n) ≡ true → nat_le n 65536 ≡ false
-above n h =
-    let more : 65536 < n = omega (arith, ints, h) in
-    lt-leb n 65536 more
-
--- they are not
-pub below : (n : ℕ) → int_lt (pos 65536) (pos n) ≡ false → nat_le n 65536 ≡ true
-below n h =
-    let least : n ≤ 65536 = omega (arith, ints, h) in
-    le-leb n 65536 least
 
 -- a number was seen, or not
 pub was_seen : (added seen : Bool) → added ≡ not seen → added ≡ false → seen ≡ true

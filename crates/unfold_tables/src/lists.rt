@@ -1,13 +1,13 @@
 //! Numbers in order, and what is said of them together.
 
-ghost use Rattle.std.specs.Prelude.{◌≡◌, [], ◌∷◌, ◌++◌, OnOk, IfOk, if◌then◌else◌};
-ghost use Rattle.std.specs.Int.{int_min, int_max};
+ghost use Rattle.std.specs.Prelude.{◌≡◌, [], ◌∷◌, ◌++◌, OnOk, IfOk};
 ghost use Rattle.std.specs.List.{list_all, list_any};
+ghost use Rattle.sopl_base.specs.Extremes.{chosen_by};
 ghost use Rattle.sopl_ast.specs.Constants as constants;
 ghost use Rattle.sopl_ast.specs.Numbers as spec;
 
 use crate::numbers::{is_true, with_number};
-use sopl_base::Wide;
+use sopl_base::{Extreme, Wide};
 use std::alloc::{AllocError, Global};
 use std::collections::BTreeSet;
 
@@ -33,22 +33,25 @@ pub fn add(numbers: &mut Vec<i64>, number: i64) -> Result<(), AllocError>
     Ok(())
 }
 
-/// The greater or the lesser of two numbers.
-fn chosen(greater: bool, x: i64, y: i64) -> i64
-    ensures { result ≡ (if greater then int_max else int_min) x y }
+/// The one that is taken of two numbers.
+fn chosen(which: Extreme, x: i64, y: i64) -> i64
+    ensures { result ≡ chosen_by which x y }
 {
-    if greater { x.max(y) } else { x.min(y) }
+    match which {
+        Extreme::Least => x.min(y),
+        Extreme::Greatest => x.max(y),
+    }
 }
 
-/// The greatest or the least of the numbers, if there is one.
+/// The least or the greatest of the numbers, if there is one.
 #[tactic(auto, using(crate::proofs::Folds::folds))]
-pub fn extreme(greatest: bool, numbers: &[i64]) -> Option<i64>
-    ensures { result ≡ spec.extreme (if greatest then int_max else int_min) numbers.now }
+pub fn extreme(which: Extreme, numbers: &[i64]) -> Option<i64>
+    ensures { result ≡ spec.extreme (chosen_by which) numbers.now }
 {
     let (first, others) = numbers.split_first()?;
     let mut extreme = *first;
     'others: for number in others {
-        extreme = chosen(greatest, extreme, *number);
+        extreme = chosen(which, extreme, *number);
     }
     Some(extreme)
 }

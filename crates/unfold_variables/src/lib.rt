@@ -1,5 +1,5 @@
 //! The decisions and the stochastic variables of declarations, one for each index of their array.
-//! Its tests stand in `tests`; whole texts are unfolded by those of `compile_tests`.
+//! Its tests stand in `ground_tests`; whole texts are unfolded by those of `compile_tests`.
 #![tactic(auto)]
 
 mod arrays;
@@ -9,8 +9,6 @@ mod domains;
 mod elements;
 mod equal_decisions;
 mod items;
-#[cfg(test)]
-mod tests;
 mod variables;
 
 pub use items::{DecisionItem, Index, StochItem, Weighted};

@@ -1,13 +1,11 @@
 -- Each loop has counted the parts so far; and each call goes down in weight.
-use Rattle.std.proofs.Common.{◌+◌, ◌*◌, Bool, drop, map}
-use Rattle.std.specs.List.{sum_by}
-use Rattle.sopl_ast.specs.declared.operators.MulOp.{MulOp}
-use Rattle.sopl_ast.specs.Lists.{factors}
-use Rattle.sopl_ast.specs.TermNodes.{nodes}
-use Rattle.sopl_ast.specs.Tree.{Tree}
+use Rattle.std.proofs.Common.{◌+◌, ◌*◌, drop, map}
+use Rattle.std.specs.List.{AllByRecursion, sum_by}
+use Rattle.sopl_ast.specs.Lists.{factors, terms, trees}
+use Rattle.sopl_ast.specs.TermNodes.{all_nodes, factor_nodes, nodes, term_nodes}
 use Rattle.sopl_ast.specs.Weight.{weight, weight_of_trees, weight_of_terms, weight_factors, weight_of_binders}
 use Rattle.unfold_constants.specs.Here.{known_in}
-use Rattle.compile_counts.specs.Walked.{IsWalked, whole_of}
+use Rattle.compile_counts.specs.Walked.{AreWalked, FactorsAreWalked, IsWalked, TermsAreWalked}
 use Rattle.compile_counts.proofs.Counting.{IsLeft}
 use Rattle.compile_counts.proofs.expressions.+count.Given as goal
 
@@ -51,26 +49,26 @@ decreases-nodes_of_task l = 3 * (weight l.task.now.start.now + weight l.task.now
 
 abbrev pub invariant-nodes_of_all-parts : goal.invariant-nodes_of_all-parts
 invariant-nodes_of_all-parts l =
-    IsLeft (λ e. IsWalked l.whole (known_in l.known) e) (λ e. nodes (known_in l.known) e) l.sum.count (drop l.part-index l.parts)
-    (sum_by (λ e. nodes (known_in l.known) e) l.parts)
+    IsLeft (λ es. AreWalked l.whole (known_in l.known) (trees es)) (λ es. all_nodes (known_in l.known) (trees es)) l.sum.count (drop l.part-index l.parts)
+    (all_nodes (known_in l.known) (trees l.parts))
 
 abbrev pub invariant-nodes_of_terms-parts : goal.invariant-nodes_of_terms-parts
 invariant-nodes_of_terms-parts l =
-    IsLeft (λ (p : Bool × Tree). IsWalked l.whole (known_in l.known) p.1) (λ (p : Bool × Tree). nodes (known_in l.known) p.1) l.sum.count (drop l.part-index l.parts)
-    (sum_by (λ (p : Bool × Tree). nodes (known_in l.known) p.1) l.parts)
+    IsLeft (λ ps. TermsAreWalked l.whole (known_in l.known) (terms ps)) (λ ps. term_nodes (known_in l.known) (terms ps)) l.sum.count (drop l.part-index l.parts)
+    (term_nodes (known_in l.known) (terms l.parts))
 
 abbrev pub invariant-nodes_of_factors-parts : goal.invariant-nodes_of_factors-parts
 invariant-nodes_of_factors-parts l =
-    IsLeft (λ (p : MulOp × Tree). IsWalked (whole_of l.whole p.0 p.1) (known_in l.known) p.1) (λ (p : MulOp × Tree). nodes (known_in l.known) p.1) l.sum.count
-    (drop l.part-index l.parts) (sum_by (λ (p : MulOp × Tree). nodes (known_in l.known) p.1) l.parts)
+    IsLeft (λ ps. FactorsAreWalked l.whole (known_in l.known) (factors ps)) (λ ps. factor_nodes (known_in l.known) (factors ps)) l.sum.count (drop l.part-index l.parts)
+    (factor_nodes (known_in l.known) (factors l.parts))
 
 abbrev pub invariant-nodes_at_each-places : goal.invariant-nodes_at_each-places
 invariant-nodes_at_each-places l =
-    IsLeft (λ here. IsWalked l.whole here l.e) (λ here. nodes here l.e) l.sum.count (map known_in (drop l.place-index l.places))
+    IsLeft (AllByRecursion (λ here. IsWalked l.whole here l.e)) (sum_by (λ here. nodes here l.e)) l.sum.count (map known_in (drop l.place-index l.places))
     (sum_by (λ here. nodes here l.e) (map known_in l.places))
 
 abbrev pub invariant-nodes_of_each_task-places : goal.invariant-nodes_of_each_task-places
 invariant-nodes_of_each_task-places l =
-    IsLeft (λ here. IsWalked l.whole here l.task.start.now × IsWalked l.whole here l.task.duration.now × IsWalked l.whole here l.task.demand.now)
-    (λ here. nodes here l.task.start.now + (nodes here l.task.duration.now + nodes here l.task.demand.now)) l.sum.count (map known_in (drop l.place-index l.places))
+    IsLeft (AllByRecursion (λ here. IsWalked l.whole here l.task.start.now × IsWalked l.whole here l.task.duration.now × IsWalked l.whole here l.task.demand.now))
+    (sum_by (λ here. nodes here l.task.start.now + (nodes here l.task.duration.now + nodes here l.task.demand.now))) l.sum.count (map known_in (drop l.place-index l.places))
     (sum_by (λ here. nodes here l.task.start.now + (nodes here l.task.duration.now + nodes here l.task.demand.now)) (map known_in l.places))

@@ -1,16 +1,17 @@
 use Rattle.unfold_constants.specs.Here.{known_in}
-use Rattle.compile_exprs.proofs.Building.{built}
-use Rattle.compile_exprs.proofs.Steps.{term_extends, term_measured, term_stands}
+use Rattle.std.proofs.Common.{None}
+use Rattle.compile_counts.proofs.Walking.{expressions_are_walked}
+use Rattle.compile_exprs.proofs.Steps.{extends_so, measured_so, stands_so}
 use Rattle.compile_exprs.proofs.expressions.term_of.Goals as goal
 
-pub term-requires-clause-buildable : goal.term-requires-clause-buildable
-term-requires-clause-buildable c = built c.args.e.now (known_in c.args.known.now) c.requires.passes
+pub term-requires-clause-walked : goal.term-requires-clause-walked
+term-requires-clause-walked c = expressions_are_walked c.args.e.now None (known_in c.args.known.now) c.requires.passes
 
 pub returns-clause-extends : goal.returns-clause-extends
-returns-clause-extends c = term_extends _ _ _ _ c.term.result c.term.ensures.made
+returns-clause-extends c = extends_so _ _ _ c.term.result c.term.ensures.made (λ id made. made.extends)
 
 pub returns-clause-stands : goal.returns-clause-stands
-returns-clause-stands c = term_stands _ _ _ _ c.term.result c.term.ensures.made
+returns-clause-stands c = stands_so _ _ _ c.term.result c.term.ensures.made (λ id made. made.stands)
 
 pub returns-clause-measured : goal.returns-clause-measured
-returns-clause-measured c = term_measured _ _ _ _ c.term.result c.term.ensures.made
+returns-clause-measured c = measured_so _ _ _ c.term.result c.term.ensures.made (λ id made. made.small)

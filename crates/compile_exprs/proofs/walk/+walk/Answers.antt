@@ -1,10 +1,8 @@
-use Rattle.std.proofs.Common.{rules, arith, ◌≡◌, ◌∙◌, ◌<◌, [], refl, ap, ap₂, sym, subst, length, map, Err, ℤ, SFits}
-use Rattle.sopl_base.proofs.Lists.{drop_next, mapped_next}
+use Rattle.std.proofs.Common.{rules, arith, ◌≡◌, ◌∙◌, ◌<◌, refl, ap, ap₂, sym, subst, length, map, None, ℤ, SFits}
+use Rattle.sopl_base.proofs.Lists.{drop_next, map-map, mapped_next}
 use Rattle.term_language.specs.Terms as rule
-use Rattle.compile_laws.specs.Instances.{chain_instance, conditions, instance, instances, places, product_instance, tasks_of, terms_of, elements, table_of}
-use Rattle.compile_laws.specs.Measured.{IsSizeFault}
-use Rattle.compile_laws.specs.Subterms.{condition_subterms, subterms, task_subterms}
-use Rattle.compile_laws.proofs.Measuring.{faults_end, faults_in_turn}
+use Rattle.compile_laws.specs.Instances.{instance, instances, knowing, places, product_instance, tasks_of, terms_of, elements, table_of}
+use Rattle.compile_laws.specs.Subterms.{subterms, task_subterms}
 use Rattle.compile_scene.specs.Scenes.{place_of, root_in}
 use Rattle.compile_scene.specs.Works.{things_of}
 use Rattle.sopl_ast.proofs.Lighter.{weight-trees, weight-terms, weight-factors}
@@ -17,166 +15,118 @@ use Rattle.sopl_term.specs.Built.{cond_ids, signed_of, task_ids, term_ids}
 use Rattle.term_nodes.specs.Built.{AllBelow, PartsBelow, TasksBelow}
 use Rattle.term_nodes.specs.Things.{tasks_at, term_at, terms_at}
 use Rattle.unfold_constants.specs.Here.{known_in}
-use Rattle.compile_exprs.specs.Made.{AreThere, MakesCond, MakesConds, MakesParts, MakesTask, MakesTasks, MakesTerm, MakesTerms}
-use Rattle.compile_exprs.proofs.Loops.{conds_end, conds_fault, left_first, left_holds, left_more, parts_end, parts_fault, tasks_end, tasks_fault, terms_end, terms_fault}
+use Rattle.compile_exprs.specs.Made.{SizesFail, AreThere, IsBody, IsTaskBody, MakesCond, MakesTasks, MakesTerm, MakesTerms}
+use Rattle.compile_exprs.proofs.Loops.{cond_first, left_fault, left_first, left_holds, left_more, left_none, part_first, task_fault, task_first, term_first}
 use Rattle.compile_counts.proofs.Loops.{none_is, none_seen}
-use Rattle.compile_exprs.proofs.Parts.{all_hold, chain_is, conditions_are, index_is, instances_are, places_are, task_instance, task_places_are, tasks_are, terms_are, terms_hold}
+use Rattle.compile_exprs.proofs.Parts.{bodies_placed, index_is, task_instance}
 use Rattle.compile_exprs.proofs.Products.{divided_by, factored_fault, factored_holds, factored_more, product_fault}
-use Rattle.compile_exprs.proofs.Steps.{are_there, compared, cond_is, demand_large, duration_large, implied, later_is, later_tasks_below, no_operands, one_operand, operated, start_large, task_made, tasks_is, term_fails, term_is, two_operands, same_terms}
+use Rattle.compile_exprs.proofs.Steps.{are_there, compared, cond_is, exits, implied, later_is, later_tasks_below, no_operands, one_operand, operated, task_made, tasks_is, term_fails, term_is, two_operands, same_terms}
 use Rattle.compile_scene.proofs.Growing.{extends_not, extends_twice}
-use Rattle.compile_exprs.proofs.Sizes.{both_small, listed_fault}
+use Rattle.compile_exprs.proofs.Sizes.{fails_first, fails_later, both_small, listed_fault}
 use Rattle.compile_exprs.proofs.Sums.{sum_sizes}
 use Rattle.std.specs.Int.{w64}
+use Rattle.std.specs.List.{AllByRecursion}
 use Rattle.std.proofs.lemmas.Int.{to_z-of_z}
 use Rattle.term_math.specs.Made.{IsDivisor}
-use Rattle.term_math.specs.declared.extremes.Extreme.TheVariants.{Least, Greatest}
-use Rattle.compile_exprs.specs.Buildable.{IsBuildable}
-use Rattle.compile_exprs.proofs.Extremes.{extreme_sizes}
+use Rattle.term_language.specs.declared.made.Operation.TheVariants as unary
+use Rattle.compile_counts.specs.Walked.{IsWalked}
+use Rattle.compile_exprs.proofs.Extremes.{called_sizes, extreme_sizes}
 use Rattle.compile_exprs.proofs.walk.+walk.Goals as goal
 
 pub terms-parts-init : goal.terms-parts-init
-terms-parts-init s c =
-    left_first _ _ _ _ _ _ c.args.parts.now (all_hold (known_in c.args.known.now) c.args.parts.now c.requires.buildable) c.requires.ready c.new-ids.ensures.items
+terms-parts-init s c = left_first _ c.args.parts.now c.requires.walked c.requires.ready c.new-ids.ensures.items
 
 pub terms-term-requires : goal.terms-term-requires
 terms-term-requires s c = (
   omega (arith, weight-trees c.args.parts.now c.parts.part-index c.part-item.result c.parts-test.true, ap weight c.part-item.is),
-  (
-    c.parts.invariant.extends.ready,
-    (
-      c.requires.placed,
-      left_holds _ _ _ _ _ _ _ _ _ c.part-item.result _
-          (drop_next c.args.parts.now c.parts.part-index c.part-item.result c.parts-test.true c.part-item.is) c.parts.invariant,
-    ),
-  ),
+  (c.parts.invariant.added.ready, (c.requires.placed, (left_holds c.parts.invariant (drop_next c.args.parts.now c.parts.part-index c.part-item.result c.parts-test.true c.part-item.is)).0)),
 )
 
 pub terms-returns-in_err-id : goal.terms-returns-in_err-id
-terms-returns-in_err-id s c =
-    let same : c.from_residual.result ≡ Err c.in_err-id.field-0.0 = search rules in
-    record {
-      made = subst (MakesTerms c.args.scene.now.setting.now c.args.work.now c.term.new.work (instances (place_of c.args.scene.now (known_in c.args.known.now)) (trees c.args.parts.now))) (sym same)
-          (terms_fault _ _ _ _ _ _ _ _ _ c.part-item.result _ c.in_err-id.field-0.0 (drop_next c.args.parts.now c.parts.part-index c.part-item.result c.parts-test.true c.part-item.is)
-          (instances_are (place_of c.args.scene.now (known_in c.args.known.now)) c.args.parts.now) c.in_err-id.ensures.made c.parts.invariant);
-    }
+terms-returns-in_err-id s c = record {
+  made = exits _ _ _ c.from_residual.result c.in_err-id.field-0.0 (search rules) (left_fault c.parts.invariant (drop_next c.args.parts.now c.parts.part-index c.part-item.result c.parts-test.true c.part-item.is) c.in_err-id.field-0.0 (fails_first _ _ _ _ c.in_err-id.ensures.made));
+}
 
 pub terms-parts-preserved : goal.terms-parts-preserved
 terms-parts-preserved s c =
-    left_more _ _ _ _ _ _ _ _ _ c.part-item.result _ c.term.new.work c.in_ok-id.id c.listed.new.ids.items
-    (drop_next c.args.parts.now c.parts.part-index c.part-item.result c.parts-test.true c.part-item.is)
-    c.in_ok-id.ensures.made.extends (c.in_ok-id.ensures.made.stands.exists, tt) (term_is _ _ _ c.in_ok-id.ensures.made.stands) c.in_ok-id.ensures.made.small c.in_ok-listed.ensures.more c.parts.invariant
+    left_more c.parts.invariant (drop_next c.args.parts.now c.parts.part-index c.part-item.result c.parts-test.true c.part-item.is) c.term.new.work c.in_ok-id.id c.listed.new.ids.items c.in_ok-listed.ensures.more (λ held. held.1)
+    (term_first _ _ _ c.in_ok-id.id _ _ c.in_ok-id.ensures.made)
 
 pub terms-returns : goal.terms-returns
-terms-returns s c =
-    record {
-      made = terms_end _ _ _ _ _ _ _ _ _ (none_is c.args.parts.now c.parts.part-index c.parts-test.false)
-          (instances_are (place_of c.args.scene.now (known_in c.args.known.now)) c.args.parts.now) c.parts.invariant;
-    }
+terms-returns s c = record {
+  made = left_none c.parts.invariant (none_is c.args.parts.now c.parts.part-index c.parts-test.false) (λ ready. record { extends = extends_not _ _ ready; exist = tt; are = refl; small = refl });
+}
 
 pub conditions-parts-init : goal.conditions-parts-init
-conditions-parts-init s c =
-    left_first _ _ _ _ _ _ c.args.parts.now (all_hold (known_in c.args.known.now) c.args.parts.now c.requires.buildable) c.requires.ready c.new-ids.ensures.items
+conditions-parts-init s c = left_first _ c.args.parts.now c.requires.walked c.requires.ready c.new-ids.ensures.items
 
 pub conditions-condition-requires : goal.conditions-condition-requires
 conditions-condition-requires s c = (
   omega (arith, weight-trees c.args.parts.now c.parts.part-index c.part-item.result c.parts-test.true, ap weight c.part-item.is),
-  (
-    c.parts.invariant.extends.ready,
-    (
-      c.requires.placed,
-      left_holds _ _ _ _ _ _ _ _ _ c.part-item.result _
-          (drop_next c.args.parts.now c.parts.part-index c.part-item.result c.parts-test.true c.part-item.is) c.parts.invariant,
-    ),
-  ),
+  (c.parts.invariant.added.ready, (c.requires.placed, (left_holds c.parts.invariant (drop_next c.args.parts.now c.parts.part-index c.part-item.result c.parts-test.true c.part-item.is)).0)),
 )
 
 pub conditions-returns-in_err-id : goal.conditions-returns-in_err-id
-conditions-returns-in_err-id s c =
-    let same : c.from_residual.result ≡ Err c.in_err-id.field-0.0 = search rules in
-    record {
-      made = subst (MakesConds c.args.scene.now.setting.now c.args.work.now c.condition.new.work
-          (conditions (place_of c.args.scene.now (known_in c.args.known.now)) (trees c.args.parts.now))) (sym same)
-          (conds_fault _ _ _ _ _ _ _ _ _ c.part-item.result _ c.in_err-id.field-0.0 (drop_next c.args.parts.now c.parts.part-index c.part-item.result c.parts-test.true c.part-item.is)
-          (conditions_are (place_of c.args.scene.now (known_in c.args.known.now)) c.args.parts.now) c.in_err-id.ensures.made c.parts.invariant);
-    }
+conditions-returns-in_err-id s c = record {
+  made = exits _ _ _ c.from_residual.result c.in_err-id.field-0.0 (search rules) (left_fault c.parts.invariant (drop_next c.args.parts.now c.parts.part-index c.part-item.result c.parts-test.true c.part-item.is) c.in_err-id.field-0.0 (fails_first _ _ _ _ c.in_err-id.ensures.made));
+}
 
 pub conditions-parts-preserved : goal.conditions-parts-preserved
 conditions-parts-preserved s c =
-    left_more _ _ _ _ _ _ _ _ _ c.part-item.result _ c.condition.new.work c.in_ok-id.id c.listed.new.ids.items
-    (drop_next c.args.parts.now c.parts.part-index c.part-item.result c.parts-test.true c.part-item.is)
-    c.in_ok-id.ensures.made.extends (c.in_ok-id.ensures.made.stands.exists, tt) (cond_is _ _ _ c.in_ok-id.ensures.made.stands) c.in_ok-id.ensures.made.small c.in_ok-listed.ensures.more c.parts.invariant
+    left_more c.parts.invariant (drop_next c.args.parts.now c.parts.part-index c.part-item.result c.parts-test.true c.part-item.is) c.condition.new.work c.in_ok-id.id c.listed.new.ids.items c.in_ok-listed.ensures.more (λ held. held.1)
+    (cond_first _ _ _ c.in_ok-id.id _ _ c.in_ok-id.ensures.made)
 
 pub conditions-returns : goal.conditions-returns
-conditions-returns s c =
-    record {
-      made = conds_end _ _ _ _ _ _ _ _ _ (none_is c.args.parts.now c.parts.part-index c.parts-test.false)
-          (conditions_are (place_of c.args.scene.now (known_in c.args.known.now)) c.args.parts.now) c.parts.invariant;
-    }
+conditions-returns s c = record {
+  made = left_none c.parts.invariant (none_is c.args.parts.now c.parts.part-index c.parts-test.false) (λ ready. record { extends = extends_not _ _ ready; exist = tt; are = refl; small = refl });
+}
 
 pub chain-parts-init : goal.chain-parts-init
-chain-parts-init s c =
-    left_first _ _ _ _ _ _ c.args.parts.now (terms_hold (known_in c.args.known.now) c.args.parts.now c.requires.buildable) c.requires.ready c.new-ids.ensures.items
+chain-parts-init s c = left_first _ c.args.parts.now c.requires.walked c.requires.ready c.new-ids.ensures.items
 
 pub chain-term-requires : goal.chain-term-requires
 chain-term-requires s c = (
   omega (arith, weight-terms c.args.parts.now c.parts.part-index c.part-item.result c.parts-test.true, ap (λ p. weight p.1) c.part-item.is),
-  (
-    c.parts.invariant.extends.ready,
-    (
-      c.requires.placed,
-      left_holds _ _ _ _ _ _ _ _ _ c.part-item.result _
-          (drop_next c.args.parts.now c.parts.part-index c.part-item.result c.parts-test.true c.part-item.is) c.parts.invariant,
-    ),
-  ),
+  (c.parts.invariant.added.ready, (c.requires.placed, (left_holds c.parts.invariant (drop_next c.args.parts.now c.parts.part-index c.part-item.result c.parts-test.true c.part-item.is)).0)),
 )
 
 pub chain-returns-in_err-id : goal.chain-returns-in_err-id
-chain-returns-in_err-id s c =
-    let same : c.from_residual.result ≡ Err c.in_err-id.field-0.0 = search rules in
-    record {
-      made = subst (MakesParts c.args.scene.now.setting.now c.args.work.now c.term.new.work
-          (chain_instance (place_of c.args.scene.now (known_in c.args.known.now)) (terms c.args.parts.now))) (sym same)
-          (parts_fault _ _ _ _ _ _ _ _ _ c.part-item.result _ c.in_err-id.field-0.0 (drop_next c.args.parts.now c.parts.part-index c.part-item.result c.parts-test.true c.part-item.is)
-          (chain_is (place_of c.args.scene.now (known_in c.args.known.now)) c.args.parts.now) c.in_err-id.ensures.made c.parts.invariant);
-    }
+chain-returns-in_err-id s c = record {
+  made = exits _ _ _ c.from_residual.result c.in_err-id.field-0.0 (search rules) (left_fault c.parts.invariant (drop_next c.args.parts.now c.parts.part-index c.part-item.result c.parts-test.true c.part-item.is) c.in_err-id.field-0.0 (fails_first _ _ _ _ c.in_err-id.ensures.made));
+}
 
 pub chain-parts-preserved : goal.chain-parts-preserved
 chain-parts-preserved s c =
-    left_more _ _ _ _ _ _ _ _ _ c.part-item.result _ c.term.new.work (c.part-item.result.0, c.in_ok-id.id) c.listed_part.new.ids.items
-    (drop_next c.args.parts.now c.parts.part-index c.part-item.result c.parts-test.true c.part-item.is)
-    c.in_ok-id.ensures.made.extends (c.in_ok-id.ensures.made.stands.exists, tt) (ap (λ x. (c.part-item.result.0, x)) (term_is _ _ _ c.in_ok-id.ensures.made.stands)) c.in_ok-id.ensures.made.small
-    c.in_ok-listed_part.ensures.more c.parts.invariant
+    left_more c.parts.invariant (drop_next c.args.parts.now c.parts.part-index c.part-item.result c.parts-test.true c.part-item.is) c.term.new.work (c.part-item.result.0, c.in_ok-id.id) c.listed.new.ids.items c.in_ok-listed.ensures.more (λ held. held.1)
+    (part_first _ _ _ (c.part-item.result.0, c.in_ok-id.id) _ _ c.in_ok-id.ensures.made)
 
 pub chain-returns : goal.chain-returns
-chain-returns s c =
-    record {
-      made = parts_end _ _ _ _ _ _ _ _ _ (none_is c.args.parts.now c.parts.part-index c.parts-test.false) (chain_is (place_of c.args.scene.now (known_in c.args.known.now)) c.args.parts.now)
-          c.parts.invariant;
-    }
+chain-returns s c = record {
+  made = left_none c.parts.invariant (none_is c.args.parts.now c.parts.part-index c.parts-test.false) (λ ready. record { extends = extends_not _ _ ready; exist = tt; are = refl; small = refl });
+}
 
 pub each-returns-in_err-id : goal.each-returns-in_err-id
-each-returns-in_err-id s c =
-    let same : c.from_residual.result ≡ Err c.in_err-id.field-0.0 = search rules in
-    record {
-      made = subst (MakesTerms c.args.scene.now.setting.now c.args.work.now c.term.new.work
-          (terms_of (map (λ known. (instance (place_of c.args.scene.now known) c.args.e.now).term) (map known_in c.args.here.now)))) (sym same)
-          (terms_fault _ _ _ _ _ _ _ _ _ (known_in c.known-item.result) _ c.in_err-id.field-0.0
-          (mapped_next known_in c.args.here.now c.here.known-index c.known-item.result c.here-test.true c.known-item.is) (terms_are _ (map known_in c.args.here.now)) c.in_err-id.ensures.made
-          c.here.invariant);
-    }
+each-returns-in_err-id s c = record {
+  made = exits _ _ _ c.from_residual.result c.in_err-id.field-0.0 (search rules) (left_fault c.here.invariant (mapped_next known_in c.args.here.now c.here.known-index c.known-item.result c.here-test.true c.known-item.is) c.in_err-id.field-0.0 (fails_first _ _ _ _ c.in_err-id.ensures.made));
+}
 
 pub each-here-preserved : goal.each-here-preserved
 each-here-preserved s c =
-    left_more _ _ _ _ _ _ _ _ _ (known_in c.known-item.result) _ c.term.new.work c.in_ok-id.id c.listed.new.ids.items
-    (mapped_next known_in c.args.here.now c.here.known-index c.known-item.result c.here-test.true c.known-item.is)
-    c.in_ok-id.ensures.made.extends (c.in_ok-id.ensures.made.stands.exists, tt) (term_is _ _ _ c.in_ok-id.ensures.made.stands) c.in_ok-id.ensures.made.small
-    c.in_ok-listed.ensures.more c.here.invariant
+    left_more c.here.invariant (mapped_next known_in c.args.here.now c.here.known-index c.known-item.result c.here-test.true c.known-item.is) c.term.new.work c.in_ok-id.id c.listed.new.ids.items c.in_ok-listed.ensures.more (λ held. held.1)
+    (term_first _ _ _ c.in_ok-id.id _ _ c.in_ok-id.ensures.made)
 
 pub each-returns : goal.each-returns
-each-returns s c =
-    record {
-      made = terms_end _ _ _ _ _ _ _ _ _ (none_seen known_in c.args.here.now c.here.known-index c.here-test.false) (terms_are _ (map known_in c.args.here.now)) c.here.invariant;
-    }
+each-returns s c = record {
+  made = left_none c.here.invariant (none_seen known_in c.args.here.now c.here.known-index c.here-test.false) (λ ready. record { extends = extends_not _ _ ready; exist = tt; are = refl; small = refl });
+}
+
+pub behind-each-requires : goal.behind-each-requires
+behind-each-requires s c =
+    let all : map known_in c.as_slice-2.result.now ≡ all_bindings (known_in c.args.known.now) (binders c.args.over.now) =
+    ap (map known_in) c.as_slice-2.ensures.value ∙ c.in_ok-here.ensures.places ∙ ap (λ bs. all_bindings (known_in c.args.known.now) (binders bs)) c.as_slice.ensures.items in
+    let bodies = subst (AllByRecursion (IsBody c.args.scene.now.setting.now c.args.e.now)) (sym all)
+    (bodies_placed c.args.scene.now.setting.now (known_in c.args.known.now) (λ here. IsWalked None here c.args.e.now) (binders c.args.over.now) c.requires.placed.table c.requires.bodies) in
+    (omega arith, (c.requires.ready, (c.requires.placed.exists, bodies)))
 
 pub behind-returns : goal.behind-returns
 behind-returns s c =
@@ -185,87 +135,69 @@ behind-returns s c =
     record {
       made = subst (λ ts. MakesTerms c.args.scene.now.setting.now c.args.work.now c.each.new.work (terms_of ts) c.each.result)
           (ap (λ l. map (λ known. (instance (place_of c.args.scene.now known) c.args.e.now).term) l) all
-          ∙ places_are c.args.scene.now (known_in c.args.known.now) c.args.e.now (all_bindings (known_in c.args.known.now) (binders c.args.over.now))) c.each.ensures.made;
+          ∙ sym (map-map (λ place. (instance place c.args.e.now).term) (knowing (place_of c.args.scene.now (known_in c.args.known.now))) (all_bindings (known_in c.args.known.now) (binders c.args.over.now))))
+          c.each.ensures.made;
     }
 
 pub one_task-returns-in_err-start : goal.one_task-returns-in_err-start
 one_task-returns-in_err-start s c =
-    let same : c.from_residual.result ≡ Err c.in_err-start.field-0.0 = search rules in
-    let place = place_of c.args.scene.now (known_in c.args.known.now) in
-    let task = task_instance c.args.task.now.start.now c.args.task.now.duration.now c.args.task.now.demand.now place in
-    record {
-      made = subst (MakesTask c.args.scene.now.setting.now c.args.work.now c.term.new.work task) (sym same)
-          (start_large (root_in c.args.scene.now.setting.now) task c.in_err-start.field-0.0 c.in_err-start.ensures.made);
-    }
+    record { made = exits _ _ _ c.from_residual.result c.in_err-start.field-0.0 (search rules) (fails_first _ _ _ _ c.in_err-start.ensures.made) }
 
 pub one_task-returns-in_err-duration : goal.one_task-returns-in_err-duration
-one_task-returns-in_err-duration s c =
-    let same : c.from_residual-in_err-duration.result ≡ Err c.in_err-duration.field-0.0 = search rules in
-    let place = place_of c.args.scene.now (known_in c.args.known.now) in
-    let task = task_instance c.args.task.now.start.now c.args.task.now.duration.now c.args.task.now.demand.now place in
-    record {
-      made = subst (MakesTask c.args.scene.now.setting.now c.args.work.now c.term-2.new.work task) (sym same)
-          (duration_large (root_in c.args.scene.now.setting.now) task c.in_err-duration.field-0.0 c.in_ok-start.ensures.made.small c.in_err-duration.ensures.made);
-    }
+one_task-returns-in_err-duration s c = record {
+  made = exits _ _ _ c.from_residual-in_err-duration.result c.in_err-duration.field-0.0 (search rules)
+      (fails_later _ _ _ _ c.in_ok-start.ensures.made.small (fails_first _ _ _ _ c.in_err-duration.ensures.made));
+}
 
 pub one_task-returns-in_err-demand : goal.one_task-returns-in_err-demand
-one_task-returns-in_err-demand s c =
-    let same : c.from_residual-in_err-demand.result ≡ Err c.in_err-demand.field-0.0 = search rules in
-    let place = place_of c.args.scene.now (known_in c.args.known.now) in
-    let task = task_instance c.args.task.now.start.now c.args.task.now.duration.now c.args.task.now.demand.now place in
-    record {
-      made = subst (MakesTask c.args.scene.now.setting.now c.args.work.now c.term-3.new.work task) (sym same)
-          (demand_large (root_in c.args.scene.now.setting.now) task c.in_err-demand.field-0.0 c.in_ok-start.ensures.made.small c.in_ok-duration.ensures.made.small c.in_err-demand.ensures.made);
-    }
+one_task-returns-in_err-demand s c = record {
+  made = exits _ _ _ c.from_residual-in_err-demand.result c.in_err-demand.field-0.0 (search rules)
+      (fails_later _ _ _ _ c.in_ok-start.ensures.made.small (fails_later _ _ _ _ c.in_ok-duration.ensures.made.small c.in_err-demand.ensures.made));
+}
 
 pub one_task-returns : goal.one_task-returns
 one_task-returns s c =
     record { made = task_made _ _ _ _ _ c.in_ok-start.start c.in_ok-duration.duration c.in_ok-demand.demand _ _ _ c.in_ok-start.ensures.made c.in_ok-duration.ensures.made c.in_ok-demand.ensures.made }
 
 pub each_task-returns-in_err-id : goal.each_task-returns-in_err-id
-each_task-returns-in_err-id s c =
-    let same : c.from_residual.result ≡ Err c.in_err-id.field-0.0 = search rules in
-    record {
-      made = subst (MakesTasks c.args.scene.now.setting.now c.args.work.now c.one_task.new.work
-          (tasks_of (map (λ known. task_instance c.args.task.now.start.now c.args.task.now.duration.now c.args.task.now.demand.now (place_of c.args.scene.now known)) (map known_in c.args.here.now)))) (sym same)
-          (tasks_fault _ _ _ _ _ _ _ _ _ (known_in c.known-item.result) _ c.in_err-id.field-0.0
-          (mapped_next known_in c.args.here.now c.here.known-index c.known-item.result c.here-test.true c.known-item.is) (tasks_are _ (map known_in c.args.here.now)) c.in_err-id.ensures.made
-          c.here.invariant);
-    }
+each_task-returns-in_err-id s c = record {
+  made = exits _ _ _ c.from_residual.result c.in_err-id.field-0.0 (search rules) (left_fault c.here.invariant (mapped_next known_in c.args.here.now c.here.known-index c.known-item.result c.here-test.true c.known-item.is) c.in_err-id.field-0.0 (task_fault _ (task_instance c.args.task.now.start.now c.args.task.now.duration.now c.args.task.now.demand.now (place_of c.args.scene.now (known_in c.known-item.result))) _ _ c.in_err-id.ensures.made));
+}
 
 pub each_task-here-preserved : goal.each_task-here-preserved
 each_task-here-preserved s c =
-    left_more _ _ _ _ _ _ _ _ _ (known_in c.known-item.result) _ c.one_task.new.work c.in_ok-id.id c.listed.new.ids.items
-    (mapped_next known_in c.args.here.now c.here.known-index c.known-item.result c.here-test.true c.known-item.is)
-    c.in_ok-id.ensures.made.extends c.in_ok-id.ensures.made.exist c.in_ok-id.ensures.made.is c.in_ok-id.ensures.made.small
-    c.in_ok-listed.ensures.more c.here.invariant
+    left_more c.here.invariant (mapped_next known_in c.args.here.now c.here.known-index c.known-item.result c.here-test.true c.known-item.is) c.one_task.new.work c.in_ok-id.id c.listed.new.ids.items c.in_ok-listed.ensures.more (λ held. held.1)
+    (task_first _ _ _ c.in_ok-id.id _ _ c.in_ok-id.ensures.made)
 
 pub each_task-returns : goal.each_task-returns
-each_task-returns s c =
-    record {
-      made = tasks_end _ _ _ _ _ _ _ _ _ (none_seen known_in c.args.here.now c.here.known-index c.here-test.false) (tasks_are _ (map known_in c.args.here.now)) c.here.invariant;
-    }
+each_task-returns s c = record {
+  made = left_none c.here.invariant (none_seen known_in c.args.here.now c.here.known-index c.here-test.false) (λ ready. record { extends = extends_not _ _ ready; exist = tt; are = refl; small = refl });
+}
+
+pub tasks_behind-each_task-requires : goal.tasks_behind-each_task-requires
+tasks_behind-each_task-requires s c =
+    let all : map known_in c.as_slice-2.result.now ≡ all_bindings (known_in c.args.known.now) (binders c.args.over.now) =
+    ap (map known_in) c.as_slice-2.ensures.value ∙ c.in_ok-here.ensures.places ∙ ap (λ bs. all_bindings (known_in c.args.known.now) (binders bs)) c.as_slice.ensures.items in
+    let task = c.args.task.now in
+    let bodies = subst (AllByRecursion (IsTaskBody c.args.scene.now.setting.now task.start.now task.duration.now task.demand.now)) (sym all)
+    (bodies_placed c.args.scene.now.setting.now (known_in c.args.known.now)
+    (λ here. IsWalked None here task.start.now × IsWalked None here task.duration.now × IsWalked None here task.demand.now) (binders c.args.over.now) c.requires.placed.table c.requires.bodies) in
+    (omega arith, (c.requires.ready, (c.requires.placed.exists, bodies)))
 
 pub tasks_behind-returns : goal.tasks_behind-returns
 tasks_behind-returns s c =
     let all : map known_in c.as_slice-2.result.now ≡ all_bindings (known_in c.args.known.now) (binders c.args.over.now) =
     ap (map known_in) c.as_slice-2.ensures.value ∙ c.in_ok-here.ensures.places ∙ ap (λ bs. all_bindings (known_in c.args.known.now) (binders bs)) c.as_slice.ensures.items in
+    let of_task = task_instance c.args.task.now.start.now c.args.task.now.duration.now c.args.task.now.demand.now in
     record {
       made = subst (λ ts. MakesTasks c.args.scene.now.setting.now c.args.work.now c.each_task.new.work (tasks_of ts) c.each_task.result)
-          (ap (λ l. map (λ known. task_instance c.args.task.now.start.now c.args.task.now.duration.now c.args.task.now.demand.now (place_of c.args.scene.now known)) l) all
-          ∙ task_places_are c.args.scene.now (known_in c.args.known.now) c.args.task.now.start.now c.args.task.now.duration.now c.args.task.now.demand.now
-          (all_bindings (known_in c.args.known.now) (binders c.args.over.now))) c.each_task.ensures.made;
+          (ap (λ l. map (λ known. of_task (place_of c.args.scene.now known)) l) all
+          ∙ sym (map-map of_task (knowing (place_of c.args.scene.now (known_in c.args.known.now))) (all_bindings (known_in c.args.known.now) (binders c.args.over.now)))) c.each_task.ensures.made;
     }
 
 pub scheduled-returns-in_err-tasks : goal.scheduled-returns-in_err-tasks
 scheduled-returns-in_err-tasks s c =
-    let same : c.from_residual.result ≡ Err c.in_err-tasks.field-0.0 = search rules in
-    let place = place_of c.args.scene.now (known_in c.args.known.now) in
-    let tasks = tasks_of (map (task_instance c.args.task.now.start.now c.args.task.now.duration.now c.args.task.now.demand.now) (places place (binders c.args.over.now))) in
-    record {
-      made = subst (MakesCond c.args.scene.now.setting.now c.args.work.now c.tasks_behind.new.work (rule.Cumulative tasks (instance place c.args.most.now).term)) (sym same)
-          (faults_end (root_in c.args.scene.now.setting.now) (task_subterms tasks) (subterms (instance place c.args.most.now).term) c.in_err-tasks.field-0.0 c.in_err-tasks.ensures.made);
-    }
+    record { made = exits _ _ _ c.from_residual.result c.in_err-tasks.field-0.0 (search rules) (fails_first _ _ _ _ c.in_err-tasks.ensures.made) }
 
 pub scheduled-add_cond-requires : goal.scheduled-add_cond-requires
 scheduled-add_cond-requires s c =
@@ -283,15 +215,9 @@ scheduled-add_cond-requires s c =
     }
 
 pub scheduled-returns-in_err-capacity : goal.scheduled-returns-in_err-capacity
-scheduled-returns-in_err-capacity s c =
-    let same : c.from_residual-in_err-capacity.result ≡ Err c.in_err-capacity.field-0.0 = search rules in
-    let place = place_of c.args.scene.now (known_in c.args.known.now) in
-    let tasks = tasks_of (map (task_instance c.args.task.now.start.now c.args.task.now.duration.now c.args.task.now.demand.now) (places place (binders c.args.over.now))) in
-    record {
-      made = subst (MakesCond c.args.scene.now.setting.now c.args.work.now c.term.new.work (rule.Cumulative tasks (instance place c.args.most.now).term)) (sym same)
-          (faults_in_turn (root_in c.args.scene.now.setting.now) (task_subterms tasks) (subterms (instance place c.args.most.now).term) c.in_err-capacity.field-0.0
-          c.in_ok-tasks.ensures.made.small c.in_err-capacity.ensures.made);
-    }
+scheduled-returns-in_err-capacity s c = record {
+  made = exits _ _ _ c.from_residual-in_err-capacity.result c.in_err-capacity.field-0.0 (search rules) (fails_later _ _ _ _ c.in_ok-tasks.ensures.made.small c.in_err-capacity.ensures.made);
+}
 
 pub scheduled-returns : goal.scheduled-returns
 scheduled-returns s c =
@@ -309,25 +235,12 @@ scheduled-returns s c =
 
 pub comparison-returns-in_err-left : goal.comparison-returns-in_err-left
 comparison-returns-in_err-left s c =
-    let same : c.from_residual.result ≡ Err c.in_err-left.field-0.0 = search rules in
-    record {
-      made = subst (MakesCond c.args.scene.now.setting.now c.args.work.now c.term.new.work
-          (rule.Compare c.args.op (instance (place_of c.args.scene.now (known_in c.args.known.now)) c.args.a.now).term
-          (instance (place_of c.args.scene.now (known_in c.args.known.now)) c.args.b.now).term)) (sym same)
-          (faults_end (root_in c.args.scene.now.setting.now) (subterms (instance (place_of c.args.scene.now (known_in c.args.known.now)) c.args.a.now).term)
-          (subterms (instance (place_of c.args.scene.now (known_in c.args.known.now)) c.args.b.now).term) c.in_err-left.field-0.0 c.in_err-left.ensures.made);
-    }
+    record { made = exits _ _ _ c.from_residual.result c.in_err-left.field-0.0 (search rules) (fails_first _ _ _ _ c.in_err-left.ensures.made) }
 
 pub comparison-returns-in_err-right : goal.comparison-returns-in_err-right
-comparison-returns-in_err-right s c =
-    let same : c.from_residual-in_err-right.result ≡ Err c.in_err-right.field-0.0 = search rules in
-    record {
-      made = subst (MakesCond c.args.scene.now.setting.now c.args.work.now c.term-2.new.work
-          (rule.Compare c.args.op (instance (place_of c.args.scene.now (known_in c.args.known.now)) c.args.a.now).term
-          (instance (place_of c.args.scene.now (known_in c.args.known.now)) c.args.b.now).term)) (sym same)
-          (faults_in_turn (root_in c.args.scene.now.setting.now) (subterms (instance (place_of c.args.scene.now (known_in c.args.known.now)) c.args.a.now).term)
-          (subterms (instance (place_of c.args.scene.now (known_in c.args.known.now)) c.args.b.now).term) c.in_err-right.field-0.0 c.in_ok-left.ensures.made.small c.in_err-right.ensures.made);
-    }
+comparison-returns-in_err-right s c = record {
+  made = exits _ _ _ c.from_residual-in_err-right.result c.in_err-right.field-0.0 (search rules) (fails_later _ _ _ _ c.in_ok-left.ensures.made.small c.in_err-right.ensures.made);
+}
 
 pub comparison-add_cond-requires : goal.comparison-add_cond-requires
 comparison-add_cond-requires s c =
@@ -344,26 +257,12 @@ comparison-returns s c =
 
 pub implication-returns-in_err-left : goal.implication-returns-in_err-left
 implication-returns-in_err-left s c =
-    let same : c.from_residual.result ≡ Err c.in_err-left.field-0.0 = search rules in
-    record {
-      made = subst (MakesCond c.args.scene.now.setting.now c.args.work.now c.condition.new.work
-          (rule.Implies (instance (place_of c.args.scene.now (known_in c.args.known.now)) c.args.a.now).cond
-          (instance (place_of c.args.scene.now (known_in c.args.known.now)) c.args.b.now).cond)) (sym same)
-          (faults_end (root_in c.args.scene.now.setting.now) (condition_subterms (instance (place_of c.args.scene.now (known_in c.args.known.now)) c.args.a.now).cond)
-          (condition_subterms (instance (place_of c.args.scene.now (known_in c.args.known.now)) c.args.b.now).cond) c.in_err-left.field-0.0 c.in_err-left.ensures.made);
-    }
+    record { made = exits _ _ _ c.from_residual.result c.in_err-left.field-0.0 (search rules) (fails_first _ _ _ _ c.in_err-left.ensures.made) }
 
 pub implication-returns-in_err-right : goal.implication-returns-in_err-right
-implication-returns-in_err-right s c =
-    let same : c.from_residual-in_err-right.result ≡ Err c.in_err-right.field-0.0 = search rules in
-    record {
-      made = subst (MakesCond c.args.scene.now.setting.now c.args.work.now c.condition-2.new.work
-          (rule.Implies (instance (place_of c.args.scene.now (known_in c.args.known.now)) c.args.a.now).cond
-          (instance (place_of c.args.scene.now (known_in c.args.known.now)) c.args.b.now).cond)) (sym same)
-          (faults_in_turn (root_in c.args.scene.now.setting.now) (condition_subterms (instance (place_of c.args.scene.now (known_in c.args.known.now)) c.args.a.now).cond)
-          (condition_subterms (instance (place_of c.args.scene.now (known_in c.args.known.now)) c.args.b.now).cond) c.in_err-right.field-0.0 c.in_ok-left.ensures.made.small
-          c.in_err-right.ensures.made);
-    }
+implication-returns-in_err-right s c = record {
+  made = exits _ _ _ c.from_residual-in_err-right.result c.in_err-right.field-0.0 (search rules) (fails_later _ _ _ _ c.in_ok-left.ensures.made.small c.in_err-right.ensures.made);
+}
 
 pub implication-add_cond-requires : goal.implication-add_cond-requires
 implication-add_cond-requires s c =
@@ -394,14 +293,11 @@ multiply-factor-requires s c = (
 )
 
 pub multiply-returns-in_err-before : goal.multiply-returns-in_err-before
-multiply-returns-in_err-before s c =
-    let same : c.from_residual.result ≡ Err c.in_err-before.field-0.0 = search rules in
-    record {
-      made = subst (MakesTerm c.args.scene.now.setting.now c.args.work.now c.factor.new.work
-          (product_instance (place_of c.args.scene.now (known_in c.args.known.now)) (term_at (things_of c.args.work.now) c.args.first.0) (factors c.args.parts.now))) (sym same)
-          (factored_fault _ _ _ _ _ _ _ _ c.part-item.result _ c.in_err-before.field-0.0 (drop_next c.args.parts.now c.parts.part-index c.part-item.result c.parts-test.true c.part-item.is)
-          c.in_err-before.ensures.made c.parts.invariant);
-    }
+multiply-returns-in_err-before s c = record {
+  made = exits _ _ _ c.from_residual.result c.in_err-before.field-0.0 (search rules)
+      (factored_fault _ _ _ _ _ _ _ _ c.part-item.result _ c.in_err-before.field-0.0 (drop_next c.args.parts.now c.parts.part-index c.part-item.result c.parts-test.true c.part-item.is)
+      c.in_err-before.ensures.made c.parts.invariant);
+}
 
 pub multiply-parts-preserved : goal.multiply-parts-preserved
 multiply-parts-preserved s c =
@@ -410,15 +306,11 @@ multiply-parts-preserved s c =
 
 pub product-returns-in_err-first : goal.product-returns-in_err-first
 product-returns-in_err-first s c =
-    let same : c.from_residual.result ≡ Err c.in_err-first.field-0.0 = search rules in
+    let place = place_of c.args.scene.now (known_in c.args.known.now) in
     record {
-      made = subst (MakesTerm c.args.scene.now.setting.now c.args.work.now c.term.new.work
-          (product_instance (place_of c.args.scene.now (known_in c.args.known.now)) ((instance (place_of c.args.scene.now (known_in c.args.known.now)) c.args.parts.now.first).term)
-          (factors c.args.parts.now.others))) (sym same)
-          (product_fault (root_in c.args.scene.now.setting.now) (place_of c.args.scene.now (known_in c.args.known.now)) (factors c.args.parts.now.others)
-          ((instance (place_of c.args.scene.now (known_in c.args.known.now)) c.args.parts.now.first).term) c.in_err-first.field-0.0 c.requires.others
-          (subst (λ e. IsSizeFault (root_in c.args.scene.now.setting.now) (subterms (instance (place_of c.args.scene.now (known_in c.args.known.now)) e).term) c.in_err-first.field-0.0)
-          c.first.ensures.first c.in_err-first.ensures.made));
+      made = exits _ _ _ c.from_residual.result c.in_err-first.field-0.0 (search rules)
+          (product_fault (root_in c.args.scene.now.setting.now) place (factors c.args.parts.now.others) (instance place c.args.parts.now.first).term c.in_err-first.field-0.0 c.requires.others
+          (subst (λ e. SizesFail (root_in c.args.scene.now.setting.now) (subterms (instance place e).term) c.in_err-first.field-0.0) c.first.ensures.first c.in_err-first.ensures.made));
     }
 
 pub condition-returns-in-Cumulative : goal.condition-returns-in-Cumulative
@@ -439,12 +331,20 @@ term-returns-in-Lit s c =
           (c.add_term.ensures.made c.args.scene.now.setting.now c.args.work.now (rule.Constant c.in-Lit.value) (no_operands c.args.scene.now.setting.now c.args.work.now _ _ c.requires.ready (ap (λ z. rule.Constant z) (to_z-of_z w64 c.in-Lit.value fits)) refl));
     }
 
-pub term-returns-in_err-id-in-Neg : goal.term-returns-in_err-id-in-Neg
-term-returns-in_err-id-in-Neg s c =
-    let same : Node c.e.inside.at (shape.Neg c.deref.result.now) ≡ c.args.e.now = search rules in
+pub term-returns-in-Index : goal.term-returns-in-Index
+term-returns-in-Index s c =
+    let same : Node c.e.inside.at (shape.Index c.in-Index.name (trees c.as_slice.result.now)) ≡ c.args.e.now = search rules in
+    record {
+      made = subst (λ e. MakesTerm c.args.scene.now.setting.now c.args.work.now c.indexed.new.work (instance (place_of c.args.scene.now (known_in c.args.known.now)) e).term c.indexed.result)
+          same c.indexed.ensures.made;
+    }
+
+pub term-returns-in_err-id-in-Call : goal.term-returns-in_err-id-in-Call
+term-returns-in_err-id-in-Call s c =
+    let same : Node c.e.inside.at (shape.Call c.in-Call.function c.deref.result.now) ≡ c.args.e.now = search rules in
     record {
       made = subst (λ e. MakesTerm c.args.scene.now.setting.now c.args.work.now c.term.new.work (instance (place_of c.args.scene.now (known_in c.args.known.now)) e).term c.from_residual.result) same
-          (term_fails c.args.scene.now.setting.now c.args.work.now c.term.new.work (instance (place_of c.args.scene.now (known_in c.args.known.now)) (Node c.e.inside.at (shape.Neg c.deref.result.now))).term c.in_err-id-in-Neg.field-0.0 c.from_residual.result (search rules) (faults_end (root_in c.args.scene.now.setting.now) (subterms (instance (place_of c.args.scene.now (known_in c.args.known.now)) c.deref.result.now).term) [] c.in_err-id-in-Neg.field-0.0 c.in_err-id-in-Neg.ensures.made));
+          (term_fails c.args.scene.now.setting.now c.args.work.now c.term.new.work (instance (place_of c.args.scene.now (known_in c.args.known.now)) (Node c.e.inside.at (shape.Call c.in-Call.function c.deref.result.now))).term c.in_err-id-in-Call.field-0.0 c.from_residual.result (search rules) (listed_fault (root_in c.args.scene.now.setting.now) _ _ c.in_err-id-in-Call.field-0.0 (sym (called_sizes c.in-Call.function (instance (place_of c.args.scene.now (known_in c.args.known.now)) c.deref.result.now).term)) c.in_err-id-in-Call.ensures.made));
     }
 
 pub term-returns-in_err-ids-in-Add : goal.term-returns-in_err-ids-in-Add
@@ -463,28 +363,12 @@ term-returns-in_err-ids-in-Sum s c =
           (term_fails c.args.scene.now.setting.now c.args.work.now c.behind.new.work (instance (place_of c.args.scene.now (known_in c.args.known.now)) (Node c.e.inside.at (shape.Sum (binders c.in-Sum.over) c.deref-in-Sum.result.now))).term c.in_err-ids-in-Sum.field-0.0 c.from_residual-in_err-ids-in-Sum.result (search rules) (listed_fault (root_in c.args.scene.now.setting.now) _ _ c.in_err-ids-in-Sum.field-0.0 (sum_sizes (map (λ here. (instance here c.deref-in-Sum.result.now).term) (places (place_of c.args.scene.now (known_in c.args.known.now)) (binders c.in-Sum.over)))) c.in_err-ids-in-Sum.ensures.made));
     }
 
-pub term-returns-in_err-ids-in-Least : goal.term-returns-in_err-ids-in-Least
-term-returns-in_err-ids-in-Least s c =
-    let same : Node c.e.inside.at (shape.Least (trees c.as_slice-in-Least.result.now)) ≡ c.args.e.now = search rules in
+pub term-returns-in_err-ids-in-Selected : goal.term-returns-in_err-ids-in-Selected
+term-returns-in_err-ids-in-Selected s c =
+    let same : Node c.e.inside.at (shape.Selected c.in-Selected.which (trees c.as_slice-in-Selected.result.now)) ≡ c.args.e.now = search rules in
     record {
-      made = subst (λ e. MakesTerm c.args.scene.now.setting.now c.args.work.now c.terms.new.work (instance (place_of c.args.scene.now (known_in c.args.known.now)) e).term c.from_residual-in_err-ids-in-Least.result) same
-          (term_fails c.args.scene.now.setting.now c.args.work.now c.terms.new.work (instance (place_of c.args.scene.now (known_in c.args.known.now)) (Node c.e.inside.at (shape.Least (trees c.as_slice-in-Least.result.now)))).term c.in_err-ids-in-Least.field-0.0 c.from_residual-in_err-ids-in-Least.result (search rules) (listed_fault (root_in c.args.scene.now.setting.now) _ _ c.in_err-ids-in-Least.field-0.0 (sym (extreme_sizes Least (instances (place_of c.args.scene.now (known_in c.args.known.now)) (trees c.as_slice-in-Least.result.now)))) c.in_err-ids-in-Least.ensures.made));
-    }
-
-pub term-returns-in_err-ids-in-Greatest : goal.term-returns-in_err-ids-in-Greatest
-term-returns-in_err-ids-in-Greatest s c =
-    let same : Node c.e.inside.at (shape.Greatest (trees c.as_slice-in-Greatest.result.now)) ≡ c.args.e.now = search rules in
-    record {
-      made = subst (λ e. MakesTerm c.args.scene.now.setting.now c.args.work.now c.terms-in-Greatest.new.work (instance (place_of c.args.scene.now (known_in c.args.known.now)) e).term c.from_residual-in_err-ids-in-Greatest.result) same
-          (term_fails c.args.scene.now.setting.now c.args.work.now c.terms-in-Greatest.new.work (instance (place_of c.args.scene.now (known_in c.args.known.now)) (Node c.e.inside.at (shape.Greatest (trees c.as_slice-in-Greatest.result.now)))).term c.in_err-ids-in-Greatest.field-0.0 c.from_residual-in_err-ids-in-Greatest.result (search rules) (listed_fault (root_in c.args.scene.now.setting.now) _ _ c.in_err-ids-in-Greatest.field-0.0 (sym (extreme_sizes Greatest (instances (place_of c.args.scene.now (known_in c.args.known.now)) (trees c.as_slice-in-Greatest.result.now)))) c.in_err-ids-in-Greatest.ensures.made));
-    }
-
-pub term-returns-in_err-id-in-Abs : goal.term-returns-in_err-id-in-Abs
-term-returns-in_err-id-in-Abs s c =
-    let same : Node c.e.inside.at (shape.Abs c.deref-in-Abs.result.now) ≡ c.args.e.now = search rules in
-    record {
-      made = subst (λ e. MakesTerm c.args.scene.now.setting.now c.args.work.now c.term-in-Abs.new.work (instance (place_of c.args.scene.now (known_in c.args.known.now)) e).term c.from_residual-in_err-id-in-Abs.result) same
-          (term_fails c.args.scene.now.setting.now c.args.work.now c.term-in-Abs.new.work (instance (place_of c.args.scene.now (known_in c.args.known.now)) (Node c.e.inside.at (shape.Abs c.deref-in-Abs.result.now))).term c.in_err-id-in-Abs.field-0.0 c.from_residual-in_err-id-in-Abs.result (search rules) c.in_err-id-in-Abs.ensures.made);
+      made = subst (λ e. MakesTerm c.args.scene.now.setting.now c.args.work.now c.terms.new.work (instance (place_of c.args.scene.now (known_in c.args.known.now)) e).term c.from_residual-in_err-ids-in-Selected.result) same
+          (term_fails c.args.scene.now.setting.now c.args.work.now c.terms.new.work (instance (place_of c.args.scene.now (known_in c.args.known.now)) (Node c.e.inside.at (shape.Selected c.in-Selected.which (trees c.as_slice-in-Selected.result.now)))).term c.in_err-ids-in-Selected.field-0.0 c.from_residual-in_err-ids-in-Selected.result (search rules) (listed_fault (root_in c.args.scene.now.setting.now) _ _ c.in_err-ids-in-Selected.field-0.0 (sym (extreme_sizes c.in-Selected.which (instances (place_of c.args.scene.now (known_in c.args.known.now)) (trees c.as_slice-in-Selected.result.now)))) c.in_err-ids-in-Selected.ensures.made));
     }
 
 pub term-returns-in_err-id-in-Cmp : goal.term-returns-in_err-id-in-Cmp
@@ -506,7 +390,7 @@ term-returns-in_ok-id-in-Cmp s c =
 pub term-behind-requires : goal.term-behind-requires
 term-behind-requires s c =
     let same : Node c.e.inside.at (shape.Sum (binders c.in-Sum.over) c.deref-in-Sum.result.now) ≡ c.args.e.now = search rules in
-    let holds = subst (IsBuildable (known_in c.args.known.now)) (sym same) c.requires.buildable in
+    let holds = subst (IsWalked None (known_in c.args.known.now)) (sym same) c.requires.walked in
     (omega (arith, ap weight same), (c.requires.ready, (c.requires.placed, (holds.0, holds.1))))
 
 pub term-added_up-requires : goal.term-added_up-requires
@@ -521,20 +405,14 @@ term-returns-in_ok-ids-in-Sum s c =
           (same_terms _ _ _ _ _ _ c.as_slice-in-Sum.ensures.value c.in_ok-ids-in-Sum.ensures.made));
     }
 
-pub term-add_term-requires-in-Abs : goal.term-add_term-requires-in-Abs
-term-add_term-requires-in-Abs s c = record { can = record { building = c.in_ok-id-in-Abs.ensures.made.extends.ready.building; may = (tt, c.in_ok-id-in-Abs.ensures.made.stands.exists) } }
-
 pub term-extreme-requires : goal.term-extreme-requires
-term-extreme-requires s c = (record { ready = c.in_ok-ids-in-Least.ensures.made.extends.ready; there = subst (AreThere c.terms.new.work) (sym c.as_slice-in-Least-2.ensures.value) (are_there _ _ _ _ _ c.in_ok-ids-in-Least.ensures.made) })
-
-pub term-extreme-requires-in-Greatest : goal.term-extreme-requires-in-Greatest
-term-extreme-requires-in-Greatest s c = (record { ready = c.in_ok-ids-in-Greatest.ensures.made.extends.ready; there = subst (AreThere c.terms-in-Greatest.new.work) (sym c.as_slice-in-Greatest-2.ensures.value) (are_there _ _ _ _ _ c.in_ok-ids-in-Greatest.ensures.made) })
+term-extreme-requires s c = (record { ready = c.in_ok-ids-in-Selected.ensures.made.extends.ready; there = subst (AreThere c.terms.new.work) (sym c.as_slice-in-Selected-2.ensures.value) (are_there _ _ _ _ _ c.in_ok-ids-in-Selected.ensures.made) })
 
 pub term-add_term-requires-in-Cmp : goal.term-add_term-requires-in-Cmp
 term-add_term-requires-in-Cmp s c = record { can = record { building = c.in_ok-id-in-Cmp.ensures.made.extends.ready.building; may = c.in_ok-id-in-Cmp.ensures.made.stands.exists } }
 
-pub term-add_term-requires-in-Neg : goal.term-add_term-requires-in-Neg
-term-add_term-requires-in-Neg s c = record { can = record { building = c.in_ok-id-in-Neg.ensures.made.extends.ready.building; may = (c.in_ok-id-in-Neg.ensures.made.stands.exists, tt) } }
+pub term-called-requires : goal.term-called-requires
+term-called-requires s c = record { there = record { building = c.in_ok-id-in-Call.ensures.made.extends.ready.building; exist = (c.in_ok-id-in-Call.ensures.made.stands.exists, tt) } }
 
 pub term-add_term-requires-in-Add : goal.term-add_term-requires-in-Add
 term-add_term-requires-in-Add s c =
@@ -632,7 +510,7 @@ factor-returns-in_err-second-in-Times s c =
     record {
       made = subst (λ op. MakesTerm c.args.scene.now.setting.now c.args.work.now c.term.new.work (product_instance (place_of c.args.scene.now (known_in c.args.known.now)) (term_at (things_of c.args.work.now) c.args.before.0) (factor op c.args.part.now.1 no_factor)) c.from_residual.result) (sym c.in-Times.is)
           (term_fails c.args.scene.now.setting.now c.args.work.now c.term.new.work (rule.Product (term_at (things_of c.args.work.now) c.args.before.0) b) c.in_err-second-in-Times.field-0.0 c.from_residual.result (search rules)
-          (faults_in_turn (root_in c.args.scene.now.setting.now) (subterms (term_at (things_of c.args.work.now) c.args.before.0)) (subterms b) c.in_err-second-in-Times.field-0.0 c.requires.operand.small c.in_err-second-in-Times.ensures.made));
+          (fails_later (root_in c.args.scene.now.setting.now) (subterms (term_at (things_of c.args.work.now) c.args.before.0)) (subterms b) c.in_err-second-in-Times.field-0.0 c.requires.operand.small c.in_err-second-in-Times.ensures.made));
     }
 
 pub factor-add_term-requires : goal.factor-add_term-requires
@@ -668,9 +546,9 @@ factor-returns-in_ok-number-in-Div s c =
     record {
       made = subst (λ op. MakesTerm c.args.scene.now.setting.now c.args.work.now c.add_term-in-Div.new.work (product_instance (place_of c.args.scene.now (known_in c.args.known.now)) (term_at (things_of c.args.work.now) c.args.before.0) (factor op c.args.part.now.1 no_factor)) c.add_term-in-Div.result) (sym c.in-Div.is)
           (subst (λ x. MakesTerm c.args.scene.now.setting.now c.args.work.now c.add_term-in-Div.new.work x c.add_term-in-Div.result)
-          (sym (divided_by (λ x z. rule.Quotient x z) (term_at (things_of c.args.work.now) c.args.before.0) _ c.in_ok-number-in-Div.number c.in_ok-number-in-Div.ensures.value c.in_ok-number-in-Div.ensures.nonzero))
-          (c.add_term-in-Div.ensures.made c.args.scene.now.setting.now c.args.work.now (rule.Quotient (term_at (things_of c.args.work.now) c.args.before.0) c.in_ok-number-in-Div.number)
-          (operated c.args.scene.now.setting.now c.args.work.now c.args.before.0 _ _ c.requires.ready c.requires.operand (ap (λ z. rule.Quotient (term_at (things_of c.args.work.now) c.args.before.0) z) (to_z-of_z w64 c.in_ok-number-in-Div.number fits)) refl)));
+          (sym (divided_by unary.Quotient (term_at (things_of c.args.work.now) c.args.before.0) _ c.in_ok-number-in-Div.number c.in_ok-number-in-Div.ensures.value c.in_ok-number-in-Div.ensures.nonzero))
+          (c.add_term-in-Div.ensures.made c.args.scene.now.setting.now c.args.work.now (rule.Made (unary.Quotient (record { number = c.in_ok-number-in-Div.number })) (term_at (things_of c.args.work.now) c.args.before.0))
+          (operated c.args.scene.now.setting.now c.args.work.now c.args.before.0 _ _ c.requires.ready c.requires.operand (ap (λ z. rule.Made (unary.Quotient (record { number = z })) (term_at (things_of c.args.work.now) c.args.before.0)) (to_z-of_z w64 c.in_ok-number-in-Div.number fits)) refl)));
     }
 
 pub factor-add_term-requires-in-Mod : goal.factor-add_term-requires-in-Mod
@@ -692,26 +570,39 @@ factor-returns-in_ok-number-in-Mod s c =
     record {
       made = subst (λ op. MakesTerm c.args.scene.now.setting.now c.args.work.now c.add_term-in-Mod.new.work (product_instance (place_of c.args.scene.now (known_in c.args.known.now)) (term_at (things_of c.args.work.now) c.args.before.0) (factor op c.args.part.now.1 no_factor)) c.add_term-in-Mod.result) (sym c.in-Mod.is)
           (subst (λ x. MakesTerm c.args.scene.now.setting.now c.args.work.now c.add_term-in-Mod.new.work x c.add_term-in-Mod.result)
-          (sym (divided_by (λ x z. rule.Remainder x z) (term_at (things_of c.args.work.now) c.args.before.0) _ c.in_ok-number-in-Mod.number c.in_ok-number-in-Mod.ensures.value c.in_ok-number-in-Mod.ensures.nonzero))
-          (c.add_term-in-Mod.ensures.made c.args.scene.now.setting.now c.args.work.now (rule.Remainder (term_at (things_of c.args.work.now) c.args.before.0) c.in_ok-number-in-Mod.number)
-          (operated c.args.scene.now.setting.now c.args.work.now c.args.before.0 _ _ c.requires.ready c.requires.operand (ap (λ z. rule.Remainder (term_at (things_of c.args.work.now) c.args.before.0) z) (to_z-of_z w64 c.in_ok-number-in-Mod.number fits)) refl)));
+          (sym (divided_by unary.Remainder (term_at (things_of c.args.work.now) c.args.before.0) _ c.in_ok-number-in-Mod.number c.in_ok-number-in-Mod.ensures.value c.in_ok-number-in-Mod.ensures.nonzero))
+          (c.add_term-in-Mod.ensures.made c.args.scene.now.setting.now c.args.work.now (rule.Made (unary.Remainder (record { number = c.in_ok-number-in-Mod.number })) (term_at (things_of c.args.work.now) c.args.before.0))
+          (operated c.args.scene.now.setting.now c.args.work.now c.args.before.0 _ _ c.requires.ready c.requires.operand (ap (λ z. rule.Made (unary.Remainder (record { number = z })) (term_at (things_of c.args.work.now) c.args.before.0)) (to_z-of_z w64 c.in_ok-number-in-Mod.number fits)) refl)));
     }
 
 pub condition-returns-in_err-ids-in-AllDifferent : goal.condition-returns-in_err-ids-in-AllDifferent
 condition-returns-in_err-ids-in-AllDifferent s c =
     let same : Node c.e.inside.at (shape.AllDifferent (binders c.in-AllDifferent.over) c.deref-in-AllDifferent.result.now) ≡ c.args.e.now = search rules in
-    let failed : c.from_residual-in_err-ids-in-AllDifferent.result ≡ Err c.in_err-ids-in-AllDifferent.field-0.0 = search rules in
     record {
       made = subst (λ e. MakesCond c.args.scene.now.setting.now c.args.work.now c.behind.new.work (instance (place_of c.args.scene.now (known_in c.args.known.now)) e).cond
           c.from_residual-in_err-ids-in-AllDifferent.result) same
-          (subst (λ r. MakesCond c.args.scene.now.setting.now c.args.work.now c.behind.new.work
-          (instance (place_of c.args.scene.now (known_in c.args.known.now)) (Node c.e.inside.at (shape.AllDifferent (binders c.in-AllDifferent.over) c.deref-in-AllDifferent.result.now))).cond r)
-          (sym failed) c.in_err-ids-in-AllDifferent.ensures.made);
+          (exits _ _ _ c.from_residual-in_err-ids-in-AllDifferent.result c.in_err-ids-in-AllDifferent.field-0.0 (search rules) c.in_err-ids-in-AllDifferent.ensures.made);
     }
 
 pub condition-scheduled-requires : goal.condition-scheduled-requires
 condition-scheduled-requires s c =
     let same : Node c.e.inside.at (shape.Cumulative (binders c.in-Cumulative.over) c.deref-in-Cumulative.result.now c.deref-in-Cumulative-2.result.now c.deref-in-Cumulative-3.result.now
     c.deref-in-Cumulative-4.result.now) ≡ c.args.e.now = search rules in
-    let holds = subst (IsBuildable (known_in c.args.known.now)) (sym same) c.requires.buildable in
+    let holds = subst (IsWalked None (known_in c.args.known.now)) (sym same) c.requires.walked in
     (omega (arith, ap weight same), (c.requires.ready, (c.requires.placed, (holds.0, (holds.1, holds.2)))))
+
+pub each-here-init : goal.each-here-init
+each-here-init s c = left_first _ (map known_in c.args.here.now) c.requires.bodies c.requires.ready c.new-ids.ensures.items
+
+pub each_task-here-init : goal.each_task-here-init
+each_task-here-init s c = left_first _ (map known_in c.args.here.now) c.requires.bodies c.requires.ready c.new-ids.ensures.items
+
+pub each-term-requires : goal.each-term-requires
+each-term-requires s c =
+    let body = (left_holds c.here.invariant (mapped_next known_in c.args.here.now c.here.known-index c.known-item.result c.here-test.true c.known-item.is)).0 in
+    (omega arith, (c.here.invariant.added.ready, (record { exists = c.requires.exists; table = body.0 }, body.1)))
+
+pub each_task-one_task-requires : goal.each_task-one_task-requires
+each_task-one_task-requires s c =
+    let body = (left_holds c.here.invariant (mapped_next known_in c.args.here.now c.here.known-index c.known-item.result c.here-test.true c.known-item.is)).0 in
+    (omega arith, (c.here.invariant.added.ready, (record { exists = c.requires.exists; table = body.0 }, (body.1.0, (body.1.1, body.1.2)))))

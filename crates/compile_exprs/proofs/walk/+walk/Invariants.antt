@@ -1,15 +1,16 @@
 -- Each loop has added what stands before; and each call goes down in weight.
-use Rattle.std.proofs.Common.{◌+◌, ◌*◌, Bool, drop, map}
-use Rattle.compile_laws.specs.Instances.{instance}
+use Rattle.std.proofs.Common.{◌+◌, ◌*◌, None, drop, map}
+use Rattle.std.specs.List.{AllByRecursion}
+use Rattle.compile_counts.specs.Walked.{AreWalked, TermsAreWalked}
+use Rattle.compile_laws.specs.Instances.{chain_instance, conditions, instance, instances, tasks_of, terms_of}
+use Rattle.compile_laws.specs.Subterms.{all_condition_subterms, all_subterms, part_subterms, task_subterms}
 use Rattle.compile_scene.specs.Scenes.{place_of}
 use Rattle.sopl_ast.specs.Known.{Known}
-use Rattle.sopl_ast.specs.Lists.{factors}
-use Rattle.sopl_ast.specs.Tree.{Tree}
+use Rattle.sopl_ast.specs.Lists.{factors, terms, trees}
 use Rattle.sopl_ast.specs.Weight.{weight, weight_of_trees, weight_of_terms, weight_factors, weight_of_binders}
 use Rattle.unfold_constants.specs.Here.{known_in}
-use Rattle.compile_exprs.specs.Buildable.{IsBuildable}
-use Rattle.compile_exprs.specs.Made.{IsBody, IsTaskBody}
-use Rattle.compile_exprs.proofs.Loops.{IsLeft, of_conds, of_parts, of_tasks, of_terms}
+use Rattle.compile_exprs.specs.Made.{AreConds, AreParts, AreTasks, AreTerms, IsBody, IsTaskBody}
+use Rattle.compile_exprs.proofs.Loops.{IsLeft}
 use Rattle.compile_exprs.proofs.Parts.{task_instance}
 use Rattle.compile_exprs.proofs.Products.{IsFactored}
 use Rattle.compile_exprs.proofs.walk.+walk.Given as goal
@@ -69,18 +70,18 @@ decreases-one_task l = 4 * (weight l.task.now.start.now + weight l.task.now.dura
 
 abbrev pub invariant-terms-parts : goal.invariant-terms-parts
 invariant-terms-parts l =
-    IsLeft of_terms (λ e. IsBuildable (known_in l.known) e) (λ e. (instance (place_of l.scene (known_in l.known)) e).term) l.scene.setting.now l.fn.work l.work l.ids.items
-    (drop l.part-index l.parts) l.parts
+    IsLeft (AreTerms l.scene.setting.now) all_subterms (λ es. AreWalked None (known_in l.known) (trees es)) (λ es. instances (place_of l.scene (known_in l.known)) (trees es)) l.scene.setting.now
+    l.fn.work l.work l.ids.items (drop l.part-index l.parts) (instances (place_of l.scene (known_in l.known)) (trees l.parts))
 
 abbrev pub invariant-conditions-parts : goal.invariant-conditions-parts
 invariant-conditions-parts l =
-    IsLeft of_conds (λ e. IsBuildable (known_in l.known) e) (λ e. (instance (place_of l.scene (known_in l.known)) e).cond) l.scene.setting.now l.fn.work l.work l.ids.items
-    (drop l.part-index l.parts) l.parts
+    IsLeft (AreConds l.scene.setting.now) all_condition_subterms (λ es. AreWalked None (known_in l.known) (trees es)) (λ es. conditions (place_of l.scene (known_in l.known)) (trees es))
+    l.scene.setting.now l.fn.work l.work l.ids.items (drop l.part-index l.parts) (conditions (place_of l.scene (known_in l.known)) (trees l.parts))
 
 abbrev pub invariant-chain-parts : goal.invariant-chain-parts
 invariant-chain-parts l =
-    IsLeft of_parts (λ (p : Bool × Tree). IsBuildable (known_in l.known) p.1) (λ (p : Bool × Tree). (p.0, (instance (place_of l.scene (known_in l.known)) p.1).term)) l.scene.setting.now l.fn.work
-    l.work l.ids.items (drop l.part-index l.parts) l.parts
+    IsLeft (AreParts l.scene.setting.now) part_subterms (λ ps. TermsAreWalked None (known_in l.known) (terms ps)) (λ ps. chain_instance (place_of l.scene (known_in l.known)) (terms ps))
+    l.scene.setting.now l.fn.work l.work l.ids.items (drop l.part-index l.parts) (chain_instance (place_of l.scene (known_in l.known)) (terms l.parts))
 
 abbrev pub invariant-multiply-parts : goal.invariant-multiply-parts
 invariant-multiply-parts l =
@@ -88,11 +89,13 @@ invariant-multiply-parts l =
 
 abbrev pub invariant-each-here : goal.invariant-each-here
 invariant-each-here l =
-    IsLeft of_terms (IsBody l.scene.setting.now l.e) (λ (known : Known). (instance (place_of l.scene known) l.e).term) l.scene.setting.now l.fn.work l.work l.ids.items
-    (map known_in (drop l.known-index l.here)) (map known_in l.here)
+    IsLeft (AreTerms l.scene.setting.now) all_subterms (AllByRecursion (IsBody l.scene.setting.now l.e))
+    (λ here. terms_of (map (λ (known : Known). (instance (place_of l.scene known) l.e).term) here)) l.scene.setting.now l.fn.work l.work l.ids.items
+    (map known_in (drop l.known-index l.here)) (terms_of (map (λ (known : Known). (instance (place_of l.scene known) l.e).term) (map known_in l.here)))
 
 abbrev pub invariant-each_task-here : goal.invariant-each_task-here
 invariant-each_task-here l =
-    IsLeft of_tasks (IsTaskBody l.scene.setting.now l.task.start.now l.task.duration.now l.task.demand.now)
-    (λ (known : Known). task_instance l.task.start.now l.task.duration.now l.task.demand.now (place_of l.scene known)) l.scene.setting.now l.fn.work l.work l.ids.items
-    (map known_in (drop l.known-index l.here)) (map known_in l.here)
+    IsLeft (AreTasks l.scene.setting.now) task_subterms (AllByRecursion (IsTaskBody l.scene.setting.now l.task.start.now l.task.duration.now l.task.demand.now))
+    (λ here. tasks_of (map (λ (known : Known). task_instance l.task.start.now l.task.duration.now l.task.demand.now (place_of l.scene known)) here)) l.scene.setting.now l.fn.work l.work l.ids.items
+    (map known_in (drop l.known-index l.here))
+    (tasks_of (map (λ (known : Known). task_instance l.task.start.now l.task.duration.now l.task.demand.now (place_of l.scene known)) (map known_in l.here)))

@@ -1,4 +1,4 @@
-use Rattle.sopl_search.proofs.Entering.{enters, enters_root, some_known, some_root}
+use Rattle.sopl_search.proofs.Entering.{enters, some_known}
 use Rattle.sopl_search.proofs.bounding.enter.Goals as goal
 
 pub enter-requires : goal.enter-requires

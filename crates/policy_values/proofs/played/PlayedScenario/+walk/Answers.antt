@@ -1,6 +1,5 @@
-use Rattle.std.proofs.Common.{rules, arith, ◌≡◌, ◌∙◌, refl, sym, ap, subst, option_map, ◌*◌, ◌+◌, ◌+ℤ◌, ◌++◌, ◌≤◌, ◌∷◌, [], unsigned_abs, neg_ℤ, None, map, if◌then◌else◌}
+use Rattle.std.proofs.Common.{rules, arith, ◌≡◌, ◌∙◌, sym, ap, subst, option_map, ◌*◌, ◌+◌, ◌+ℤ◌, ◌++◌, ◌≤◌, ◌∷◌, [], unsigned_abs, neg_ℤ, map, if◌then◌else◌}
 use Rattle.sopl_base.proofs.Lists.{drop_next}
-use Rattle.compile_counts.proofs.Loops.{none_is}
 use Rattle.sopl_ast.proofs.Lighter.{weight-trees, weight-terms, weight-factors}
 use Rattle.sopl_ast.specs.Constants.{all_bindings}
 use Rattle.sopl_ast.specs.Lists.{binders}
@@ -10,8 +9,8 @@ use Rattle.sopl_ast.specs.Weight.{weight}
 use Rattle.unfold_constants.specs.Here.{known_in}
 use Rattle.policy_values.specs.Listing.{task_numbers}
 use Rattle.policy_values.specs.Played.{place_of}
-use Rattle.policy_values.proofs.Loops.{all_safe, alone, bound_more, left_first, left_holds, left_more, left_none, left_undefined, multiplied_holds, one_more, places_are, summed_holds, summed_more, tasks_back}
-use Rattle.policy_values.proofs.Loops.{tested_holds, truth_either, values_are, values_either}
+use Rattle.policy_values.proofs.Loops.{bound_more, multiplied_holds, places_are, summed_holds, summed_more, tasks_back, valued_holds, valued_more}
+use Rattle.policy_values.proofs.Loops.{tested_holds, truth_either, values_either}
 use Rattle.policy_values.proofs.played.PlayedScenario.+walk.Goals as goal
 
 pub all-condition-requires : goal.all-condition-requires
@@ -88,37 +87,13 @@ sum-parts-preserved t c =
     (subst (λ z. unsigned_abs z ≤ 9223372036854775808 * (c.parts.part-index + 1)) (sym put)
     (bound_more c.parts.sum.value c.in-Some.x c.parts.part-index c.part-item.result.0 c.parts.invariant.bound small)) c.parts.invariant
 
-pub values-parts-init : goal.values-parts-init
-values-parts-init t c =
-    left_first _ _ _ c.args.parts.now _ c.new-found.ensures.items (all_safe (place_of c.args.self.now (known_in c.args.known.now)) c.args.parts.now c.requires.safe)
-
 pub values-number-requires : goal.values-number-requires
 values-number-requires t c = (
   omega (arith, weight-trees c.args.parts.now c.parts.part-index c.part-item.result c.parts-test.true, ap weight c.part-item.is),
-  (
-    c.requires.played,
-    left_holds _ _ _ _ _ _ c.part-item.result _ (drop_next c.args.parts.now c.parts.part-index c.part-item.result c.parts-test.true c.part-item.is) c.parts.invariant,
-  ),
+  (c.requires.played, valued_holds _ _ _ _ c.part-item.result _ (drop_next c.args.parts.now c.parts.part-index c.part-item.result c.parts-test.true c.part-item.is) c.parts.invariant),
 )
-
-pub values-returns-in_default : goal.values-returns-in_default
-values-returns-in_default t c =
-    let none : c.in_ok-x.field-0 ≡ None = search rules in
-    record {
-      values = left_undefined _ _ _ _ _ _ c.part-item.result _ (drop_next c.args.parts.now c.parts.part-index c.part-item.result c.parts-test.true c.part-item.is)
-          (sym none ∙ c.in_ok-x.ensures.value) c.parts.invariant
-          ∙ values_are (place_of c.args.self.now (known_in c.args.known.now)) c.args.parts.now;
-    }
 
 pub values-parts-preserved : goal.values-parts-preserved
 values-parts-preserved t c =
     let put : c.add.new.numbers.items ≡ c.parts.found.items ++ c.in-Some.x ∷ [] = search rules in
-    left_more _ _ _ _ _ _ alone one_more c.part-item.result _ c.in-Some.x c.add.new.numbers.items
-    (drop_next c.args.parts.now c.parts.part-index c.part-item.result c.parts-test.true c.part-item.is) (sym c.in-Some.is ∙ c.in_ok-x.ensures.value) put c.parts.invariant
-
-pub values-returns : goal.values-returns
-values-returns t c =
-    record {
-      values = left_none _ _ _ _ _ _ refl (none_is c.args.parts.now c.parts.part-index c.parts-test.false) c.parts.invariant
-          ∙ values_are (place_of c.args.self.now (known_in c.args.known.now)) c.args.parts.now;
-    }
+    valued_more _ _ _ _ c.part-item.result _ (drop_next c.args.parts.now c.parts.part-index c.part-item.result c.parts-test.true c.part-item.is) c.in-Some.x c.add.new.numbers.items (sym c.in-Some.is ∙ c.in_ok-x.ensures.value) put c.parts.invariant

@@ -2,7 +2,7 @@
 use Rattle.std.proofs.Common.{◌+◌, ◌*◌, drop, map}
 use Rattle.sopl_ast.specs.Known.{Known}
 use Rattle.sopl_ast.specs.Lists.{factors, terms, trees}
-use Rattle.sopl_ast.specs.Meanings.{all_true, meaning, product_value, some_true, sum_value}
+use Rattle.sopl_ast.specs.Meanings.{all_true, defined_values, meaning, product_value, some_true, sum_value}
 use Rattle.sopl_ast.specs.Numbers.{all_of, task_of}
 use Rattle.std.specs.Prelude.{option_map}
 use Rattle.sopl_ast.specs.Weight.{weight, weight_of_trees, weight_of_terms, weight_factors, weight_of_binders}
@@ -10,7 +10,7 @@ use Rattle.unfold_constants.specs.Here.{known_in}
 use Rattle.policy_values.specs.Listing.{task_numbers}
 use Rattle.policy_values.specs.Played.{place_of}
 use Rattle.policy_values.specs.Safe.{IsSafe}
-use Rattle.policy_values.proofs.Loops.{IsLeft, IsMultiplied, IsSummed, IsTested, same_list}
+use Rattle.policy_values.proofs.Loops.{IsLeft, IsMultiplied, IsSummed, IsTested, IsValued, same_list}
 use Rattle.policy_values.proofs.played.PlayedScenario.+walk.Given as goal
 
 abbrev pub decreases-number : goal.decreases-number
@@ -22,11 +22,8 @@ decreases-condition l = 8 * weight l.e.now
 abbrev pub decreases-truth : goal.decreases-truth
 decreases-truth l = 8 * weight l.e.now + 1
 
-abbrev pub decreases-negative : goal.decreases-negative
-decreases-negative l = 8 * weight l.e.now + 3
-
-abbrev pub decreases-absolute : goal.decreases-absolute
-decreases-absolute l = 8 * weight l.e.now + 3
+abbrev pub decreases-called : goal.decreases-called
+decreases-called l = 8 * weight l.e.now + 3
 
 abbrev pub decreases-element : goal.decreases-element
 decreases-element l = 8 * weight_of_trees l.at.now + 1
@@ -94,8 +91,7 @@ decreases-task l = 8 * (weight l.task.now.start.now + weight l.task.now.duration
 
 abbrev pub invariant-values-parts : goal.invariant-values-parts
 invariant-values-parts l =
-    IsLeft (IsSafe (place_of l.self (known_in l.known))) (λ e. (meaning (place_of l.self (known_in l.known)) e).value) same_list l.found.items (drop l.part-index l.parts)
-    (option_map same_list (all_of (λ e. (meaning (place_of l.self (known_in l.known)) e).value) l.parts))
+    IsValued (place_of l.self (known_in l.known)) l.found.items (drop l.part-index l.parts) (defined_values (place_of l.self (known_in l.known)) (trees l.parts))
 
 abbrev pub invariant-sum-parts : goal.invariant-sum-parts
 invariant-sum-parts l =

@@ -1,5 +1,5 @@
 use Rattle.std.proofs.Common.{ap, ◌∙◌}
-use Rattle.term_math.specs.Made.{made}
+use Rattle.term_language.specs.Ends.{made}
 use Rattle.term_math.specs.Shown.{box_in, ends_of}
 use Rattle.term_nodes.specs.Seen.{reading_of}
 use Rattle.term_nodes.specs.Things.{term_at, things}

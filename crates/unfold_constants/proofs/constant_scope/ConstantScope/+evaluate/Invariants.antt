@@ -62,11 +62,8 @@ decreases-some l = 4 * weight_of_trees l.parts.now + 1
 abbrev pub decreases-implied : goal.decreases-implied
 decreases-implied l = 4 * weight l.a.now + 4 * weight l.b.now + 2
 
-abbrev pub decreases-least : goal.decreases-least
-decreases-least l = 4 * weight_of_trees l.parts.now + 1
-
-abbrev pub decreases-greatest : goal.decreases-greatest
-decreases-greatest l = 4 * weight_of_trees l.parts.now + 1
+abbrev pub decreases-selected : goal.decreases-selected
+decreases-selected l = 4 * weight_of_trees l.parts.now + 1
 
 abbrev pub decreases-summed : goal.decreases-summed
 decreases-summed l = 4 * weight_of_binders l.over.now + 4 * weight l.e.now + 5
