@@ -22,7 +22,9 @@ SPECS = CRATES / "sopl_ast" / "specs"
 def codes_of_trees():
     comparisons = codes.variants(CRATES / "sopl_base" / "src" / "comparison.rt", "CmpOp")
     products = codes.variants(CRATES / "sopl_ast" / "src" / "operators.rt", "MulOp")
-    return codes.body(families(SPECS / "Tree.antt"), comparisons, products)
+    functions = codes.variants(CRATES / "sopl_ast" / "src" / "operators.rt", "Function")
+    extremes = codes.variants(CRATES / "sopl_base" / "src" / "extreme.rt", "Extreme")
+    return codes.body(families(SPECS / "Tree.antt"), comparisons, products, functions, extremes)
 
 
 def files():

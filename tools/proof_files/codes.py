@@ -16,6 +16,8 @@ OTHERS = {
     "List ℕ": ("coded_text.code", "coded_text.inj"),
     "CmpOp": ("coded_cmp.code", "coded_cmp.inj"),
     "MulOp": ("coded_mul.code", "coded_mul.inj"),
+    "Function": ("coded_function.code", "coded_function.inj"),
+    "Extreme": ("coded_extreme.code", "coded_extreme.inj"),
 }
 
 
@@ -105,9 +107,11 @@ def inj_lines(family):
     return found
 
 
-def body(families, comparisons, products):
+def body(families, comparisons, products, functions, extremes):
     found = enumerated("CmpOp", "cmp", "a comparison, by a number", comparisons)
     found += enumerated("MulOp", "mul", "an operator of a product, by a number", products)
+    found += enumerated("Function", "function", "a function, by a number", functions)
+    found += enumerated("Extreme", "extreme", "which of several is taken, by a number", extremes)
     found += ["-- a name, by its bytes", "abbrev pub coded_text : Coded (List ℕ)", "coded_text = coded_list coded_ℕ", ""]
     found.append("abbrev mutual")
     for family in families:
