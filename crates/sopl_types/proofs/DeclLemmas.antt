@@ -8,7 +8,7 @@ use Rattle.sopl_ast.specs.Mistakes.{Scope, entity_of, of_declaration, declare, o
 use Rattle.sopl_types.specs.Earliest.{earlier_of, earliest}
 use Rattle.sopl_types.proofs.EarliestLemmas.{earlier_none, earlier_three, earliest_both}
 use Rattle.sopl_types.proofs.Walks.{walk_end}
-use Rattle.sopl_types.proofs.Same.{Same, same_declarations, same_declare_all}
+use Rattle.sopl_types.proofs.Scopes.{Same, same_scope}
 
 module _ (xs : List Decl) (i : ℕ) (s r : Scope) (x : Decl) (below : i < length xs) (at : x ≡ get_or xs i x) (after : Same r (declare (declaration x) s)) where
   -- the mistakes, with the next declaration
@@ -17,7 +17,7 @@ module _ (xs : List Decl) (i : ℕ) (s r : Scope) (x : Decl) (below : i < length
       ≡ earlier_of first (earliest (of_declarations s (map declaration (drop i xs))))
   decls_more first =
       ap (λ ms. earlier_of (earlier_of first (earliest (of_declaration s (declaration x)))) (earliest ms))
-      (same_declarations r (declare (declaration x) s) after (map declaration (drop (i + 1) xs)))
+      (ap (λ known. of_declarations known (map declaration (drop (i + 1) xs))) (same_scope r (declare (declaration x) s) after))
       ∙ earlier_three first (earliest (of_declaration s (declaration x))) (earliest (of_declarations (declare (declaration x) s) (map declaration (drop (i + 1) xs))))
       ∙ ap (earlier_of first) (sym (earliest_both (of_declaration s (declaration x)) (of_declarations (declare (declaration x) s) (map declaration (drop (i + 1) xs))))
       ∙ ap (λ y. earliest (of_declarations s (map declaration (y ∷ drop (i + 1) xs)))) at
@@ -26,7 +26,7 @@ module _ (xs : List Decl) (i : ℕ) (s r : Scope) (x : Decl) (below : i < length
   -- the names, with the next one
   pub names_more : Same (declare_all (map declaration (drop (i + 1) xs)) r) (declare_all (map declaration (drop i xs)) s)
   names_more = λ name.
-      same_declare_all r (declare (declaration x) s) after (map declaration (drop (i + 1) xs)) name
+      ap (λ known. entity_of (declare_all (map declaration (drop (i + 1) xs)) known) name) (same_scope r (declare (declaration x) s) after)
       ∙ ap (λ y. entity_of (declare_all (map declaration (y ∷ drop (i + 1) xs)) s) name) at
       ∙ sym (at_drop_more (λ ys. entity_of (declare_all (map declaration ys) s) name) xs i x below)
 

@@ -5,7 +5,6 @@ pub mod DepthLemmas
 pub mod InitWalks
 pub mod DeclLemmas
 pub mod DeclWalks
-pub mod Same
 pub mod ConsWalks
 pub mod FirstLemmas
 pub mod Whole

@@ -6,7 +6,7 @@ use Rattle.sopl_base.specs.declared.fault.Refusal.{Refusal}
 use Rattle.sopl_ast.specs.declared.operators.MulOp.{MulOp}
 use Rattle.sopl_ast.specs.Tree.{Tree}
 use Rattle.sopl_ast.specs.Lists.{BinderTree, trees, terms, factors, binders}
-use Rattle.sopl_ast.specs.Mistakes.{Scope, Constant, entity_of, known_name, count, of_number, of_numbers, of_condition, of_conditions, of_terms, of_factors, of_binders, of_range, bind, asks_constant}
+use Rattle.sopl_ast.specs.Mistakes.{Scope, with_entity, Constant, entity_of, known_name, count, of_number, of_numbers, of_condition, of_conditions, of_terms, of_factors, of_binders, of_range, bind, asks_constant}
 use Rattle.sopl_types.specs.Earliest.{earlier_of, earliest}
 use Rattle.sopl_types.proofs.EarliestLemmas.{earlier_none, earlier_three, earliest_both}
 
@@ -63,20 +63,20 @@ module _ (scope : Scope) (constant : Bool) (first : Option Refusal) where
 
 module _ (scope : Scope) (xs : List BinderTree) (i : ℕ) where
   pub bind_more : (x : BinderTree) → i < length xs → x ≡ get_or xs i x →
-      bind (binders (drop (i + 1) xs)) ((x.name, Constant 0) ∷ scope) ≡ bind (binders (drop i xs)) scope
-  bind_more x below at = ap (λ y. bind (binders (drop (i + 1) xs)) ((y.name, Constant 0) ∷ scope)) at ∙ sym (at_drop_more (λ ys. bind (binders ys) scope) xs i x below)
+      bind (binders (drop (i + 1) xs)) (with_entity x.name (Constant 0) scope) ≡ bind (binders (drop i xs)) scope
+  bind_more x below at = ap (λ y. bind (binders (drop (i + 1) xs)) (with_entity y.name (Constant 0) scope)) at ∙ sym (at_drop_more (λ ys. bind (binders ys) scope) xs i x below)
 
   pub bind_end : length xs ≤ i → bind (binders (drop i xs)) scope ≡ scope
   bind_end past = at_drop_all (λ ys. bind (binders ys) scope) xs i past
 
   pub binders_more : (first : Option Refusal) (x : BinderTree) → i < length xs → x ≡ get_or xs i x →
       earlier_of (earlier_of first (earliest (known_name (entity_of scope x.name) x.at ++ of_range scope true x.range)))
-      (earliest (of_binders ((x.name, Constant 0) ∷ scope) (binders (drop (i + 1) xs))))
+      (earliest (of_binders (with_entity x.name (Constant 0) scope) (binders (drop (i + 1) xs))))
       ≡ earlier_of first (earliest (of_binders scope (binders (drop i xs))))
   binders_more first x below at =
       let known = known_name (entity_of scope x.name) x.at in
       let range = of_range scope true x.range in
-      let rest = of_binders ((x.name, Constant 0) ∷ scope) (binders (drop (i + 1) xs)) in
+      let rest = of_binders (with_entity x.name (Constant 0) scope) (binders (drop (i + 1) xs)) in
       earlier_three first (earliest (known ++ range)) (earliest rest)
       ∙ ap (earlier_of first) (sym (earliest_both (known ++ range) rest) ∙ ap earliest (append_assoc known range rest)
       ∙ ap (λ y. earliest (of_binders scope (binders (y ∷ drop (i + 1) xs)))) at ∙ sym (ap earliest (at_drop_more (λ ys. of_binders scope (binders ys)) xs i x below)))

@@ -3,7 +3,7 @@
 ghost use Rattle.std.specs.Prelude.{◌≡◌, ◌∷◌, ◌++◌, ℕ, List, [], map, IfOk};
 ghost use Rattle.std.specs.List.{list_any};
 ghost use Rattle.std.specs.Str.{bytes_eq};
-ghost use Rattle.sopl_ast.specs.Mistakes.{entity_of};
+ghost use Rattle.sopl_ast.specs.Mistakes.{entity_of, no_names};
 ghost use Rattle.sopl_types.specs.Entered.{bound_over, declared_in};
 
 use crate::names::{Declared, NameKind};
@@ -16,7 +16,7 @@ use std::alloc::{AllocError, Global};
 pub struct Bound<'a> {
     names: Vec<&'a Name>,
     table: Declared,
-    ghost tabled: { (name : List ℕ) → entity_of (declared_in table) name ≡ entity_of (bound_over (map (λ other. other.now) names.items) []) name },
+    ghost tabled: { (name : List ℕ) → entity_of (declared_in table) name ≡ entity_of (bound_over (map (λ other. other.now) names.items) no_names) name },
 }
 
 impl<'a> Bound<'a> {

@@ -2,7 +2,7 @@
 
 ghost use Rattle.std.specs.Prelude.{◌≡◌, ◌++◌, ℕ, List, [], map, length, true, false, OnOk, IfOk};
 ghost use Rattle.sopl_ast.specs.Decls.{declaration};
-ghost use Rattle.sopl_ast.specs.Mistakes.{entity_of, bind_dim, bind_dims, of_dim_name, of_dims, of_range, of_stage, of_outcomes, of_number, of_init, first_of, wrong_depths};
+ghost use Rattle.sopl_ast.specs.Mistakes.{entity_of, no_names, bind_dim, bind_dims, of_dim_name, of_dims, of_range, of_stage, of_outcomes, of_number, of_init, first_of, wrong_depths};
 ghost use Rattle.sopl_ast.specs.Mistakes.{of_declaration, of_declarations, declare, declare_all};
 ghost use Rattle.sopl_ast.specs.Inits.{init_tree};
 ghost use Rattle.sopl_ast.specs.Ranges.{range_of};
@@ -236,8 +236,8 @@ fn next_mistake(
 #[tactic(auto, using(crate::proofs::DeclLemmas::decl_lemmas))]
 pub fn declarations(alloc: Global, decls: &[Decl]) -> Result<Declaring, AllocError>
     ensures names { IfOk result (λ all. (name : List ℕ) → entity_of (declared_in all.declared) name
-        ≡ entity_of (declare_all (map declaration decls.now) []) name) }
-    ensures first { IfOk result (λ all. all.first ≡ earliest (of_declarations [] (map declaration decls.now))) }
+        ≡ entity_of (declare_all (map declaration decls.now) no_names) name) }
+    ensures first { IfOk result (λ all. all.first ≡ earliest (of_declarations no_names (map declaration decls.now))) }
 {
     let mut declared = Declared::new(alloc);
     let mut first = None;

@@ -47,7 +47,7 @@ impl<'a> Names<'a> {
                 let own = misused(constant, self.entity(name), indices.len(), e.at);
                 Ok(earlier(own, self.numbers(constant, indices)?))
             }
-            Kind::Neg(a) | Kind::Abs(a) => self.number(constant, a),
+            Kind::Call(_, a) => self.number(constant, a),
             Kind::Add(parts) => self.terms(constant, parts.as_slice()),
             Kind::Mul(parts) => {
                 let first = self.number(constant, parts.first())?;
@@ -66,9 +66,7 @@ impl<'a> Names<'a> {
             Kind::Sum(over, a) | Kind::AllDifferent(over, a) => {
                 (&*self).under(constant, over.as_slice(), a)
             }
-            Kind::Least(parts) | Kind::Greatest(parts) => {
-                self.numbers(constant, parts.as_slice())
-            }
+            Kind::Selected(_, parts) => self.numbers(constant, parts.as_slice()),
             Kind::Cumulative(over, start, length, demand, capacity) => {
                 let within = (&*self).bind(over.as_slice())?;
                 let first = within.names.triple(constant, start, length, demand)?;

@@ -1,8 +1,8 @@
 //! What the names of a model stand for.
 
-ghost use Rattle.std.specs.Prelude.{◌≡◌, ℕ, List, [], ◌∷◌, OnOk};
+ghost use Rattle.std.specs.Prelude.{◌≡◌, ℕ, List, OnOk};
 ghost use Rattle.std.specs.Option.{option_map};
-ghost use Rattle.sopl_ast.specs.Mistakes.{Constant, entity_of};
+ghost use Rattle.sopl_ast.specs.Mistakes.{Constant, entity_of, no_names, with_entity};
 ghost use Rattle.sopl_types.specs.Entered.{seen, declared_in};
 ghost use Rattle.sopl_types.specs.Known.{known_in, known_outside};
 
@@ -31,7 +31,7 @@ pub struct Declared {
 impl Declared {
     /// No names; it takes no memory.
     pub fn new(alloc: Global) -> Self
-        ensures { declared_in result ≡ [] }
+        ensures { declared_in result ≡ no_names }
     {
         Declared {
             entries: IndexMap::new(alloc),
@@ -46,7 +46,7 @@ impl Declared {
         entity: NameKind,
     ) -> Result<(), AllocError>
         ensures { OnOk result ((other : List ℕ) → entity_of (declared_in self.new) other
-            ≡ entity_of ((name.now, seen entity) ∷ declared_in self.old) other) }
+            ≡ entity_of (with_entity name.now (seen entity) (declared_in self.old)) other) }
     {
         let key = Vec::from_slice(alloc, name.as_slice())?;
         self.entries.insert(key, entity)?;
@@ -120,7 +120,7 @@ impl<'a> Names<'a> {
 
     /// Adds a name that goes over a range.
     pub fn add(&mut self, name: &'a Name) -> Result<(), AllocError>
-        ensures { OnOk result (known_in self.new ≡ (name.now, Constant 0) ∷ known_in self.old) }
+        ensures { OnOk result (known_in self.new ≡ with_entity name.now (Constant 0) (known_in self.old)) }
     {
         let none = Bound::new(self.alloc);
         let bound = mem::replace(&mut self.bound, none);
