@@ -3,3 +3,4 @@ pub mod Claiming
 pub mod Replying
 pub mod Ending
 pub mod Written
+pub mod Roots

@@ -33,7 +33,7 @@ use Rattle.answer_texts.specs.declared.command.Command.TheVariants.{Solve}
 use Rattle.answer_texts.specs.declared.command.Detail.TheVariants.{Full}
 use Rattle.answer_texts.specs.declared.reply.Reply.{Reply}
 use Rattle.answer_texts.specs.declared.status.Status.{Status}
-use Rattle.answer_texts.specs.declared.status.Status.TheVariants.{Done, Failing, Unreadable}
+use Rattle.answer_texts.specs.declared.status.Status.TheVariants.{Done, Failing, Limit, Refused, Unreadable}
 use Rattle.answer_texts.proofs.Answered.{unsolved_so}
 use Rattle.answer_texts.proofs.Printing.{same_denominator}
 use Rattle.answer_check.specs.CheckData.{unreadable_data}
@@ -108,22 +108,14 @@ program_replies text log program (Ok reply) is replies =
 program_replies text log program (Err error) is replies = tt
 
 -- no such reply tells of the text
+not_away : (status : Status) → ¬ (status ≡ Refused) → ¬ (status ≡ Limit) → ¬ IsTurnedAway status
+not_away status other another (inl is) = other is
+not_away status other another (inr is) = another is
+
 log_judged : (problem : Problem) (log : List ℕ) (status : Status) (line : List ℕ) → IsLogReply problem log status line → ¬ IsTurnedAway status
-log_judged problem log _ _ (accepted rows claim reads right true_of) = λ away. by_end away
-  where
-    by_end : IsTurnedAway Done → ⊥
-    by_end (inl is) = cc
-    by_end (inr is) = cc
-log_judged problem log _ _ (rejected rows claim node at reads wrong) = λ away. by_end away
-  where
-    by_end : IsTurnedAway Failing → ⊥
-    by_end (inl is) = cc
-    by_end (inr is) = cc
-log_judged problem log _ _ (unreadable code at mistaken) = λ away. by_end away
-  where
-    by_end : IsTurnedAway Unreadable → ⊥
-    by_end (inl is) = cc
-    by_end (inr is) = cc
+log_judged problem log _ _ (accepted rows claim reads right true_of) = not_away Done (λ e. cc) (λ e. cc)
+log_judged problem log _ _ (rejected rows claim node at reads wrong) = not_away Failing (λ e. cc) (λ e. cc)
+log_judged problem log _ _ (unreadable code at mistaken) = not_away Unreadable (λ e. cc) (λ e. cc)
 
 pub program_judged : (text log : List ℕ) (program : Program) (result : Result Reply AllocError) (is : IsProgramFor text program)
     → ((model : ModelTree) → IsUnfolded model → IsProgramOf (problem_of model) program

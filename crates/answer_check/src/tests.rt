@@ -1,4 +1,5 @@
 mod changes;
+mod other_programs;
 
 use super::{fault_reply, program_reply, program_to_check};
 use answer_texts::{Reply, Status};
@@ -13,6 +14,9 @@ const NONE: &str = "dvar int x in 0..1; subject to { x >= 2; }";
 
 const ORDER: &str =
     "dvar int x in 0..5 stage 1; stoch int d in {1:1, 3:1} stage 1; dvar int y in 0..3 stage 2; maximize expected(4*y - 3*x); subject to { y <= d; y <= x; }";
+
+const AHEAD: &str =
+    "dvar int x in 0..5; stoch int d in {1:1, 3:1} stage 1; minimize expected(x); subject to { prob(x >= d) >= 1/1; }";
 
 const LARGE: &str = "dvar int x in 0..65535; subject to { x*1099511627776 >= 0; }";
 
@@ -112,6 +116,41 @@ const LOGS: &[(&str, &str, &str, Status, &str)] = &[
         "sopl-log 1 / n 0 r / s h 0 0 1 le 1 / s b 0 le 2 / s h 1 1 2 le 2 / s b 0 le 1 / s h 1 1 2 le 1 / x 0 0 / n 1 0 l / s h 1 0 1 le 0 / s h 1 1 2 le 0 / v / n 2 0 h / x 1 0 / n 3 2 l / v / n 4 2 h / x 2 0 / n 5 4 l / f b / n 6 4 h / v / end optimal 2",
         Status::Failing,
         r#"{"answer":"rejected","line":16,"node":3}"#,
+    ),
+    (
+        "a chance constraint and the bound, each of which closes one side",
+        AHEAD,
+        "sopl-log 1 / n 0 r / x 0 2 / n 1 0 l / f c 0 / n 2 0 h / x 0 3 / n 3 2 l / v / n 4 2 h / f b / end optimal 6",
+        Status::Done,
+        r#"{"answer":"accepted","claim":"optimal","value":"6/2"}"#,
+    ),
+    (
+        "a chance constraint that closes one side and not the other",
+        AHEAD,
+        "sopl-log 1 / n 0 r / x 0 2 / n 1 0 l / f c 0 / n 2 0 h / x 0 3 / n 3 2 l / v / n 4 2 h / f c 0 / end optimal 6",
+        Status::Failing,
+        r#"{"answer":"rejected","line":11,"node":4}"#,
+    ),
+    (
+        "a bound that closes one side and not the other",
+        AHEAD,
+        "sopl-log 1 / n 0 r / x 0 2 / n 1 0 h / x 0 3 / n 2 1 l / v / n 3 1 h / f b / n 4 0 l / f b / end optimal 6",
+        Status::Failing,
+        r#"{"answer":"rejected","line":11,"node":4}"#,
+    ),
+    (
+        "steps of a chance constraint and of the bound in turn",
+        AHEAD,
+        "sopl-log 1 / n 0 r / s c 0 0 ge 2 / s b 0 le 4 / s c 0 0 ge 3 / s b 0 le 3 / v / end optimal 6",
+        Status::Done,
+        r#"{"answer":"accepted","claim":"optimal","value":"6/2"}"#,
+    ),
+    (
+        "a step that a chance constraint does not refute, behind one that it does",
+        AHEAD,
+        "sopl-log 1 / n 0 r / s c 0 0 ge 2 / s c 0 0 le 3 / v / end optimal 6",
+        Status::Failing,
+        r#"{"answer":"rejected","line":4,"node":0}"#,
     ),
     (
         "a value that no point of the log has",

@@ -3,8 +3,7 @@ use Rattle.std.proofs.Common.{◌≡◌, ◌∙◌, ℕ, List, Option, Some, Non
 use Rattle.std.specs.Option.{option_and_then}
 use Rattle.brancher.specs.Picks.{chosen_rule}
 use Rattle.brancher.specs.Rules.{Rule}
-use Rattle.sopl_search.specs.Logged.{SearchPlan, plan_of}
-use Rattle.sopl_search.specs.declared.schedule.Schedule.{Schedule}
+use Rattle.sopl_search.specs.Logged.{SearchPlan}
 use Rattle.answer_run.specs.Words.{Request, WordRequest, asked_of, asked_with, no_one_has, request_of, request_with}
 
 abbrev plan_with : ℕ → Option ℕ → Option Rule → ℕ → SearchPlan
@@ -29,9 +28,3 @@ module _ (kinds : List (List ℕ × Rule)) (words : List (List ℕ)) where
 
     pub found_asked : no_one_has r.branch found ≡ false → asked_of kinds words ≡ Some (request_with r found)
     found_asked there = by_found ∙ ap with_bool there
-
--- the plan of a schedule with these seats and this order
-pub plan_is : (schedule : Schedule) (asked : Option Rule) (budget seats : ℕ) (order : Option ℕ) → schedule.seats ≡ seats → schedule.order ≡ order
-    → plan_of schedule asked budget ≡ plan_with seats order asked budget
-plan_is schedule asked budget seats order same ordered =
-    ap (λ s. plan_with s schedule.order asked budget) same ∙ ap (λ o. plan_with seats o asked budget) ordered

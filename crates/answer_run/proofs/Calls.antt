@@ -1,7 +1,7 @@
 -- What came of the calls of a run, by what came of those on the way to its reply and of those that write its line.
 use Rattle.std.proofs.Common.{◌≡◌, ℕ, List, Option, Result, Ok, Err, IfOk, IfErr, refl, sym, subst, string_bytes}
 use Rattle.std.proofs.KnownBytes.{Keeps-refl}
-use Rattle.sopl_io.specs.Calls.{Outcomes, AllSucceeded, no_call, LastFailed, StopsWhere}
+use Rattle.sopl_io.specs.Calls.{Outcomes, AllSucceeded, no_call, StopsWhere}
 use Rattle.sopl_io.proofs.Calling.{calls_last, calls_more}
 use Rattle.sopl_base.specs.declared.stop.SearchStop.{SearchStop}
 use Rattle.sopl_base.specs.declared.stop.SearchStop.TheVariants.{Write}
@@ -12,7 +12,7 @@ use Rattle.answer_texts.specs.Replies.{Replies}
 use Rattle.answer_texts.specs.declared.command.Command.{Command}
 use Rattle.answer_texts.specs.declared.reply.Reply.{Reply}
 use Rattle.answer_texts.specs.declared.status.Status.{Status}
-use Rattle.answer_texts.specs.declared.status.Status.TheVariants.{Usage, ReadFault, WriteFault, NoMemory}
+use Rattle.answer_texts.specs.declared.status.Status.TheVariants.{Usage, WriteFault, NoMemory}
 use Rattle.answer_texts.proofs.Ends.{end_status, reply_ends}
 use Rattle.answer_run.specs.Calls.{calls_of, TellsReadFault, told_so, not_told, no_memory, EndsAtFailure, none_failed, read_failed, log_failed, answer_failed}
 use Rattle.answer_run.specs.Calls.{ReplyCalls, calls_succeed, source_fails, log_fails, LineCalls, line_taken, line_cut}
@@ -24,12 +24,6 @@ module _ (source_before source_now log_before log_now : Outcomes) where
       → ReplyCalls source_before source_before log_before log_before result
   usage_calls (Ok reply) status memory = calls_succeed no_call no_call (λ e. cc) (λ e. cc)
   usage_calls (Err stop) status memory = calls_succeed no_call no_call (λ e. cc) tt
-
-  -- one behind a read that failed
-  pub fault_calls : (result : Result Reply SearchStop) → LastFailed source_before source_now → IfOk result (λ reply. reply.status ≡ ReadFault)
-      → IfErr result (λ stop. stop ≡ search.NoMemory) → ReplyCalls source_before source_now log_before log_before result
-  fault_calls (Ok reply) last status memory = source_fails last refl (λ e. cc) status
-  fault_calls (Err stop) last status memory = source_fails last refl (λ e. cc) tt
 
   -- no reply, since there was no memory for the text
   pub unread_calls : AllSucceeded source_before source_now → ReplyCalls source_before source_now log_before log_before (Err search.NoMemory)

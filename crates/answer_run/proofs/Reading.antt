@@ -6,7 +6,6 @@ use Rattle.sopl_io.specs.Stock.{Stock, begun_stock, text_of, with_name}
 use Rattle.sopl_io.specs.Transfer.{cut_at}
 use Rattle.sopl_base.specs.declared.stop.SearchStop.{SearchStop}
 use Rattle.sopl_base.specs.declared.stop.SearchStop.TheVariants as search
-use Rattle.sopl_base.proofs.Booleans.{impossible}
 use Rattle.log_rows.proofs.Written.{rose_later}
 use Rattle.answer_texts.specs.declared.command.Command.{Command}
 use Rattle.answer_texts.specs.declared.reply.Reply.{Reply}
@@ -16,10 +15,10 @@ use Rattle.answer_texts.specs.Away.{IsTurnedAway}
 use Rattle.answer_run.specs.declared.commands.Job.TheVariants.{Text, Pair}
 use Rattle.answer_run.specs.declared.commands.PairCommand.{PairCommand}
 use Rattle.answer_run.specs.Words.{Request, is_drawn, reads_files}
-use Rattle.answer_run.specs.Replies.{Asked, asked_by, asked_in, asked_on, second_given, IsAnswered, IsTaken, BeginsFiles, no_file, model_alone, model_and_second}
+use Rattle.answer_run.specs.Replies.{Asked, asked_by, asked_in, asked_on, IsAnswered, IsTaken, BeginsFiles, no_file, model_alone, model_and_second}
 use Rattle.answer_run.specs.Runs.{IsWritten, all, part, LeavesSecond, BeginsSecond, second_not_begun, second_begun, meant_status, stop_status}
 use Rattle.answer_run.specs.Reads.{TakesAtMost}
-use Rattle.answer_run.proofs.Statuses.{asked_drawn, asked_read, early_no_answer}
+use Rattle.answer_run.proofs.Statuses.{asked_read, early_no_answer}
 use Rattle.answer_run.proofs.WholeText.{taken_whole}
 
 -- what the stock gives for the files of a request
@@ -37,16 +36,6 @@ module _ (wanted : Option Request) (stock : Option Stock) (most before now : ℕ
       by_stock : (o : Option Stock) → IfSome o (λ s. LeavesRest (Some most) (text_of s request.model) before now left) → TakesAtMost most (read_by request o) before now left
       by_stock None rest = tt
       by_stock (Some s) rest = λ read. inl rest
-
-  -- where the words name none
-  pub none_taken : wanted ≡ None → TakesAtMost most (asked_in stock wanted) before now left
-  none_taken none = subst (λ o. TakesAtMost most (option_and_then (asked_by stock) o) before now left) (sym none) tt
-
-  -- where the text is drawn
-  pub drawn_taken : (request : Request) → wanted ≡ Some request → is_drawn request.job ≡ true → TakesAtMost most (asked_in stock wanted) before now left
-  drawn_taken request asked drawn =
-      subst (λ o. TakesAtMost most (option_and_then (asked_by stock) o) before now left) (sym asked)
-      (subst (λ a. TakesAtMost most a before now left) (sym (asked_drawn stock request drawn)) (λ read. absurd (impossible (sym drawn ∙ read))))
 
 rest_earlier : (most : Option ℕ) (text : List ℕ) (before later now : ℕ) (left : Option (List ℕ)) → before ≤ later → LeavesRest most text later now left
     → LeavesRest most text before now left

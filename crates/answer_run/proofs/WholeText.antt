@@ -223,14 +223,6 @@ module _ (wanted : Option Request) (stock : Option Stock) (before now : ℕ) (at
       → IfOk result (Replied wanted stock before now at at)
   fault_replied request asked files rose result ends is = word_replied ReadFault (codes "read fault") (read_fault (files_read request wanted asked files) rose) result ends is
 
-  -- where memory ran out before any log
-  pub memory_stops : (result : Result Reply SearchStop) → IfErr result (λ stop. stop ≡ NoMemory) → IfErr result (StopsWith wanted stock at at)
-  memory_stops (Ok reply) memory = tt
-  memory_stops (Err stop) memory = subst (StopsWith wanted stock at at) (sym memory) (inl unused)
-
-  pub want_stops : StopsWith wanted stock at at NoMemory
-  want_stops = inl unused
-
 -- A command on a text that is drawn.
 
 module _ (request : Request) (stock : Option Stock) (before now : ℕ) (old new : SinkState) where

@@ -1,4 +1,4 @@
-use Rattle.std.proofs.Common.{rules, ◌≡◌, ◌∙◌, true, false, Option, Some, None, IfOk, IfErr, map, option_map, sym, subst}
+use Rattle.std.proofs.Common.{rules, ◌≡◌, ◌∙◌, true, false, Option, Some, IfOk, IfErr, map, option_map, sym, subst}
 use Rattle.std.specs.Io.KnownBytes.{IsAtEnd}
 use Rattle.answer_texts.specs.Logs.{told}
 use Rattle.answer_texts.specs.declared.reply.Reply.{Reply}
@@ -15,9 +15,7 @@ use Rattle.answer_run.proofs.top.reply_for.Goals as goal
 
 pub returns-in_default-clause-reply : goal.returns-in_default-clause-reply
 returns-in_default-clause-reply g c =
-    let none : asked_of (map (λ b. ((goal.Brancher-dyn g (b.vtable, b.value)).label b.value, (goal.Brancher-dyn g (b.vtable, b.value)).rule b.value)) c.args.branchers.items) c.args.words.now ≡ None =
-    none_asked (map (λ b. ((goal.Brancher-dyn g (b.vtable, b.value)).label b.value, (goal.Brancher-dyn g (b.vtable, b.value)).rule b.value)) c.args.branchers.items)
-    c.args.words.now (search rules) in
+    let none = none_asked (map (λ b. ((goal.Brancher-dyn g (b.vtable, b.value)).label b.value, (goal.Brancher-dyn g (b.vtable, b.value)).rule b.value)) c.args.branchers.items) c.args.words.now (search rules) in
     usage_replied (asked_of (map (λ b. ((goal.Brancher-dyn g (b.vtable, b.value)).label b.value, (goal.Brancher-dyn g (b.vtable, b.value)).rule b.value)) c.args.branchers.items) c.args.words.now)
     (g.S.Source.stock c.args.source.now) (g.S.Source.faults c.args.source.now) (g.S.Source.faults c.args.source.now)
     (told (g.K.Sink.taken c.args.log.now) (g.K.Sink.names c.args.log.now)) none c.word_reply.result c.word_reply.ensures.status c.word_reply.ensures.line
@@ -29,18 +27,14 @@ returns-in_default-clause-outcomes g c =
 
 pub returns-in_default-clause-names : goal.returns-in_default-clause-names
 returns-in_default-clause-names g c =
-    let none : asked_of (map (λ b. ((goal.Brancher-dyn g (b.vtable, b.value)).label b.value, (goal.Brancher-dyn g (b.vtable, b.value)).rule b.value)) c.args.branchers.items) c.args.words.now ≡ None =
-    none_asked (map (λ b. ((goal.Brancher-dyn g (b.vtable, b.value)).label b.value, (goal.Brancher-dyn g (b.vtable, b.value)).rule b.value)) c.args.branchers.items)
-    c.args.words.now (search rules) in
+    let none = none_asked (map (λ b. ((goal.Brancher-dyn g (b.vtable, b.value)).label b.value, (goal.Brancher-dyn g (b.vtable, b.value)).rule b.value)) c.args.branchers.items) c.args.words.now (search rules) in
     none_begun (asked_of (map (λ b. ((goal.Brancher-dyn g (b.vtable, b.value)).label b.value, (goal.Brancher-dyn g (b.vtable, b.value)).rule b.value)) c.args.branchers.items) c.args.words.now)
     (g.S.Source.stock c.args.source.now) (g.S.Source.names c.args.source.now) none (meant_status c.word_reply.result)
 
 pub returns-then-is_missing-clause-reply : goal.returns-then-is_missing-clause-reply
 returns-then-is_missing-clause-reply g c =
-    let none : asked_of (map (λ b. ((goal.Brancher-dyn g (b.vtable, b.value)).label b.value, (goal.Brancher-dyn g (b.vtable, b.value)).rule b.value)) c.args.branchers.items) c.args.words.now ≡ None =
-    missing_asked (map (λ b. ((goal.Brancher-dyn g (b.vtable, b.value)).label b.value, (goal.Brancher-dyn g (b.vtable, b.value)).rule b.value)) c.args.branchers.items)
-    c.args.words.now (request_shown c.in-Some.request) (option_map (λ b. (goal.Brancher-dyn g (b.vtable, b.value)).rule b.value) c.chosen-brancher.result) (search rules) c.chosen-brancher.ensures
-    (sym c.is_missing.ensures.missing ∙ c.if-is_missing.true) in
+    let none =
+    missing_asked (map (λ b. ((goal.Brancher-dyn g (b.vtable, b.value)).label b.value, (goal.Brancher-dyn g (b.vtable, b.value)).rule b.value)) c.args.branchers.items) c.args.words.now (request_shown c.in-Some.request) (option_map (λ b. (goal.Brancher-dyn g (b.vtable, b.value)).rule b.value) c.chosen-brancher.result) (search rules) c.chosen-brancher.ensures (sym c.is_missing.ensures.missing ∙ c.if-is_missing.true) in
     usage_replied (asked_of (map (λ b. ((goal.Brancher-dyn g (b.vtable, b.value)).label b.value, (goal.Brancher-dyn g (b.vtable, b.value)).rule b.value)) c.args.branchers.items) c.args.words.now)
     (g.S.Source.stock c.args.source.now) (g.S.Source.faults c.args.source.now) (g.S.Source.faults c.args.source.now)
     (told (g.K.Sink.taken c.args.log.now) (g.K.Sink.names c.args.log.now)) none c.word_reply-then-is_missing.result c.word_reply-then-is_missing.ensures.status c.word_reply-then-is_missing.ensures.line
@@ -52,68 +46,34 @@ returns-then-is_missing-clause-outcomes g c =
 
 pub returns-then-is_missing-clause-names : goal.returns-then-is_missing-clause-names
 returns-then-is_missing-clause-names g c =
-    let none : asked_of (map (λ b. ((goal.Brancher-dyn g (b.vtable, b.value)).label b.value, (goal.Brancher-dyn g (b.vtable, b.value)).rule b.value)) c.args.branchers.items) c.args.words.now ≡ None =
-    missing_asked (map (λ b. ((goal.Brancher-dyn g (b.vtable, b.value)).label b.value, (goal.Brancher-dyn g (b.vtable, b.value)).rule b.value)) c.args.branchers.items)
-    c.args.words.now (request_shown c.in-Some.request) (option_map (λ b. (goal.Brancher-dyn g (b.vtable, b.value)).rule b.value) c.chosen-brancher.result) (search rules) c.chosen-brancher.ensures
-    (sym c.is_missing.ensures.missing ∙ c.if-is_missing.true) in
+    let none =
+    missing_asked (map (λ b. ((goal.Brancher-dyn g (b.vtable, b.value)).label b.value, (goal.Brancher-dyn g (b.vtable, b.value)).rule b.value)) c.args.branchers.items) c.args.words.now (request_shown c.in-Some.request) (option_map (λ b. (goal.Brancher-dyn g (b.vtable, b.value)).rule b.value) c.chosen-brancher.result) (search rules) c.chosen-brancher.ensures (sym c.is_missing.ensures.missing ∙ c.if-is_missing.true) in
     none_begun (asked_of (map (λ b. ((goal.Brancher-dyn g (b.vtable, b.value)).label b.value, (goal.Brancher-dyn g (b.vtable, b.value)).rule b.value)) c.args.branchers.items) c.args.words.now)
     (g.S.Source.stock c.args.source.now) (g.S.Source.names c.args.source.now) none (meant_status c.word_reply-then-is_missing.result)
 
-pub returns-clause-reply : goal.returns-clause-reply
-returns-clause-reply g c =
-    let asked : asked_of (map (λ b. ((goal.Brancher-dyn g (b.vtable, b.value)).label b.value, (goal.Brancher-dyn g (b.vtable, b.value)).rule b.value)) c.args.branchers.items) c.args.words.now ≡
-    Some (request_with (request_shown c.in-Some.request) (option_map (λ b. (goal.Brancher-dyn g (b.vtable, b.value)).rule b.value) c.chosen-brancher.result)) =
+pub returns : goal.returns
+returns g c =
+    let asked : asked_of (map (λ b. ((goal.Brancher-dyn g (b.vtable, b.value)).label b.value, (goal.Brancher-dyn g (b.vtable, b.value)).rule b.value)) c.args.branchers.items) c.args.words.now ≡ Some (request_with (request_shown c.in-Some.request) (option_map (λ b. (goal.Brancher-dyn g (b.vtable, b.value)).rule b.value) c.chosen-brancher.result)) =
     found_asked (map (λ b. ((goal.Brancher-dyn g (b.vtable, b.value)).label b.value, (goal.Brancher-dyn g (b.vtable, b.value)).rule b.value)) c.args.branchers.items)
     c.args.words.now (request_shown c.in-Some.request) (option_map (λ b. (goal.Brancher-dyn g (b.vtable, b.value)).rule b.value) c.chosen-brancher.result) (search rules) c.chosen-brancher.ensures
     (sym c.is_missing.ensures.missing ∙ c.if-is_missing.false) in
-    subst (λ (w : Option Request). IfOk c.request_reply.result (Replied w (g.S.Source.stock c.args.source.now) (g.S.Source.faults c.args.source.now) (g.S.Source.faults c.request_reply.new.source)
-    (told (g.K.Sink.taken c.args.log.now) (g.K.Sink.names c.args.log.now)) (told (g.K.Sink.taken c.request_reply.new.log) (g.K.Sink.names c.request_reply.new.log)))) (sym asked) c.request_reply.ensures.reply
-
-pub returns-clause-stopped : goal.returns-clause-stopped
-returns-clause-stopped g c =
-    let asked : asked_of (map (λ b. ((goal.Brancher-dyn g (b.vtable, b.value)).label b.value, (goal.Brancher-dyn g (b.vtable, b.value)).rule b.value)) c.args.branchers.items) c.args.words.now ≡
-    Some (request_with (request_shown c.in-Some.request) (option_map (λ b. (goal.Brancher-dyn g (b.vtable, b.value)).rule b.value) c.chosen-brancher.result)) =
-    found_asked (map (λ b. ((goal.Brancher-dyn g (b.vtable, b.value)).label b.value, (goal.Brancher-dyn g (b.vtable, b.value)).rule b.value)) c.args.branchers.items)
-    c.args.words.now (request_shown c.in-Some.request) (option_map (λ b. (goal.Brancher-dyn g (b.vtable, b.value)).rule b.value) c.chosen-brancher.result) (search rules) c.chosen-brancher.ensures
-    (sym c.is_missing.ensures.missing ∙ c.if-is_missing.false) in
-    subst (λ (w : Option Request). IfErr c.request_reply.result (StopsWith w (g.S.Source.stock c.args.source.now)
-    (told (g.K.Sink.taken c.args.log.now) (g.K.Sink.names c.args.log.now)) (told (g.K.Sink.taken c.request_reply.new.log) (g.K.Sink.names c.request_reply.new.log)))) (sym asked) c.request_reply.ensures.stopped
-
-pub returns-clause-ended : goal.returns-clause-ended
-returns-clause-ended g c =
-    let asked : asked_of (map (λ b. ((goal.Brancher-dyn g (b.vtable, b.value)).label b.value, (goal.Brancher-dyn g (b.vtable, b.value)).rule b.value)) c.args.branchers.items) c.args.words.now ≡
-    Some (request_with (request_shown c.in-Some.request) (option_map (λ b. (goal.Brancher-dyn g (b.vtable, b.value)).rule b.value) c.chosen-brancher.result)) =
-    found_asked (map (λ b. ((goal.Brancher-dyn g (b.vtable, b.value)).label b.value, (goal.Brancher-dyn g (b.vtable, b.value)).rule b.value)) c.args.branchers.items)
-    c.args.words.now (request_shown c.in-Some.request) (option_map (λ b. (goal.Brancher-dyn g (b.vtable, b.value)).rule b.value) c.chosen-brancher.result) (search rules) c.chosen-brancher.ensures
-    (sym c.is_missing.ensures.missing ∙ c.if-is_missing.false) in
-    subst (λ (w : Option Request). reads_files w ≡ true → IfOk c.request_reply.result (λ (reply : Reply). IsAnswered reply.status → IsAtEnd (g.S.Source.left c.request_reply.new.source))) (sym asked) c.request_reply.ensures.ended
-
-pub returns-clause-taken_at_most : goal.returns-clause-taken_at_most
-returns-clause-taken_at_most g c =
-    let asked : asked_of (map (λ b. ((goal.Brancher-dyn g (b.vtable, b.value)).label b.value, (goal.Brancher-dyn g (b.vtable, b.value)).rule b.value)) c.args.branchers.items) c.args.words.now ≡
-    Some (request_with (request_shown c.in-Some.request) (option_map (λ b. (goal.Brancher-dyn g (b.vtable, b.value)).rule b.value) c.chosen-brancher.result)) =
-    found_asked (map (λ b. ((goal.Brancher-dyn g (b.vtable, b.value)).label b.value, (goal.Brancher-dyn g (b.vtable, b.value)).rule b.value)) c.args.branchers.items)
-    c.args.words.now (request_shown c.in-Some.request) (option_map (λ b. (goal.Brancher-dyn g (b.vtable, b.value)).rule b.value) c.chosen-brancher.result) (search rules) c.chosen-brancher.ensures
-    (sym c.is_missing.ensures.missing ∙ c.if-is_missing.false) in
-    subst (λ (w : Option Request). TakesAtMost 1048577 (asked_in (g.S.Source.stock c.args.source.now) w) (g.S.Source.faults c.args.source.now) (g.S.Source.faults c.request_reply.new.source)
-    (g.S.Source.left c.request_reply.new.source)) (sym asked) c.request_reply.ensures.taken_at_most
-
-pub returns-clause-untouched : goal.returns-clause-untouched
-returns-clause-untouched g c =
-    let asked : asked_of (map (λ b. ((goal.Brancher-dyn g (b.vtable, b.value)).label b.value, (goal.Brancher-dyn g (b.vtable, b.value)).rule b.value)) c.args.branchers.items) c.args.words.now ≡
-    Some (request_with (request_shown c.in-Some.request) (option_map (λ b. (goal.Brancher-dyn g (b.vtable, b.value)).rule b.value) c.chosen-brancher.result)) =
-    found_asked (map (λ b. ((goal.Brancher-dyn g (b.vtable, b.value)).label b.value, (goal.Brancher-dyn g (b.vtable, b.value)).rule b.value)) c.args.branchers.items)
-    c.args.words.now (request_shown c.in-Some.request) (option_map (λ b. (goal.Brancher-dyn g (b.vtable, b.value)).rule b.value) c.chosen-brancher.result) (search rules) c.chosen-brancher.ensures
-    (sym c.is_missing.ensures.missing ∙ c.if-is_missing.false) in
-    subst (λ (w : Option Request). reads_files w ≡ false → IsUntouched (g.S.Source.left c.args.source.now) (g.S.Source.stock c.args.source.now) (g.S.Source.faults c.args.source.now)
-    (g.S.Source.left c.request_reply.new.source) (g.S.Source.stock c.request_reply.new.source) (g.S.Source.faults c.request_reply.new.source)) (sym asked) c.request_reply.ensures.untouched
-
-pub returns-clause-names : goal.returns-clause-names
-returns-clause-names g c =
-    let asked : asked_of (map (λ b. ((goal.Brancher-dyn g (b.vtable, b.value)).label b.value, (goal.Brancher-dyn g (b.vtable, b.value)).rule b.value)) c.args.branchers.items) c.args.words.now ≡
-    Some (request_with (request_shown c.in-Some.request) (option_map (λ b. (goal.Brancher-dyn g (b.vtable, b.value)).rule b.value) c.chosen-brancher.result)) =
-    found_asked (map (λ b. ((goal.Brancher-dyn g (b.vtable, b.value)).label b.value, (goal.Brancher-dyn g (b.vtable, b.value)).rule b.value)) c.args.branchers.items)
-    c.args.words.now (request_shown c.in-Some.request) (option_map (λ b. (goal.Brancher-dyn g (b.vtable, b.value)).rule b.value) c.chosen-brancher.result) (search rules) c.chosen-brancher.ensures
-    (sym c.is_missing.ensures.missing ∙ c.if-is_missing.false) in
-    subst (λ (w : Option Request). BeginsFiles (g.S.Source.stock c.args.source.now) (g.S.Source.names c.args.source.now)
-    (g.S.Source.names c.request_reply.new.source) w (meant_status c.request_reply.result)) (sym asked) c.request_reply.ensures.names
+    record {
+      reply = subst (λ (w : Option Request). IfOk c.request_reply.result (Replied w (g.S.Source.stock c.args.source.now) (g.S.Source.faults c.args.source.now) (g.S.Source.faults c.request_reply.new.source)
+          (told (g.K.Sink.taken c.args.log.now) (g.K.Sink.names c.args.log.now)) (told (g.K.Sink.taken c.request_reply.new.log) (g.K.Sink.names c.request_reply.new.log)))) (sym asked)
+          c.request_reply.ensures.reply;
+      stopped = subst (λ (w : Option Request). IfErr c.request_reply.result (StopsWith w (g.S.Source.stock c.args.source.now)
+          (told (g.K.Sink.taken c.args.log.now) (g.K.Sink.names c.args.log.now)) (told (g.K.Sink.taken c.request_reply.new.log) (g.K.Sink.names c.request_reply.new.log)))) (sym asked)
+          c.request_reply.ensures.stopped;
+      ended = subst (λ (w : Option Request). reads_files w ≡ true → IfOk c.request_reply.result (λ (reply : Reply). IsAnswered reply.status → IsAtEnd (g.S.Source.left c.request_reply.new.source))) (sym asked)
+          c.request_reply.ensures.ended;
+      taken_at_most = subst (λ (w : Option Request). TakesAtMost 1048577 (asked_in (g.S.Source.stock c.args.source.now) w) (g.S.Source.faults c.args.source.now) (g.S.Source.faults c.request_reply.new.source)
+          (g.S.Source.left c.request_reply.new.source)) (sym asked) c.request_reply.ensures.taken_at_most;
+      faults_grow = c.request_reply.ensures.faults_grow;
+      log_later = c.request_reply.ensures.log_later;
+      write = c.request_reply.ensures.write;
+      outcomes = c.request_reply.ensures.outcomes;
+      untouched = subst (λ (w : Option Request). reads_files w ≡ false → IsUntouched (g.S.Source.left c.args.source.now) (g.S.Source.stock c.args.source.now) (g.S.Source.faults c.args.source.now)
+          (g.S.Source.left c.request_reply.new.source) (g.S.Source.stock c.request_reply.new.source) (g.S.Source.faults c.request_reply.new.source)) (sym asked) c.request_reply.ensures.untouched;
+      names = subst (λ (w : Option Request). BeginsFiles (g.S.Source.stock c.args.source.now) (g.S.Source.names c.args.source.now)
+          (g.S.Source.names c.request_reply.new.source) w (meant_status c.request_reply.result)) (sym asked) c.request_reply.ensures.names;
+    }
