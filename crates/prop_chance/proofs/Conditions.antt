@@ -77,3 +77,7 @@ as_long f g lists cells i same below =
     let other = length-map cells g in
     let as_many = ap length same in
     omega (arith, below, count, other, as_many)
+
+-- of the same lists and cells
+pub moved : {A B : Type 0} (f : A → List B) (lists new : List A) (cells now : List ℕ) (g : ℕ → List B) → new ≡ lists → now ≡ cells → map f lists ≡ map g cells → map f new ≡ map g now
+moved f lists new cells now g list_same cell_same is = ap (map f) list_same ∙ (is ∙ sym (ap (map g) cell_same))

@@ -1,6 +1,8 @@
 pub mod CellSets
 pub mod Reached
 pub mod Conditions
-pub mod Objectives
-pub mod Defined
+pub mod Setting
+pub mod Outdating
 pub mod KeptWeights
+pub mod Turned
+pub mod Constraints

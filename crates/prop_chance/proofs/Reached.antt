@@ -10,9 +10,6 @@ use Rattle.prop_shave.specs.Probes.{HasAll}
 abbrev pub AreIn : (ℕ → List ℕ) → ℕ → List ℕ → Type 0
 AreIn mention n set = (k : ℕ) → k < n → HasAll set (mention k)
 
-pub none_in : (mention : ℕ → List ℕ) (set : List ℕ) → AreIn mention 0 set
-none_in mention set = λ k below. absurd (omega (arith, below))
-
 pub more_in : (mention : ℕ → List ℕ) (n : ℕ) (old new : List ℕ) → AreIn mention n old → HasAll new old → HasAll new (mention n) → AreIn mention (n + 1) new
 more_in mention n old new before kept here = λ k below.
     elim (cases_lt k n) [

@@ -1,5 +1,6 @@
+pub mod UpToDate
 pub mod KeptWeights
+pub mod KeptTurns
 pub mod Chances
-pub mod Goals
 -- For proofs alone: nothing is to be believed here
 pub mod Deciding

@@ -1,6 +1,8 @@
 //! Sets of cells.
 
 ghost use Rattle.std.specs.Prelude.{◌≡◌, IfOk, OnOk};
+ghost use Rattle.std.specs.List.Sorted.{IsStrictlySortedBy};
+ghost use Rattle.std.specs.Ordering.{nat_cmp};
 ghost use Rattle.prop_shave.specs.Probes.{HasAll};
 ghost use Rattle.term_cells.specs.Cells.{with_cells};
 
@@ -19,7 +21,7 @@ fn put(set: &mut BTreeSet<u32>, cells: &[u32]) -> Result<(), AllocError>
 }
 
 /// Puts cells into a set, which keeps those that it has.
-pub(crate) fn put_all(set: &mut BTreeSet<u32>, cells: &[u32]) -> Result<(), AllocError>
+pub fn put_cells(set: &mut BTreeSet<u32>, cells: &[u32]) -> Result<(), AllocError>
     ensures kept { OnOk result (HasAll set.new.keys set.old.keys) }
     ensures put { OnOk result (HasAll set.new.keys cells.now) }
 {
@@ -28,8 +30,9 @@ pub(crate) fn put_all(set: &mut BTreeSet<u32>, cells: &[u32]) -> Result<(), Allo
 }
 
 /// The cells of a set, in ascending order.
-pub(crate) fn listed(alloc: Global, set: &BTreeSet<u32>) -> Result<Vec<u32>, AllocError>
-    ensures { IfOk result (λ list. list.items ≡ set.now.keys) }
+pub fn cells_listed(alloc: Global, set: &BTreeSet<u32>) -> Result<Vec<u32>, AllocError>
+    ensures keys { IfOk result (λ list. list.items ≡ set.now.keys) }
+    ensures ascend { IfOk result (λ list. IsStrictlySortedBy nat_cmp list.items) }
 {
     set.iter().copied().collect(alloc)
 }

@@ -1,84 +1,40 @@
 //! The propagator of a chance constraint.
 
-ghost use Rattle.std.specs.Prelude.{◌≡◌, ◌<◌, ◌∷◌, [], get_or, length, map, IfNone, IfOk, IfSome};
-ghost use Rattle.prop_shave.specs.ChanceKnown.{AreTruths};
+ghost use Rattle.std.specs.Prelude.{◌≡◌, ◌<◌, ◌∷◌, [], length, IfOk};
 ghost use Rattle.sopl_base.specs.declared.reason.Reason.TheVariants as reason;
 ghost use Rattle.box_problem.specs.Box.{Box, Inside};
-ghost use Rattle.box_problem.specs.Rightness.{IsRight, Quiets};
-ghost use Rattle.prop_shave.specs.Opened.{IsOpen, IsWhole};
-ghost use Rattle.prop_shave.specs.Probes.{HasAll, IsAsked, closes};
-ghost use Rattle.prop_shave.specs.ChanceSums.{left_over, touched_by};
 ghost use Rattle.term_program.specs.Stated.{box_problem_of};
+ghost use Rattle.term_program.specs.declared.program.Program.{Program as Stated};
 ghost use Rattle.prop_core.specs.Findings.{Finds};
-ghost use Rattle.term_problem.specs.Reasons.{reason_mentions};
 ghost use Rattle.term_program.specs.Programs.{IsMade, problem_in, root_in};
-ghost use Rattle.prop_chance.specs.Chances.{Fits, InStep, reasons_of};
-ghost use Rattle.prop_chance.specs.KeptWeights.{numbers_in};
+ghost use Rattle.prop_chance.specs.Chances.{Fits, HasLooked, InStep, KeepsTurnsOf, KeepsWeightOf, reasons_of};
+ghost use Rattle.prop_chance.specs.KeptWeights.{IfSo, KnowsWeight};
 
-use crate::cell_sets::{listed, put_all};
+use crate::chance_constraint::ChanceConstraint;
+use crate::kept_turns::KeptTurns;
 use crate::kept_weight::KeptWeight;
-use crate::resting::{rested_by, rests_at};
 use box_store::BoxStore;
-use prop_core::{Finding, Propagator, Watching};
-use prop_shave::{ChanceDelta, Probe, TouchedScenarios, is_too_little, scenarios_touching};
-use sopl_base::{Reason, Step, Wide};
+use prop_core::{Finding, Propagator, Watching, rested_by, rests_at};
+use prop_shave::Probe;
 use std::alloc::{AllocError, Global};
-use std::collections::BTreeSet;
 use term_program::Program;
 
-/// Narrows a box for one chance constraint: both ends of each cell that one of its conditions mentions are tried, and as many values are removed
-/// there as doubled and then halved steps reach. The truth of the condition in each scenario is kept, and computed anew where it mentions a cell that was
-/// touched; for an end of a cell only the scenarios are weighed anew in which the condition mentions the cell, and none where the others and those in which it
-/// is True are enough. As long as no cell is touched, it rests without being asked against the best value against which it has rested.
+/// Narrows a box for one chance constraint: both ends of each cell that one of its conditions mentions are tried, and as many values are
+/// removed there as doubled and then halved steps reach. The truth of the condition in each scenario is kept, and computed anew where it
+/// mentions a cell that was touched; for an end of a cell only the scenarios are weighed anew in which the condition mentions the cell, and
+/// none where the others and those in which it is True are enough. By how much the weight turns with a cell at its ends is kept as long as
+/// no scenario is seen anew in which the condition mentions the cell: then an end is tried by one sum. As long as no cell is touched, it
+/// rests without being asked against the best value against which it has rested.
 #[derive(Drop)]
 pub struct Chance {
-    instance: u32,
-    cells: Vec<u32>,
-    mentioning: Vec<TouchedScenarios>,
+    constraint: ChanceConstraint,
     weight: KeptWeight,
+    turns: KeptTurns,
     rested: Option<Option<i128>>,
-}
-
-/// The cells that the conditions of a chance constraint mention, in ascending order.
-fn chance_cells(alloc: Global, program: &Program, instance: u32) -> Result<Vec<u32>, AllocError>
-    requires made { IsMade program.now }
-    requires instance { instance < length (problem_in program.now).chances }
-    ensures all { IfOk result (λ cells. HasAll cells.items (reason_mentions (root_in program.now) (problem_in program.now) (reason.Chance instance))) }
-{
-    let mut cells = BTreeSet::new(alloc);
-    'scenarios: for scenario in 0..program.scenarios() {
-        put_all(
-            &mut cells,
-            program.cells_of(program.chance(instance, scenario)),
-        )?;
-    }
-    let list = listed(alloc, &cells)?;
-    Ok(list)
-}
-
-/// For each of these cells the scenarios in which the condition of a chance constraint mentions it.
-#[tactic(auto, using(crate::proofs::Conditions::lists_more, crate::proofs::Conditions::lists_all))]
-fn touched_scenarios(
-    alloc: Global,
-    program: &Program,
-    instance: u32,
-    cells: &[u32],
-) -> Result<Vec<TouchedScenarios>, AllocError>
-    requires made { IsMade program.now }
-    requires instance { instance < length (problem_in program.now).chances }
-    ensures touched { IfOk result (λ lists. map numbers_in lists.items ≡ map (touched_by (root_in program.now) (problem_in program.now) instance) cells.now) }
-{
-    let mut lists = Vec::new(alloc);
-    'cells: for cell in cells {
-        let list = scenarios_touching(alloc, program, instance, *cell)?;
-        lists.push(list)?;
-    }
-    Ok(lists)
 }
 
 impl Chance {
     /// The propagator of a chance constraint.
-    #[tactic(auto, using(crate::proofs::KeptWeights::step_unknown))]
     pub fn new(alloc: Global, program: &Program, instance: u32) -> Result<Chance, AllocError>
         requires made { IsMade program.now }
         requires instance { instance < length (problem_in program.now).chances }
@@ -86,148 +42,87 @@ impl Chance {
         ensures fits { IfOk result (λ made. Fits made program.now) }
         ensures in_step { IfOk result (λ made. (b : Box) → InStep made program.now b) }
     {
-        let cells = chance_cells(alloc, program, instance)?;
-        let mentioning = touched_scenarios(alloc, program, instance, cells.as_slice())?;
-        let weight = KeptWeight::new(alloc, program.scenarios() as usize, cells.len())?;
+        let constraint = ChanceConstraint::new(alloc, program, instance)?;
+        let cells = constraint.cells.len();
+        let weight = KeptWeight::new(alloc, program.scenarios() as usize, cells)?;
+        let turns = KeptTurns::new(alloc, cells)?;
         Ok(Chance {
-            instance,
-            cells,
-            mentioning,
+            constraint,
             weight,
+            turns,
             rested: None,
         })
     }
 
-    /// The one reason for which it narrows boxes.
-    fn reason(&self) -> Reason
-        ensures { result ≡ reason.Chance self.now.instance }
+    /// Sees the condition anew in all scenarios that wait or mention a cell that was told, and forgets the turns of all cells that it
+    /// mentions there; whether the weight that is left over the box of the store is known then.
+    fn look(&mut self, program: &Program, store: &BoxStore) -> bool
+        requires fits { Fits self.old program.now }
+        requires inside { Inside store.now.box (root_in program.now) }
+        requires weight { KeepsWeightOf self.old program.now store.now.box }
+        requires turns { KeepsTurnsOf self.old program.now store.now.box }
+        ensures known { IfSo result (KnowsWeight (root_in program.now) (problem_in program.now) self.new.constraint.instance store.now.box
+            self.new.weight) }
+        ensures looked { HasLooked self.old self.new program.now store.now.box }
     {
-        Reason::Chance {
-            instance: self.instance,
-        }
+        self.weight.outdated.let_told_wait(
+            self.constraint.cells.as_slice(),
+            self.constraint.mentioning.as_slice(),
+        );
+        self.constraint
+            .forget_waiting(program, &self.weight.outdated, &mut self.turns);
+        self.weight
+            .renew_all(program, self.constraint.instance, store)
     }
 
-    /// A right step at one of the ends of a cell of the list, or none where the constraint does not close the box with the cell at either end.
-    fn step_for<'a>(&'a self, probe: &'a Probe<'a>, left: Wide, at: usize) -> Option<Step>
-        requires fits { Fits self.now probe.now.program.now }
-        requires asked { IsAsked probe.now }
-        requires reason { probe.now.reason ≡ reason.Chance self.now.instance }
-        requires whole { IsWhole probe.now }
-        requires left { left.value ≡ left_over (root_in probe.now.program.now) (problem_in probe.now.program.now) self.now.instance probe.now.store.now.box }
-        requires truths { AreTruths (root_in probe.now.program.now) (problem_in probe.now.program.now) self.now.instance probe.now.store.now.box self.now.weight.truths.list.items }
-        requires exists { at < length self.now.cells.items }
-        ensures right { IfSome result (IsRight (box_problem_of probe.now.program.now) probe.now.best probe.now.store.now.box) }
-        ensures own_reason { IfSome result (λ step. step.reason ≡ probe.now.reason) }
-        ensures none { IfNone result (IsOpen probe.now (get_or self.now.cells.items at 0)) }
-    {
-        let cell = self.cells[at];
-        let weighed = ChanceDelta {
-            instance: self.instance,
-            cell,
-            left,
-            truths: self.weight.truths.list.as_slice(),
-            scenarios: self.mentioning[at].numbers.as_slice(),
-        };
-        let known = Probe {
-            program: probe.program,
-            store: probe.store,
-            reason: probe.reason,
-            best: probe.best,
-            weighed: Some(weighed),
-            counted: None,
-        };
-        known.step_at(cell)
-    }
-
-    /// A right step at one of the ends of the cells, by the weight that is left over the box; none where the constraint does not close the box with any
-    /// cell at an end.
-    fn step_by<'a>(&'a self, probe: &'a Probe<'a>, left: Wide) -> Option<Step>
-        requires fits { Fits self.now probe.now.program.now }
-        requires asked { IsAsked probe.now }
-        requires reason { probe.now.reason ≡ reason.Chance self.now.instance }
-        requires whole { IsWhole probe.now }
-        requires left { left.value ≡ left_over (root_in probe.now.program.now) (problem_in probe.now.program.now) self.now.instance probe.now.store.now.box }
-        requires truths { AreTruths (root_in probe.now.program.now) (problem_in probe.now.program.now) self.now.instance probe.now.store.now.box self.now.weight.truths.list.items }
-        ensures right { IfSome result (IsRight (box_problem_of probe.now.program.now) probe.now.best probe.now.store.now.box) }
-        ensures own_reason { IfSome result (λ step. step.reason ≡ probe.now.reason) }
-        ensures none { IfNone result (Quiets (box_problem_of probe.now.program.now) (probe.now.reason ∷ []) probe.now.best probe.now.store.now.box) }
-    {
-        'cells: for at in 0..self.cells.len() {
-            if let Some(step) = self.step_for(probe, left, at) {
-                return Some(step);
-            }
-        }
-        None
-    }
-
-    /// Whether the constraint closes the box, by the weight that is left over it.
-    fn is_closed_by(&self, probe: &Probe<'_>, left: Wide) -> bool
-        requires asked { IsAsked probe.now }
-        requires exists { self.now.instance < length (problem_in probe.now.program.now).chances }
-        requires reason { probe.now.reason ≡ reason.Chance self.now.instance }
-        requires left { left.value ≡ left_over (root_in probe.now.program.now) (problem_in probe.now.program.now) self.now.instance probe.now.store.now.box }
-        ensures { result ≡ closes probe.now probe.now.store.now.box }
-    {
-        is_too_little(probe.program, self.instance, left)
-    }
-
-    /// What is found of the box for the constraint, by the weight that is left over it.
-    #[tactic(auto, using(prop_shave::proofs::Finding::found_dead, prop_shave::proofs::Finding::found_cut))]
-    fn finding_by<'a>(&'a self, probe: &'a Probe<'a>, left: Wide) -> Finding
-        requires fits { Fits self.now probe.now.program.now }
-        requires asked { IsAsked probe.now }
-        requires reason { probe.now.reason ≡ reason.Chance self.now.instance }
-        requires left { left.value ≡ left_over (root_in probe.now.program.now) (problem_in probe.now.program.now) self.now.instance probe.now.store.now.box }
-        requires truths { AreTruths (root_in probe.now.program.now) (problem_in probe.now.program.now) self.now.instance probe.now.store.now.box self.now.weight.truths.list.items }
-        ensures finds { Finds (box_problem_of probe.now.program.now) (probe.now.reason ∷ []) probe.now.best probe.now.store.now.box result }
-    {
-        if self.is_closed_by(probe, left) {
-            return Finding::Dead(probe.reason);
-        }
-        match self.step_by(probe, left) {
-            Some(step) => Finding::Cut(step),
-            None => Finding::Quiet,
-        }
-    }
-
-    /// What is found of the box for the constraint; where the weight that is left has no room, each end is tried by all scenarios.
-    fn finding<'a>(&'a self, probe: &'a Probe<'a>, left: Option<Wide>) -> Finding
-        requires fits { Fits self.now probe.now.program.now }
-        requires asked { IsAsked probe.now }
-        requires reason { probe.now.reason ≡ reason.Chance self.now.instance }
-        requires left { IfSome left (λ w. w.value ≡ left_over (root_in probe.now.program.now) (problem_in probe.now.program.now) self.now.instance probe.now.store.now.box) }
-        requires truths { IfSome left (λ w. AreTruths (root_in probe.now.program.now) (problem_in probe.now.program.now) self.now.instance probe.now.store.now.box self.now.weight.truths.list.items) }
-        ensures finds { Finds (box_problem_of probe.now.program.now) (probe.now.reason ∷ []) probe.now.best probe.now.store.now.box result }
-    {
-        match left {
-            Some(left) => self.finding_by(probe, left),
-            None => probe.finding(self.cells.as_slice()),
-        }
-    }
-
-    /// What is found of the box of a store, against the best value where there is one, by the weight that is left.
+    /// What is found of the box of a store for which what is kept is right, against the best value where there is one; where the weight
+    /// that is left is not known, each end is tried by all scenarios.
     fn found<'a>(
-        &self,
+        &mut self,
         program: &'a Program,
         store: &'a BoxStore,
         best: Option<i128>,
-        left: Option<Wide>,
+        known: bool,
     ) -> Finding
-        requires fits { Fits self.now program.now }
+        requires fits { Fits self.old program.now }
         requires inside { Inside store.now.box (root_in program.now) }
-        requires left { IfSome left (λ w. w.value ≡ left_over (root_in program.now) (problem_in program.now) self.now.instance store.now.box) }
-        requires truths { IfSome left (λ w. AreTruths (root_in program.now) (problem_in program.now) self.now.instance store.now.box self.now.weight.truths.list.items) }
-        ensures finds { Finds (box_problem_of program.now) (reasons_of self.now) best store.now.box result }
+        requires looked { HasLooked self.old self.old program.now store.now.box }
+        requires known { IfSo known (KnowsWeight (root_in program.now) (problem_in program.now) self.old.constraint.instance store.now.box
+            self.old.weight) }
+        ensures finds { Finds (box_problem_of program.now) (reasons_of self.old) best store.now.box result }
+        ensures looked { HasLooked self.old self.new program.now store.now.box }
     {
         let probe = Probe {
             program,
             store,
-            reason: self.reason(),
+            reason: self.constraint.reason(),
             best,
             weighed: None,
             counted: None,
         };
-        self.finding(&probe, left)
+        if !known {
+            return self.constraint.finding_by_all(&probe);
+        }
+        self.constraint
+            .finding_by(&probe, &self.weight, &mut self.turns)
+    }
+
+    /// What it finds of the box of a store for which what it keeps is right, against the best value where there is one; it keeps whether
+    /// it rests.
+    fn ask(&mut self, program: &Program, store: &BoxStore, best: Option<i128>) -> Finding
+        requires fits { Fits self.old program.now }
+        requires inside { Inside store.now.box (box_problem_of program.now).root }
+        requires weight { KeepsWeightOf self.old program.now store.now.box }
+        requires turns { KeepsTurnsOf self.old program.now store.now.box }
+        ensures finds { Finds (box_problem_of program.now) (reasons_of self.old) best store.now.box result }
+        ensures in_step { InStep self.new program.now store.now.box }
+        ensures constraint { self.new.constraint ≡ self.old.constraint }
+        ensures still_fits { (p : Stated) → Fits self.old p → Fits self.new p }
+    {
+        let known = self.look(program, store);
+        let finding = self.found(program, store, best, known);
+        self.rested = rested_by(&finding, best);
+        finding
     }
 }
 
@@ -243,20 +138,19 @@ impl Propagator for Chance {
     ghost in_step = { InStep };
 
     fn revise(&mut self, program: &Program, store: &BoxStore, best: Option<i128>) -> Finding {
-        let left = self.weight.left_anew(program, self.instance, store);
-        let finding = self.found(program, store, best, left);
-        self.rested = rested_by(&finding, best);
-        finding
+        self.weight.forget();
+        self.turns.forget_all();
+        self.ask(program, store, best)
     }
 }
 
 impl Watching for Chance {
     ghost use Rattle.prop_chance.specs.Deciding.{chance_looks, chance_steps};
 
-    ghost watches = { λ chance. chance.cells.items };
+    ghost watches = { λ chance. chance.constraint.cells.items };
 
     fn watched_cells(&self) -> &[u32] {
-        self.cells.as_slice()
+        self.constraint.cells.as_slice()
     }
 
     fn touched(&mut self, cell: u32) {
@@ -269,16 +163,7 @@ impl Watching for Chance {
         if rests_at(self.rested, best) {
             return Finding::Quiet;
         }
-        let left = self.weight.left_kept(
-            program,
-            self.instance,
-            store,
-            self.cells.as_slice(),
-            self.mentioning.as_slice(),
-        );
-        let finding = self.found(program, store, best, left);
-        self.rested = rested_by(&finding, best);
-        finding
+        self.ask(program, store, best)
     }
 
     ghost steps_agree = { λ m p b c fits b_in c_in agree step. chance_steps m p b c fits b_in c_in agree step };

@@ -1,12 +1,12 @@
 -- How the places of the members that watch a cell are listed.
-use Rattle.std.proofs.Common.{◌≡◌, ◌⊎◌, inl, inr, ℕ, zero, suc, ◌+◌, ◌<◌, ◌≤◌, List, [], ◌∷◌, ◌++◌, length, map, take, get_or, set, length-set, Contains, refl, sym, ap, subst, ◌∙◌, arith}
+use Rattle.std.proofs.Common.{◌≡◌, ◌⊎◌, inl, inr, ℕ, ◌+◌, ◌<◌, ◌≤◌, List, [], ◌∷◌, ◌++◌, length, map, take, get_or, set, length-set, Contains, refl, sym, ap, subst, ◌∙◌, arith}
 use Rattle.std.proofs.lemmas.Bool.{cases_eq}
-use Rattle.std.proofs.lemmas.List.{get_or-map, get_or-set_same, get_or-set_other, get_or-take, length-map, length-take-le, map-append, map-set, take_all, take_more}
+use Rattle.std.proofs.lemmas.List.{get_or-map, get_or-set_same, get_or-set_other, get_or-take, length-map, length-take-le, map-set, take_more}
 use Rattle.std.proofs.lemmas.List.Elements.{Contains-append_cases, Contains-append_left, Contains-append_right}
 use Rattle.sopl_base.proofs.Lists.{contains_one}
 use Rattle.prop_core.specs.declared.watch.WatchPlaces.{WatchPlaces}
 use Rattle.prop_core.specs.declared.watch.Watch.{Watch}
-use Rattle.prop_core.specs.Places.{AddsPlaces, HasEmptyLists}
+use Rattle.prop_core.specs.Places.{AddsPlaces}
 use Rattle.prop_core.specs.Waking.{IsWatchOf, places_at}
 
 abbrev pub list_of : WatchPlaces → List ℕ
@@ -15,18 +15,6 @@ list_of places = places.items.items
 -- no list has a place
 abbrev pub AreEmpty : List WatchPlaces → Type 0
 AreEmpty lists = (cell : ℕ) → get_or (map list_of lists) cell [] ≡ []
-
-pub empty_more : (lists new : List WatchPlaces) (x : WatchPlaces) → AreEmpty lists → x.items.items ≡ [] → new ≡ lists ++ x ∷ [] → AreEmpty new
-empty_more lists new x empty is pushed cell =
-    ap (λ (ps : List WatchPlaces). get_or (map list_of ps) cell []) pushed
-    ∙ (ap (λ (ls : List (List ℕ)). get_or ls cell []) (map-append list_of lists (x ∷ []))
-    ∙ behind (map list_of lists) x.items.items empty is cell)
-  where
-    behind : (ls : List (List ℕ)) (last : List ℕ) → ((cell : ℕ) → get_or ls cell [] ≡ []) → last ≡ [] → (cell : ℕ) → get_or (ls ++ last ∷ []) cell [] ≡ []
-    behind [] last none is zero = is
-    behind [] last none is (suc cell) = refl
-    behind (l ∷ ls) last none is zero = none 0
-    behind (l ∷ ls) last none is (suc cell) = behind ls last (λ k. none (suc k)) is cell
 
 -- nothing was added
 pub none_added : (watch : Watch) (at : ℕ) → AddsPlaces watch watch [] at
@@ -102,20 +90,6 @@ pub more_added : (old mid new : Watch) (cells : List ℕ) (i at : ℕ) → i < l
 more_added old mid new cells i at exists first second =
     subst (λ (xs : List ℕ). AddsPlaces old new xs at) (sym (take_more cells i 0 exists)) (joined old mid new (take i cells) (get_or cells i 0 ∷ []) at first second)
 
-pub all_added : (old new : Watch) (cells : List ℕ) (i at : ℕ) → length cells ≤ i → AddsPlaces old new (take i cells) at → AddsPlaces old new cells at
-all_added old new cells i at past added = subst (λ (xs : List ℕ). AddsPlaces old new xs at) (take_all i cells past) added
-
--- it is the one of the first members
-pub watch_of_none : (watches : List (List ℕ)) (watch : Watch) (cells : ℕ) → HasEmptyLists cells watch → IsWatchOf (take 0 watches) watch cells
-watch_of_none watches watch cells empty = record {
-  as_long = omega (arith, empty.as_long);
-  below = λ cell k has. absurd (nothing_there (subst (λ (xs : List ℕ). Contains xs k) (empty.none cell) has));
-  all = λ cell k exists below has. absurd (omega (arith, below, length-take-le 0 watches (omega arith)));
-}
-  where
-    nothing_there : {k : ℕ} → Contains [] k → ⊥
-    nothing_there has = omega (arith, has.1)
-
 pub watch_of_more : (watches : List (List ℕ)) (old new : Watch) (cells i : ℕ) (own : List ℕ) → i < length watches → own ≡ get_or watches i [] → IsWatchOf (take i watches) old cells
     → AddsPlaces old new own i → IsWatchOf (take (i + 1) watches) new cells
 watch_of_more watches old new cells i own exists is before adds =
@@ -139,6 +113,3 @@ watch_of_more watches old new cells i own exists is before adds =
         let earlier : k < i = omega (arith, below, other) in
         let same : get_or (take (i + 1) watches) k [] ≡ get_or (take i watches) k [] = get_or-take (i + 1) watches k [] below ∙ sym (get_or-take i watches k [] earlier) in
         adds.kept cell k (before.all cell k there (omega (arith, earlier, some)) (subst (λ (xs : List ℕ). Contains xs cell) same has))
-
-pub watch_of_all : (watches : List (List ℕ)) (watch : Watch) (cells i : ℕ) → length watches ≤ i → IsWatchOf (take i watches) watch cells → IsWatchOf watches watch cells
-watch_of_all watches watch cells i past is = subst (λ (lists : List (List ℕ)). IsWatchOf lists watch cells) (take_all i watches past) is

@@ -7,6 +7,9 @@ use Rattle.sopl_base.proofs.Tests.{equal_tested}
 use Rattle.box_problem.specs.Box.{Box}
 use Rattle.box_problem.specs.BoxProblem.{BoxProblem}
 use Rattle.box_problem.specs.Rightness.{Quiets}
+use Rattle.prop_core.specs.declared.finding.Finding.{Finding}
+use Rattle.prop_core.specs.declared.finding.Finding.TheVariants.{Quiet}
+use Rattle.prop_core.specs.Findings.{Finds}
 use Rattle.prop_core.specs.Watches.{FitsAndLooksAt, HasRested, LooksAt}
 
 same_best : (v w : Option ℤ) → option_eq int_eq v w ≡ true → v ≡ w
@@ -18,6 +21,10 @@ same_best (Some x) (Some y) is = ap Some (equal_tested x y is)
 pub same_rested : (rested : Option (Option ℤ)) (v : Option ℤ) → option_eq (option_eq int_eq) rested (Some v) ≡ true → rested ≡ Some v
 same_rested None v is = absurd (cc)
 same_rested (Some w) v is = ap Some (same_best w v is)
+
+-- what rests after a finding
+pub rests_quiet : (problem : BoxProblem) (reasons : List Reason) (v : Option ℤ) (b : Box) (finding : Finding) → finding ≡ Quiet → Finds problem reasons v b finding → Quiets problem reasons v b
+rests_quiet problem reasons v b finding is finds = subst (λ (f : Finding). Finds problem reasons v b f) is finds
 
 -- it rests against the same value
 pub quiet_again : (problem : BoxProblem) (reasons : List Reason) (rested : Option (Option ℤ)) (v : Option ℤ) (b : Box) → rested ≡ Some v → HasRested problem reasons rested b → Quiets problem reasons v b

@@ -1,6 +1,6 @@
 //! A propagator that rests until a cell at which its reasons look has changed.
 
-ghost use Rattle.std.specs.Prelude.{◌≡◌, true, Some, List};
+ghost use Rattle.std.specs.Prelude.{◌≡◌, List};
 ghost use Rattle.sopl_base.specs.declared.reason.Reason.{Reason};
 ghost use Rattle.box_problem.specs.Box.{Box, Inside};
 ghost use Rattle.box_problem.specs.BoxProblem.{BoxProblem};
@@ -8,6 +8,7 @@ ghost use Rattle.prop_core.specs.Findings.{Finds};
 ghost use Rattle.prop_core.specs.Watches.{HasRested};
 
 use crate::finding::Finding;
+use crate::last_rest::{rested_by, rests_at};
 use crate::propagator::Propagator;
 use crate::watching::Watching;
 use box_store::BoxStore;
@@ -34,14 +35,6 @@ impl<M> Resting<M> {
             rested: None,
         }
     }
-
-    /// Whether it has rested against this best value.
-    #[tactic(auto, using(crate::proofs::Rested::same_rested))]
-    fn rests_at(&self, best: Option<i128>) -> bool
-        ensures { result ≡ true → self.now.rested ≡ Some best }
-    {
-        self.rested == Some(best)
-    }
 }
 
 impl<M: Propagator> Resting<M> {
@@ -55,16 +48,9 @@ impl<M: Propagator> Resting<M> {
         ensures same_cells { self.new.cells.items ≡ self.old.cells.items }
         ensures still_fits { (p : M.Program) → M.fits self.old.member p → M.fits self.new.member p }
     {
-        match self.member.revise(program, store, best) {
-            Finding::Quiet => {
-                self.rested = Some(best);
-                Finding::Quiet
-            }
-            finding => {
-                self.rested = None;
-                finding
-            }
-        }
+        let finding = self.member.revise(program, store, best);
+        self.rested = rested_by(&finding, best);
+        finding
     }
 }
 
@@ -107,7 +93,7 @@ impl<M: Propagator> Watching for Resting<M> {
         store: &BoxStore,
         best: Option<i128>,
     ) -> Finding {
-        if self.rests_at(best) {
+        if rests_at(self.rested, best) {
             return Finding::Quiet;
         }
         self.ask(program, store, best)

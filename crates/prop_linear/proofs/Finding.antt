@@ -36,32 +36,32 @@ use Rattle.term_math.specs.Shown.{cells_of}
 use Rattle.term_store.proofs.OrderedForms.{Ordered}
 use Rattle.prop_core.proofs.Rising.{for_each, itself}
 use Rattle.prop_linear.specs.declared.balances.Difference.{Difference}
-use Rattle.prop_linear.specs.declared.comparisons.Linear as own
-use Rattle.prop_linear.specs.Balances.{AreAbove, Ascend, IsLight, box_of, closes, sum_over}
-use Rattle.prop_linear.specs.Kinds.{Fits, IsLinear, TellsOf, condition_of}
+use Rattle.prop_linear.specs.declared.linear_constraint.LinearConstraint.{LinearConstraint}
+use Rattle.prop_linear.specs.Balances.{AreAbove, Ascend, IsLight, box_of, closes}
+use Rattle.prop_linear.specs.Kinds.{IsLinear, IsLinearOf, TellsOf, condition_of}
 use Rattle.prop_linear.proofs.Summing.{value_size}
 use Rattle.prop_linear.proofs.Cells.{cell_or_not, same_cells}
 use Rattle.prop_linear.proofs.Tells.{cond_sound, linear_light, linear_ordered, linear_tells}
 
 -- what a program tells of a linear comparison, put together
-pub record IsRead (p : own.Linear) (program : Program) (parts : List Coefficient) (d : shapes.Difference) : Type 0 where
+pub record IsRead (p : LinearConstraint) (program : Program) (parts : List Coefficient) (d : shapes.Difference) : Type 0 where
   pub is : shapes.linear_in (root_in program) (condition_of p program) ≡ Some d
   pub op : d.op ≡ p.op
   pub constant : d.form.constant ≡ p.constant
   pub cells : d.form.cells ≡ cells_of parts
 
-no_value : {A B : Type 0} (f : A → B) (x : B) → option_map f None ≡ Some x → ⊥
+pub no_value : {A B : Type 0} (f : A → B) (x : B) → option_map f None ≡ Some x → ⊥
 no_value f x is = cc
 
-the_value : {A B : Type 0} (f : A → B) (a : A) (x : B) → option_map f (Some a) ≡ Some x → f a ≡ x
+pub the_value : {A B : Type 0} (f : A → B) (a : A) (x : B) → option_map f (Some a) ≡ Some x → f a ≡ x
 the_value f a x is = ap (λ (o : Option _). or_else x o) is
   where
     or_else : {B : Type 0} → B → Option B → B
     or_else y None = y
     or_else y (Some z) = z
 
-pub read_by : (p : own.Linear) (program : Program) (parts : List Coefficient) → Fits p program → option_map (λ d. d.form.cells) (shapes.linear_in (root_in program) (condition_of p program))
-    ≡ Some (cells_of parts) → (d : shapes.Difference) × IsRead p program parts d
+pub read_by : (p : LinearConstraint) (program : Program) (parts : List Coefficient) → IsLinearOf p program
+    → option_map (λ d. d.form.cells) (shapes.linear_in (root_in program) (condition_of p program)) ≡ Some (cells_of parts) → (d : shapes.Difference) × IsRead p program parts d
 read_by p program parts fits cells =
     by_option (shapes.linear_in (root_in program) (condition_of p program)) refl fits.op fits.constant cells
   where
@@ -80,31 +80,31 @@ read_by p program parts fits cells =
     )
 
 -- the cells that are kept are those of the program's comparison
-pub parts_kept : (p : own.Linear) (program : Program) (parts : List Coefficient) → Fits p program → parts ≡ p.parts.items
+pub parts_kept : (p : LinearConstraint) (program : Program) (parts : List Coefficient) → IsLinearOf p program → parts ≡ p.parts.items
     → option_map (λ d. d.form.cells) (shapes.linear_in (root_in program) (condition_of p program)) ≡ Some (cells_of parts)
 parts_kept p program parts fits same = fits.parts ∙ ap (λ (cs : List Coefficient). Some (cells_of cs)) (sym same)
 
 -- where the comparison is false over a box, the reason closes it
-tells_at : (p : own.Linear) (program : Program) (d : Difference) → Fits p program → d.op ≡ p.op → d.constant ≡ p.constant
-    → option_map (λ e. e.form.cells) (shapes.linear_in (root_in program) (condition_of p program)) ≡ Some (cells_of d.parts.now) → (b : Box) (v : Option ℤ) → Inside b (root_in program)
-    → closes d b ≡ refutes (root_in program) (problem_in program) (Hard p.instance p.scenario) b v
-tells_at p program d fits op constant cells b v inside =
+pub tells_at : (p : LinearConstraint) (program : Program) (o : CmpOp) (k : ℤ) (parts : List Coefficient) → IsLinearOf p program → o ≡ p.op → k ≡ p.constant
+    → option_map (λ e. e.form.cells) (shapes.linear_in (root_in program) (condition_of p program)) ≡ Some (cells_of parts) → (b : Box) (v : Option ℤ) → Inside b (root_in program)
+    → none_compares o (rule.plus (rule.exactly k) (forms.cells_ends b (cells_of parts))) ≡ refutes (root_in program) (problem_in program) (Hard p.instance p.scenario) b v
+tells_at p program o k parts fits op constant cells b v inside =
     let root = root_in program in
     let c = condition_of p program in
-    let found = read_by p program d.parts.now fits cells in
+    let found = read_by p program parts fits cells in
     let e = found.0 in
     let read = found.1 in
     let sound = cond_sound root program.draft.store.items.items p.cond.0 fits.made.draft.store.built in
     let tells = linear_tells root b c e fits.made.draft.store.root_is_box inside sound read.is in
-    ap (λ (o : CmpOp). none_compares o (sum_over d b)) (op ∙ sym read.op)
-    ∙ ap (λ (k : ℤ). none_compares e.op (rule.plus (rule.exactly k) (forms.cells_ends b (cells_of d.parts.now)))) (constant ∙ sym read.constant)
+    ap (λ (x : CmpOp). none_compares x (rule.plus (rule.exactly k) (forms.cells_ends b (cells_of parts)))) (op ∙ sym read.op)
+    ∙ ap (λ (x : ℤ). none_compares e.op (rule.plus (rule.exactly x) (forms.cells_ends b (cells_of parts)))) (constant ∙ sym read.constant)
     ∙ ap (λ (cs : List forms.Coefficient). none_compares e.op (rule.plus (rule.exactly e.form.constant) (forms.cells_ends b cs))) (sym read.cells)
     ∙ sym tells
-    ∙ sym (ap (λ (o : Option Cond). option_map_or (λ x. is_false (truth Near root b x)) o false) fits.condition)
+    ∙ sym (ap (λ (x : Option Cond). option_map_or (λ y. is_false (truth Near root b y)) x false) fits.condition)
 
-pub tells_of : (p : own.Linear) (program : Program) (d : Difference) → Fits p program → d.op ≡ p.op → d.constant ≡ p.constant
+pub tells_of : (p : LinearConstraint) (program : Program) (d : Difference) → IsLinearOf p program → d.op ≡ p.op → d.constant ≡ p.constant
     → option_map (λ e. e.form.cells) (shapes.linear_in (root_in program) (condition_of p program)) ≡ Some (cells_of d.parts.now) → TellsOf program (Hard p.instance p.scenario) d
-tells_of p program d fits op constant cells = record { tells = tells_at p program d fits op constant cells }
+tells_of p program d fits op constant cells = record { tells = tells_at p program d.op d.constant d.parts.now fits op constant cells }
 
 -- the comparison is light over each box inside the root
 weight_narrower : (part whole : Box) (cell : ℕ) → IsBox whole → Inside part whole → weight_of (rule.cell_ends part cell) ≤ weight_of (rule.cell_ends whole cell)
@@ -133,7 +133,7 @@ ascend_of : (parts : List Coefficient) → Ordered (cells_of parts) → Ascend p
 ascend_of [] ordered = tt
 ascend_of (c ∷ later) ordered = (above_rest c later ordered, ascend_of later ordered.2)
 
-pub light_in : (p : own.Linear) (program : Program) (d : Difference) (b : Box) → Fits p program → box_of d ≡ b → Inside b (root_in program) → d.constant ≡ p.constant
+pub light_in : (p : LinearConstraint) (program : Program) (d : Difference) (b : Box) → IsLinearOf p program → box_of d ≡ b → Inside b (root_in program) → d.constant ≡ p.constant
     → option_map (λ e. e.form.cells) (shapes.linear_in (root_in program) (condition_of p program)) ≡ Some (cells_of d.parts.now) → IsLight d
 light_in p program d b fits seen within constant cells =
     let root = root_in program in
@@ -152,9 +152,6 @@ light_in p program d b fits seen within constant cells =
       light = omega (arith, light, same, weight, less);
       ascend = ascend_of d.parts.now (subst Ordered read.cells (linear_ordered root c e read.is));
     }
-
-pub tells_same : (program : Program) (reason : Reason) (d e : Difference) → TellsOf program reason d → e ≡ d → TellsOf program reason e
-tells_same program reason d e tells same = subst (TellsOf program reason) (sym same) tells
 
 pub is_linear : (program : Program) (instance scenario : ℕ) (cond : Cond) → IsLinear program instance scenario
     → option_and_then (λ conditions. slice_get conditions scenario) (slice_get (problem_in program).hards instance) ≡ Some cond → shapes.shape_in (root_in program) cond ≡ Linear
@@ -223,24 +220,3 @@ module _ (program : Program) (mine : Reason) (d : Difference) (v : Option ℤ) (
             for_each mine (λ other. refuted other (with_low b cell (high b cell)) ≡ false) (sym (tells.tells (with_low b cell (high b cell)) v part)
             ∙ (open_at opened whole cell).at_high exists) reason own;
       }
-
--- what is found in the box of a store
-module _ (program : Program) (mine : Reason) (d : Difference) (v : Option ℤ) (b : Box) (tells : TellsOf program mine d) (seen : box_of d ≡ b) (inside : Inside b (root_in program)) where
-  there : Inside (box_of d) (root_in program)
-  there = subst (λ (x : Box). Inside x (root_in program)) (sym seen) inside
-
-  pub dead_at : (reason : Reason) → reason ≡ mine → closes d (box_of d) ≡ true → Closes (box_problem_of program) (mine ∷ []) v b reason
-  dead_at reason is closed =
-      subst (λ (x : Box). Closes (box_problem_of program) (mine ∷ []) v x reason) seen (found_dead program mine d v tells there reason is closed)
-
-  pub cut_at : (reason : Reason) (step : Step) → reason ≡ mine → step.reason ≡ reason → closes d (box_of d) ≡ false → Removes (closes d) (box_of d) step
-      → Narrows (box_problem_of program) (mine ∷ []) v b step
-  cut_at reason step is same whole removes =
-      subst (λ (x : Box). Narrows (box_problem_of program) (mine ∷ []) v x step) seen (found_cut program mine d v tells there step (same ∙ is) whole removes)
-
-  pub quiet_at : closes d (box_of d) ≡ false → All (λ (c : Coefficient). IsOpenAt (closes d) (box_of d) c.cell) d.parts.now → Quiets (box_problem_of program) (mine ∷ []) v b
-  quiet_at whole opened =
-      subst (λ (x : Box). Quiets (box_problem_of program) (mine ∷ []) v x) seen (found_quiet program mine d v tells there whole opened)
-
-pub seen_same : (d e : Difference) (b : Box) → e ≡ d → box_of d ≡ b → box_of e ≡ b
-seen_same d e b same seen = ap box_of same ∙ seen

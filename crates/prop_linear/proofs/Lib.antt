@@ -1,6 +1,10 @@
-pub mod Room
 pub mod Cells
 pub mod Tells
+pub mod Room
 pub mod Summing
-pub mod Meeting
+pub mod Topping
+pub mod Narrow
+pub mod Renewing
 pub mod Finding
+pub mod Watched
+pub mod Meeting

@@ -1,14 +1,11 @@
 -- Where a comparison is true all over a box, it is false over no part of it.
-use Rattle.std.proofs.Common.{◌≡◌, ℕ, ◌<◌, ℤ, pos, ◌≤ℤ◌, Bool, true, false, length, get_or, arith, refl}
-use Rattle.std.specs.Int.{int_min, int_max}
+use Rattle.std.proofs.Common.{◌≡◌, ℕ, pos, true, false, get_or, arith}
 use Rattle.std.specs.List.{All}
 use Rattle.std.proofs.lemmas.Int.{ints}
-use Rattle.std.proofs.lemmas.Bool.{and_parts, or_cases}
-use Rattle.sopl_base.proofs.Tests.{equal_tested, le_tested, le_untest, lt_tested, lt_untest}
+use Rattle.sopl_base.proofs.Tests.{le_tested, le_untest, lt_tested, lt_untest}
 use Rattle.sopl_base.specs.declared.comparison.CmpOp.{CmpOp}
 use Rattle.sopl_base.specs.declared.comparison.CmpOp.TheVariants.{Eq, Ne, Lt, Le, Gt, Ge}
-use Rattle.box_problem.specs.Box.{Box, Inside, IsBox, high, low, with_high, with_low}
-use Rattle.box_problem.proofs.Boxes.{part_of_itself}
+use Rattle.box_problem.specs.Box.{Box, Inside, high, low, with_high, with_low}
 use Rattle.box_problem.proofs.Cuts.{high_lowered, low_raised}
 use Rattle.term_language.specs.Ends as rule
 use Rattle.term_language.specs.Laws.{Within}
@@ -41,9 +38,6 @@ met_open d c light inside met =
     no_longer d.op (sum_over d c) (sum_over d (box_of d))
     (within_plus (rule.exactly d.constant) _ (rule.exactly d.constant) _ (within_exactly d.constant) (within_cells c (box_of d) (cells_of d.parts.now) light.is_box inside))
     met
-
-pub met_whole : (d : Difference) → IsLight d → meets d (box_of d) ≡ true → closes d (box_of d) ≡ false
-met_whole d light met = met_open d (box_of d) light (part_of_itself (box_of d) light.is_box) met
 
 pub met_cells : (d : Difference) → IsLight d → meets d (box_of d) ≡ true → All (λ (c : Coefficient). IsOpenAt (closes d) (box_of d) c.cell) d.parts.now
 met_cells d light met = λ k e exists. each (get_or d.parts.now k e).cell

@@ -149,7 +149,7 @@ times_size d c z light own from to =
     omega (arith, unsigned_abs-mul c.k z, mul-le-mul_left (unsigned_abs c.k) size, part_weighs d c light own)
 
 -- one cell of the comparison
-sum_moves : (x : Balance) (c : Coefficient) (others : Ends) (lo hi : ℤ) → IsSummed x → Contains x.difference.parts.now c → c.cell < length (box_of x.difference).lows → IsOthers x c others
+pub sum_moves : (x : Balance) (c : Coefficient) (others : Ends) (lo hi : ℤ) → IsSummed x → Contains x.difference.parts.now c → c.cell < length (box_of x.difference).lows → IsOthers x c others
     → none_compares x.difference.op (rule.plus (ends_of others) (rule.scaled c.k (rule.ends lo hi))) ≡ closes x.difference (with_interval (box_of x.difference) c.cell lo hi)
 sum_moves x c others lo hi summed own exists are =
     let d = x.difference in
@@ -272,6 +272,3 @@ open_more d i c before exists here =
 
 pub open_all : (d : Difference) (i : ℕ) → length d.parts.now ≤ i → AreOpen d (take i d.parts.now) → AreOpen d d.parts.now
 open_all d i all before = subst (AreOpen d) (take_all i d.parts.now all) before
-
-pub own_part : (parts : List Coefficient) (i : ℕ) (c : Coefficient) → i < length parts → c ≡ get_or parts i c → Contains parts c
-own_part parts i c exists at = (i, exists, sym at)

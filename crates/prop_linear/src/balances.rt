@@ -1,14 +1,17 @@
 //! A linear comparison, summed up over a box.
 
-ghost use Rattle.std.specs.Prelude.{◌≡◌, ◌-ℤ◌, pos, false, All, Contains, IfNone, IfSome};
+ghost use Rattle.std.specs.Prelude.{◌≡◌, ◌<◌, ◌-ℤ◌, pos, false, length, All, Contains, IfNone, IfSome};
 ghost use Rattle.box_problem.specs.Box.{high, low};
 ghost use Rattle.term_language.specs.Ends as rule;
 ghost use Rattle.prop_shave.specs.Removals.{IsOpenAt, Removes};
 ghost use Rattle.sopl_base.specs.declared.reason.Side.TheVariants.{Ge};
 ghost use Rattle.term_math.specs.Shown.{IsFit, ends_of};
-ghost use Rattle.prop_linear.specs.Balances.{IsLight, IsOthers, IsSummed, IsTurnIn, box_of, closes, meets, sum_over};
+ghost use Rattle.prop_linear.specs.Balances.{IsLight, IsOthers, IsPartAt, IsPlaceOf, IsSummed, IsTurnIn, box_of, closes, least_width};
+ghost use Rattle.prop_linear.specs.Balances.{meets, sum_over};
+ghost use Rattle.prop_linear.specs.KeptSums.{AreWidths};
 ghost use Rattle.prop_linear.specs.Turns.{turn_closes};
 
+use crate::maxima::Maxima;
 use crate::turns::Turn;
 use prop_shave::CellEnd;
 use sopl_base::{CmpOp, Reason, Side, Step};
@@ -55,24 +58,12 @@ impl<'a> Difference<'a> {
 
     /// The interval of the sum over the box.
     #[tactic(auto, using(crate::proofs::Summing::cells_have_room))]
-    fn whole(&self) -> Ends
+    pub(crate) fn whole(&self) -> Ends
         requires light { IsLight self.now }
         ensures { ends_of result ≡ sum_over self.now (box_of self.now) }
     {
         let cells = self.view.cells(self.parts);
         self.constant_ends().plus(&cells)
-    }
-
-    /// The comparison with its sum.
-    pub(crate) fn balance(&self) -> Balance<'a>
-        requires light { IsLight self.now }
-        ensures summed { IsSummed result }
-        ensures same { result.difference ≡ self.now }
-    {
-        Balance {
-            difference: *self,
-            whole: self.whole(),
-        }
     }
 
     /// The lower end of the cell of a part.
@@ -99,6 +90,25 @@ impl<'a> Difference<'a> {
     {
         let interval = self.view.cell(part.cell);
         interval.scaled(&part.factor())
+    }
+
+    /// The interval of the part at a place.
+    pub(crate) fn part_at(&self, place: usize) -> Ends
+        requires light { IsLight self.now }
+        requires exists { place < length self.now.parts.now }
+        ensures { IsPartAt self.now place (ends_of result) }
+    {
+        self.part(&self.parts[place])
+    }
+
+    /// The place of the part of a cell, if it has one.
+    pub(crate) fn place(&self, cell: u32) -> Option<usize>
+        ensures { IfSome result (λ place. IsPlaceOf self.now place cell) }
+    {
+        match self.parts.binary_search_by_key(&cell, |part| part.cell) {
+            Ok(place) => Some(place),
+            Err(_) => None,
+        }
     }
 }
 
@@ -198,12 +208,13 @@ impl Balance<'_> {
     }
 
     /// A step at one of the ends of a cell, or none where all outermost values may stay.
-    pub(crate) fn first_step(&self, reason: Reason) -> Option<Step>
+    fn first_step(&self, reason: Reason) -> Option<Step>
         requires summed { IsSummed self.now }
         requires whole { closes self.now.difference (box_of self.now.difference) ≡ false }
         ensures removes { IfSome result (Removes (closes self.now.difference) (box_of self.now.difference)) }
         ensures own_reason { IfSome result (λ step. step.reason ≡ reason) }
-        ensures none { IfNone result (All (λ part. IsOpenAt (closes self.now.difference) (box_of self.now.difference) part.cell) self.now.difference.parts.now) }
+        ensures none { IfNone result (All (λ part. IsOpenAt (closes self.now.difference) (box_of self.now.difference) part.cell)
+            self.now.difference.parts.now) }
     {
         'parts: for part in self.difference.parts {
             if let Some(step) = self.step_at(reason, part) {
@@ -211,5 +222,56 @@ impl Balance<'_> {
             }
         }
         None
+    }
+
+    /// How wide a part has to be for the comparison to be false with some value of the part.
+    fn least_width(&self) -> u64
+        ensures { result ≡ least_width self.now.difference.op (ends_of self.now.whole) }
+    {
+        let low = self.whole.low.unsigned_abs();
+        let high = self.whole.high.unsigned_abs();
+        match self.difference.op {
+            CmpOp::Eq => low.min(high) + 1,
+            CmpOp::Ne => self.whole.high.abs_diff(self.whole.low),
+            CmpOp::Lt => low,
+            CmpOp::Le => low + 1,
+            CmpOp::Gt => high,
+            CmpOp::Ge => high + 1,
+        }
+    }
+
+    /// A step at one of the ends of the cell of the part at a place, if there is such a part and one of its outermost values may go.
+    #[tactic(auto, using(crate::proofs::Narrow::part_there))]
+    fn step_at_place(&self, reason: Reason, place: usize) -> Option<Step>
+        requires summed { IsSummed self.now }
+        requires whole { closes self.now.difference (box_of self.now.difference) ≡ false }
+        ensures removes { IfSome result (Removes (closes self.now.difference) (box_of self.now.difference)) }
+        ensures own_reason { IfSome result (λ step. step.reason ≡ reason) }
+    {
+        let Some(part) = self.difference.parts.get(place) else {
+            return None;
+        };
+        self.step_at(reason, part)
+    }
+
+    /// A step at one of the ends of a cell, or none where all outermost values may stay: that of the first part which is wide enough is
+    /// tried first, and none where no part is.
+    pub(crate) fn step_by(&self, reason: Reason, widths: &Maxima) -> Option<Step>
+        requires summed { IsSummed self.now }
+        requires whole { closes self.now.difference (box_of self.now.difference) ≡ false }
+        requires widths { AreWidths self.now.difference widths.now }
+        ensures removes { IfSome result (Removes (closes self.now.difference) (box_of self.now.difference)) }
+        ensures own_reason { IfSome result (λ step. step.reason ≡ reason) }
+        ensures none { IfNone result (All (λ part. IsOpenAt (closes self.now.difference) (box_of self.now.difference) part.cell)
+            self.now.difference.parts.now) }
+    {
+        let least = self.least_width();
+        if widths.greatest() < least {
+            return None;
+        }
+        if let Some(step) = self.step_at_place(reason, widths.first_from(least)) {
+            return Some(step);
+        }
+        self.first_step(reason)
     }
 }

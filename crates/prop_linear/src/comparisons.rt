@@ -1,49 +1,34 @@
 //! The propagator of a hard constraint that is a linear comparison.
 
-ghost use Rattle.std.specs.Prelude.{◌≡◌, ◌<◌, ◌∷◌, [], length, Some, None, IfOk, slice_get};
-ghost use Rattle.std.specs.Option.{option_and_then, option_map_or};
+ghost use Rattle.std.specs.Prelude.{◌≡◌, ◌<◌, ◌∷◌, [], length, IfOk};
 ghost use Rattle.sopl_base.specs.declared.reason.Reason.TheVariants.{Hard};
-ghost use Rattle.box_problem.specs.Box.{Inside};
+ghost use Rattle.box_problem.specs.Box.{Box, Inside};
+ghost use Rattle.prop_core.specs.Findings.{Finds};
 ghost use Rattle.term_program.specs.Stated.{box_problem_of};
-ghost use Rattle.term_program.specs.Programs.{IsMade, problem_in, root_in};
-ghost use Rattle.term_math.specs.Shown.{box_in};
-ghost use Rattle.prop_linear.specs.Balances.{IsLight, IsSummed, box_of};
-ghost use Rattle.prop_linear.specs.Kinds.{Fits, IsLinear, TellsOf, reasons_of};
+ghost use Rattle.term_program.specs.declared.program.Program.{Program as Stated};
+ghost use Rattle.term_program.specs.Programs.{IsMade, problem_in};
+ghost use Rattle.prop_linear.specs.Kinds.{Fits, InStep, IsLinear, KeepsSumOf, reasons_of};
 
-use crate::balances::{Balance, Difference};
+use crate::kept_sum::KeptSum;
+use crate::linear_constraint::LinearConstraint;
 use box_store::BoxStore;
-use prop_core::{Finding, Propagator};
-use sopl_base::{CmpOp, Reason};
+use prop_core::{Finding, Propagator, Watching, rested_by, rests_at};
 use std::alloc::{AllocError, Global};
-use term_math::{BoxView, Coefficient};
-use term_program::{CondId, Program};
+use term_program::Program;
 
-/// Narrows a box for one hard constraint that is a linear comparison in one scenario: the comparison is summed up once, and by this sum both ends of each of
-/// its cells are tried, unless it is true all over the box. As many values are removed as a division proposes, where these were tried too.
+/// Narrows a box for one hard constraint that is a linear comparison in one scenario, unless it is true all over the box: by its sum both
+/// ends of each of its cells are tried, and as many values are removed as a division proposes, where these were tried too. The sum is kept,
+/// and of its parts those are seen anew whose cells were touched. No end is tried where no part is wide enough; the greatest width is kept,
+/// too. As long as no cell is touched, it rests without being asked against the best value against which it has rested.
 #[derive(Drop)]
 pub struct Linear {
-    instance: u32,
-    scenario: u32,
-    cond: CondId,
-    op: CmpOp,
-    constant: i64,
-    parts: Vec<Coefficient>,
-}
-
-/// The box of a store.
-fn view_of(store: &BoxStore) -> BoxView<'_>
-    ensures { box_in result ≡ store.now.box }
-{
-    BoxView {
-        lows: store.lows(),
-        highs: store.highs(),
-        part: None,
-    }
+    constraint: LinearConstraint,
+    sum: KeptSum,
+    rested: Option<Option<i128>>,
 }
 
 impl Linear {
     /// The propagator of a hard constraint in a scenario in which it is a linear comparison.
-    #[tactic(auto, using(crate::proofs::Finding::is_linear))]
     pub fn new(
         alloc: Global,
         program: &Program,
@@ -56,53 +41,35 @@ impl Linear {
         requires linear { IsLinear program.now instance scenario }
         ensures reasons { IfOk result (λ made. reasons_of made ≡ Hard instance scenario ∷ []) }
         ensures fits { IfOk result (λ made. Fits made program.now) }
+        ensures in_step { IfOk result (λ made. (b : Box) → InStep made program.now b) }
     {
-        let cond = program.hard(instance, scenario);
+        let constraint = LinearConstraint::new(alloc, program, instance, scenario)?;
+        let parts = constraint.parts.len();
+        let sum = KeptSum::new(alloc, parts, constraint.cells.len())?;
         Ok(Linear {
-            instance,
-            scenario,
-            cond,
-            op: program.compared(cond),
-            constant: program.constant(cond),
-            parts: Vec::from_slice(alloc, program.parts(cond))?,
+            constraint,
+            sum,
+            rested: None,
         })
     }
 
-    /// The one reason for which it narrows boxes.
-    fn reason(&self) -> Reason
-        ensures { result ≡ Hard self.now.instance self.now.scenario }
+    /// What it finds of the box of a store for which what it keeps is right, against the best value where there is one; it keeps whether
+    /// it rests.
+    fn ask(&mut self, program: &Program, store: &BoxStore, best: Option<i128>) -> Finding
+        requires fits { Fits self.old program.now }
+        requires inside { Inside store.now.box (box_problem_of program.now).root }
+        requires sum { KeepsSumOf self.old store.now.box }
+        ensures finds { Finds (box_problem_of program.now) (reasons_of self.old) best store.now.box result }
+        ensures in_step { InStep self.new program.now store.now.box }
+        ensures constraint { self.new.constraint ≡ self.old.constraint }
+        ensures still_fits { (p : Stated) → Fits self.old p → Fits self.new p }
     {
-        Reason::Hard {
-            instance: self.instance,
-            scenario: self.scenario,
-        }
-    }
-
-    /// The comparison over the box of a store.
-    fn difference<'a>(&'a self, _program: &Program, store: &'a BoxStore) -> Difference<'a>
-        requires fits { Fits self.now _program.now }
-        requires inside { Inside store.now.box (root_in _program.now) }
-        ensures light { IsLight result }
-        ensures seen { box_of result ≡ store.now.box }
-        ensures tells { TellsOf _program.now (Hard self.now.instance self.now.scenario) result }
-    {
-        Difference {
-            op: self.op,
-            constant: self.constant,
-            parts: self.parts.as_slice(),
-            view: view_of(store),
-        }
-    }
-
-    /// The comparison with its sum over the box of a store.
-    fn balance<'a>(&'a self, program: &Program, store: &'a BoxStore) -> Balance<'a>
-        requires fits { Fits self.now program.now }
-        requires inside { Inside store.now.box (root_in program.now) }
-        ensures summed { IsSummed result }
-        ensures seen { box_of result.difference ≡ store.now.box }
-        ensures tells { TellsOf program.now (Hard self.now.instance self.now.scenario) result.difference }
-    {
-        self.difference(program, store).balance()
+        let difference = self.constraint.difference(program, store);
+        self.sum.renew(&difference);
+        let balance = self.sum.balance(&difference);
+        let finding = self.constraint.finding(&balance, &self.sum.widths);
+        self.rested = rested_by(&finding, best);
+        finding
     }
 }
 
@@ -115,20 +82,37 @@ impl Propagator for Linear {
 
     ghost fits = { Fits };
 
-    ghost in_step = { λ _ _ _. Unit {0} };
+    ghost in_step = { InStep };
 
-    fn revise(&mut self, program: &Program, store: &BoxStore, _best: Option<i128>) -> Finding {
-        let reason = self.reason();
-        let balance = self.balance(program, store);
-        if balance.is_closed() {
-            return Finding::Dead(reason);
-        }
-        if balance.is_met() {
+    fn revise(&mut self, program: &Program, store: &BoxStore, best: Option<i128>) -> Finding {
+        self.sum.forget();
+        self.ask(program, store, best)
+    }
+}
+
+impl Watching for Linear {
+    ghost use Rattle.prop_linear.specs.Deciding.{linear_steps};
+
+    ghost watches = { λ linear. linear.constraint.cells.items };
+
+    fn watched_cells(&self) -> &[u32] {
+        self.constraint.cells.as_slice()
+    }
+
+    fn touched(&mut self, cell: u32) {
+        self.rested = None;
+        self.sum.tell(cell);
+    }
+
+    #[tactic(auto, using(prop_core::proofs::Rested::quiet_again))]
+    fn revise_kept(&mut self, program: &Program, store: &BoxStore, best: Option<i128>) -> Finding {
+        if rests_at(self.rested, best) {
             return Finding::Quiet;
         }
-        match balance.first_step(reason) {
-            Some(step) => Finding::Cut(step),
-            None => Finding::Quiet,
-        }
+        self.ask(program, store, best)
     }
+
+    ghost steps_agree = { λ m p b c fits b_in c_in agree step. linear_steps m p b c fits b_in c_in agree step };
+
+    ghost reasons_agree = { λ m p fits. fits.looks };
 }

@@ -1,9 +1,12 @@
-//! The propagator of a linear comparison: it sums up the comparison once, and tests both ends of each of its cells by that sum.
-//! Its tests stand in `search_tests`.
+//! The propagator of a linear comparison: it keeps the comparison's sum from one box to the next, and tests both ends of each of its cells
+//! by that sum. Its tests stand in `search_tests`.
 #![tactic(auto)]
 
 mod balances;
 mod comparisons;
+mod kept_sum;
+mod linear_constraint;
+mod maxima;
 mod turns;
 
 pub use comparisons::Linear;

@@ -53,10 +53,6 @@ reasons_more of f base xs new p n so_far is pushed =
     append_three [] ys zs = refl
     append_three (x ∷ xs) ys zs = ap (λ (list : List Reason). x ∷ list) (append_three xs ys zs)
 
-pub reasons_all : (base all : List Reason) (f : ℕ → Reason) (n i : ℕ) → n ≤ i → i ≤ n → all ≡ base ++ map f (range_with_len 0 i) → all ≡ base ++ map f (range_with_len 0 n)
-reasons_all base all f n i past within is =
-    subst (λ (k : ℕ). all ≡ base ++ map f (range_with_len 0 k)) (let same : i ≡ n = omega (arith, past, within) in same) is
-
 -- the reasons of the first instances
 pub instances_more : (f : ℕ → List Reason) (n : ℕ) (old new : List Reason) → old ≡ flat_map f (range_with_len 0 n) → new ≡ old ++ f n → new ≡ flat_map f (range_with_len 0 (n + 1))
 instances_more f n old new so_far next =

@@ -5,23 +5,25 @@ ghost use Rattle.prop_set.specs.Kinds.{Fits, IsInStep, reasons_of, watches_of};
 
 use box_store::BoxStore;
 use prop_alldiff::AllDiff;
-use prop_chance::{Chance, Goal};
+use prop_chance::Chance;
 use prop_core::{Finding, Propagator, Resting, Watching};
 use prop_cumul::Cumul;
+use prop_goal::Goal;
 use prop_linear::Linear;
 use prop_term::AnyTerm;
 use term_program::Program;
 
-/// A propagator of any kind: of a linear comparison, of `allDifferent`, of `cumulative`, of another hard constraint, of a chance constraint, or of the
-/// objective. Where it has rested and no cell has changed since that one of its reasons mentions, it is not asked anew.
+/// A propagator of any kind: of a linear comparison, of `allDifferent`, of `cumulative`, of another hard constraint, of a chance
+/// constraint, or of the objective. Where it has rested against the same best value, and no cell has changed since that one of its reasons
+/// mentions, it is not asked anew.
 #[derive(Drop)]
 pub enum AnyProp {
-    Linear(Resting<Linear>),
+    Linear(Linear),
     AllDiff(Resting<AllDiff>),
     Cumul(Resting<Cumul>),
     AnyTerm(Resting<AnyTerm>),
     Chance(Chance),
-    Goal(Resting<Goal>),
+    Goal(Goal),
 }
 
 impl Propagator for AnyProp {

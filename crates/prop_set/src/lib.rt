@@ -1,4 +1,5 @@
-//! All propagators of a program: one of any kind, those of its hard constraints, and the search for the best point of the program with them.
+//! All propagators of a program: one of any kind, those of its hard constraints, and the search for the best point of the program with
+//! them.
 //! Its tests stand in `search_tests`.
 #![tactic(auto)]
 

@@ -34,8 +34,8 @@ fn hard_cells(
     Ok(cells)
 }
 
-/// The propagator of a hard constraint in a scenario, which watches these cells.
-#[tactic(auto, using(crate::proofs::Together::linear_there, crate::proofs::Together::different_there, crate::proofs::Together::cumulative_there))]
+/// The propagator of a hard constraint in a scenario that is no linear comparison, for which another one is quicker; it watches these cells.
+#[tactic(auto, using(crate::proofs::Together::different_there, crate::proofs::Together::cumulative_there))]
 fn prop_with(
     alloc: Global,
     program: &Program,
@@ -52,10 +52,6 @@ fn prop_with(
     ensures in_step { IfOk result (λ made. (b : Box) → IsInStep made program.now b) }
 {
     match program.form(program.hard(instance, scenario)) {
-        Form::Linear => Ok(AnyProp::Linear(Resting::new(
-            Linear::new(alloc, program, instance, scenario)?,
-            cells,
-        ))),
         Form::AllDifferent => Ok(AnyProp::AllDiff(Resting::new(
             AllDiff::new(alloc, program, instance, scenario)?,
             cells,
@@ -64,14 +60,12 @@ fn prop_with(
             Cumul::new(alloc, program, instance, scenario)?,
             cells,
         ))),
-        Form::Other => Ok(AnyProp::AnyTerm(Resting::new(
-            AnyTerm::new(program, instance, scenario)?,
-            cells,
-        ))),
+        _ => Ok(AnyProp::AnyTerm(Resting::new(AnyTerm::new(program, instance, scenario)?, cells))),
     }
 }
 
 /// The propagator of a hard constraint in a scenario.
+#[tactic(auto, using(crate::proofs::Together::linear_there))]
 fn prop_of(
     alloc: Global,
     program: &Program,
@@ -85,8 +79,16 @@ fn prop_of(
     ensures fits { IfOk result (λ made. Fits made program.now) }
     ensures in_step { IfOk result (λ made. (b : Box) → IsInStep made program.now b) }
 {
-    let cells = hard_cells(alloc, program, instance, scenario)?;
-    prop_with(alloc, program, instance, scenario, cells)
+    match program.form(program.hard(instance, scenario)) {
+        Form::Linear => {
+            let prop = Linear::new(alloc, program, instance, scenario)?;
+            Ok(AnyProp::Linear(prop))
+        }
+        _ => {
+            let cells = hard_cells(alloc, program, instance, scenario)?;
+            prop_with(alloc, program, instance, scenario, cells)
+        }
+    }
 }
 
 /// Adds the propagators of a hard constraint in all scenarios.

@@ -11,8 +11,8 @@ ghost use Rattle.prop_set.specs.Kinds.{Fits, IsInStep, chance_reasons, goal_reas
 
 use crate::any_prop::AnyProp;
 use crate::members::hard_props;
-use prop_chance::{Chance, Goal};
-use prop_core::Resting;
+use prop_chance::Chance;
+use prop_goal::Goal;
 use std::alloc::{AllocError, Global};
 use term_program::Program;
 
@@ -36,8 +36,7 @@ fn goal_prop(alloc: Global, program: &Program) -> Result<AnyProp, AllocError>
     ensures in_step { IfOk result (λ made. (b : Box) → IsInStep made program.now b) }
 {
     let member = Goal::new(alloc, program)?;
-    let cells = Vec::from_slice(alloc, member.cells())?;
-    Ok(AnyProp::Goal(Resting::new(member, cells)))
+    Ok(AnyProp::Goal(member))
 }
 
 /// Adds the propagators of all chance constraints.
@@ -70,8 +69,8 @@ fn add_goal(alloc: Global, program: &Program, list: &mut Vec<AnyProp>) -> Result
     Ok(())
 }
 
-/// The propagators of a program. Their reasons are all reasons of its problem, in the same order: each hard constraint in each scenario, the chance
-/// constraints, and the objective.
+/// The propagators of a program. Their reasons are all reasons of its problem, in the same order: each hard constraint in each scenario,
+/// the chance constraints, and the objective.
 #[tactic(auto, using(crate::proofs::Together::all_reasons))]
 pub fn props_of(alloc: Global, program: &Program) -> Result<Vec<AnyProp>, AllocError>
     requires made { IsMade program.now }

@@ -20,10 +20,10 @@ use sopl_search::{Outcome, Schedule, search};
 use std::alloc::Global;
 use term_program::Program;
 
-/// Searches for the best point of a program, over the nodes of a tree of boxes; no more than `budget` of them are finished. What is answered is true
-/// of all points, and the search gives up only where nothing is settled after as many nodes as the budget allows. Values are numerators over the
-/// program's denominator. Without an objective any point that satisfies is the best one, and its value is 0. The sink takes the log of the search
-/// while it goes on.
+/// Searches for the best point of a program, over the nodes of a tree of boxes; no more than `budget` of them are finished. What is
+/// answered is true of all points, and the search gives up only where nothing is settled after as many nodes as the budget allows. Values
+/// are numerators over the program's denominator. Without an objective any point that satisfies is the best one, and its value is 0. The
+/// sink takes the log of the search while it goes on.
 pub fn search_program<K: Sink>(
     alloc: Global,
     program: &Program,

@@ -1,26 +1,10 @@
 -- Sums over several parts.
-use Rattle.std.proofs.Common.{◌≡◌, ◌∙◌, ℕ, ◌+◌, ◌<◌, ◌≤◌, ℤ, ◌+ℤ◌, ◌-ℤ◌, Bool, false, List, [], ◌∷◌, ◌++◌, length, get_or, drop, if◌then◌else◌, arith, refl, ap}
-use Rattle.std.specs.List.{filter, range_with_len}
+use Rattle.std.proofs.Common.{◌≡◌, ℕ, ◌+◌, ◌<◌, ◌≤◌, ℤ, ◌+ℤ◌, ◌-ℤ◌, Bool, false, List, [], ◌∷◌, length, get_or, drop, if◌then◌else◌, arith, refl}
+use Rattle.std.specs.List.{filter}
 use Rattle.std.proofs.lemmas.Int.{ints}
 use Rattle.std.proofs.lemmas.List.{at_drop_all, at_drop_more}
-use Rattle.sopl_base.proofs.Lists.{range_more}
 use Rattle.term_language.proofs.FormValues.{by_bool}
 use Rattle.prop_shave.specs.Sums.{sum_over, turn_of}
-
-sum_append : (f : ℕ → ℤ) (xs ys : List ℕ) → sum_over f (xs ++ ys) ≡ sum_over f xs +ℤ sum_over f ys
-sum_append f [] ys = omega (arith, ints)
-sum_append f (x ∷ xs) ys = let rest = sum_append f xs ys in omega (arith, ints, rest)
-
-pub sum_more : (f : ℕ → ℤ) (n : ℕ) (old new here : ℤ) → old ≡ sum_over f (range_with_len 0 n) → here ≡ f n → new ≡ old +ℤ here → new ≡ sum_over f (range_with_len 0 (n + 1))
-sum_more f n old new here so_far is put =
-    let more = ap (sum_over f) (range_more n) ∙ sum_append f (range_with_len 0 n) (n ∷ []) in
-    omega (arith, ints, more, so_far, is, put)
-
-pub sum_more_from : (f : ℕ → ℤ) (n : ℕ) (start old new here : ℤ) → old ≡ start +ℤ sum_over f (range_with_len 0 n) → here ≡ f n → new ≡ old +ℤ here
-    → new ≡ start +ℤ sum_over f (range_with_len 0 (n + 1))
-sum_more_from f n start old new here so_far is put =
-    let more = ap (sum_over f) (range_more n) ∙ sum_append f (range_with_len 0 n) (n ∷ []) in
-    omega (arith, ints, more, so_far, is, put)
 
 -- one of several parts turned, and none left
 pub turn_more : {A : Type 0} (f g : A → ℤ) (list : List A) (i : ℕ) (d : A) (start old new before after : ℤ) → i < length list → (old +ℤ sum_over (turn_of f g) (drop i list)) ≡ start

@@ -1,12 +1,12 @@
 -- The better end over a box, and over a part in which one cell has another interval.
-use Rattle.std.proofs.Common.{◌≡◌, ◌∙◌, ℕ, zero, suc, ◌+◌, ℤ, pos, ◌+ℤ◌, ◌≤ℤ◌, false, List, [], ◌∷◌, Option, Some, None, IfSome, slice_get, length, arith, refl, ap, sym}
+use Rattle.std.proofs.Common.{◌≡◌, ◌∙◌, ℕ, zero, suc, ◌+◌, ℤ, pos, ◌+ℤ◌, ◌-ℤ◌, ◌≤ℤ◌, false, List, [], ◌∷◌, Option, Some, None, IfSome, slice_get, length, arith, refl, ap, sym}
 use Rattle.std.specs.List.{range_with_len}
 use Rattle.std.specs.Option.{option_map_or}
 use Rattle.std.proofs.lemmas.Int.{ints}
 use Rattle.sopl_base.specs.declared.direction.Direction.{Direction}
 use Rattle.sopl_base.specs.declared.direction.Direction.TheVariants.{Minimize, Maximize, Nothing}
 use Rattle.box_problem.specs.Box.{Box, Inside, high, low}
-use Rattle.term_language.specs.Ends.{Ends, ends, exactly, plus, scaled}
+use Rattle.term_language.specs.Ends.{Ends, exactly, plus, scaled}
 use Rattle.term_language.specs.Rules.{Near, interval}
 use Rattle.term_language.specs.Mentions.{mentions}
 use Rattle.term_language.proofs.Agreement.{intervals_agree}
@@ -23,7 +23,7 @@ use Rattle.term_math.proofs.Inner.{part_inside}
 use Rattle.prop_shave.proofs.Adding.{differs_there}
 use Rattle.prop_shave.proofs.Mentioned.{untouched, with_agrees}
 use Rattle.prop_shave.specs.Sums.{sum_over, turn_of}
-use Rattle.prop_shave.specs.GoalSums.{AreParts, is_touched, part_at, part_over, touched_by, touches_at}
+use Rattle.prop_shave.specs.GoalSums.{AreParts, is_touched, part_at, part_over, parts_over, touched_by, touches_at}
 
 -- the better end of a sum is the sum of the better ends
 plus_end : (direction : Direction) (a c : Ends) → better_end direction (plus a c) ≡ better_end direction a +ℤ better_end direction c
@@ -109,6 +109,32 @@ end_with program b cell lo hi atoms list end now are inside from_low ordered to_
     let over_box = goal_end program atoms b are inside in
     let over_part = goal_end program atoms c are (with_inside root b cell lo hi inside from_low ordered to_high) in
     omega (arith, ints, whole, sums, box_sum, part_sum, over_box, over_part, is, turned)
+
+-- the better end turns as the parts do
+abbrev end_over : Program → Box → ℤ
+end_over program b = better_end (direction_in (problem_in program)) (goal_ends (root_in program) b (problem_in program))
+
+pub parts_turned : (program : Program) (b : Box) (cell : ℕ) (lo hi : ℤ) (atoms : List Atom) (end now turn : ℤ) → AreParts program atoms → Inside b (root_in program)
+    → low (root_in program) cell ≤ℤ lo → lo ≤ℤ hi → hi ≤ℤ high (root_in program) cell → end ≡ end_over program b → now ≡ end_over program (with_interval b cell lo hi) → turn ≡ now -ℤ end
+    → (parts_over program atoms b +ℤ turn) ≡ parts_over program atoms (with_interval b cell lo hi)
+parts_turned program b cell lo hi atoms end now turn are inside from_low ordered to_high is told put =
+    let c = with_interval b cell lo hi in
+    let box_sum = sum_numbered program atoms b in
+    let part_sum = sum_numbered program atoms c in
+    let over_box = goal_end program atoms b are inside in
+    let over_part = goal_end program atoms c are (with_inside (root_in program) b cell lo hi inside from_low ordered to_high) in
+    omega (arith, ints, box_sum, part_sum, over_box, over_part, is, told, put)
+
+pub end_turned : (program : Program) (b : Box) (cell : ℕ) (lo hi : ℤ) (atoms : List Atom) (end turn : ℤ) → AreParts program atoms → Inside b (root_in program) → low (root_in program) cell ≤ℤ lo
+    → lo ≤ℤ hi → hi ≤ℤ high (root_in program) cell → end ≡ end_over program b → (parts_over program atoms b +ℤ turn) ≡ parts_over program atoms (with_interval b cell lo hi)
+    → (end +ℤ turn) ≡ end_over program (with_interval b cell lo hi)
+end_turned program b cell lo hi atoms end turn are inside from_low ordered to_high is turned =
+    let c = with_interval b cell lo hi in
+    let box_sum = sum_numbered program atoms b in
+    let part_sum = sum_numbered program atoms c in
+    let over_box = goal_end program atoms b are inside in
+    let over_part = goal_end program atoms c are (with_inside (root_in program) b cell lo hi inside from_low ordered to_high) in
+    omega (arith, ints, box_sum, part_sum, over_box, over_part, is, turned)
 
 -- the better end of the constant alone is the constant
 constant_end : (root : Box) (weights : List ℤ) (goal : Option GoalTerms) (n : ℕ) → IfSome goal (λ (g : GoalTerms). (length g.terms ≡ n) × (¬ g.direction ≡ Nothing))

@@ -1,10 +1,7 @@
 -- The weight of a scenario, and thresholds.
-use Rattle.std.proofs.Common.{◌≡◌, ◌∙◌, inl, inr, ℕ, zero, suc, ◌+◌, ◌<◌, get_or, set, length, arith, ℤ, pos, ◌≤ℤ◌, ◌*ℤ◌, int_lt, false, ap₂, ◌^◌, List, [], ◌∷◌, Option, Some, None, map, option_map, slice_get, unwrap_or, ap, refl, subst, sym}
+use Rattle.std.proofs.Common.{◌≡◌, ◌∙◌, ℕ, zero, suc, ℤ, pos, ◌≤ℤ◌, ◌*ℤ◌, int_lt, false, ap₂, ◌^◌, List, [], ◌∷◌, Option, Some, None, map, option_map, slice_get, unwrap_or, ap, refl, subst, sym}
 use Rattle.std.specs.List.{AllByRecursion}
 use Rattle.std.specs.Option.{option_map_or}
-use Rattle.std.proofs.lemmas.Bool.{cases_eq}
-use Rattle.std.proofs.lemmas.Grind.{get_or-set_at}
-use Rattle.std.proofs.lemmas.List.{get_or-set_other}
 use Rattle.box_problem.specs.Box.{Box}
 use Rattle.term_language.specs.declared.answers.Truth.{Truth}
 use Rattle.term_language.specs.declared.answers.Truth.TheVariants.{False}
@@ -16,7 +13,6 @@ use Rattle.term_nodes.specs.Things.{Thing}
 use Rattle.term_program.specs.declared.draft.ChanceConditions.{ChanceConditions}
 use Rattle.term_program.specs.Drafts.{IsThreshold, chance_of}
 use Rattle.term_program.specs.Programs.{kept}
-use Rattle.prop_shave.specs.ChanceKnown.{AreSeenTo}
 use Rattle.prop_shave.specs.ChanceSums.{condition_in, truth_over, weight_at, weight_over}
 
 pub weight_is : (terms : ProblemTerms) (scenario : ℕ) (weight : ℤ) → slice_get terms.weights scenario ≡ Some weight → weight ≡ weight_at terms scenario
@@ -44,15 +40,6 @@ truth_weighs root b terms instance scenario found sum is weighed =
         ≡ option_map_or (λ cond. kept (is_false (truth Near root b cond)) (weight_at terms scenario)) o (pos 0)
     by_condition None = refl
     by_condition (Some cond) = refl
-
--- one scenario more
-pub seen_more : (root b : Box) (terms : ProblemTerms) (instance scenario : ℕ) (truths : List Truth) (found : Truth) → scenario < length terms.weights → length truths ≡ length terms.weights → found
-    ≡ truth_over root terms instance b scenario → AreSeenTo root terms instance b scenario truths → AreSeenTo root terms instance b (scenario + 1) (set truths scenario found)
-seen_more root b terms instance scenario truths found below room is before k d earlier =
-    elim (cases_eq k scenario) [
-      | inl same ↦ get_or-set_at truths scenario k found d same (omega (arith, below, room)) ∙ is ∙ sym (ap (truth_over root terms instance b) same)
-      | inr other ↦ get_or-set_other truths scenario k found d other ∙ before k d (omega (arith, earlier, other))
-    ]
 
 -- the threshold of a constraint
 pub record IsFraction (p q : ℤ) : Type 0 where

@@ -12,3 +12,4 @@ pub mod Reaching
 pub mod Opening
 pub mod Elsewhere
 pub mod Finding
+pub mod AtEnds

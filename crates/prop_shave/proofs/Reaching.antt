@@ -1,13 +1,8 @@
 -- The worse ends of parts, and what they leave open.
-use Rattle.std.proofs.Common.{◌≡◌, ◌∙◌, inl, inr, set, ℕ, ◌+◌, ◌<◌, ◌≤◌, ℤ, pos, negsuc, ◌+ℤ◌, ◌-ℤ◌, ◌*ℤ◌, ◌≤ℤ◌, int_le, Bool, true, false, List, Option, Some, None, IfSome, length, get_or, drop, slice_get}
-use Rattle.std.proofs.Common.{arith, refl, ap, subst, sym}
-use Rattle.std.specs.Int.{int_max, int_min}
+use Rattle.std.proofs.Common.{◌≡◌, ◌∙◌, ℕ, ◌+◌, ◌<◌, ◌≤◌, ℤ, pos, ◌+ℤ◌, ◌-ℤ◌, ◌*ℤ◌, false, List, Option, Some, None, IfSome, length, get_or, drop}
+use Rattle.std.proofs.Common.{arith, ap, subst, sym}
 use Rattle.std.proofs.lemmas.Int.{ints}
-use Rattle.std.proofs.lemmas.Option.{same_Some}
-use Rattle.std.proofs.lemmas.Bool.{cases_eq}
-use Rattle.std.proofs.lemmas.Grind.{get_or-set_at}
-use Rattle.std.proofs.lemmas.List.{at_drop_all, at_drop_more, get_or-set_other}
-use Rattle.sopl_base.proofs.Tests.{le_untest}
+use Rattle.std.proofs.lemmas.List.{at_drop_all, at_drop_more}
 use Rattle.sopl_base.specs.declared.direction.Direction.{Direction}
 use Rattle.sopl_base.specs.declared.direction.Direction.TheVariants.{Minimize, Maximize, Nothing}
 use Rattle.box_problem.specs.Box.{Box, Inside, IsBox}
@@ -33,9 +28,8 @@ use Rattle.term_problem.specs.Problems.{direction_in}
 use Rattle.term_goals.specs.declared.sums.Atom.{Atom}
 use Rattle.term_program.specs.declared.program.Program.{Program}
 use Rattle.prop_shave.specs.declared.part_ends.PartEnds.{PartEnds}
-use Rattle.prop_shave.specs.GoalKnown.{AreEnds, AreEndsOf, AreEndsTo, IsWorsened}
+use Rattle.prop_shave.specs.GoalKnown.{AreEnds, AreEndsOf, IsPartSeen, IsWorsened}
 use Rattle.prop_shave.specs.GoalSums.{IsAsGood, part_at, part_over, worse_end}
-use Rattle.prop_shave.proofs.GoalMentioned.{part_found}
 use Rattle.prop_shave.proofs.Leaving.{some_there}
 use Rattle.prop_shave.specs.Sums.{sum_over, turn_of}
 
@@ -60,12 +54,6 @@ worse_there direction root b c k t is_box inside proper always =
     by_value (Some z) some here there =
         common direction (scaled k (interval Near root c t)) (scaled k (interval Near root b t)) (k *ℤ z) (in_scaled k z (interval Near root c t) here)
         (in_scaled k z (interval Near root b t) there)
-
--- one part after the other takes its worse end
-pub as_good_first : (direction : Direction) (x : ℤ) → IsAsGood direction x x
-as_good_first Minimize x = omega (arith, ints)
-as_good_first Maximize x = omega (arith, ints)
-as_good_first Nothing x = tt
 
 step_of : (direction : Direction) (start old new rest before better worse after : ℤ) → IsAsGood direction start (old +ℤ ((after -ℤ before) +ℤ rest)) → IsAsGood direction after worse → better ≡ before
     → new ≡ ((old +ℤ worse) -ℤ better) → IsAsGood direction start (new +ℤ rest)
@@ -120,43 +108,41 @@ part_better program b atoms ends number d are below =
     (are.each number there.0 d below there.1).better
     ∙ sym (ap (λ (o : Option Atom). option_map_or (part_over (direction_in (problem_in program)) (root_in program) (things_in program) b) o (pos 0)) there.1)
 
--- the ends of a part
-pub ends_of_part : (program : Program) (b : Box) (a : Atom) (range : Range) (better : Wide) (worse : Option Wide) (direction : Direction) → IsMade program → Inside b (root_in program)
-    → a.term < length (things_in program) → ends_in range.interval ≡ interval Near (root_in program) b (term_at (things_in program) a.term) → range.defined
-    ≡ mark Near (root_in program) b (term_at (things_in program) a.term) → direction ≡ direction_in (problem_in program) → better.value
-    ≡ better_end direction (scaled a.k (ends range.interval.lo range.interval.hi)) → IfSome worse (λ w. range.defined ≡ Always)
+-- the ends of a part, as they are seen
+pub part_seen : (program : Program) (b : Box) (a : Atom) (range : Range) (better : Wide) (worse : Option Wide) (direction : Direction)
+    → ends_in range.interval ≡ interval Near (root_in program) b (term_at (things_in program) a.term) → range.defined ≡ mark Near (root_in program) b (term_at (things_in program) a.term)
+    → direction ≡ direction_in (problem_in program) → better.value ≡ better_end direction (scaled a.k (ends range.interval.lo range.interval.hi)) → IfSome worse (λ w. range.defined ≡ Always)
     → IfSome worse (λ w. w.value ≡ worse_end (direction_in (problem_in program)) (scaled a.k (ends range.interval.lo range.interval.hi)))
-    → AreEndsOf program b a (record { better = better; worse = worse })
-ends_of_part program b a range better worse direction made inside exists seen marked same is always told =
-    let root = root_in program in
-    let t = term_at (things_in program) a.term in
+    → IsPartSeen program b a (record { better = better; worse = worse })
+part_seen program b a range better worse direction seen marked same is always told =
     let mine = direction_in (problem_in program) in
     record {
       better = is ∙ ap (λ (d : Direction). better_end d (scaled a.k (ends range.interval.lo range.interval.hi))) same ∙ ap (λ (e : Ends). better_end mine (scaled a.k e)) seen;
-      worse = λ c within. by_worse worse c within always told;
+      worse = exact worse always told;
     }
   where
-    by_worse : (o : Option Wide) (c : Box) → Inside c b → IfSome o (λ w. range.defined ≡ Always)
+    exact : (o : Option Wide) → IfSome o (λ w. range.defined ≡ Always)
         → IfSome o (λ w. w.value ≡ worse_end (direction_in (problem_in program)) (scaled a.k (ends range.interval.lo range.interval.hi)))
+        → IfSome o (λ w. (mark Near (root_in program) b (term_at (things_in program) a.term) ≡ Always)
+        × (w.value ≡ worse_end (direction_in (problem_in program)) (scaled a.k (interval Near (root_in program) b (term_at (things_in program) a.term)))))
+    exact None defined value = tt
+    exact (Some w) defined value = (sym marked ∙ defined, value ∙ ap (λ (e : Ends). worse_end (direction_in (problem_in program)) (scaled a.k e)) seen)
+
+-- a worse end that is seen is one over each part of the box
+pub ends_of_seen : (program : Program) (b : Box) (a : Atom) (e : PartEnds) → IsMade program → Inside b (root_in program) → IsPartSeen program b a e → AreEndsOf program b a e
+ends_of_seen program b a e made inside seen = record {
+  better = seen.better;
+  worse = λ c within. by_worse e.worse c within seen.worse;
+}
+  where
+    by_worse : (o : Option Wide) (c : Box) → Inside c b
+        → IfSome o (λ w. (mark Near (root_in program) b (term_at (things_in program) a.term) ≡ Always)
+        × (w.value ≡ worse_end (direction_in (problem_in program)) (scaled a.k (interval Near (root_in program) b (term_at (things_in program) a.term)))))
         → IfSome o (λ w. IsAsGood (direction_in (problem_in program)) (part_over (direction_in (problem_in program)) (root_in program) (things_in program) c a) w.value)
-    by_worse None c within defined value = tt
-    by_worse (Some w) c within defined value =
+    by_worse None c within told = tt
+    by_worse (Some w) c within told =
         let root = root_in program in
         let t = term_at (things_in program) a.term in
         let mine = direction_in (problem_in program) in
         let proper = (small_term root program.draft.store.items.items a.term made.draft.store.built).proper in
-        subst (IsAsGood mine (part_over mine root (things_in program) c a)) (sym (value ∙ ap (λ (e : Ends). worse_end mine (scaled a.k e)) seen))
-        (worse_there mine root b c a.k t inside.is_box within proper (sym marked ∙ defined))
-
--- one part more
-pub ends_more : (program : Program) (b : Box) (atoms : List Atom) (ends : List PartEnds) (number : ℕ) (a : Atom) (e : PartEnds) → number < length atoms → length ends ≡ length atoms
-    → a ≡ get_or atoms number a → AreEndsOf program b a e → AreEndsTo program b atoms number ends → AreEndsTo program b atoms (number + 1) (set ends number e)
-ends_more program b atoms ends number a e below room at is before k x d earlier found_there =
-    elim (cases_eq k number) [
-      | inl same ↦
-          let here : a ≡ x =
-          same_Some a x (ap (λ y. Some y) at ∙ sym (part_found atoms number a below) ∙ ap (slice_get atoms) (sym same) ∙ found_there)
-          in
-          subst (AreEndsOf program b x) (sym (get_or-set_at ends number k e d same (omega (arith, below, room)))) (subst (λ (y : Atom). AreEndsOf program b y e) here is)
-      | inr other ↦ subst (AreEndsOf program b x) (sym (get_or-set_other ends number k e d other)) (before k x d (omega (arith, earlier, other)) found_there)
-    ]
+        subst (IsAsGood mine (part_over mine root (things_in program) c a)) (sym told.1) (worse_there mine root b c a.k t inside.is_box within proper told.0)

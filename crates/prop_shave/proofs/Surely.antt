@@ -1,6 +1,6 @@
 -- The weight that no value of a cell takes away.
 use Rattle.std.proofs.Common.{◌≡◌, ◌∙◌, ℕ, zero, suc, ◌<◌, ◌≤◌, ◌+◌, ◌*◌, ℤ, pos, negsuc, ap₂, ◌+ℤ◌, ◌-ℤ◌, ◌*ℤ◌, ◌≤ℤ◌, int_lt, Bool, true, false, List, [], ◌∷◌, Option, Some, None, slice_get, length, get_or, drop}
-use Rattle.std.proofs.Common.{if◌then◌else◌, unwrap_or, arith, refl, ap, subst, sym, IfSome}
+use Rattle.std.proofs.Common.{if◌then◌else◌, unwrap_or, arith, refl, ap, subst, sym}
 use Rattle.std.specs.List.{AllByRecursion, filter}
 use Rattle.std.specs.Option.{option_and_then, option_map_or}
 use Rattle.std.proofs.lemmas.Int.{ints}

@@ -41,10 +41,12 @@ at_risk False weight = pos 0
 at_risk Unknown weight = weight
 at_risk True weight = pos 0
 
--- whether the condition mentions a cell in a scenario, and the scenarios in which it does
+-- the cells that the condition mentions in a scenario; whether a cell is one of them, and the scenarios in which it is
+abbrev pub condition_cells : Box → ProblemTerms → ℕ → ℕ → List ℕ
+condition_cells root terms instance scenario = option_map_or (cond_mentions root) (condition_in terms instance scenario) []
+
 abbrev pub is_touched : Box → ProblemTerms → ℕ → ℕ → ℕ → Bool
-is_touched root terms instance cell scenario =
-    has_cell cell (option_map_or (cond_mentions root) (condition_in terms instance scenario) [])
+is_touched root terms instance cell scenario = has_cell cell (condition_cells root terms instance scenario)
 
 abbrev pub touched_by : Box → ProblemTerms → ℕ → ℕ → List ℕ
 touched_by root terms instance cell = filter (is_touched root terms instance cell) (numbers_to (length terms.weights))

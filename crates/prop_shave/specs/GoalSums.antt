@@ -1,5 +1,5 @@
 -- The better end of an expected objective over a box, part by part.
-use Rattle.std.specs.Prelude.{◌≡◌, ℕ, ℤ, pos, ◌≤ℤ◌, Bool, false, List, length, slice_get}
+use Rattle.std.specs.Prelude.{◌≡◌, ℕ, ℤ, pos, ◌≤ℤ◌, Bool, false, List, [], length, slice_get}
 use Rattle.std.specs.List.{AllByRecursion, filter}
 use Rattle.std.specs.Option.{option_map_or}
 use Rattle.sopl_base.specs.declared.direction.Direction.{Direction}
@@ -17,7 +17,7 @@ use Rattle.term_nodes.specs.Things.{Thing, term_at}
 use Rattle.term_program.specs.declared.program.Program.{Program}
 use Rattle.term_program.specs.Mentions.{atom_ids}
 use Rattle.term_program.specs.Programs.{IsListedTerm, problem_in, root_in, summed_form, things_in}
-use Rattle.prop_shave.specs.Sums.{has_cell}
+use Rattle.prop_shave.specs.Sums.{has_cell, sum_over}
 
 -- the worse end of an interval
 abbrev pub worse_end : Direction → Ends → ℤ
@@ -33,6 +33,15 @@ part_over direction root all b a = better_end direction (scaled a.k (interval Ne
 abbrev pub part_at : Program → List Atom → Box → ℕ → ℤ
 part_at program atoms b number =
     option_map_or (part_over (direction_in (problem_in program)) (root_in program) (things_in program) b) (slice_get atoms number) (pos 0)
+
+-- and of all of them together
+abbrev pub parts_over : Program → List Atom → Box → ℤ
+parts_over program atoms b = sum_over (part_at program atoms b) (numbers_to (length atoms))
+
+-- the cells that the part with a number mentions
+abbrev pub part_cells : Program → List Atom → ℕ → List ℕ
+part_cells program atoms number =
+    option_map_or (λ (a : Atom). mentions (root_in program) (term_at (things_in program) a.term)) (slice_get atoms number) []
 
 -- whether a part mentions a cell, and the numbers of the parts that do
 abbrev pub is_touched : Box → List Thing → ℕ → Atom → Bool

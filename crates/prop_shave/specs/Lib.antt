@@ -1,6 +1,7 @@
 pub mod Ends
 pub mod Removals
 pub mod Sums
+pub mod Turns
 pub mod ChanceSums
 pub mod ChanceKnown
 pub mod GoalSums

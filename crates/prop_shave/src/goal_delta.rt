@@ -1,18 +1,22 @@
 //! The better end of an objective over a box, and over a part in which one cell has another interval.
 
-ghost use Rattle.std.specs.Prelude.{◌≡◌, ◌<◌, ◌≤ℤ◌, get_or, length, IfSome, Some};
+ghost use Rattle.std.specs.Prelude.{◌≡◌, ◌<◌, ◌≤ℤ◌, ◌+ℤ◌, false, get_or, length, true, IfSome, Some};
 ghost use Rattle.sopl_base.specs.declared.reason.Reason.TheVariants.{Bound};
 ghost use Rattle.box_problem.specs.Box.{Inside, high, low};
 ghost use Rattle.term_problem.specs.Objective as objective;
 ghost use Rattle.term_problem.specs.Problems.{direction_in};
 ghost use Rattle.term_problem.specs.Refuted.{refutes};
-ghost use Rattle.term_program.specs.Programs.{IsMade, problem_in, root_in, things_in, with_interval};
-ghost use Rattle.prop_shave.specs.GoalSums.{part_over};
+ghost use Rattle.term_program.specs.declared.program.Program.{Program as Stated};
+ghost use Rattle.term_program.specs.Programs.{IsMade, no_better, problem_in, root_in, things_in, with_interval};
+ghost use Rattle.prop_shave.specs.GoalSums.{part_over, parts_over};
 ghost use Rattle.prop_shave.specs.GoalKnown.{IsCounted};
+ghost use Rattle.prop_shave.specs.Turns.{AreEndTurns};
 ghost use Rattle.prop_shave.specs.declared.part_ends.PartEnds.{PartEnds};
 
+use crate::end_turns::EndTurns;
 use crate::goal_bounds::end_of_part;
 use crate::part_ends::PartEnds;
+use crate::shave_steps::CellEnd;
 use crate::turning::turned;
 use box_store::BoxStore;
 use sopl_base::{Interval, Wide};
@@ -39,7 +43,8 @@ fn part_with(
     end_of_part(program.direction(), atom, &range.interval)
 }
 
-/// The better end of an expected objective over a box, the parts of its sum with their ends there, a cell, and the numbers of the parts that mention the cell.
+/// The better end of an expected objective over a box, the parts of its sum with their ends there, a cell, the numbers of the parts that mention the cell,
+/// and, where it is at hand, by how much the better end turns with the cell at its ends.
 #[derive(Clone, Copy)]
 pub struct GoalDelta<'a> {
     pub cell: u32,
@@ -47,6 +52,7 @@ pub struct GoalDelta<'a> {
     pub atoms: &'a [Atom],
     pub ends: &'a [PartEnds],
     pub numbers: &'a [usize],
+    pub turns: Option<EndTurns>,
 }
 
 impl GoalDelta<'_> {
@@ -77,6 +83,41 @@ impl GoalDelta<'_> {
         Some(end)
     }
 
+    /// The better end with the cell at one of its ends alone, by how much it turns there; none where this is not at hand, for any other interval, and where it
+    /// has no room.
+    fn turned_end(&self, store: &BoxStore, part: Interval) -> Option<Wide>
+        ensures { (program : Stated) → IsMade program → Inside store.now.box (root_in program) → IsCounted program store.now.box self.now → IfSome result (λ end. end.value
+            ≡ objective.better_end (direction_in (problem_in program)) (objective.goal_ends (root_in program) (with_interval store.now.box self.now.cell part.lo part.hi) (problem_in program))) }
+    {
+        let turns = self.turns?;
+        if part.lo != part.hi || self.cell >= store.cells() {
+            return None;
+        }
+        if part.lo == store.lo(self.cell) {
+            return self.end.checked_plus(turns.low);
+        }
+        if part.hi == store.hi(self.cell) {
+            return self.end.checked_plus(turns.high);
+        }
+        None
+    }
+
+    /// The better end with another interval for the cell, by how much it turns where this tells it; none where it has no room.
+    fn end_by(&self, program: &Program, store: &BoxStore, part: Interval) -> Option<Wide>
+        requires made { IsMade program.now }
+        requires inside { Inside store.now.box (root_in program.now) }
+        requires known { IsCounted program.now store.now.box self.now }
+        requires from_low { low (root_in program.now) self.now.cell ≤ℤ part.lo }
+        requires to_high { part.hi ≤ℤ high (root_in program.now) self.now.cell }
+        ensures { IfSome result (λ end. end.value ≡ objective.better_end (direction_in (problem_in program.now))
+            (objective.goal_ends (root_in program.now) (with_interval store.now.box self.now.cell part.lo part.hi) (problem_in program.now))) }
+    {
+        match self.turned_end(store, part) {
+            Some(end) => Some(end),
+            None => self.end_with(program, store, part),
+        }
+    }
+
     /// Whether the bound closes the box with another interval for the cell, against this value; none where the end has no room.
     pub fn closes_with(
         &self,
@@ -93,7 +134,55 @@ impl GoalDelta<'_> {
         ensures closed { IfSome result (λ closed. closed ≡ refutes (root_in program.now) (problem_in program.now) Bound (with_interval store.now.box self.now.cell part.lo part.hi)
             (Some best.value)) }
     {
-        let end = self.end_with(program, store, part)?;
+        let end = self.end_by(program, store, part)?;
         Some(is_no_better(program.direction(), end, best))
+    }
+
+    /// By how much the better end turns with another interval for the cell, or none where it has no room.
+    fn turn_with(&self, program: &Program, store: &BoxStore, part: Interval) -> Option<Wide>
+        requires made { IsMade program.now }
+        requires inside { Inside store.now.box (root_in program.now) }
+        requires known { IsCounted program.now store.now.box self.now }
+        requires from_low { low (root_in program.now) self.now.cell ≤ℤ part.lo }
+        requires to_high { part.hi ≤ℤ high (root_in program.now) self.now.cell }
+        ensures { IfSome result (λ turn. (parts_over program.now self.now.atoms.now store.now.box +ℤ turn.value)
+            ≡ parts_over program.now self.now.atoms.now (with_interval store.now.box self.now.cell part.lo part.hi)) }
+    {
+        let end = self.end_with(program, store, part)?;
+        let turn = end.checked_minus(self.end)?;
+        Some(turn)
+    }
+
+    /// By how much the better end turns with the cell at the ends of its interval; none where it has no room.
+    pub(crate) fn turns_at(
+        &self,
+        program: &Program,
+        store: &BoxStore,
+        end: &CellEnd,
+    ) -> Option<EndTurns>
+        requires made { IsMade program.now }
+        requires inside { Inside store.now.box (root_in program.now) }
+        requires known { IsCounted program.now store.now.box self.now }
+        requires exists { self.now.cell < length store.now.box.lows }
+        requires lo { end.now.lo ≡ low store.now.box self.now.cell }
+        requires hi { end.now.hi ≡ high store.now.box self.now.cell }
+        ensures { IfSome result (AreEndTurns (parts_over program.now self.now.atoms.now) store.now.box self.now.cell) }
+    {
+        let at_low = self.turn_with(program, store, end.low_alone())?;
+        let at_high = self.turn_with(program, store, end.high_alone())?;
+        Some(EndTurns {
+            low: at_low,
+            high: at_high,
+        })
+    }
+}
+
+/// Whether an end that turns by so much is better than a value.
+pub(crate) fn is_better_with(program: &Program, end: Wide, turn: Wide, best: Wide) -> bool
+    ensures { result ≡ true → no_better (direction_in (problem_in program.now)) (end.value +ℤ turn.value) best.value ≡ false }
+{
+    match end.checked_plus(turn) {
+        Some(sum) => !is_no_better(program.direction(), sum, best),
+        None => false,
     }
 }

@@ -1,6 +1,6 @@
 //! How many values at an end may be removed.
 
-ghost use Rattle.std.specs.Prelude.{◌≡◌, ◌<◌, pos, ◌<ℤ◌, ◌∷◌, [], false, length, IfNone, IfSome};
+ghost use Rattle.std.specs.Prelude.{◌≡◌, ◌<◌, pos, ◌<ℤ◌, ◌∷◌, [], false, length, true, IfNone, IfSome};
 ghost use Rattle.sopl_base.specs.declared.reason.Side.TheVariants.{Ge};
 ghost use Rattle.box_problem.specs.Box.{high, low};
 ghost use Rattle.box_problem.specs.Rightness.{IsRight, Quiets};
@@ -130,6 +130,17 @@ impl Probe<'_> {
         }
         let end = self.lower(cell);
         if end.lo < end.hi { Some(end) } else { None }
+    }
+
+    /// Whether a cell has one value alone, or does not exist.
+    pub fn is_fixed(&self, cell: u32) -> bool
+        requires asked { IsAsked self.now }
+        ensures { result ≡ true → IsFixed self.now cell }
+    {
+        if cell >= self.store.cells() {
+            return true;
+        }
+        self.store.lo(cell) >= self.store.hi(cell)
     }
 
     /// A right step at one of the ends of a cell, or none where the reason does not close the box with the cell at either end.

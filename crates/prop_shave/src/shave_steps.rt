@@ -69,6 +69,28 @@ impl CellEnd {
         }
     }
 
+    /// The lower end alone.
+    pub(crate) fn low_alone(&self) -> Interval
+        ensures low { result.lo ≡ self.now.lo }
+        ensures high { result.hi ≡ self.now.lo }
+    {
+        Interval {
+            lo: self.lo,
+            hi: self.lo,
+        }
+    }
+
+    /// The upper end alone.
+    pub(crate) fn high_alone(&self) -> Interval
+        ensures low { result.lo ≡ self.now.hi }
+        ensures high { result.hi ≡ self.now.hi }
+    {
+        Interval {
+            lo: self.hi,
+            hi: self.hi,
+        }
+    }
+
     /// Whether there are more values than these, so that one stays where these are removed.
     pub fn has_more(&self, removal: &Shave) -> bool
         ensures { result ≡ true → removal.now.count ≤ℤ (self.now.hi -ℤ self.now.lo) }

@@ -1,10 +1,12 @@
 //! Weights of scenarios, and when there are too few.
 
-ghost use Rattle.std.specs.Prelude.{◌≡◌, ◌≤ℤ◌, ◌<◌, ◌^◌, ◌*ℤ◌, int_lt, length, pos, false, slice_get, option_map, Some};
+ghost use Rattle.std.specs.Prelude.{◌≡◌, ◌≤ℤ◌, ◌<◌, ◌^◌, ◌*ℤ◌, ◌+ℤ◌, int_lt, length, pos, false, true, slice_get, option_map, None, Some};
 ghost use Rattle.std.specs.Option.{option_map_or};
-ghost use Rattle.term_problem.specs.Refuted.{is_false};
-ghost use Rattle.term_program.specs.Programs.{IsMade, kept, problem_in};
-ghost use Rattle.prop_shave.specs.ChanceSums.{at_risk, weight_at};
+ghost use Rattle.sopl_base.specs.declared.reason.Reason.TheVariants.{Chance};
+ghost use Rattle.box_problem.specs.Box.{Box};
+ghost use Rattle.term_problem.specs.Refuted.{is_false, refutes};
+ghost use Rattle.term_program.specs.Programs.{IsMade, kept, problem_in, root_in};
+ghost use Rattle.prop_shave.specs.ChanceSums.{at_risk, left_over, weight_at};
 
 use sopl_base::{Wide, reaches};
 use term_language::Truth;
@@ -29,7 +31,7 @@ fn weight_of(program: &Program, scenario: u32) -> Wide
 }
 
 /// The weight of a scenario, unless a condition is False.
-pub(crate) fn weight_unless_false(program: &Program, scenario: u32, truth: Truth) -> Wide
+pub fn weight_unless_false(program: &Program, scenario: u32, truth: Truth) -> Wide
     requires exists { scenario < length (problem_in program.now).weights }
     ensures { result.value ≡ kept (is_false truth) (weight_at (problem_in program.now) scenario) }
 {
@@ -97,4 +99,18 @@ pub fn is_too_little(program: &Program, instance: u32, left: Wide) -> bool
 {
     let threshold = threshold_of(program, instance);
     is_less(left, whole_of(program), &threshold)
+}
+
+/// Whether enough weight is left to a chance constraint where what is left turns by so much.
+pub(crate) fn is_enough_with(program: &Program, instance: u32, left: Wide, turn: Wide) -> bool
+    requires made { IsMade program.now }
+    requires exists { instance < length (problem_in program.now).chances }
+    requires turned { (b : Box) × ((left.value +ℤ turn.value) ≡ left_over (root_in program.now) (problem_in program.now) instance b) }
+    ensures { (b : Box) → (left.value +ℤ turn.value) ≡ left_over (root_in program.now) (problem_in program.now) instance b → result ≡ true
+        → refutes (root_in program.now) (problem_in program.now) (Chance instance) b None ≡ false }
+{
+    match left.checked_plus(turn) {
+        Some(sum) => !is_too_little(program, instance, sum),
+        None => false,
+    }
 }

@@ -1,12 +1,12 @@
 -- A box of which one cell was narrowed since a mark, and which is set back.
-use Rattle.std.proofs.Common.{◌≡◌, ◌∙◌, ℕ, zero, suc, ◌<◌, ℤ, List, [], ◌∷◌, length, get_or, Contains, arith, ap, subst, sym}
+use Rattle.std.proofs.Common.{◌≡◌, ◌∙◌, ℕ, ◌<◌, ℤ, List, [], ◌∷◌, length, get_or, arith, ap, subst, sym}
 use Rattle.sopl_base.specs.declared.reason.Reason.TheVariants.{Bound}
 use Rattle.sopl_base.specs.declared.reason.Side.{Side}
 use Rattle.box_problem.specs.Box.{Box, Inside}
 use Rattle.box_problem.specs.Steps.{IsCut, narrowed}
 use Rattle.box_problem.proofs.Boxes.{parts_of_parts}
 use Rattle.box_problem.proofs.Cuts.{cuts_make_parts}
-use Rattle.box_store.specs.Store.{HoldsChanges, IsUndone, Mark, Store}
+use Rattle.box_store.specs.Store.{IsUndone, Mark, Store}
 use Rattle.open_nodes.specs.Walks.{marked}
 use Rattle.prop_core.specs.Watches.{AgreeElsewhere}
 use Rattle.prop_core.proofs.Onward.{step_agrees}
@@ -14,24 +14,6 @@ use Rattle.prop_core.proofs.Onward.{step_agrees}
 -- boxes agree but for the cell that was narrowed
 pub narrowed_elsewhere : (b c : Box) (cell : ℕ) (side : Side) (k : ℤ) → c ≡ narrowed b cell side k → AgreeElsewhere cell b c
 narrowed_elsewhere b c cell side k is = step_agrees b c (record { reason = Bound; cell = cell; side = side; k = k }) is
-
--- or for the one cell that has changed since the mark
-one_alone : (cells : List ℕ) (cell other d : ℕ) → length cells ≡ 1 → cell ≡ get_or cells 0 d → ¬ other ≡ cell → ¬ Contains cells other
-one_alone [] cell other d one is apart has = absurd (omega (arith, one))
-one_alone (x ∷ []) cell other d one is apart (zero, below, same) = apart (sym (is ∙ same))
-one_alone (x ∷ []) cell other d one is apart (suc at, below, same) = absurd (omega (arith, below))
-one_alone (x ∷ y ∷ later) cell other d one is apart has = absurd (omega (arith, one))
-
-pub back_elsewhere : (cells : List ℕ) (cell d : ℕ) (marks : List Mark) (now : Box) (after : Store) → length cells ≡ 1 → cell ≡ get_or cells 0 d → HoldsChanges marks now cells → IsUndone marks after
-    → AgreeElsewhere cell now after.box
-back_elsewhere cells cell d [] now after one is held undone = absurd held
-back_elsewhere cells cell d (mark ∷ older) now after one is held undone =
-    subst (AgreeElsewhere cell now) (sym undone.box)
-    (record {
-      as_long = record { lows = held.same_lows; highs = held.same_highs };
-      lows = λ other apart. held.same_low other (one_alone cells cell other d one is apart);
-      highs = λ other apart. held.same_high other (one_alone cells cell other d one is apart);
-    })
 
 -- there is a mark, and it has the box that was marked
 pub is_marked : (marks : List Mark) (b : Box) (bs : List Box) → marked marks ≡ b ∷ bs → 0 < length marks

@@ -1,4 +1,4 @@
-use Rattle.std.proofs.Common.{◌∙◌, ap, arith, length, rules, sym, ◌≤◌}
+use Rattle.std.proofs.Common.{◌∙◌, ap, arith, length, rules, ◌≤◌}
 use Rattle.std.specs.List.{filter, range_with_len}
 use Rattle.term_program.specs.Programs.{IsListedTerm, root_in, things_in}
 use Rattle.prop_shave.specs.GoalSums.{touches_at}

@@ -1,8 +1,15 @@
-use Rattle.term_program.proofs.Lawful.{inside_root}
+use Rattle.term_program.specs.Programs.{problem_in, root_in}
+use Rattle.prop_shave.specs.ChanceSums.{is_touched, left_over}
+use Rattle.prop_chance.proofs.Turned.{none_kept}
 use Rattle.prop_chance.proofs.chances.ChancePropagator.revise.Goals as goal
 
-pub left_anew-left-requires-clause-inside : goal.left_anew-left-requires-clause-inside
-left_anew-left-requires-clause-inside c = inside_root c.args.program.now c.args.store.now.box c.requires.inside
+pub ask-requires-clause-weight : goal.ask-requires-clause-weight
+ask-requires-clause-weight c =
+    c.forget.ensures.keeps (root_in c.args.program.now) (problem_in c.args.program.now) c.args.self.now.constraint.instance c.args.store.now.box
 
-pub found-finding-requires-clause-inside : goal.found-finding-requires-clause-inside
-found-finding-requires-clause-inside c = inside_root c.args.program.now c.args.store.now.box c.requires.inside
+pub ask-requires-clause-turns : goal.ask-requires-clause-turns
+ask-requires-clause-turns c =
+    let root = root_in c.args.program.now in
+    let terms = problem_in c.args.program.now in
+    let p = c.args.self.now.constraint in
+    none_kept (left_over root terms p.instance) (is_touched root terms p.instance) _ c.args.store.now.box c.forget.new.self.outdated p.cells.items c.forget_all.new.self c.forget_all.ensures.none

@@ -11,10 +11,9 @@ returns-clause-set c =
     let terms = problem_in c.args.program.now in
     record {
       truths = refl;
-      summed = λ summed. sum_set terms c.args.self.now.truths.list.items _ c.args.scenario c.args.truth c.index.result.now c.args.self.now.left.value c.in-Some.less.value
-          c.in-Some-checked_plus.left.value c.weight_by-before.result.value c.weight_by-after.result.value c.requires.exists c.requires.room
-          (c.weight_by-before.ensures ∙ ap (λ (t : Truth). kept (is_false t) (weight_at terms c.args.scenario)) c.index.ensures)
-          c.weight_by-after.ensures c.in-Some.ensures.difference c.in-Some-checked_plus.ensures.sum refl summed;
-      dirty = refl;
-      waits = refl;
+      summed = λ summed. sum_set terms c.args.self.now.truths.items _ c.args.scenario c.args.truth c.index.result.now c.args.self.now.left.value c.in-Some.less.value
+          c.in-Some-checked_plus.left.value c.weight_unless_false-before.result.value c.weight_unless_false-after.result.value c.requires.exists c.requires.room
+          (c.weight_unless_false-before.ensures ∙ ap (λ (t : Truth). kept (is_false t) (weight_at terms c.args.scenario)) c.index.ensures)
+          c.weight_unless_false-after.ensures c.in-Some.ensures.difference c.in-Some-checked_plus.ensures.sum refl summed;
+      outdated = refl;
     }

@@ -1,32 +1,26 @@
-use Rattle.std.proofs.Common.{◌≡◌, arith, rules}
-use Rattle.std.proofs.lemmas.Int.{ints}
+use Rattle.std.proofs.Common.{◌≡◌, IfSome, rules, subst}
 use Rattle.term_program.specs.Programs.{problem_in, root_in}
-use Rattle.prop_shave.proofs.Leaving.{left_to_whole}
-use Rattle.prop_shave.proofs.Finding.{weighed_open}
-use Rattle.prop_shave.proofs.Surely.{sure_below_left, sure_from_zero}
+use Rattle.prop_shave.specs.ChanceSums.{left_over}
+use Rattle.prop_shave.specs.Opened.{IsOpen}
+use Rattle.prop_shave.specs.Turns.{AreEndTurns}
 use Rattle.prop_shave.proofs.probes.Probe.chance_stays_open.Goals as goal
 
-pub is_too_little-requires-clause-low : goal.is_too_little-requires-clause-low
-is_too_little-requires-clause-low c =
-    sure_from_zero (root_in c.args.self.now.program.now) c.args.self.now.store.now.box (problem_in c.args.self.now.program.now) c.args.weighed.now.instance c.args.weighed.now.cell
-    c.in-Some.left.value c.requires.asked.made.problem c.requires.asked.inside.is_box c.in-Some.ensures
-
-pub is_too_little-requires-clause-high : goal.is_too_little-requires-clause-high
-is_too_little-requires-clause-high c =
-    let root = root_in c.args.self.now.program.now in
-    let terms = problem_in c.args.self.now.program.now in
-    let b = c.args.self.now.store.now.box in
+pub is_enough_at_ends-requires-clause-turns : goal.is_enough_at_ends-requires-clause-turns
+is_enough_at_ends-requires-clause-turns c =
+    let q = c.args.self.now in
     let w = c.args.weighed.now in
-    let less = sure_below_left root b terms w.instance w.cell c.requires.asked.made.problem c.requires.asked.inside.is_box in
-    let most = left_to_whole root b terms w.instance w.left.value c.requires.asked.made.problem c.requires.known.known.exists c.requires.known.known.left in
-    let is = c.in-Some.ensures in
-    let left = c.requires.known.known.left in
-    omega (arith, ints, less, most, is, left)
+    subst (λ o. IfSome o (AreEndTurns (left_over (root_in q.program.now) (problem_in q.program.now) w.instance) q.store.now.box w.cell)) c.in-Some.is c.requires.known.known.turns
 
 pub returns-in-Some : goal.returns-in-Some
 returns-in-Some c = record {
   stays = λ is.
       let same : c.args.weighed.now.cell ≡ c.args.cell = search rules in
-      weighed_open c.args.self.now c.args.weighed.now c.args.cell c.in-Some.left.value c.is_too_little.result c.requires.asked c.requires.known same c.in-Some.ensures c.is_too_little.ensures
-      is;
+      subst (IsOpen c.args.self.now) same (c.is_enough_at_ends.ensures.stays is);
+}
+
+pub returns-in-None : goal.returns-in-None
+returns-in-None c = record {
+  stays = λ is.
+      let same : c.args.weighed.now.cell ≡ c.args.cell = search rules in
+      subst (IsOpen c.args.self.now) same (c.is_surely_enough.ensures.stays is);
 }

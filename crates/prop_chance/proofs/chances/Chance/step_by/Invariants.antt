@@ -1,7 +1,0 @@
-use Rattle.std.proofs.Common.{take}
-use Rattle.std.specs.List.{All}
-use Rattle.prop_shave.specs.Opened.{IsOpen}
-use Rattle.prop_chance.proofs.chances.Chance.step_by.Given as goal
-
-abbrev pub invariant-cells : goal.invariant-cells
-invariant-cells l = All (IsOpen l.probe) (take l.at l.self.cells.items)

@@ -1,9 +1,0 @@
-use Rattle.std.proofs.Common.{take}
-use Rattle.std.specs.List.{All}
-use Rattle.sopl_base.specs.declared.reason.Reason.TheVariants.{Undefined}
-use Rattle.term_program.specs.Stated.{box_problem_of}
-use Rattle.prop_chance.specs.Goals.{RestsFor}
-use Rattle.prop_chance.proofs.goals.Goal.defining_step.Given as goal
-
-abbrev pub invariant-scenarios : goal.invariant-scenarios
-invariant-scenarios l = All (λ k. RestsFor (box_problem_of l.program) l.best l.store.box (Undefined k)) (take l.at l.self.partial.items)

@@ -1,6 +1,0 @@
-use Rattle.term_program.specs.Programs.{problem_in, root_in}
-use Rattle.prop_chance.specs.Goals.{ArePartial}
-use Rattle.prop_chance.proofs.goals.partial_scenarios.Given as goal
-
-abbrev pub invariant-scenarios : goal.invariant-scenarios
-invariant-scenarios l = ArePartial (root_in l.program) (problem_in l.program) l.scenario l.list.items

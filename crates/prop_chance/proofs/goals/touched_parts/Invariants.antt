@@ -1,9 +1,0 @@
-use Rattle.std.proofs.Common.{◌≡◌, map, take}
-use Rattle.prop_shave.specs.GoalSums.{touched_by}
-use Rattle.term_program.specs.Programs.{root_in, things_in}
-use Rattle.prop_chance.specs.Goals.{part_numbers}
-use Rattle.prop_chance.proofs.goals.touched_parts.Given as goal
-
-abbrev pub invariant-cells : goal.invariant-cells
-invariant-cells l =
-    map part_numbers l.lists.items ≡ map (touched_by (root_in l.program) (things_in l.program) l.atoms) (take l.cell-index l.cells)

@@ -1,0 +1,6 @@
+use Rattle.prop_linear.proofs.comparisons.LinearWatching.touched.Goals as goal
+
+pub returns-clause-in_step : goal.returns-clause-in_step
+returns-clause-in_step c = λ program before after agree step.
+    let k = c.args.self.now.constraint in
+    record { sum = c.tell.ensures.sums k.constant k.parts.items before after agree step.sum; rested = tt }
