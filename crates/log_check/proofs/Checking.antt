@@ -1,5 +1,5 @@
 -- The room of a checker.
-use Rattle.std.proofs.Common.{◌≡◌, ◌∙◌, ◌<◌, ◌≤◌, ◌+◌, ◌^◌, ℕ, List, [], ◌∷◌, length, drop, get_or, reverse, true, None, sym, ap, subst, arith}
+use Rattle.std.proofs.Common.{◌≡◌, ◌∙◌, ◌<◌, ◌≤◌, ◌+◌, ◌^◌, ℕ, List, [], ◌∷◌, length, drop, get_or, reverse, true, None, refl, sym, ap, subst, arith}
 use Rattle.std.proofs.lemmas.List.{drop_all, drop_more}
 use Rattle.std.proofs.Math.Seq.{take-length}
 use Rattle.sopl_base.specs.declared.reason.Step.{Step}
@@ -13,9 +13,10 @@ use Rattle.term_program.specs.Stated.{box_problem_of}
 use Rattle.term_program.proofs.Lawful.{lawful_of}
 use Rattle.log_check.specs.declared.walk.WaitingSide.{WaitingSide}
 use Rattle.log_check.specs.declared.walk.Walk.{Walk}
+use Rattle.log_check.specs.Checkers.{HasRoomFor, SmallerLogsHaveRoom, steps_of}
 use Rattle.log_check.specs.Judged.{no_tally}
 use Rattle.log_check.specs.Verdicts.{first_line}
-use Rattle.log_check.specs.Waiting.{before_it, waiting, waiting_at}
+use Rattle.log_check.specs.Waiting.{before_it, rows_waiting, waiting_at}
 use Rattle.log_check.proofs.Lines.{first_is}
 use Rattle.log_check.proofs.Standing.{stands_first}
 use Rattle.log_rows.specs.declared.rows.Row.{Row}
@@ -40,8 +41,8 @@ begins_well problem rows footer walk ordered some is_box at root none least tall
   where
     same : before_it true walk ≡ starts_at 0 problem.root ∷ []
     same =
-        ap (λ n. starts_at n walk.store.box ∷ waiting walk) at
-        ∙ ap (λ (b : Box). starts_at 0 b ∷ waiting walk) root
+        ap (λ n. starts_at n walk.store.box ∷ rows_waiting walk) at
+        ∙ ap (λ (b : Box). starts_at 0 b ∷ rows_waiting walk) root
         ∙ ap (λ (list : List WaitingSide). starts_at 0 problem.root ∷ waiting_at (reverse list) walk.store.marks) none
 
 -- the numbers of all lines fit
@@ -50,3 +51,20 @@ lines_fit rows lines room fits = omega (arith, first_is rows (length rows), ap l
 
 pub root_is_box : (program : Program) → IsMade program → IsBox (box_problem_of program).root
 root_is_box program made = (lawful_of program made).root
+
+-- fewer steps and fewer nodes are fewer lines
+lines_are : (rows : List Row) → lines_of rows ≡ steps_of rows + (length rows + length rows)
+lines_are [] = refl
+lines_are (row ∷ rows) = omega (arith, lines_are rows)
+
+pub smaller_logs_have_room : SmallerLogsHaveRoom
+smaller_logs_have_room checker rows smaller room steps nodes = record {
+  marks = room.marks;
+  none = room.none;
+  lines = omega (arith, room.lines, steps, nodes, lines_are rows, lines_are smaller);
+  nodes = omega (arith, room.nodes, nodes);
+  spare = room.spare;
+  later = room.later;
+  sides = room.sides;
+  cells = room.cells;
+}

@@ -43,9 +43,6 @@ module _ (problem : BoxProblem) (rows : List Row) (footer : Footer) (i : ℕ) (b
   judged end None is wrong = subst (λ e. ¬ RightEnd problem footer b rows i e) (sym is) wrong
   judged end (Some new) is right = subst (λ e. RightEnd problem footer b rows i e × IsNoted problem footer b e tally new) (sym is) right
 
-  not_point : (end : EndLine) → ¬ end ≡ Point → ¬ ReachesClaim problem footer b end
-  not_point end isnt reaches = isnt reaches.0
-
   none_noted : (end : EndLine) → ¬ end ≡ Point → ¬ end ≡ Unfinished → IsNoted problem footer b end tally tally
   none_noted end closed finished = record {
     reached = unchanged tally.reached (ReachesClaim problem footer b end) (λ is. closed is.0);

@@ -16,7 +16,7 @@ use Rattle.log_check.specs.declared.walk.WrongLine.{WrongLine}
 use Rattle.log_check.specs.Footers.{FooterHolds, HoldsFound, HoldsNone}
 use Rattle.log_check.specs.Judged.{Passes, bound_in}
 use Rattle.log_check.specs.Verdicts.{first_line, IsFirstWrong, IsWrongLine}
-use Rattle.log_check.specs.Walks.{IsCounted, IsSettledRow, IsWitnessed, IsWrongRow, WalkStands}
+use Rattle.log_check.specs.Walks.{IsTallied, IsSettledRow, IsWitnessed, IsWrongRow, WalkStands}
 use Rattle.log_check.proofs.Covering.{all_last}
 use Rattle.log_check.proofs.Lines.{first_grows, first_next}
 use Rattle.std.proofs.lemmas.Option.{slice_get_within}
@@ -72,7 +72,7 @@ not_true : (flag : Bool) → ¬ flag ≡ true → flag ≡ false
 not_true true isnt = absurd (isnt refl)
 not_true false isnt = refl
 
-module _ (problem : BoxProblem) (rows : List Row) (footer : Footer) (tally : Tally) (counted : (k : ℕ) → k < length rows → IsCounted problem rows footer tally k) (seen : IsWitnessed problem rows footer tally) where
+module _ (problem : BoxProblem) (rows : List Row) (footer : Footer) (tally : Tally) (counted : (k : ℕ) → k < length rows → IsTallied problem rows footer tally k) (seen : IsWitnessed problem rows footer tally) where
   found_is : (v : ℤ) → log.claimed footer ≡ Some v → tally.reached ≡ true → log.IsFound problem rows v
   found_is v claim holds =
       let there = seen.reached holds in
@@ -155,7 +155,7 @@ module _ (problem : BoxProblem) (rows : List Row) (footer : Footer) (ordered : A
       first n l (inr (inl end)) = (settled_in (Some w) stands n end.exists).settled l (inr end)
       first n l (inr (inr last)) = omega (arith, last.line_is, (in_rows w.node w.line stands.found).1)
 
-  all_right : WalkStands problem rows footer [] None tally → (k : ℕ) → k < length rows → log.RightRow problem footer rows k × IsCounted problem rows footer tally k
+  all_right : WalkStands problem rows footer [] None tally → (k : ℕ) → k < length rows → log.RightRow problem footer rows k × IsTallied problem rows footer tally k
   all_right stands k exists = (settled_in None stands k exists).right refl
 
   pub is_accepted : (holds : Bool) (direction : Direction) → WalkStands problem rows footer [] None tally → 0 < length rows → NoneTooDeep rows → direction ≡ problem.direction

@@ -1,67 +1,112 @@
 -- The problem of a program, by what its calls tell of a box.
-use Rattle.std.proofs.Common.{◌≡◌, ◌∙◌, ℤ, pos, ◌+ℤ◌, ◌-ℤ◌, ◌≤ℤ◌, Bool, List, Option, sym, ap, subst, arith}
-use Rattle.std.specs.Prelude.{slice_set}
+use Rattle.std.proofs.Common.{◌≡◌, ◌∙◌, ℕ, ◌<◌, ℤ, pos, ◌-ℤ◌, Bool, false, List, [], ◌∷◌, length, length-set, Option, None, Some, refl, sym, ap, subst, arith}
 use Rattle.std.proofs.lemmas.Int.{ints}
-use Rattle.std.proofs.lemmas.List.{set-get_or}
-use Rattle.sopl_base.specs.declared.interval.Interval.{Interval}
+use Rattle.std.proofs.lemmas.List.{get_or-set_other}
+use Rattle.sopl_base.specs.declared.direction.Direction.{Direction}
 use Rattle.sopl_base.specs.declared.reason.Reason.{Reason}
+use Rattle.sopl_base.specs.declared.reason.Reason.TheVariants.{Bound, Chance}
 use Rattle.sopl_base.specs.declared.reason.Side.{Side}
 use Rattle.sopl_base.specs.declared.reason.Side.TheVariants.{Le, Ge}
 use Rattle.sopl_base.specs.declared.reason.Step.{Step}
-use Rattle.box_problem.specs.Box.{Box, Inside, low, high}
-use Rattle.box_problem.specs.Steps.{CutsBetween, IsCut, cut_away, removed}
+use Rattle.sopl_base.proofs.Lists.{contains_one}
+use Rattle.box_problem.specs.Box.{Box, Inside, with_high, with_low}
+use Rattle.box_problem.specs.Steps.{IsCut, cut_away, narrowed, removed}
+use Rattle.box_problem.proofs.Boxes.{parts_of_parts}
+use Rattle.box_problem.proofs.Cuts.{cuts_make_parts}
+use Rattle.box_store.specs.Store.{AgreesOutside, HoldsChanges, IsUndone, Mark, Store}
+use Rattle.term_problem.specs.Problems.{direction_in}
 use Rattle.term_problem.specs.Refuted.{refutes}
 use Rattle.term_program.specs.declared.program.Program.{Program}
-use Rattle.term_program.specs.Programs.{problem_in, root_in, with_interval}
+use Rattle.term_program.specs.Programs.{no_better, problem_in, root_in}
 use Rattle.term_program.specs.Stated.{box_problem_of}
-use Rattle.log_check.specs.Judged.{IsRemovedPart}
-
--- the box of these ends
-abbrev box : List ℤ → List ℤ → Box
-box lows highs = record { lows = lows; highs = highs }
+use Rattle.term_program.proofs.Ending as ending
 
 pub refutes_is : (program : Program) (reason : Reason) (b : Box) (v : Option ℤ) (result : Bool) → result ≡ refutes (root_in program) (problem_in program) reason b v
     → result ≡ (box_problem_of program).refutes reason b v
 unfolding box_problem_of
 refutes_is program reason b v result is = is
 
-pub removed_is : (program : Program) (s : Step) (b : Box) (v : Option ℤ) (part : Interval) (result : Bool) → IsRemovedPart b s part
-    → result ≡ refutes (root_in program) (problem_in program) s.reason (with_interval b s.cell part.lo part.hi) v → result ≡ (box_problem_of program).refutes s.reason (removed b s) v
+-- the best value has no part in a chance constraint, and without one the bound closes nothing
+pub against_any : (program : Program) (reason : Reason) (instance : ℕ) (b : Box) (v : Option ℤ) (result : Bool) → reason ≡ Chance instance
+    → result ≡ (box_problem_of program).refutes (Chance instance) b None → result ≡ (box_problem_of program).refutes reason b v
 unfolding box_problem_of
-removed_is program s b v part result removed is = is ∙ ap (λ (c : Box). refutes (root_in program) (problem_in program) s.reason c v) (sym removed.is)
+against_any program reason instance b v result same is = is ∙ sym (ap (λ (r : Reason). refutes (root_in program) (problem_in program) r b v) same)
 
-pub low_inside : (program : Program) (s : Step) (b : Box) (part : Interval) → IsCut b s.cell s.side s.k → Inside b (root_in program) → IsRemovedPart b s part → low (root_in program) s.cell ≤ℤ part.lo
-low_inside program s b part cut inside removed = omega (arith, ints, inside.from_low s.cell cut.exists, removed.from_low)
+pub by_bound : (program : Program) (reason : Reason) (b : Box) (v : Option ℤ) (result : Bool) → reason ≡ Bound → result ≡ (box_problem_of program).refutes Bound b v
+    → result ≡ (box_problem_of program).refutes reason b v
+by_bound program reason b v result same is = is ∙ sym (ap (λ (r : Reason). (box_problem_of program).refutes r b v) same)
 
-pub high_inside : (program : Program) (s : Step) (b : Box) (part : Interval) → IsCut b s.cell s.side s.k → Inside b (root_in program) → IsRemovedPart b s part → part.hi ≤ℤ high (root_in program) s.cell
-high_inside program s b part cut inside removed = omega (arith, ints, inside.to_high s.cell cut.exists, removed.to_high)
+pub unbounded : (program : Program) (b : Box) (best : Option ℤ) → best ≡ None → false ≡ (box_problem_of program).refutes Bound b best
+unfolding box_problem_of
+unbounded program b best none = sym (ap (λ (v : Option ℤ). refutes (root_in program) (problem_in program) Bound b v) none)
+
+pub by_end : (program : Program) (b : Box) (best : Option ℤ) (direction : Direction) (end v : ℤ) (result : Bool) → best ≡ Some v → direction ≡ direction_in (problem_in program)
+    → end ≡ (box_problem_of program).end b → result ≡ no_better direction end v → result ≡ (box_problem_of program).refutes Bound b best
+unfolding box_problem_of
+by_end program b best direction end v result some toward is told = ending.bound_closes (root_in program) b (problem_in program) best direction end v result some toward is told
 
 -- what a step removes
-pub removed_above : (b : Box) (s : Step) (part : Interval) → IsCut b s.cell s.side s.k → s.side ≡ Le → part.lo ≡ s.k +ℤ pos 1 → part.hi ≡ high b s.cell → IsRemovedPart b s part
-removed_above b s part cut le lo hi = record {
-  from_low = subst (λ (x : ℤ). low b s.cell ≤ℤ x) (sym lo) (above (subst (λ side. CutsBetween side (low b s.cell) s.k (high b s.cell)) le cut.between));
-  to_high = omega (arith, ints, hi);
-  is = ap (λ side. cut_away b s.cell side s.k) le
-      ∙ ap (λ (xs : List ℤ). box (slice_set b.lows s.cell (s.k +ℤ pos 1)) xs) (sym (set-get_or b.highs s.cell (pos 0)))
-      ∙ ap (λ (x : ℤ). with_interval b s.cell (s.k +ℤ pos 1) x) (sym hi)
-      ∙ ap (λ (x : ℤ). with_interval b s.cell x part.hi) (sym lo);
+pub low_cut : (b : Box) (cell : ℕ) (k next : ℤ) → next ≡ k -ℤ pos 1 → IsCut b cell Ge k → IsCut b cell Le next
+low_cut b cell k next is there = record {
+  exists = there.exists;
+  between = (omega (arith, ints, is, there.between.0), omega (arith, ints, is, there.between.1));
 }
-  where
-    above : CutsBetween Le (low b s.cell) s.k (high b s.cell) → low b s.cell ≤ℤ (s.k +ℤ pos 1)
-    above between = omega (arith, ints, between.0)
-
-pub removed_below : (b : Box) (s : Step) (part : Interval) → IsCut b s.cell s.side s.k → s.side ≡ Ge → part.lo ≡ low b s.cell → part.hi ≡ s.k -ℤ pos 1 → IsRemovedPart b s part
-removed_below b s part cut ge lo hi = record {
-  from_low = omega (arith, ints, lo);
-  to_high = subst (λ (x : ℤ). x ≤ℤ high b s.cell) (sym hi) (below (subst (λ side. CutsBetween side (low b s.cell) s.k (high b s.cell)) ge cut.between));
-  is = ap (λ side. cut_away b s.cell side s.k) ge
-      ∙ ap (λ (xs : List ℤ). box xs (slice_set b.highs s.cell (s.k -ℤ pos 1))) (sym (set-get_or b.lows s.cell (pos 0)))
-      ∙ ap (λ (x : ℤ). with_interval b s.cell x (s.k -ℤ pos 1)) (sym lo)
-      ∙ ap (λ (x : ℤ). with_interval b s.cell part.lo x) (sym hi);
-}
-  where
-    below : CutsBetween Ge (low b s.cell) s.k (high b s.cell) → (s.k -ℤ pos 1) ≤ℤ high b s.cell
-    below between = omega (arith, ints, between.1)
 
 pub same_cut : (b : Box) (s : Step) (side : Side) → IsCut b s.cell s.side s.k → s.side ≡ side → IsCut b s.cell side s.k
 same_cut b s side cut same = subst (λ x. IsCut b s.cell x s.k) same cut
+
+pub removed_by : (b c : Box) (s : Step) (side : Side) → s.side ≡ side → c ≡ cut_away b s.cell side s.k → c ≡ removed b s
+removed_by b c s side same is = is ∙ sym (ap (λ x. cut_away b s.cell x s.k) same)
+
+pub part_within : (root b c : Box) (s : Step) → IsCut b s.cell s.side s.k → Inside b root → c ≡ removed b s → Inside c root
+part_within root b c s cut inside is =
+    subst (λ (x : Box). Inside x root) (sym is) (parts_of_parts (removed b s) b root (cuts_make_parts b s.cell s.side s.k inside.is_box cut).1 inside)
+
+-- one end of a cell is another, and no other cell has changed
+raised : (b : Box) (cell : ℕ) (k : ℤ) → cell < length b.lows → AgreesOutside (cell ∷ []) b (with_low b cell k)
+raised b cell k exists = record {
+  same_lows = length-set b.lows cell k;
+  same_highs = refl;
+  exist = λ n has. omega (arith, exists, length-set b.lows cell k, contains_one cell n has);
+  same_low = λ n other. get_or-set_other b.lows cell n k (pos 0) (λ same. other (0, omega arith, sym same));
+  same_high = λ n other. refl;
+}
+
+lowered : (b : Box) (cell : ℕ) (k : ℤ) → cell < length b.lows → AgreesOutside (cell ∷ []) b (with_high b cell k)
+lowered b cell k exists = record {
+  same_lows = refl;
+  same_highs = length-set b.highs cell k;
+  exist = λ n has. omega (arith, exists, contains_one cell n has);
+  same_low = λ n other. refl;
+  same_high = λ n other. get_or-set_other b.highs cell n k (pos 0) (λ same. other (0, omega arith, sym same));
+}
+
+pub narrowed_outside : (b c : Box) (cell : ℕ) (side : Side) (k : ℤ) → cell < length b.lows → c ≡ narrowed b cell side k → AgreesOutside (cell ∷ []) b c
+narrowed_outside b c cell side k exists is = subst (AgreesOutside (cell ∷ []) b) (sym is) (here side)
+  where
+    here : (x : Side) → AgreesOutside (cell ∷ []) b (narrowed b cell x k)
+    here Le = lowered b cell k exists
+    here Ge = raised b cell k exists
+
+pub cut_outside : (b c : Box) (cell : ℕ) (side : Side) (k : ℤ) → cell < length b.lows → c ≡ cut_away b cell side k → AgreesOutside (cell ∷ []) b c
+cut_outside b c cell side k exists is = subst (AgreesOutside (cell ∷ []) b) (sym is) (here side)
+  where
+    here : (x : Side) → AgreesOutside (cell ∷ []) b (cut_away b cell x k)
+    here Le = raised b cell _ exists
+    here Ge = lowered b cell _ exists
+
+pub removed_outside : (b c : Box) (s : Step) → s.cell < length b.lows → c ≡ removed b s → AgreesOutside (s.cell ∷ []) b c
+removed_outside b c s exists is = cut_outside b c s.cell s.side s.k exists is
+
+pub outside_back : (cells : List ℕ) (b c : Box) → AgreesOutside cells b c → AgreesOutside cells c b
+outside_back cells b c agree = record {
+  same_lows = sym agree.same_lows;
+  same_highs = sym agree.same_highs;
+  exist = λ n has. omega (arith, agree.exist n has, agree.same_lows);
+  same_low = λ n other. sym (agree.same_low n other);
+  same_high = λ n other. sym (agree.same_high n other);
+}
+
+pub undone_outside : (marks : List Mark) (now : Box) (cells : List ℕ) (after : Store) → HoldsChanges marks now cells → IsUndone marks after → AgreesOutside cells now after.box
+undone_outside [] now cells after held undone = absurd held
+undone_outside (mark ∷ older) now cells after held undone = subst (AgreesOutside cells now) (sym undone.box) (outside_back cells mark.box now held)

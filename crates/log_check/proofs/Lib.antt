@@ -1,4 +1,7 @@
 pub mod Judging
+pub mod Changing
+pub mod Seeing
+pub mod Keeping
 pub mod Stepping
 pub mod Counting
 pub mod Points

@@ -1,6 +1,6 @@
 -- The lines of rows, by their numbers.
 use Rattle.std.proofs.Common.{◌≡◌, ◌∙◌, ◌<◌, ◌≤◌, ◌+◌, ℕ, zero, suc, List, [], ◌∷◌, ◌++◌, length, map, take, drop, refl, ap, arith}
-use Rattle.std.proofs.lemmas.List.{length-append, length-map, take_more, drop_more}
+use Rattle.std.proofs.lemmas.List.{length-append, length-map, take_more}
 use Rattle.log_rows.specs.declared.rows.Row.{Row}
 use Rattle.log_rows.specs.Lines.{rows_lines, row_lines, step_line, end_line}
 use Rattle.log_rows.specs.Rows.{row_at, no_row}
@@ -39,10 +39,6 @@ more_taken (row ∷ rows) (suc i) (suc j) less = omega (arith, more_taken rows i
 
 pub first_grows : (rows : List Row) (i j : ℕ) → i ≤ j → first_line rows i ≤ first_line rows j
 first_grows rows i j less = omega (arith, first_is rows i, first_is rows j, more_taken rows i j less)
-
--- what is left
-pub left_next : (rows : List Row) (i : ℕ) → i < length rows → lines_of (drop i rows) ≡ 2 + length (row_at rows i).steps + lines_of (drop (i + 1) rows)
-left_next rows i exists = ap lines_of (drop_more rows i no_row exists)
 
 pub left_falls : (rows : List Row) (i j : ℕ) → i ≤ j → lines_of (drop j rows) ≤ lines_of (drop i rows)
 left_falls [] zero zero less = omega arith

@@ -1,5 +1,5 @@
 -- A log with a wrong line is not accepted.
-use Rattle.std.proofs.Common.{◌⊎◌, inl, inr, ℕ, List, length, sym, subst}
+use Rattle.std.proofs.Common.{inl, inr, ℕ, List, length, sym, subst}
 use Rattle.std.proofs.Math.Seq.{take-length}
 use Rattle.std.proofs.lemmas.Option.{slice_get_within}
 use Rattle.box_problem.specs.BoxProblem.{BoxProblem}

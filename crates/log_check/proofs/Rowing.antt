@@ -13,11 +13,11 @@ use Rattle.log_check.specs.declared.view.LogView.{LogView}
 use Rattle.log_check.specs.Judged.{IsFirstBad, IsWrongEndHere}
 use Rattle.log_check.specs.Sides.{sides_at}
 use Rattle.log_check.specs.Verdicts.{first_line}
-use Rattle.log_check.specs.Views.{IsReady, problem_in}
+use Rattle.log_check.specs.Views.{IsLogView, checked_problem}
 use Rattle.log_check.specs.Walks.{IsWrongHere, at_step, at_end}
 use Rattle.log_check.proofs.Lines.{first_next, first_grows}
 
-module _ (view : LogView) (ready : IsReady view) (i : ℕ) (exists : i < length view.rows.now) where
+module _ (view : LogView) (ready : IsLogView view) (i : ℕ) (exists : i < length view.rows.now) where
   pub line_fits : (k : ℕ) → k ≤ length (row_at view.rows.now i).steps → Fits w64 ((sides_at view.sides.now i).line + 1 + k)
   line_fits k within =
       let bound : (sides_at view.sides.now i).line + 1 + k < 2 ^ 64 =
@@ -33,30 +33,30 @@ module _ (view : LogView) (ready : IsReady view) (i : ℕ) (exists : i < length 
   pub row_steps : (row : Row) (steps : List Step) → steps ≡ (get_or view.rows.now i row).steps → steps ≡ (row_at view.rows.now i).steps
   row_steps row steps items = items ∙ ap (λ (r : Row). r.steps) (get_or_default view.rows.now i row no_row exists)
 
-  pub bad_within : (v : Option _) (b : Box) (steps : List Step) (k : ℕ) → IsFirstBad (problem_in view) v b steps k → steps ≡ (row_at view.rows.now i).steps → k < length (row_at view.rows.now i).steps
+  pub bad_within : (v : Option _) (b : Box) (steps : List Step) (k : ℕ) → IsFirstBad (checked_problem view) v b steps k → steps ≡ (row_at view.rows.now i).steps → k < length (row_at view.rows.now i).steps
   bad_within v b steps k bad are = subst (λ (list : List Step). k < length list) are (slice_get_within steps k bad.step bad.is)
 
-  pub wrong_step_here : (claim : Option _) (b : Box) (steps : List Step) (k : ℕ) → claim ≡ claimed view.footer.now → IsFirstBad (problem_in view) claim b steps k → steps ≡ (row_at view.rows.now i).steps
-      → IsWrongHere (problem_in view) view.rows.now view.footer.now i b ((sides_at view.sides.now i).line + 1 + k)
+  pub wrong_step_here : (claim : Option _) (b : Box) (steps : List Step) (k : ℕ) → claim ≡ claimed view.footer.now → IsFirstBad (checked_problem view) claim b steps k → steps ≡ (row_at view.rows.now i).steps
+      → IsWrongHere (checked_problem view) view.rows.now view.footer.now i b ((sides_at view.sides.now i).line + 1 + k)
   wrong_step_here claim b steps k claims bad are =
-      subst (λ n. IsWrongHere (problem_in view) view.rows.now view.footer.now i b (n + 1 + k)) (sym (ready.sides.lines i exists))
-      (at_step k (subst (λ (list : List Step). IsFirstBad (problem_in view) (claimed view.footer.now) b list k) are (subst (λ v. IsFirstBad (problem_in view) v b steps k) claims bad)))
+      subst (λ n. IsWrongHere (checked_problem view) view.rows.now view.footer.now i b (n + 1 + k)) (sym (ready.sides.lines i exists))
+      (at_step k (subst (λ (list : List Step). IsFirstBad (checked_problem view) (claimed view.footer.now) b list k) are (subst (λ v. IsFirstBad (checked_problem view) v b steps k) claims bad)))
 
-  pub wrong_end_here : (claim : Option _) (b after : Box) (steps : List Step) → claim ≡ claimed view.footer.now → AllRight (problem_in view) claim b steps → after ≡ after_steps b steps → steps ≡ (row_at view.rows.now i).steps
-      → ¬ RightEnd (problem_in view) view.footer.now after view.rows.now i (row_at view.rows.now i).end
-      → IsWrongHere (problem_in view) view.rows.now view.footer.now i b ((sides_at view.sides.now i).line + 1 + length steps)
+  pub wrong_end_here : (claim : Option _) (b after : Box) (steps : List Step) → claim ≡ claimed view.footer.now → AllRight (checked_problem view) claim b steps → after ≡ after_steps b steps → steps ≡ (row_at view.rows.now i).steps
+      → ¬ RightEnd (checked_problem view) view.footer.now after view.rows.now i (row_at view.rows.now i).end
+      → IsWrongHere (checked_problem view) view.rows.now view.footer.now i b ((sides_at view.sides.now i).line + 1 + length steps)
   wrong_end_here claim b after steps claims right leads are wrong =
-      subst (λ (list : List Step). IsWrongHere (problem_in view) view.rows.now view.footer.now i b ((sides_at view.sides.now i).line + 1 + length list)) (sym are)
-      (subst (λ n. IsWrongHere (problem_in view) view.rows.now view.footer.now i b (n + 1 + length (row_at view.rows.now i).steps)) (sym (ready.sides.lines i exists)) (at_end here))
+      subst (λ (list : List Step). IsWrongHere (checked_problem view) view.rows.now view.footer.now i b ((sides_at view.sides.now i).line + 1 + length list)) (sym are)
+      (subst (λ n. IsWrongHere (checked_problem view) view.rows.now view.footer.now i b (n + 1 + length (row_at view.rows.now i).steps)) (sym (ready.sides.lines i exists)) (at_end here))
     where
-      here : IsWrongEndHere (problem_in view) view.rows.now view.footer.now i b
+      here : IsWrongEndHere (checked_problem view) view.rows.now view.footer.now i b
       here = record {
-        steps = subst (AllRight (problem_in view) (claimed view.footer.now) b) are (subst (λ v. AllRight (problem_in view) v b steps) claims right);
-        wrong = λ is. wrong (subst (λ x. RightEnd (problem_in view) view.footer.now x view.rows.now i (row_at view.rows.now i).end) (sym (leads ∙ ap (after_steps b) are)) is);
+        steps = subst (AllRight (checked_problem view) (claimed view.footer.now) b) are (subst (λ v. AllRight (checked_problem view) v b steps) claims right);
+        wrong = λ is. wrong (subst (λ x. RightEnd (checked_problem view) view.footer.now x view.rows.now i (row_at view.rows.now i).end) (sym (leads ∙ ap (after_steps b) are)) is);
       }
 
 -- the last line
-module _ (view : LogView) (ready : IsReady view) (some : 0 < length view.rows.now) (r : Row) (steps : List Step) (are : steps ≡ (get_or view.rows.now (length view.rows.now - 1) r).steps) where
+module _ (view : LogView) (ready : IsLogView view) (some : 0 < length view.rows.now) (r : Row) (steps : List Step) (are : steps ≡ (get_or view.rows.now (length view.rows.now - 1) r).steps) where
   last_exists : length view.rows.now - 1 < length view.rows.now
   last_exists = omega (arith, some)
 

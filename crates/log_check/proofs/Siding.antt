@@ -12,7 +12,7 @@ use Rattle.sopl_base.specs.declared.reason.Step.{Step}
 use Rattle.log_rows.proofs.Growing.{same_side}
 use Rattle.log_check.proofs.Lines.{first_grows, first_next}
 use Rattle.log_check.specs.declared.sides.Sides.{Sides}
-use Rattle.log_check.specs.Sides.{AreSidesTo, IsParentWithin, no_sides, row_begins, side_of, side_row, sides_at, with_row, with_side}
+use Rattle.log_check.specs.Sides.{AreSidesTo, no_sides, row_begins, side_of, side_row, sides_at, with_row, with_side}
 use Rattle.log_check.specs.Verdicts.{first_line}
 
 -- the side that a row takes
@@ -76,14 +76,6 @@ line_kept sides (Some q) j a exists =
           ∙ with_line (sides_at sides q.node) q.side j ∙ ap (λ n. (sides_at sides n).line) same
       | inr differ ↦ ap (λ (s : Sides). s.line) (get_or-set_other sides q.node a (with_row (sides_at sides q.node) q.side j) no_sides (λ is. differ (sym is)))
     ]
-
-pub sides_none : (rows : List Row) (sides : List Sides) → sides ≡ [] → AreSidesTo rows 0 sides
-sides_none rows sides none = record {
-  each = ap length none;
-  lines = λ i below. absurd (omega (arith, below));
-  told = λ i j side below. absurd (omega (arith, below));
-  are = λ i j side below. absurd (omega (arith, below));
-}
 
 module _ (rows : List Row) (n : ℕ) (sides : List Sides) (line : ℕ) (ordered : AreOrdered rows) (exists : n < length rows) (before : AreSidesTo rows n sides) (line_is : line ≡ first_line rows n) where
   p : Option Parent
@@ -186,11 +178,3 @@ pub sides_row : (rows : List Row) (n : ℕ) (sides after : List Sides) (line : �
 sides_row rows n sides after line r ordered exists before line_is at added =
     subst (AreSidesTo rows (n + 1)) (sym (added ∙ ap (λ (x : Row). with_side sides x.parent n ++ row_begins line ∷ []) (at ∙ get_or_default rows n r no_row exists)))
     (sides_more rows n sides line ordered exists before line_is)
-
-pub parent_within : (rows : List Row) (n : ℕ) (sides : List Sides) (r : Row) → AreOrdered rows → n < length rows → AreSidesTo rows n sides → r ≡ get_or rows n r → IsParentWithin (length sides) r.parent
-parent_within rows n sides r ordered exists before at =
-    subst (λ (p : Option Parent). IsParentWithin (length sides) p) (ap (λ (x : Row). x.parent) (sym (at ∙ get_or_default rows n r no_row exists))) (within (row_at rows n).parent (ordered n exists))
-  where
-    within : (p : Option Parent) → Hangs rows n p → IsParentWithin (length sides) p
-    within None hangs = tt
-    within (Some q) hangs = omega (arith, hangs.earlier, before.each)

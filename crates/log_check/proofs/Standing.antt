@@ -25,7 +25,7 @@ use Rattle.log_check.specs.declared.tally.Tally.{Tally}
 use Rattle.log_check.specs.declared.walk.WrongLine.{WrongLine}
 use Rattle.log_check.specs.Judged.{IsNoted, IsRightHere, ReachesClaim, TouchesBound, PassesBound, no_tally}
 use Rattle.log_check.specs.Sides.{IsSideOf, side_of}
-use Rattle.log_check.specs.Walks.{AtMost, BeginsWell, GoesOn, HasRow, IsAmong, IsCounted, IsSettledRow, IsWitnessed, IsWrongHere, IsWrongRow, RowStart, WalkStands, leaf, parts, rows_in, sooner, starts_at, weight}
+use Rattle.log_check.specs.Walks.{AtMost, BeginsWell, GoesOn, HasRow, IsAmong, IsTallied, IsSettledRow, IsWitnessed, IsWrongHere, IsWrongRow, RowStart, WalkStands, leaf, parts, rows_in, earlier_line, starts_at, work_left}
 use Rattle.log_check.proofs.Covering.{all_first, all_cut, all_next}
 use Rattle.log_check.proofs.Wronging.{right_before, wrong_told, wrong_first, wrong_later}
 
@@ -64,18 +64,14 @@ module _ (problem : BoxProblem) (rows : List Row) (footer : Footer) (ordered : A
       first None hangs = refl
       first (Some parent) hangs = absurd (omega (arith, hangs.earlier))
 
-  -- the row at hand has a wrong line
-  wrong_at : ℕ → ℕ → WrongLine
-  wrong_at node line = record { node = node; line = line }
-
   some_is_not_none : (w : WrongLine) → ¬ (Some w ≡ None)
   some_is_not_none w same = absurd (cc)
 
   pub stands_wrong : (i : ℕ) (b : Box) (before : List RowStart) (least : Option WrongLine) (tally : Tally) (w : WrongLine) → w.node ≡ i
-      → WalkStands problem rows footer (starts_at i b ∷ before) least tally → IsWrongHere problem rows footer i b w.line → WalkStands problem rows footer before (Some (sooner least w)) tally
+      → WalkStands problem rows footer (starts_at i b ∷ before) least tally → IsWrongHere problem rows footer i b w.line → WalkStands problem rows footer before (Some (earlier_line least w)) tally
   stands_wrong i b before least tally w node stands wrong = record {
     begin = stands.begin.1;
-    covers = all_cut rows ordered (IsSettledRow problem rows footer least tally) (IsSettledRow problem rows footer (Some (sooner least w)) tally) i (rows_in before) stands.covers kept later;
+    covers = all_cut rows ordered (IsSettledRow problem rows footer least tally) (IsSettledRow problem rows footer (Some (earlier_line least w)) tally) i (rows_in before) stands.covers kept later;
     found = by_least least stands.found;
     witnessed = stands.witnessed;
   }
@@ -83,7 +79,7 @@ module _ (problem : BoxProblem) (rows : List Row) (footer : Footer) (ordered : A
       here : BeginsWell problem.root rows (starts_at i b)
       here = stands.begin.0
 
-      lower : (old : Option WrongLine) (l : ℕ) → AtMost old l → (sooner old w).line ≤ l
+      lower : (old : Option WrongLine) (l : ℕ) → AtMost old l → (earlier_line old w).line ≤ l
       lower None l none = absurd none
       lower (Some o) l is = by_test (nat_lt w.line o.line) refl
         where
@@ -91,7 +87,7 @@ module _ (problem : BoxProblem) (rows : List Row) (footer : Footer) (ordered : A
           by_test true less = let before : w.line < o.line = grind (arith, less) in omega (arith, before, is)
           by_test false less = is
 
-      soon : (old : Option WrongLine) → (sooner old w).line ≤ w.line
+      soon : (old : Option WrongLine) → (earlier_line old w).line ≤ w.line
       soon None = omega arith
       soon (Some o) = by_test (nat_lt w.line o.line) refl
         where
@@ -99,13 +95,13 @@ module _ (problem : BoxProblem) (rows : List Row) (footer : Footer) (ordered : A
           by_test true less = omega arith
           by_test false less = grind (arith, less)
 
-      kept : (k : ℕ) → IsSettledRow problem rows footer least tally k → IsSettledRow problem rows footer (Some (sooner least w)) tally k
-      kept k settled = record { settled = λ l wrong_there. lower least l (settled.settled l wrong_there); right = λ none. absurd (some_is_not_none (sooner least w) none) }
+      kept : (k : ℕ) → IsSettledRow problem rows footer least tally k → IsSettledRow problem rows footer (Some (earlier_line least w)) tally k
+      kept k settled = record { settled = λ l wrong_there. lower least l (settled.settled l wrong_there); right = λ none. absurd (some_is_not_none (earlier_line least w) none) }
 
-      later : (k : ℕ) → i ≤ k → k < length rows → IsSettledRow problem rows footer (Some (sooner least w)) tally k
-      later k above exists = record { settled = by_line; right = λ none. absurd (some_is_not_none (sooner least w) none) }
+      later : (k : ℕ) → i ≤ k → k < length rows → IsSettledRow problem rows footer (Some (earlier_line least w)) tally k
+      later k above exists = record { settled = by_line; right = λ none. absurd (some_is_not_none (earlier_line least w) none) }
         where
-          by_line : (l : ℕ) → IsWrongRow problem rows footer k l → (sooner least w).line ≤ l
+          by_line : (l : ℕ) → IsWrongRow problem rows footer k l → (earlier_line least w).line ≤ l
           by_line l there =
               elim (cases_lt i k) [
                 | inl less ↦ omega (arith, soon least, wrong_later problem rows footer ordered i b here.exists here.is w.line k l wrong less there)
@@ -114,12 +110,12 @@ module _ (problem : BoxProblem) (rows : List Row) (footer : Footer) (ordered : A
                     omega (arith, soon least, wrong_first problem rows footer ordered i b here.exists here.is w.line wrong l (subst (λ n. IsWrongRow problem rows footer n l) same there))
               ]
 
-      by_least : (old : Option WrongLine) → IfSome old (λ o. IsWrongRow problem rows footer o.node o.line) → IsWrongRow problem rows footer (sooner old w).node (sooner old w).line
+      by_least : (old : Option WrongLine) → IfSome old (λ o. IsWrongRow problem rows footer o.node o.line) → IsWrongRow problem rows footer (earlier_line old w).node (earlier_line old w).line
       by_least None found = subst (λ n. IsWrongRow problem rows footer n w.line) (sym node) (wrong_told problem rows footer ordered i b here.exists here.is w.line wrong)
-      by_least (Some o) found = sooner_is o w (λ x. IsWrongRow problem rows footer x.node x.line) found (subst (λ n. IsWrongRow problem rows footer n w.line) (sym node) (wrong_told problem rows footer ordered i b here.exists here.is w.line wrong))
+      by_least (Some o) found = earlier_is o w (λ x. IsWrongRow problem rows footer x.node x.line) found (subst (λ n. IsWrongRow problem rows footer n w.line) (sym node) (wrong_told problem rows footer ordered i b here.exists here.is w.line wrong))
         where
-          sooner_is : (o w : WrongLine) (P : WrongLine → Type 0) → P o → P w → P (sooner (Some o) w)
-          sooner_is o w P first second = by_bool (nat_lt w.line o.line)
+          earlier_is : (o w : WrongLine) (P : WrongLine → Type 0) → P o → P w → P (earlier_line (Some o) w)
+          earlier_is o w P first second = by_bool (nat_lt w.line o.line)
             where
               by_bool : (c : Bool) → P (if c then w else o)
               by_bool true = second
@@ -146,7 +142,7 @@ module _ (problem : BoxProblem) (rows : List Row) (footer : Footer) (ordered : A
     kept : (k : ℕ) → IsSettledRow problem rows footer least old k → IsSettledRow problem rows footer least new k
     kept k settled = record { settled = settled.settled; right = λ none. ((settled.right none).0, counted (settled.right none).1) }
       where
-        counted : IsCounted problem rows footer old k → IsCounted problem rows footer new k
+        counted : IsTallied problem rows footer old k → IsTallied problem rows footer new k
         counted c = record {
           reached = λ is. noted.reached.1 (inl (c.reached is));
           touched = λ is. noted.touched.1 (inl (c.touched is));
@@ -236,10 +232,10 @@ halved n at low high before_low before_high exists_low exists_high =
     let up : 3 ^ suc (n - suc at) ≤ 3 ^ (n - at) = power_more (suc (n - suc at)) (n - at) (omega (arith, before_low, exists_low)) in
     omega (arith, up, power_some (n - suc at), power_more (n - low) (n - suc at) (omega (arith, before_low, exists_low)), power_more (n - high) (n - suc at) (omega (arith, before_high, exists_high)))
 
-pub lighter_wrong : (n i : ℕ) (b : Box) (before : List RowStart) → weight n before < weight n (starts_at i b ∷ before)
+pub lighter_wrong : (n i : ℕ) (b : Box) (before : List RowStart) → work_left n before < work_left n (starts_at i b ∷ before)
 lighter_wrong n i b before = omega (arith, power_some (n - i))
 
-pub lighter_right : (rows : List Row) (i : ℕ) (b final : Box) (before after : List RowStart) → AreOrdered rows → GoesOn rows i final before after → weight (length rows) after < weight (length rows) (starts_at i b ∷ before)
+pub lighter_right : (rows : List Row) (i : ℕ) (b final : Box) (before after : List RowStart) → AreOrdered rows → GoesOn rows i final before after → work_left (length rows) after < work_left (length rows) (starts_at i b ∷ before)
 lighter_right rows i b final before _ ordered (leaf none) = lighter_wrong (length rows) i b before
 lighter_right rows i b final before _ ordered (parts cut low high split is_cut is_low is_high) =
     let less = halved (length rows) i low high (side_later rows ordered i low Le is_low) (side_later rows ordered i high Ge is_high) is_low.exists is_high.exists in omega (arith, less)

@@ -31,9 +31,6 @@ cut_tells b cell side k is = let parts = and_parts _ _ is in record { exists = n
 pub cut_told : (b : Box) (cell : ℕ) (side : Side) (k : ℤ) → IsCut b cell side k → cuts_at b cell side k ≡ true
 cut_told b cell side k is = and_from _ _ (lt-ltb cell (length b.lows) is.exists) (between_told side (low b cell) k (high b cell) is.between)
 
-pub cut_where : (b : Box) (cell : ℕ) (side : Side) (k : ℤ) (result : Bool) → result ≡ cuts_at b cell side k → result ≡ true → IsCut b cell side k
-cut_where b cell side k result is holds = cut_tells b cell side k (sym is ∙ holds)
-
 -- whether a step is right
 module _ (problem : BoxProblem) (v : Option ℤ) (b : Box) (s : Step) where
   pub not_cut : (result : Bool) → result ≡ cuts_at b s.cell s.side s.k → result ≡ false → Decides false (IsRight problem v b s)
@@ -50,6 +47,12 @@ module _ (problem : BoxProblem) (v : Option ℤ) (b : Box) (s : Step) where
 
   pub inside_more : (result : Bool) (next : Box) → Decides result (IsRight problem v b s) → result ≡ true → Inside b problem.root → next ≡ after_step b s → Inside next problem.root
   inside_more result next decides holds inside is = subst (λ (x : Box). Inside x problem.root) (sym is) (still (decides.0 holds) inside)
+
+pub cut_there : (problem : BoxProblem) (v : Option ℤ) (b c : Box) (s : Step) (result : Bool) → c ≡ b → Decides result (IsRight problem v b s) → result ≡ true → IsCut c s.cell s.side s.k
+cut_there problem v b c s result same decides holds = subst (λ (x : Box). IsCut x s.cell s.side s.k) (sym same) (step_cuts problem v b s result decides holds)
+
+pub step_moved : (problem : BoxProblem) (v : Option ℤ) (b c next : Box) (s : Step) (result : Bool) → Decides result (IsRight problem v b s) → c ≡ b → next ≡ after_step c s → next ≡ after_step b s
+step_moved problem v b c next s result decides same goes = goes ∙ ap (λ (x : Box). after_step x s) same
 
 -- one step more
 step_at : (steps : List Step) (at : ℕ) (s : Step) → at < length steps → s ≡ get_or steps at s → take (at + 1) steps ≡ take at steps ++ s ∷ []

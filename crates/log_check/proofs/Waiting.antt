@@ -3,7 +3,7 @@ use Rattle.std.proofs.Common.{◌≡◌, ◌∙◌, ◌<◌, ◌≤◌, ◌+◌,
 use Rattle.sopl_base.specs.declared.reason.Side.TheVariants.{Le, Ge}
 use Rattle.box_problem.specs.Box.{Box}
 use Rattle.box_problem.specs.Steps.{IsCut, cut_away}
-use Rattle.box_store.specs.Store.{IsAtMark, Mark, Store, IsUndone}
+use Rattle.box_store.specs.Store.{Mark, Store, IsUndone}
 use Rattle.log_check.specs.declared.walk.WaitingSide.{WaitingSide}
 use Rattle.log_check.specs.declared.walk.Walk.{Walk}
 use Rattle.std.proofs.lemmas.List.{length-reverse}
@@ -20,7 +20,7 @@ use Rattle.box_problem.specs.Steps.{narrowed}
 use Rattle.log_check.specs.declared.sides.Sides.{Sides}
 use Rattle.log_check.specs.Sides.{AreSides, IsSideOf, side_row, sides_at}
 use Rattle.log_check.specs.Walks.{GoesOn, RowStart, leaf, lines_of, parts, starts_at}
-use Rattle.log_check.specs.Waiting.{AllCut, AllHaveRoom, Fits, HasGone, HasRoomHere, TakesNext, WaitsWell, before_it, cut_in, oldest, waiting, waiting_at}
+use Rattle.log_check.specs.Waiting.{AllCut, AllHaveRoom, HasRoomIfMore, HasGone, HasRoomHere, TakesNext, WaitsWell, before_it, cut_in, oldest, rows_waiting, waiting_at}
 use Rattle.log_check.proofs.Lines.{left_falls}
 use Rattle.log_check.proofs.Standing.{side_later}
 
@@ -96,7 +96,7 @@ is_split Unfinished cut is = absurd (cc)
 pub record TakesWell (rows : List Row) (old : List RowStart) (marks : List Mark) (more : Bool) (new : Walk) : Type 0 where
   pub before : old ≡ before_it more new
   pub sides : AllHaveRoom rows (reverse new.later.items) new.store.marks
-  pub fits : Fits rows more new
+  pub fits : HasRoomIfMore rows more new
   pub oldest_is : oldest new.store.marks ≡ oldest marks
 
 pub takes_well : (rows : List Row) (sides : List WaitingSide) (marks : List Mark) (more : Bool) (new : Walk) → AllHaveRoom rows sides marks → TakesNext sides marks more new → TakesWell rows (waiting_at sides marks) marks more new
@@ -104,19 +104,19 @@ takes_well rows [] [] more new all takes = absurd all
 takes_well rows [] (mark ∷ []) more new all takes = record {
   before = ap (λ m. before_it m new) (sym takes.more_is);
   sides = subst (λ (list : List WaitingSide). AllHaveRoom rows (reverse list) new.store.marks) (sym takes.later) (subst (AllHaveRoom rows []) (sym takes.marks_are) tt);
-  fits = subst (λ m. Fits rows m new) (sym takes.more_is) takes.later;
+  fits = subst (λ m. HasRoomIfMore rows m new) (sym takes.more_is) takes.later;
   oldest_is = ap oldest takes.marks_are;
 }
 takes_well rows [] (mark ∷ other ∷ marks) more new all takes = absurd all
 takes_well rows (side ∷ sides) [] more new all takes = absurd all
 takes_well rows (side ∷ sides) (mark ∷ marks) more new all takes = record {
-  before = ap (λ (list : List RowStart). starts_at side.row (cut_away mark.box side.cut.cell Le side.cut.k) ∷ list) same ∙ ap (λ (s : RowStart). s ∷ waiting new) start ∙ ap (λ m. before_it m new) (sym takes.more_is);
+  before = ap (λ (list : List RowStart). starts_at side.row (cut_away mark.box side.cut.cell Le side.cut.k) ∷ list) same ∙ ap (λ (s : RowStart). s ∷ rows_waiting new) start ∙ ap (λ m. before_it m new) (sym takes.more_is);
   sides = subst (λ (list : List WaitingSide). AllHaveRoom rows list new.store.marks) (sym takes.later) (subst (AllHaveRoom rows sides) (sym takes.marks_are) all.1);
-  fits = subst (λ m. Fits rows m new) (sym takes.more_is) here;
+  fits = subst (λ m. HasRoomIfMore rows m new) (sym takes.more_is) here;
   oldest_is = ap oldest takes.marks_are ∙ sym (oldest_below rows sides mark marks all.1);
 }
   where
-    same : waiting_at sides marks ≡ waiting new
+    same : waiting_at sides marks ≡ rows_waiting new
     same = ap (λ (list : List WaitingSide). waiting_at list marks) (sym takes.later) ∙ ap (waiting_at (reverse new.later.items)) (sym takes.marks_are)
 
     start : starts_at side.row (cut_away mark.box side.cut.cell Le side.cut.k) ≡ starts_at new.at new.store.box
@@ -134,7 +134,7 @@ pub gone_next : (rows : List Row) (old new : Walk) (more : Bool) → cut_in (row
 gone_next rows old new more none waits takes capacity least tally =
     let well = takes_well rows (reverse old.later.items) old.store.marks more new waits.sides takes in
     record {
-      goes = subst (GoesOn rows old.at old.store.box (waiting old)) well.before (leaf (no_split (row_at rows old.at).end none));
+      goes = subst (GoesOn rows old.at old.store.box (rows_waiting old)) well.before (leaf (no_split (row_at rows old.at).end none));
       waits = record { sides = well.sides; capacity = omega (arith, waits.capacity, capacity) };
       fits = well.fits;
       oldest_is = well.oldest_is;
@@ -149,7 +149,7 @@ pub gone_split : (rows : List Row) (old new : Walk) (cut : Cut) (low high : ℕ)
     → new.at ≡ low → reverse new.later.items ≡ (record { row = high; cut = cut }) ∷ reverse old.later.items → vec_capacity new.later ≡ vec_capacity old.later → new.store.box ≡ narrowed old.store.box cut.cell Le cut.k
     → new.store.marks ≡ (record { box = old.store.box; spare = old.store.spare }) ∷ old.store.marks → new.store.spare + 2 ≡ old.store.spare → new.least ≡ old.least → new.tally ≡ old.tally → HasGone rows old true new
 gone_split rows old new cut low high ordered split is_cut is_low is_high waits room place at later capacity half marks spare least tally = record {
-  goes = subst (GoesOn rows old.at old.store.box (waiting old)) before (parts cut low high (is_split (row_at rows old.at).end cut split) is_cut is_low is_high);
+  goes = subst (GoesOn rows old.at old.store.box (rows_waiting old)) before (parts cut low high (is_split (row_at rows old.at).end cut split) is_cut is_low is_high);
   waits = record {
     sides = subst (λ (list : List WaitingSide). AllHaveRoom rows list new.store.marks) (sym later)
         (subst (AllHaveRoom rows (side ∷ reverse old.later.items)) (sym marks) (record { cut = is_cut; room = omega (arith, room, left_falls rows (old.at + 1) high (omega (arith, behind_high))); place = omega (arith, length-reverse old.later.items, place, behind_high) }, waits.sides));
@@ -177,10 +177,10 @@ gone_split rows old new cut low high ordered split is_cut is_low is_high waits r
     behind_high : old.at < high
     behind_high = side_later rows ordered old.at high Ge is_high
 
-    before : starts_at low (narrowed old.store.box cut.cell Le cut.k) ∷ starts_at high (cut_away old.store.box cut.cell Le cut.k) ∷ waiting old ≡ before_it true new
+    before : starts_at low (narrowed old.store.box cut.cell Le cut.k) ∷ starts_at high (cut_away old.store.box cut.cell Le cut.k) ∷ rows_waiting old ≡ before_it true new
     before =
-        ap (λ n. starts_at n (narrowed old.store.box cut.cell Le cut.k) ∷ starts_at high (cut_away old.store.box cut.cell Le cut.k) ∷ waiting old) (sym at)
-        ∙ ap (λ (b : Box). starts_at new.at b ∷ starts_at high (cut_away old.store.box cut.cell Le cut.k) ∷ waiting old) (sym half)
+        ap (λ n. starts_at n (narrowed old.store.box cut.cell Le cut.k) ∷ starts_at high (cut_away old.store.box cut.cell Le cut.k) ∷ rows_waiting old) (sym at)
+        ∙ ap (λ (b : Box). starts_at new.at b ∷ starts_at high (cut_away old.store.box cut.cell Le cut.k) ∷ rows_waiting old) (sym half)
         ∙ ap (λ (list : List Mark). starts_at new.at new.store.box ∷ waiting_at (side ∷ reverse old.later.items) list) (sym marks)
         ∙ ap (λ (list : List WaitingSide). starts_at new.at new.store.box ∷ waiting_at list new.store.marks) (sym later)
 
@@ -201,23 +201,3 @@ cut_at rows i r found o exists told same = ap (λ (x : Row). cut_in x.end) (get_
 
 pub split_is_right : (problem : BoxProblem) (footer : Footer) (b : Box) (rows : List Row) (i : ℕ) (cut : Cut) → cut_in (row_at rows i).end ≡ Some cut → RightEnd problem footer b rows i (row_at rows i).end → RightSplit b rows i cut
 split_is_right problem footer b rows i cut is right = subst (RightEnd problem footer b rows i) (is_split (row_at rows i).end cut is) right
-
--- the one mark that is left
-pub undone_oldest : (rows : List Row) (walk : Walk) (mark : Mark) (store : Store) → WaitsWell rows walk → walk.later.items ≡ [] → oldest walk.store.marks ≡ Some mark → IsUndone walk.store.marks store → IsAtMark mark [] store
-undone_oldest rows walk mark store waits none is undone =
-    there walk.store.marks (subst (λ (list : List WaitingSide). AllHaveRoom rows (reverse list) walk.store.marks) none waits.sides) is undone
-  where
-    inside : {a b : Mark} → Some a ≡ Some b → a ≡ b
-    inside e = cc
-
-    there : (ms : List Mark) → AllHaveRoom rows [] ms → oldest ms ≡ Some mark → IsUndone ms store → IsAtMark mark [] store
-    there [] all same undone = absurd all
-    there (m ∷ []) all same undone = subst (λ (x : Mark). IsAtMark x [] store) (inside same) undone
-    there (m ∷ n ∷ ms) all same undone = absurd all
-
-pub marked_left : (rows : List Row) (walk : Walk) → WaitsWell rows walk → walk.later.items ≡ [] → 0 < length walk.store.marks
-marked_left rows walk waits none = there walk.store.marks (subst (λ (list : List WaitingSide). AllHaveRoom rows (reverse list) walk.store.marks) none waits.sides)
-  where
-    there : (ms : List Mark) → AllHaveRoom rows [] ms → 0 < length ms
-    there [] all = absurd all
-    there (m ∷ ms) all = omega arith

@@ -7,6 +7,7 @@ use Rattle.box_problem.specs.BoxProblem.{BoxProblem}
 use Rattle.log_rows.specs.declared.rows.Footer.{Footer}
 use Rattle.log_rows.specs.Accepted.{RightPoint}
 
+-- a reason closes it
 pub record IsClosing (problem : BoxProblem) (b : Box) (reason : Reason) : Type 0 where
   pub closed : problem.refutes reason b None ≡ true
 

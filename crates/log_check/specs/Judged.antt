@@ -1,14 +1,13 @@
 -- What is told of one row: whether its steps and its end are right, and what it adds to what the last line claims.
-use Rattle.std.specs.Prelude.{◌≡◌, ◌⊎◌, ℕ, ℤ, ◌≤ℤ◌, Bool, true, false, ◌&&◌, nat_lt, int_le, int_lt, List, length, take, slice_get, Option, None, Some}
+use Rattle.std.specs.Prelude.{◌≡◌, ◌⊎◌, ℕ, ℤ, Bool, true, false, ◌&&◌, nat_lt, int_le, int_lt, List, length, take, slice_get, Option, None, Some}
 use Rattle.std.specs.Bool.{Decides}
 use Rattle.sopl_base.specs.declared.direction.Direction.{Direction}
-use Rattle.sopl_base.specs.declared.interval.Interval.{Interval}
 use Rattle.sopl_base.specs.declared.reason.Side.{Side}
 use Rattle.sopl_base.specs.declared.reason.Side.TheVariants.{Le, Ge}
 use Rattle.sopl_base.specs.declared.reason.Step.{Step}
 use Rattle.sopl_base.specs.Better.{IsBetter}
 use Rattle.box_problem.specs.Box.{Box, Inside, low, high}
-use Rattle.box_problem.specs.Steps.{after_steps, removed}
+use Rattle.box_problem.specs.Steps.{after_steps}
 use Rattle.box_problem.specs.BoxProblem.{BoxProblem}
 use Rattle.box_problem.specs.Rightness.{IsRight, AllRight}
 use Rattle.log_rows.specs.declared.rows.Row.{Row}
@@ -19,13 +18,6 @@ use Rattle.log_rows.specs.declared.rows.Footer.TheVariants.{Optimal, Infeasible,
 use Rattle.log_rows.specs.Rows.{row_at}
 use Rattle.log_rows.specs.Accepted.{claimed, RightEnd}
 use Rattle.log_check.specs.declared.tally.Tally.{Tally}
-use Rattle.term_program.specs.Programs.{with_interval}
-
--- what a step removes is this interval of its cell
-pub record IsRemovedPart (b : Box) (s : Step) (part : Interval) : Type 0 where
-  pub from_low : low b s.cell ≤ℤ part.lo
-  pub to_high : part.hi ≤ℤ high b s.cell
-  pub is : removed b s ≡ with_interval b s.cell part.lo part.hi
 
 -- whether a number cuts an interval, and a box
 abbrev pub cuts_between : Side → ℤ → ℤ → ℤ → Bool
@@ -58,8 +50,8 @@ abbrev pub IsWithinClaim : Direction → ℤ → Option ℤ → Type 0
 IsWithinClaim direction value None = ⊥
 IsWithinClaim direction value (Some v) = ¬ IsBetter direction value v
 
--- a node that ends so, with this box, is a point of the value that is claimed; or is not finished, and the better end there is the bound that is claimed; or
--- is better than it
+-- a node that ends so, with this box, is a point of the value that is claimed; or is not finished, and the better end there is the bound
+-- that is claimed; or is better than it
 abbrev pub ReachesClaim : BoxProblem → Footer → Box → EndLine → Type 0
 ReachesClaim problem footer b end = (end ≡ Point) × (claimed footer ≡ Some (problem.value b.lows))
 
@@ -87,7 +79,7 @@ pub record IsRightHere (problem : BoxProblem) (rows : List Row) (footer : Footer
   pub end : RightEnd problem footer after rows i (row_at rows i).end
   pub noted : IsNoted problem footer after (row_at rows i).end old new
 
--- a row that is not right: its first step that is not, or its end, where all steps are
+-- a row whose steps are all right, and whose end is not
 pub record IsWrongEndHere (problem : BoxProblem) (rows : List Row) (footer : Footer) (i : ℕ) (b : Box) : Type 0 where
   pub steps : AllRight problem (claimed footer) b (row_at rows i).steps
   pub wrong : ¬ RightEnd problem footer (after_steps b (row_at rows i).steps) rows i (row_at rows i).end

@@ -1,6 +1,7 @@
 pub mod Verdicts
 pub mod Judged
 pub mod Closing
+pub mod KeptSums
 pub mod Sides
 pub mod Walks
 pub mod Footers

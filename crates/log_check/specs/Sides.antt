@@ -8,9 +8,11 @@ use Rattle.log_rows.specs.Rows.{row_at}
 use Rattle.log_check.specs.declared.sides.Sides.{Sides}
 use Rattle.log_check.specs.Verdicts.{first_line}
 
+-- a row of which nothing is known
 abbrev pub no_sides : Sides
 no_sides = record { line = 0; low = None; high = None }
 
+-- what is known of the row with a number, and its low or its high side
 abbrev pub sides_at : List Sides → ℕ → Sides
 sides_at sides i = slice_index_or sides i no_sides
 

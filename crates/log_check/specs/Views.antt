@@ -8,11 +8,12 @@ use Rattle.log_check.specs.declared.view.LogView.{LogView}
 use Rattle.log_check.specs.Sides.{AreSides}
 use Rattle.log_check.specs.Verdicts.{first_line}
 
-abbrev pub problem_in : LogView → BoxProblem
-problem_in view = box_problem_of view.program.now
+-- the problem that the log is checked against
+abbrev pub checked_problem : LogView → BoxProblem
+checked_problem view = box_problem_of view.program.now
 
 -- a program as it is made, and rows in order, with their sides; the numbers of all lines fit
-pub record IsReady (view : LogView) : Type 0 where
+pub record IsLogView (view : LogView) : Type 0 where
   pub made : IsMade view.program.now
   pub ordered : AreOrdered view.rows.now
   pub sides : AreSides view.rows.now view.sides.now

@@ -10,8 +10,8 @@ use Rattle.log_rows.specs.declared.rows.EndLine.TheVariants.{Refuted, Split, Poi
 use Rattle.log_check.specs.declared.view.LogView.{LogView}
 use Rattle.log_check.specs.declared.walk.WaitingSide.{WaitingSide}
 use Rattle.log_check.specs.declared.walk.Walk.{Walk}
-use Rattle.log_check.specs.Views.{problem_in}
-use Rattle.log_check.specs.Walks.{GoesOn, RowStart, WalkStands, lines_of, starts_at, weight}
+use Rattle.log_check.specs.Views.{checked_problem}
+use Rattle.log_check.specs.Walks.{GoesOn, RowStart, WalkStands, lines_of, starts_at, work_left}
 
 -- where an end splits a box, if it does
 abbrev pub cut_in : EndLine → Option Cut
@@ -26,16 +26,17 @@ waiting_at [] marks = []
 waiting_at (side ∷ sides) [] = []
 waiting_at (side ∷ sides) (mark ∷ marks) = starts_at side.row (cut_away mark.box side.cut.cell Le side.cut.k) ∷ waiting_at sides marks
 
-abbrev pub waiting : Walk → List RowStart
-waiting walk = waiting_at (reverse walk.later.items) walk.store.marks
+abbrev pub rows_waiting : Walk → List RowStart
+rows_waiting walk = waiting_at (reverse walk.later.items) walk.store.marks
 
 -- the rows that a walk has before it
 abbrev pub before_it : Bool → Walk → List RowStart
-before_it true walk = starts_at walk.at walk.store.box ∷ waiting walk
+before_it true walk = starts_at walk.at walk.store.box ∷ rows_waiting walk
 before_it false walk = []
 
--- a side that waits: its cut cuts the box at its mark, behind which there is room for all lines from its row on, and as many wait below it as stand before it
-pub record HasRoom (rows : List Row) (side : WaitingSide) (mark : Mark) (below : List WaitingSide) : Type 0 where
+-- a side that waits: its cut cuts the box at its mark, behind which there is room for all lines from its row on, and fewer wait below it
+-- than rows stand before its row
+pub record SideHasRoom (rows : List Row) (side : WaitingSide) (mark : Mark) (below : List WaitingSide) : Type 0 where
   pub cut : IsCut mark.box side.cut.cell Le side.cut.k
   pub room : 1 + lines_of (drop side.row rows) ≤ mark.spare
   pub place : length below < side.row
@@ -46,7 +47,7 @@ AllHaveRoom rows [] [] = ⊥
 AllHaveRoom rows [] (mark ∷ []) = Unit {0}
 AllHaveRoom rows [] (mark ∷ other ∷ marks) = ⊥
 AllHaveRoom rows (side ∷ sides) [] = ⊥
-AllHaveRoom rows (side ∷ sides) (mark ∷ marks) = HasRoom rows side mark sides × AllHaveRoom rows sides marks
+AllHaveRoom rows (side ∷ sides) (mark ∷ marks) = SideHasRoom rows side mark sides × AllHaveRoom rows sides marks
 
 -- the cuts of the sides that wait cut the boxes at their marks, behind which there is room for them
 pub record IsCutAt (side : WaitingSide) (mark : Mark) : Type 0 where
@@ -89,20 +90,21 @@ pub record WaitsWell (rows : List Row) (walk : Walk) : Type 0 where
   pub sides : AllHaveRoom rows (reverse walk.later.items) walk.store.marks
   pub capacity : length rows ≤ vec_capacity walk.later
 
--- and for those that are before it, where there is a row at hand
+-- and for those from the row at hand on
 pub record HasRoomHere (rows : List Row) (walk : Walk) : Type 0 where
   pub store : lines_of (drop walk.at rows) ≤ walk.store.spare
   pub place : length walk.later.items ≤ walk.at
 
-abbrev pub Fits : List Row → Bool → Walk → Type 0
-Fits rows true walk = HasRoomHere rows walk
-Fits rows false walk = walk.later.items ≡ []
+-- so it has, where there is a row at hand; else no side waits
+abbrev pub HasRoomIfMore : List Row → Bool → Walk → Type 0
+HasRoomIfMore rows true walk = HasRoomHere rows walk
+HasRoomIfMore rows false walk = walk.later.items ≡ []
 
 -- a walk went on behind a right row
 pub record HasGone (rows : List Row) (old : Walk) (more : Bool) (new : Walk) : Type 0 where
-  pub goes : GoesOn rows old.at old.store.box (waiting old) (before_it more new)
+  pub goes : GoesOn rows old.at old.store.box (rows_waiting old) (before_it more new)
   pub waits : WaitsWell rows new
-  pub fits : Fits rows more new
+  pub fits : HasRoomIfMore rows more new
   pub oldest_is : oldest new.store.marks ≡ oldest old.store.marks
   pub capacity_is : vec_capacity new.later ≡ vec_capacity old.later
   pub least_is : new.least ≡ old.least
@@ -110,10 +112,10 @@ pub record HasGone (rows : List Row) (old : Walk) (more : Bool) (new : Walk) : T
 
 -- a walk looked at the row at hand: it stands as before, and less is left
 pub record HasStepped (view : LogView) (old : Walk) (more : Bool) (new : Walk) : Type 0 where
-  pub stands : WalkStands (problem_in view) view.rows.now view.footer.now (before_it true old) old.least old.tally
-      → WalkStands (problem_in view) view.rows.now view.footer.now (before_it more new) new.least new.tally
-  pub lighter : weight (length view.rows.now) (before_it more new) < weight (length view.rows.now) (before_it true old)
+  pub stands : WalkStands (checked_problem view) view.rows.now view.footer.now (before_it true old) old.least old.tally
+      → WalkStands (checked_problem view) view.rows.now view.footer.now (before_it more new) new.least new.tally
+  pub lighter : work_left (length view.rows.now) (before_it more new) < work_left (length view.rows.now) (before_it true old)
   pub waits : WaitsWell view.rows.now new
-  pub fits : Fits view.rows.now more new
+  pub fits : HasRoomIfMore view.rows.now more new
   pub oldest_is : oldest new.store.marks ≡ oldest old.store.marks
   pub capacity_is : vec_capacity new.later ≡ vec_capacity old.later

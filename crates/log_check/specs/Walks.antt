@@ -29,13 +29,13 @@ pub record IsChild (rows : List Row) (k i : ℕ) : Type 0 where
   pub is : (row_at rows k).parent ≡ side_of i side
 
 -- a row is one of these, or below one of them
-pub data IsUnder (rows : List Row) (pending : List ℕ) : ℕ → Type 0 where
-  here : (k : ℕ) → IsAmong k pending → IsUnder rows pending k
-  below : (k i : ℕ) → IsChild rows k i → IsUnder rows pending i → IsUnder rows pending k
+pub data IsAmongOrBelow (rows : List Row) (pending : List ℕ) : ℕ → Type 0 where
+  here : (k : ℕ) → IsAmong k pending → IsAmongOrBelow rows pending k
+  below : (k i : ℕ) → IsChild rows k i → IsAmongOrBelow rows pending i → IsAmongOrBelow rows pending k
 
 -- of each row this is known, or it is left to be looked at
 pub record CoversRows (rows : List Row) (Done : ℕ → Type 0) (pending : List ℕ) : Type 0 where
-  pub each : (k : ℕ) → k < length rows → Done k ⊎ IsUnder rows pending k
+  pub each : (k : ℕ) → k < length rows → Done k ⊎ IsAmongOrBelow rows pending k
 
 -- a line of a row is wrong
 abbrev pub IsWrongRow : BoxProblem → List Row → Footer → ℕ → ℕ → Type 0
@@ -52,12 +52,12 @@ AtMost None line = ⊥
 AtMost (Some found) line = found.line ≤ line
 
 -- the earlier one of a wrong line and the one that was found before, if any
-abbrev pub sooner : Option WrongLine → WrongLine → WrongLine
-sooner None new = new
-sooner (Some found) new = if nat_lt new.line found.line then new else found
+abbrev pub earlier_line : Option WrongLine → WrongLine → WrongLine
+earlier_line None new = new
+earlier_line (Some found) new = if nat_lt new.line found.line then new else found
 
 -- what a row adds to the last line is kept
-pub record IsCounted (problem : BoxProblem) (rows : List Row) (footer : Footer) (tally : Tally) (k : ℕ) : Type 0 where
+pub record IsTallied (problem : BoxProblem) (rows : List Row) (footer : Footer) (tally : Tally) (k : ℕ) : Type 0 where
   pub reached : ReachesClaim problem footer (final_of problem.root rows k) (row_at rows k).end → tally.reached ≡ true
   pub touched : TouchesBound problem footer (final_of problem.root rows k) (row_at rows k).end → tally.touched ≡ true
   pub passed : PassesBound problem footer (final_of problem.root rows k) (row_at rows k).end → tally.passed ≡ true
@@ -65,7 +65,7 @@ pub record IsCounted (problem : BoxProblem) (rows : List Row) (footer : Footer) 
 -- of a row no line before the one that was found is wrong; where none was found, it is right and is counted
 pub record IsSettledRow (problem : BoxProblem) (rows : List Row) (footer : Footer) (least : Option WrongLine) (tally : Tally) (k : ℕ) : Type 0 where
   pub settled : (line : ℕ) → IsWrongRow problem rows footer k line → AtMost least line
-  pub right : least ≡ None → RightRow problem footer rows k × IsCounted problem rows footer tally k
+  pub right : least ≡ None → RightRow problem footer rows k × IsTallied problem rows footer tally k
 
 -- some row is so
 abbrev pub HasRow : List Row → (ℕ → Type 0) → Type 0
@@ -88,6 +88,7 @@ starts_at row b = record { row = row; at = b }
 abbrev pub rows_in : List RowStart → List ℕ
 rows_in starts = map (λ (s : RowStart). s.row) starts
 
+-- the row exists, and this is the box with which it begins, inside the root
 pub record BeginsWell (root : Box) (rows : List Row) (start : RowStart) : Type 0 where
   pub exists : start.row < length rows
   pub is : start.at ≡ start_of root rows start.row
@@ -107,9 +108,9 @@ pub data GoesOn (rows : List Row) (i : ℕ) (b : Box) (before : List RowStart) :
       → GoesOn rows i b before (starts_at low (narrowed b cut.cell Le cut.k) ∷ starts_at high (cut_away b cut.cell Le cut.k) ∷ before)
 
 -- what a walk has left: the rows that are before it weigh less the later they stand
-abbrev pub weight : ℕ → List RowStart → ℕ
-weight n [] = 0
-weight n (s ∷ starts) = 3 ^ (n - s.row) + weight n starts
+abbrev pub work_left : ℕ → List RowStart → ℕ
+work_left n [] = 0
+work_left n (s ∷ starts) = 3 ^ (n - s.row) + work_left n starts
 
 -- how many lines rows have
 abbrev pub lines_of : List Row → ℕ

@@ -11,6 +11,7 @@ ghost use Rattle.log_check.specs.Walks.{lines_of};
 
 use crate::footer::verdict_of;
 use crate::sides::{Sides, fill_sides};
+use crate::sums::Sums;
 use crate::tally::Tally;
 use crate::verdict::Verdict;
 use crate::view::LogView;
@@ -21,8 +22,9 @@ use log_tree::Log;
 use std::alloc::{AllocError, Global};
 use term_program::Program;
 
-/// What a check of a log needs: the box of a program's root, and room for logs of so many lines and so many nodes. It is made once, and checks any
-/// number of logs without taking memory.
+/// What a check of a log needs: the box of a program's root, room for logs of so many lines and so many nodes, and room for the sums by
+/// which chance constraints and the objective close a box. It is made once, and checks any number of logs without taking memory, also
+/// against other programs with the same root box.
 #[derive(Drop)]
 pub struct Checker {
     pub(crate) walk: Walk,
@@ -60,7 +62,7 @@ fn root_store(alloc: Global, program: &Program) -> Result<BoxStore, AllocError>
 }
 
 impl Checker {
-    /// A checker for the logs of a program that have no more lines and no more nodes than this one.
+    /// A checker for logs that have no more lines and no more nodes than this one, of a program and of others with the same root box.
     pub fn new(alloc: Global, program: &Program, log: &Log) -> Result<Checker, AllocError>
         requires made { IsMade program.now }
         ensures root { IfOk result (λ checker. checker.walk.store.box ≡ (box_problem_of program.now).root) }
@@ -73,12 +75,14 @@ impl Checker {
         let nodes = rows.len();
         let mut store = root_store(alloc, program)?;
         store.reserve(lines)?;
+        let sums = Sums::new(alloc, program)?;
         let mut later = Vec::new(alloc);
         later.reserve(nodes)?;
         let mut sides = Vec::new(alloc);
         sides.reserve(nodes)?;
         let walk = Walk {
             store,
+            sums,
             at: 0,
             later,
             least: None,
@@ -92,7 +96,7 @@ impl Checker {
         })
     }
 
-    /// The verdict on a log.
+    /// The verdict on a log of a program with the root box that the checker has.
     pub fn check(&mut self, program: &Program, log: &Log) -> Verdict
         requires made { IsMade program.now }
         requires ordered { AreOrdered log.now.rows.items }

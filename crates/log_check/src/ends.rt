@@ -9,9 +9,11 @@ ghost use Rattle.term_program.specs.Programs.{IsMade, problem_in};
 ghost use Rattle.term_program.specs.Stated.{box_problem_of};
 ghost use Rattle.log_check.specs.Judged.{IsWithinClaim, cuts_at};
 ghost use Rattle.log_check.specs.Closing.{ChancesOpen, DefinedOpen, HardOpen, HardsOpen, IsClosing, IsPointOf, IsWrongPoint, NoneCloses};
+ghost use Rattle.log_check.specs.KeptSums.{KeepsSums};
 
-use crate::judge::{better_end, closes};
+use crate::judge::{better_end, bound_closes, chance_closes, closes};
 use crate::sides::Sides;
+use crate::sums::Sums;
 use crate::tally::claimed;
 use box_store::BoxStore;
 use log_rows::{Cut, Footer};
@@ -86,16 +88,17 @@ fn any_hard_closing(program: &Program, store: &BoxStore) -> Option<Reason>
 
 /// A reason by which some chance constraint closes the box of a store, if there is one.
 #[tactic(auto, using(crate::proofs::Points::chances_none, crate::proofs::Points::chances_more, crate::proofs::Points::chances_all, crate::proofs::Points::is_closing))]
-fn any_chance_closing(program: &Program, store: &BoxStore) -> Option<Reason>
+fn any_chance_closing(program: &Program, store: &BoxStore, sums: &mut Sums) -> Option<Reason>
     requires made { IsMade program.now }
     requires inside { Inside store.now.box (box_problem_of program.now).root }
+    requires in_step { KeepsSums program.now store.now.box sums.old }
     ensures closed { IfSome result (IsClosing (box_problem_of program.now) store.now.box) }
     ensures open { IfNone result (ChancesOpen (box_problem_of program.now) store.now.box (length (problem_in program.now).chances)) }
+    ensures in_step { KeepsSums program.now store.now.box sums.new }
 {
     'instances: for instance in 0..program.chances() {
-        let reason = Reason::Chance { instance };
-        if closes(program, reason, store, None) {
-            return Some(reason);
+        if chance_closes(program, instance, store, sums) {
+            return Some(Reason::Chance { instance });
         }
     }
     None
@@ -120,16 +123,18 @@ fn any_undefined_closing(program: &Program, store: &BoxStore) -> Option<Reason>
 
 /// A reason that closes the box of a store against no value, if there is one.
 #[tactic(auto, using(crate::proofs::Points::none_closes))]
-fn any_closing(program: &Program, store: &BoxStore) -> Option<Reason>
+fn any_closing(program: &Program, store: &BoxStore, sums: &mut Sums) -> Option<Reason>
     requires made { IsMade program.now }
     requires inside { Inside store.now.box (box_problem_of program.now).root }
+    requires in_step { KeepsSums program.now store.now.box sums.old }
     ensures closed { IfSome result (IsClosing (box_problem_of program.now) store.now.box) }
     ensures open { IfNone result (NoneCloses (box_problem_of program.now) store.now.box) }
+    ensures in_step { KeepsSums program.now store.now.box sums.new }
 {
     if let Some(reason) = any_hard_closing(program, store) {
         return Some(reason);
     }
-    if let Some(reason) = any_chance_closing(program, store) {
+    if let Some(reason) = any_chance_closing(program, store, sums) {
         return Some(reason);
     }
     any_undefined_closing(program, store)
@@ -148,19 +153,26 @@ fn is_claimed(direction: Direction, claim: Option<i128>, end: &Wide) -> bool
 
 /// The value of a point that is rightly told.
 #[tactic(auto, using(crate::proofs::Points::no_point, crate::proofs::Points::not_satisfying, crate::proofs::Points::not_claimed, crate::proofs::Points::right_point))]
-pub(crate) fn point_value(program: &Program, footer: &Footer, store: &BoxStore) -> Option<Wide>
+pub(crate) fn point_value(
+    program: &Program,
+    footer: &Footer,
+    store: &BoxStore,
+    sums: &mut Sums,
+) -> Option<Wide>
     requires made { IsMade program.now }
     requires inside { Inside store.now.box (box_problem_of program.now).root }
+    requires in_step { KeepsSums program.now store.now.box sums.old }
+    ensures in_step { KeepsSums program.now store.now.box sums.new }
     ensures wrong { IfNone result (IsWrongPoint (box_problem_of program.now) footer.now store.now.box) }
     ensures right { IfSome result (λ end. IsPointOf (box_problem_of program.now) footer.now store.now.box end.value) }
 {
     if !is_point(store) {
         return None;
     }
-    if let Some(_reason) = any_closing(program, store) {
+    if let Some(_reason) = any_closing(program, store, sums) {
         return None;
     }
-    let end = better_end(program, store);
+    let end = better_end(program, store, sums);
     if !is_claimed(program.direction(), claimed(footer), &end) {
         return None;
     }
@@ -168,13 +180,20 @@ pub(crate) fn point_value(program: &Program, footer: &Footer, store: &BoxStore) 
 }
 
 /// Whether a node that is not finished is rightly told.
-pub(crate) fn is_right_open(program: &Program, footer: &Footer, store: &BoxStore) -> bool
+pub(crate) fn is_right_open(
+    program: &Program,
+    footer: &Footer,
+    store: &BoxStore,
+    sums: &mut Sums,
+) -> bool
     requires made { IsMade program.now }
     requires inside { Inside store.now.box (box_problem_of program.now).root }
+    requires in_step { KeepsSums program.now store.now.box sums.old }
+    ensures in_step { KeepsSums program.now store.now.box sums.new }
     ensures right { Decides result (RightOpen (box_problem_of program.now) footer.now store.now.box) }
 {
     match footer {
-        Footer::Optimal(value) => closes(program, Reason::Bound, store, Some(*value)),
+        Footer::Optimal(value) => bound_closes(program, store, Some(*value), sums),
         Footer::Infeasible => false,
         Footer::Bounded(_, _) => true,
     }

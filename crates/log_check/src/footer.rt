@@ -5,7 +5,7 @@ ghost use Rattle.std.specs.Bool.{Decides};
 ghost use Rattle.log_tree.specs.ReadingLaws.{NoneTooDeep};
 ghost use Rattle.log_check.specs.Footers.{FooterHolds, HoldsBound, HoldsFound, HoldsNone};
 ghost use Rattle.log_check.specs.Verdicts.{IsVerdict, first_line};
-ghost use Rattle.log_check.specs.Views.{IsReady, problem_in};
+ghost use Rattle.log_check.specs.Views.{IsLogView, checked_problem};
 ghost use Rattle.log_check.specs.Walks.{WalkStands};
 
 use crate::judge::direction_of;
@@ -70,7 +70,7 @@ fn is_right_footer(direction: Direction, footer: &Footer, tally: &Tally) -> bool
 
 /// The number of the last line.
 fn footer_line(view: &LogView<'_>) -> u64
-    requires ready { IsReady view.now }
+    requires ready { IsLogView view.now }
     requires at_least_one { 0 < length view.now.rows.now }
     ensures line { result ≡ first_line view.now.rows.now (length view.now.rows.now) }
 {
@@ -82,11 +82,11 @@ fn footer_line(view: &LogView<'_>) -> u64
 /// The verdict behind all rows.
 #[tactic(auto, using(crate::proofs::Footers::first_wrong_row, crate::proofs::Footers::is_accepted, crate::proofs::Footers::wrong_footer))]
 pub(crate) fn verdict_of(view: &LogView<'_>, least: Option<WrongLine>, tally: &Tally) -> Verdict
-    requires ready { IsReady view.now }
+    requires ready { IsLogView view.now }
     requires at_least_one { 0 < length view.now.rows.now }
     requires shallow { NoneTooDeep view.now.rows.now }
-    requires stands { WalkStands (problem_in view.now) view.now.rows.now view.now.footer.now [] least tally.now }
-    ensures verdict { IsVerdict (problem_in view.now) view.now.rows.now view.now.footer.now result }
+    requires stands { WalkStands (checked_problem view.now) view.now.rows.now view.now.footer.now [] least tally.now }
+    ensures verdict { IsVerdict (checked_problem view.now) view.now.rows.now view.now.footer.now result }
 {
     if let Some(wrong) = least {
         return Verdict::Rejected {

@@ -1,20 +1,25 @@
-//! The verdict on a log: it is accepted exactly where each of its lines is right, or else its first wrong line is told. The search has no part in it.
+//! The verdict on a log: it is accepted exactly where each of its lines is right, or else its first wrong line is told. The search has no
+//! part in it.
 //! Its tests stand in `answer_check`.
 #![tactic(auto)]
 
+mod changes;
 mod checker;
 mod ends;
 mod footer;
 mod judge;
 mod laws;
 mod rows;
+mod seen_sum;
 mod sides;
 mod steps;
+mod sum_parts;
+mod sums;
 mod tally;
 mod verdict;
 mod view;
 mod walk;
 
 pub use checker::Checker;
-pub use laws::wrong_logs_are_rejected;
+pub use laws::{smaller_logs_have_room, wrong_logs_are_rejected};
 pub use verdict::Verdict;

@@ -1,4 +1,4 @@
-use Rattle.std.proofs.Common.{◌∙◌, ◌+◌, ◌<◌, ◌≤◌, List, length, ap, sym, subst}
+use Rattle.std.proofs.Common.{◌∙◌, ◌+◌, ◌<◌, ◌≤◌, List, length, ap, rules, sym, subst}
 use Rattle.log_rows.specs.declared.rows.Row.{Row}
 use Rattle.log_rows.specs.Rows.{AreOrdered}
 use Rattle.term_program.specs.Stated.{box_problem_of}
@@ -26,6 +26,23 @@ walk_along-requires-clause-stands c =
     begins_well (box_problem_of c.args.program.now) c.as_slice-rows.result.now c.args.log.now.footer c.begin.new.self (subst AreOrdered (sym c.as_slice-rows.ensures.value) c.requires.ordered)
     (subst (λ (list : List Row). 0 < length list) (sym c.as_slice-rows.ensures.value) c.requires.at_least_one) (root_is_box c.args.program.now c.requires.made) c.begin.ensures.at
     (c.begin.ensures.same_store ∙ c.requires.root) (ap (λ v. v.items) c.begin.ensures.same_later ∙ c.requires.room.none) c.begin.ensures.least c.begin.ensures.tally
+
+pub walk_along-requires-clause-in_step : goal.walk_along-requires-clause-in_step
+walk_along-requires-clause-in_step c = c.begin.ensures.in_step c.args.program.now
+
+pub returns-clause-same_room : goal.returns-clause-same_room
+returns-clause-same_room c = record {
+  kept = λ rows room. record {
+    marks = search (rules, room);
+    none = search (rules, room);
+    lines = room.lines;
+    nodes = room.nodes;
+    spare = search (rules, room);
+    later = search (rules, room);
+    sides = search (rules, room);
+    cells = (c.end.ensures.follow c.args.program.now c.walk_along.ensures.in_step).cells;
+  };
+}
 
 pub verdict_of-verdict-requires-clause-ready : goal.verdict_of-verdict-requires-clause-ready
 verdict_of-verdict-requires-clause-ready c =

@@ -14,9 +14,11 @@ pub returns-in-Some : goal.returns-in-Some
 returns-in-Some c = record {
   stepped = step_wrong c.args.view.now c.args.self.now c.found.new.self c.found.result c.in-Some.line c.judge_row-wrong.new.store.marks c.judge_row-wrong.new.tally c.requires.ready c.requires.waits
       c.judge_row-wrong.ensures.marks c.in-Some.ensures.same_tally c.in-Some.ensures.wrong c.found.ensures.next c.found.ensures.capacity c.found.ensures.least c.found.ensures.same_tally;
+  in_step = c.found.ensures.follow c.args.view.now.program.now c.judge_row-wrong.ensures.in_step;
 }
 
 pub returns-in-None : goal.returns-in-None
 returns-in-None c = record {
   stepped = step_right c.args.view.now c.args.self.now _ c.go_on.new.self c.go_on.result c.requires.ready refl refl c.judge_row-wrong.ensures.marks refl c.in-None.ensures.right c.go_on.ensures.gone;
+  in_step = c.go_on.ensures.follow c.args.view.now.program.now c.judge_row-wrong.ensures.in_step;
 }
