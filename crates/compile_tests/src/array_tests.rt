@@ -39,11 +39,16 @@ fn shown(alloc: Global, setting: &Scenarios<'_>, name: &str) -> Result<String, A
     format!(in alloc; "{scalar:?} {:?} {:?}", array.sets, array.origins)
 }
 
+/// What a name is among the names of a text.
+fn name_of(alloc: Global, name: &str, stated: &AcceptedProblem) -> Result<String, Fault> {
+    let setting = setting_of(alloc, stated)?;
+    Ok(shown(alloc, &setting, name)?)
+}
+
 /// What a name is in a text.
 fn named_in(alloc: Global, name: &str, text: &str) -> Result<String, Fault> {
     let stated = stated_in(alloc, text.as_bytes())?;
-    let setting = setting_of(alloc, &stated)?;
-    Ok(shown(alloc, &setting, name)?)
+    name_of(alloc, name, &stated)
 }
 
 /// Names of texts, and what they are.

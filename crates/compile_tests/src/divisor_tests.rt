@@ -8,7 +8,7 @@ use compile_counts::{divisor, known_at};
 use scen_accept::stated_in;
 use sopl_ast::{Expr, Kind};
 use sopl_base::Fault;
-use sopl_unfold::Ground;
+use sopl_unfold::{Ground, HardItem};
 use std::alloc::Global;
 use std::process::Abort;
 use std::test::Fail;
@@ -33,16 +33,47 @@ fn number_of<'a>(known: &ConstantScope<'a>, e: &'a Expr) -> Result<i64, Fault> {
     Ok(divisor(known, e)?)
 }
 
+/// Writes the number of an expression that divides.
+fn put_number<'a>(out: &mut String, known: &ConstantScope<'a>, e: &'a Expr) -> Result<(), Fault> {
+    write!(out, "{} ", number_of(known, e)?)?;
+    Ok(())
+}
+
+/// Writes the divisor of an instance, if it has one.
+fn put_divisor<'a>(
+    out: &mut String,
+    alloc: Global,
+    ground: &'a Ground,
+    conditions: &[&'a Expr],
+    hard: &'a HardItem,
+) -> Result<(), Fault> {
+    let Some(e) = divisor_in(conditions, hard.text) else {
+        return Ok(());
+    };
+    let known = known_at(alloc, ground.table(), &hard.env)?;
+    put_number(out, &known, e)
+}
+
 /// Writes the divisors of all instances of hard constraints.
 fn put_divisors(out: &mut String, alloc: Global, ground: &Ground) -> Result<(), Fault> {
     let conditions = ground.conditions(alloc)?;
     for hard in ground.hards() {
-        let known = known_at(alloc, ground.table(), &hard.env)?;
-        if let Some(e) = divisor_in(conditions.as_slice(), hard.text) {
-            write!(out, "{} ", number_of(&known, e)?)?;
-        }
+        put_divisor(out, alloc, ground, conditions.as_slice(), hard)?;
     }
     Ok(())
+}
+
+/// The divisors of all instances of hard constraints, in words.
+fn divisors_of(alloc: Global, ground: &Ground) -> Result<String, Fault> {
+    let mut out = String::new(alloc);
+    put_divisors(&mut out, alloc, ground)?;
+    Ok(out)
+}
+
+/// The divisors of a text.
+fn divisors_in(alloc: Global, text: &str) -> Result<String, Fault> {
+    let stated = stated_in(alloc, text.as_bytes())?;
+    divisors_of(alloc, &stated.ground)
 }
 
 /// Texts, and the divisors of their instances.
@@ -58,10 +89,8 @@ functions, and no instance: dvar int x in 0..9; subject to { x div (min(4, 3) + 
 
 /// A text has these divisors.
 fn gives(alloc: Global, rt: &impl Abort, word: &str, text: &str, want: &str) -> Result<(), Fail> {
-    let stated = stated_in(alloc, text.as_bytes())?;
-    let mut out = String::new(alloc);
-    put_divisors(&mut out, alloc, &stated.ground)?;
-    assert_eq!(rt; out.as_str().trim_end(), want, "{word}: {text}");
+    let found = divisors_in(alloc, text)?;
+    assert_eq!(rt; found.as_str().trim_end(), want, "{word}: {text}");
     Ok(())
 }
 

@@ -3,7 +3,7 @@
 //! Each list was written down by hand.
 
 use crate::rows::parts;
-use scen_accept::stated_in;
+use scen_accept::{AcceptedProblem, stated_in};
 use sopl_ast::Name;
 use sopl_base::Fault;
 use std::alloc::{AllocError, Global};
@@ -28,10 +28,15 @@ fn listed(alloc: Global, name: &str, table: &Table) -> Result<String, AllocError
     Ok(out)
 }
 
+/// The elements of a name in the table of a text.
+fn elements_of(alloc: Global, name: &str, stated: &AcceptedProblem) -> Result<String, Fault> {
+    Ok(listed(alloc, name, stated.ground.table())?)
+}
+
 /// The elements of a name in a text.
 fn elements_in(alloc: Global, name: &str, text: &str) -> Result<String, Fault> {
     let stated = stated_in(alloc, text.as_bytes())?;
-    Ok(listed(alloc, name, stated.ground.table())?)
+    elements_of(alloc, name, &stated)
 }
 
 /// Names in texts, and their elements in the order of their declaration.

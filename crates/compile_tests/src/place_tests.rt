@@ -60,6 +60,19 @@ fn put_instances(out: &mut String, alloc: Global, ground: &Ground) -> Result<(),
     Ok(())
 }
 
+/// The places of all instances, in words.
+fn places_of(alloc: Global, ground: &Ground) -> Result<String, Fault> {
+    let mut out = String::new(alloc);
+    put_instances(&mut out, alloc, ground)?;
+    Ok(out)
+}
+
+/// The places of a text.
+fn places_in(alloc: Global, text: &str) -> Result<String, Fault> {
+    let stated = stated_in(alloc, text.as_bytes())?;
+    places_of(alloc, &stated.ground)
+}
+
 /// Texts, and for each instance the places on its left side.
 const TEXTS: &str = "\
 binders of sums, and no sum: subject to { sum(i in 1..2, j in i..3) i == 0; sum(i in 5..4) i == 0; 1 == 1; } -> i1j1; i1j2; i1j3; i2j2; i2j3; | | ; |
@@ -74,10 +87,8 @@ nine binders around one, over the first two: subject to { forall(a in 1..2, b in
 
 /// A text has these places.
 fn gives(alloc: Global, rt: &impl Abort, word: &str, text: &str, want: &str) -> Result<(), Fail> {
-    let stated = stated_in(alloc, text.as_bytes())?;
-    let mut out = String::new(alloc);
-    put_instances(&mut out, alloc, &stated.ground)?;
-    assert_eq!(rt; out.as_str().trim_end(), want, "{word}: {text}");
+    let found = places_in(alloc, text)?;
+    assert_eq!(rt; found.as_str().trim_end(), want, "{word}: {text}");
     Ok(())
 }
 
