@@ -3,4 +3,3 @@ pub mod Claiming
 pub mod Replying
 pub mod Ending
 pub mod Written
-pub mod Roots

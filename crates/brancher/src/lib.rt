@@ -1,6 +1,6 @@
 //! What chooses where the box of a node is cut, and what is done with an answer that cuts nothing. A brancher is an object that whoever calls
 //! a search hands in; it may answer what it likes.
-//! Its tests stand in `tests`; searches with branchers are tested in `sopl`.
+//! Its tests stand in `branch_tests`; searches with branchers are tested in `run_tests`.
 #![tactic(auto)]
 
 mod asking;
@@ -17,6 +17,3 @@ pub use choice::{Choice, Event};
 pub use failing::Failing;
 pub use lower::Lower;
 pub use widest::Widest;
-
-#[cfg(test)]
-mod tests;

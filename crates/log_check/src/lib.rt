@@ -1,6 +1,6 @@
 //! The verdict on a log: it is accepted exactly where each of its lines is right, or else its first wrong line is told. The search has no
 //! part in it.
-//! Its tests stand in `answer_check`.
+//! Its tests stand in `answer_tests`.
 #![tactic(auto)]
 
 mod changes;

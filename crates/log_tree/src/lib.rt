@@ -1,6 +1,6 @@
 //! A log, read from its bytes: its rows and what it claims, or the code and the line of the first mistake; and written as its text. A line is read freely, and then
 //! compared with the line that is written of what was read; so what is read is what would be written.
-//! Its tests stand in `tests`.
+//! Its tests stand in `log_tests`.
 #![tactic(auto)]
 
 mod cutting;
@@ -21,6 +21,3 @@ pub use log_rows::{
 };
 pub use reader::{Log, read_log};
 pub use written::{write_log, written_is_read};
-
-#[cfg(test)]
-mod tests;

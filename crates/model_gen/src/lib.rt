@@ -1,11 +1,9 @@
 //! Texts of models that are drawn by numbers: stages in which something is bought before it is known how much of it is asked for.
-//! Its tests stand in `tests`.
+//! Its tests stand in `answer_tests`.
 #![tactic(auto)]
 
 mod drawn_stage;
 mod generator;
-#[cfg(test)]
-mod tests;
 mod text;
 mod worked;
 

@@ -1,6 +1,5 @@
 pub mod Ways
 pub mod WayLaws
-pub mod WorkedWays
 pub mod Walks
 pub mod Remade
 pub mod Takes

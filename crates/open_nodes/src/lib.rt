@@ -1,6 +1,6 @@
 //! The open nodes of a search that several seats share, and a box that goes from one of them to another. An open node keeps no box: it keeps the split of
 //! which it is a side, and that split the one above it, so that nodes share their ways up to the root. Each seat has a list of open nodes.
-//! Its tests stand in `tests`; what they do not reach is reached by searches of one seat or several in `sopl`.
+//! Its tests stand in `branch_tests`; what they do not reach is reached by searches of one seat or several in `run_tests`.
 #![tactic(auto)]
 
 mod descending;
@@ -19,6 +19,3 @@ pub use laws::{
 pub use seats::{OpenNode, Seat, Seats};
 pub use split::{SplitNode, made, release};
 pub use walk::BoxWalk;
-
-#[cfg(test)]
-mod tests;

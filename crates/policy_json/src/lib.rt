@@ -1,12 +1,10 @@
 //! A policy as nested JSON, an instance with its value as JSON, and the last stage of decisions.
-//! Its tests stand in `tests` and `entry_tests`.
+//! Its tests stand in `answer_tests`.
 #![tactic(auto)]
 
 mod bytes;
 mod decided;
 mod entries;
-#[cfg(test)]
-mod entry_tests;
 mod last_stage;
 mod laws;
 mod point;
@@ -14,8 +12,6 @@ mod policy;
 mod runs;
 mod seen;
 mod stages;
-#[cfg(test)]
-mod tests;
 
 pub use bytes::print;
 pub use entries::entry_value;

@@ -1,8 +1,5 @@
-//! The program `sopl`: words in, one answer line out.
+//! The program `sopl`: words in, one answer line out. Its tests stand in `run_tests`.
 #![tactic(auto)]
-
-#[cfg(test)]
-mod tests;
 
 ghost use Rattle.std.specs.Prelude.{◌≡◌};
 ghost use Rattle.sopl_io.specs.Files.{standard_output, not_begun};

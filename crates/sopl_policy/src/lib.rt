@@ -1,5 +1,5 @@
 //! A policy as it is kept: the values of all cells, and where the cells of each decision begin.
-//! Its tests stand in `answer_eval`.
+//! Its tests stand in `answer_tests`.
 #![tactic(auto)]
 
 mod first_cells;

@@ -1,5 +1,5 @@
 //! The scenarios of a ground problem, with their histories and the cells of its decisions.
-//! Its tests stand in `ground_tests`; what they do not reach is reached by those of `search_tests` and `policy_json`.
+//! Its tests stand in `ground_tests`; what they do not reach is reached by those of `search_tests` and `answer_tests`.
 #![tactic(auto)]
 
 mod cell_domains;

@@ -22,7 +22,6 @@ mod Stepping
 mod BrokenSteps
 mod Footers
 mod Settling
-mod Climbing
 pub mod InOrder
 pub mod Answered
 pub mod RestTexts

@@ -9,4 +9,3 @@ pub mod Frontiers
 pub mod Moves
 pub mod Closes
 pub mod Following
-pub mod Climbing

@@ -1,5 +1,5 @@
 //! The search for the best point of a problem by branch and bound, over any propagators, by one seat or several.
-//! Its tests stand in `tests`; those over the programs of texts in `search_tests` and `run_tests`.
+//! Its tests stand in `branch_tests`; those over the programs of texts in `search_tests` and `run_tests`.
 #![tactic(auto)]
 
 mod bounding;
@@ -30,6 +30,3 @@ pub use sopl_base::SearchStop;
 pub use tree_laws::{high_half_never_alone, sides_are_ordered};
 pub use values::Values;
 pub use watchers::Watchers;
-
-#[cfg(test)]
-mod tests;

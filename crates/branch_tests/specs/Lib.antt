@@ -1,0 +1,2 @@
+pub mod WorkedWays
+pub mod Climbing

@@ -1,0 +1,12 @@
+//! Tests of branch and bound over problems that are made by hand: the nodes that seats take, the ends that a walk makes again, branchers,
+//! and searches with their logs.
+#![tactic(auto)]
+
+#[cfg(test)]
+mod branchers;
+#[cfg(test)]
+mod searches;
+#[cfg(test)]
+mod seats;
+#[cfg(test)]
+mod ways;
