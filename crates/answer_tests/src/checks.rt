@@ -270,7 +270,7 @@ fn logs_that_are_cut_are_unreadable(rt: HostRuntime) -> Result<(), Fail> {
     // the last line may lack its line feed
     let last = bytes.len().saturating_sub(1);
     for end in 0..bytes.len() {
-        let cut = bytes.as_bytes().get(..end).unwrap_or(&[]);
+        let cut = bytes.as_bytes().get(..end).unwrap_or(bytes.as_bytes());
         let want = if end < last {
             Status::Unreadable
         } else {

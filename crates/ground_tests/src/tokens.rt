@@ -32,7 +32,8 @@ fn put_token(line: &mut String, alloc: Global, token: &Token) -> Result<(), Allo
     let kind = kind_shown(alloc, &token.kind)?;
     let start = token.span.start;
     let end = token.span.end;
-    write!(line, "{kind} {start}-{end}")
+    write!(line, "{kind} {start}-{end}")?;
+    Ok(())
 }
 
 fn kind_shown(alloc: Global, kind: &TokenKind) -> Result<String, AllocError> {
