@@ -4,7 +4,7 @@
 use sopl_base::{Wide, bits, midpoint, reaches};
 
 #[test]
-fn exact_comparisons(rt: HostRuntime) {
+fn fractions_are_compared(rt: HostRuntime) {
     for (word, sum, total, p, q, want) in [
         ("a half, where a half is asked for", 1, 2, 1, 2, true),
         ("a half, where a little more is", 1, 2, 501, 1000, false),
@@ -14,66 +14,87 @@ fn exact_comparisons(rt: HostRuntime) {
     ] {
         assert_eq!(rt; reaches(sum, total, p, q), want, "{word}");
     }
-    for (word, lo, hi, digits, middle) in [
-        ("one number", 3, 3, 0, 3),
-        ("two numbers", 0, 1, 1, 0),
-        ("six numbers", 0, 5, 3, 2),
-        ("eight numbers round 0", -4, 3, 3, -1),
+}
+
+#[test]
+fn digits_and_middles(rt: HostRuntime) {
+    for (word, lo, hi, want) in [
+        ("one number", 3, 3, (0, 3)),
+        ("two numbers", 0, 1, (1, 0)),
+        ("six numbers", 0, 5, (3, 2)),
+        ("eight numbers round 0", -4, 3, (3, -1)),
     ] {
-        assert_eq!(rt; bits(lo, hi), digits, "the digits of {word}");
-        assert_eq!(rt; midpoint(lo, hi), middle, "the middle of {word}");
+        assert_eq!(rt; (bits(lo, hi), midpoint(lo, hi)), want, "{word}");
     }
+}
+
+/// What a row is about, two numbers, and their sum, their difference and their product, where these have room.
+type Row = (
+    &'static str,
+    i128,
+    i128,
+    Option<i128>,
+    Option<i128>,
+    Option<i128>,
+);
+
+const MOST: i128 = i128::MAX;
+
+const LEAST: i128 = i128::MIN;
+
+const ROWS: &[Row] = &[
+    ("small numbers", 2, 3, Some(5), Some(-1), Some(6)),
+    ("one below 0", -7, 3, Some(-4), Some(-10), Some(-21)),
+    (
+        "the greatest and 0",
+        MOST,
+        0,
+        Some(MOST),
+        Some(MOST),
+        Some(0),
+    ),
+    (
+        "the greatest and 1",
+        MOST,
+        1,
+        None,
+        Some(MOST - 1),
+        Some(MOST),
+    ),
+    (
+        "the least and 1",
+        LEAST,
+        1,
+        Some(LEAST + 1),
+        None,
+        Some(LEAST),
+    ),
+    ("the greatest and 2", MOST, 2, None, Some(MOST - 2), None),
+    ("the least and -1", LEAST, -1, None, Some(-MOST), None),
+];
+
+/// The number, if there is one.
+fn number(wide: Option<Wide>) -> Option<i128> {
+    match wide {
+        Some(wide) => Some(wide.value),
+        None => None,
+    }
+}
+
+/// The sum, the difference and the product of two numbers.
+fn reckoned(a: i128, b: i128) -> (Option<i128>, Option<i128>, Option<i128>) {
+    let a = Wide { value: a };
+    let b = Wide { value: b };
+    (
+        number(a.checked_plus(b)),
+        number(a.checked_minus(b)),
+        number(a.checked_times(b)),
+    )
 }
 
 #[test]
 fn checked_arithmetic(rt: HostRuntime) {
-    let wide = |value| Wide { value };
-    let most = i128::MAX;
-    for (word, a, b, sum, difference, product) in [
-        ("small numbers", 2, 3, Some(5), Some(-1), Some(6)),
-        ("one below 0", -7, 3, Some(-4), Some(-10), Some(-21)),
-        (
-            "the greatest and 0",
-            most,
-            0,
-            Some(most),
-            Some(most),
-            Some(0),
-        ),
-        (
-            "the greatest and 1",
-            most,
-            1,
-            None,
-            Some(most - 1),
-            Some(most),
-        ),
-        (
-            "the least and 1",
-            i128::MIN,
-            1,
-            Some(i128::MIN + 1),
-            None,
-            Some(i128::MIN),
-        ),
-        ("the greatest and 2", most, 2, None, Some(most - 2), None),
-        ("the least and -1", i128::MIN, -1, None, Some(-most), None),
-    ] {
-        let value = |wide: Option<Wide>| wide.map(|wide| wide.value);
-        assert_eq!(rt;
-            value(wide(a).checked_plus(wide(b))),
-            sum,
-            "the sum, {word}"
-        );
-        assert_eq!(rt;
-            value(wide(a).checked_minus(wide(b))),
-            difference,
-            "the difference, {word}"
-        );
-        assert_eq!(rt;
-            value(wide(a).checked_times(wide(b))),
-            product,
-            "the product, {word}"
-        );
+    for (word, a, b, sum, difference, product) in ROWS {
+        assert_eq!(rt; reckoned(*a, *b), (*sum, *difference, *product), "{word}");
     }
 }

@@ -37,16 +37,20 @@ fn holds(mut sink: MemSink, bytes: &[u8]) -> Result<bool, Fail> {
 }
 
 #[test]
-fn a_text_is_read_and_written(rt: HostRuntime) -> Result<(), Fail> {
-    let alloc = rt.alloc();
-    for (word, most, expected) in CUTS {
-        let mut source = named_source(alloc, &[])?;
-        let bytes = bytes_of(alloc, &mut source, most)?;
-        assert_eq!(rt; bytes.as_slice(), expected.as_bytes(), "read, {word}");
+fn a_text_is_read(rt: HostRuntime) -> Result<(), Fail> {
+    for (word, most, expected) in &CUTS {
+        let mut source = named_source(rt.alloc(), &[])?;
+        let bytes = bytes_of(rt.alloc(), &mut source, *most)?;
+        assert_eq!(rt; bytes.as_slice(), expected.as_bytes(), "{word}");
     }
-    for (word, _, text) in CUTS {
-        let sink = MemSink::new(alloc, 8, Vec::new(alloc))?;
-        assert!(rt; holds(sink, text.as_bytes())?, "written, {word}");
+    Ok(())
+}
+
+#[test]
+fn a_text_is_written(rt: HostRuntime) -> Result<(), Fail> {
+    for (word, _, text) in &CUTS {
+        let sink = MemSink::new(rt.alloc(), 8, Vec::new(rt.alloc()))?;
+        assert!(rt; holds(sink, text.as_bytes())?, "{word}");
     }
     Ok(())
 }
