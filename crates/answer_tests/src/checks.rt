@@ -239,40 +239,44 @@ fn answered(alloc: Global, text: &str, log: &[u8]) -> Result<(Status, String), A
     Ok((reply.status, reply.line))
 }
 
+// Those of a check of these lines.
+fn answered_lines(alloc: Global, text: &str, log: &str) -> Result<(Status, String), AllocError> {
+    let bytes = bytes_of(alloc, log)?;
+    answered(alloc, text, bytes.as_bytes())
+}
+
 #[test]
 fn logs_are_checked(rt: HostRuntime) -> Result<(), Fail> {
-    let alloc = rt.alloc();
     for (word, text, log, status, line) in LOGS {
-        let bytes = bytes_of(alloc, log)?;
-        let Ok((ended, told)) = answered(alloc, text, bytes.as_bytes()) else {
-            panic!(rt; "no answer to {word}")
-        };
-        println!(rt; "{word}: {log} -> {}", told.as_str())?;
+        let (ended, told) = answered_lines(rt.alloc(), text, log)?;
         assert_eq!(rt; ended, *status, "{word}");
         assert_eq!(rt; told.as_str().strip_suffix("\n"), Some(*line), "{word}");
     }
     Ok(())
 }
 
+// The status of a check of a log of this text.
+fn status_of(alloc: Global, log: &[u8]) -> Result<Status, AllocError> {
+    let (status, _) = answered(alloc, ONE, log)?;
+    Ok(status)
+}
+
 #[test]
 fn logs_that_are_cut_are_unreadable(rt: HostRuntime) -> Result<(), Fail> {
-    let alloc = rt.alloc();
     let bytes = bytes_of(
-        alloc,
+        rt.alloc(),
         "sopl-log 1 / n 0 r / x 0 0 / n 1 0 l / v / n 2 0 h / v / end optimal 1",
     )?;
-    let mut cut = Vec::new(alloc);
-    for byte in bytes.as_bytes() {
-        let Ok((ended, told)) = answered(alloc, ONE, cut.as_slice()) else {
-            panic!(rt; "no answer")
-        };
-        // the last line may lack its line feed
-        if cut.len() + 1 < bytes.len() {
-            assert_eq!(rt; ended, Status::Unreadable, "{}", told.as_str());
+    // the last line may lack its line feed
+    let last = bytes.len().saturating_sub(1);
+    for end in 0..bytes.len() {
+        let cut = bytes.as_bytes().get(..end).unwrap_or(bytes.as_bytes());
+        let want = if end < last {
+            Status::Unreadable
         } else {
-            assert_eq!(rt; ended, Status::Done, "{}", told.as_str());
-        }
-        cut.push(*byte)?;
+            Status::Done
+        };
+        assert_eq!(rt; status_of(rt.alloc(), cut)?, want, "cut at {end}");
     }
     Ok(())
 }

@@ -6,6 +6,7 @@ use std::alloc::{AllocError, Global};
 use std::test::Fail;
 
 mod forms;
+mod policy_read_texts;
 
 const CHANCE: &str =
     "dvar int x in 0..5; stoch int d in {1:1, 2:1, 3:1}; minimize expected(x); subject to { prob(x >= d) >= 2/3; }";
@@ -268,18 +269,19 @@ fn evaluated(alloc: Global, text: &str, policy: &[u8]) -> Result<Reply, AllocErr
     }
 }
 
+// The status and the line of the reply to a policy that is told as in the table.
+fn answered(alloc: Global, text: &str, policy: &str) -> Result<(Status, String), AllocError> {
+    let bytes = bytes_of(alloc, policy)?;
+    let reply = evaluated(alloc, text, bytes.as_bytes())?;
+    Ok((reply.status, reply.line))
+}
+
 #[test]
 fn policies_are_evaluated(rt: HostRuntime) -> Result<(), Fail> {
-    let alloc = rt.alloc();
     for (word, text, policy, status, line) in POLICIES {
-        let bytes = bytes_of(alloc, policy)?;
-        let reply = evaluated(alloc, text, bytes.as_bytes())?;
-        assert_eq!(rt;
-            reply.line.as_str().strip_suffix("\n"),
-            Some(*line),
-            "{word}"
-        );
-        assert_eq!(rt; reply.status, *status, "{word}");
+        let (ended, told) = answered(rt.alloc(), text, policy)?;
+        assert_eq!(rt; told.as_str().strip_suffix("\n"), Some(*line), "{word}");
+        assert_eq!(rt; ended, *status, "{word}");
     }
     Ok(())
 }

@@ -60,12 +60,36 @@ fn printed(
     value.to_string(alloc).ok()
 }
 
+/// The decisions x and y.
+fn decisions(alloc: Global) -> Result<Vec<DecisionItem>, AllocError>
+    ensures { IfOk result (λ found. found.items ≡ sample_decisions) }
+{
+    let mut found = Vec::new(alloc);
+    found.push(decision(alloc, b'x', 1)?)?;
+    found.push(decision(alloc, b'y', 2)?)?;
+    Ok(found)
+}
+
+/// The stochastic variables d and e.
+fn stochastics(alloc: Global) -> Result<Vec<StochItem>, AllocError>
+    ensures { IfOk result (λ found. found.items ≡ sample_stochastics) }
+{
+    let mut found = Vec::new(alloc);
+    found.push(one_or_three(alloc, b'd', 1)?)?;
+    found.push(one_or_three(alloc, b'e', 2)?)?;
+    Ok(found)
+}
+
 #[test]
 fn two_stages(rt: HostRuntime) -> Result<(), Fail> {
-    let alloc = rt.alloc();
-    let decisions = [decision(alloc, b'x', 1)?, decision(alloc, b'y', 2)?];
-    let stochs = [one_or_three(alloc, b'd', 1)?, one_or_three(alloc, b'e', 2)?];
-    let Some(text) = printed(alloc, &decisions, &stochs, &[5, 0, 2]) else {
+    let decisions = decisions(rt.alloc())?;
+    let stochs = stochastics(rt.alloc())?;
+    let Some(text) = printed(
+        rt.alloc(),
+        decisions.as_slice(),
+        stochs.as_slice(),
+        &[5, 0, 2],
+    ) else {
         return Err(Fail::from("no policy"));
     };
     assert_eq!(rt;

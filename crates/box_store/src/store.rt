@@ -197,6 +197,3 @@ fn highs_of(alloc: Global, roots: &[Interval]) -> Result<Vec<i64>, AllocError>
 {
     roots.iter().map(|root| root.hi).collect(alloc)
 }
-
-#[cfg(test)]
-mod tests;

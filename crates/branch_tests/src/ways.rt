@@ -87,25 +87,56 @@ fn counted(
     Ok(remade.len())
 }
 
-/// With one seat: down the low sides, and back along the high ones.
-fn counts(alloc: Global) -> Result<Vec<usize>, AllocError> {
+/// Adds how many ends are made again on the way to a side of a split.
+fn add_count(
+    alloc: Global,
+    told: &mut Vec<usize>,
+    walk: &mut BoxWalk,
+    split: &SplitNode,
+    side: Side,
+) -> Result<(), AllocError>
+    requires stands { StandsWorked walk.old }
+    requires worked { (n : ℕ) × IsWorked n split.now }
+    ensures stands { OnOk result (StandsWorked walk.new) }
+{
+    let count = counted(alloc, walk, split, side)?;
+    told.push(count)?;
+    Ok(())
+}
+
+/// With one seat: down the low sides of three splits, and back along the high ones.
+fn add_counts(
+    alloc: Global,
+    told: &mut Vec<usize>,
+    first: &SplitNode,
+    second: &SplitNode,
+    third: &SplitNode,
+) -> Result<(), AllocError>
+    requires first { IsWorked 0 first.now }
+    requires second { IsWorked 1 second.now }
+    requires third { IsWorked 2 third.now }
+{
+    let mut walk = walk_at_root(alloc)?;
+    add_count(alloc, told, &mut walk, first, Side::Le)?;
+    add_count(alloc, told, &mut walk, second, Side::Le)?;
+    add_count(alloc, told, &mut walk, third, Side::Le)?;
+    add_count(alloc, told, &mut walk, third, Side::Ge)?;
+    add_count(alloc, told, &mut walk, second, Side::Ge)?;
+    add_count(alloc, told, &mut walk, first, Side::Ge)
+}
+
+/// What is made again on the worked ways.
+fn add_worked(alloc: Global, told: &mut Vec<usize>) -> Result<(), AllocError> {
     let first = first_split(alloc)?;
     let second = second_split(alloc, first.clone()?)?;
     let third = third_split(alloc, second.clone()?)?;
-    let mut walk = walk_at_root(alloc)?;
-    let mut told = Vec::new(alloc);
-    told.push(counted(alloc, &mut walk, &first, Side::Le)?)?;
-    told.push(counted(alloc, &mut walk, &second, Side::Le)?)?;
-    told.push(counted(alloc, &mut walk, &third, Side::Le)?)?;
-    told.push(counted(alloc, &mut walk, &third, Side::Ge)?)?;
-    told.push(counted(alloc, &mut walk, &second, Side::Ge)?)?;
-    told.push(counted(alloc, &mut walk, &first, Side::Ge)?)?;
-    Ok(told)
+    add_counts(alloc, told, &first, &second, &third)
 }
 
 #[test]
 fn shared_ends_stay(rt: HostRuntime) -> Result<(), Fail> {
-    let told = counts(rt.alloc())?;
+    let mut told = Vec::new(rt.alloc());
+    add_worked(rt.alloc(), &mut told)?;
     assert_eq!(rt; told.as_slice(), [1, 2, 2, 1, 1, 1].as_slice());
     Ok(())
 }

@@ -82,10 +82,16 @@ fn block(alloc: Global) -> Result<Cons, AllocError> {
     Ok(Cons::block(inner))
 }
 
+/// `forall(i in 1..2) { i >= 1; prob(i == 1) >= 1/2; }`.
+fn for_two(alloc: Global) -> Result<Cons, AllocError> {
+    let over = binders(alloc, 2, 1)?;
+    let inner = block(alloc)?;
+    Cons::forall(alloc, over, inner)
+}
+
 /// `forall(i in 1..2) { i >= 1; prob(i == 1) >= 1/2; } i == 1;`.
 fn two_of_each(alloc: Global) -> Result<ConsList, AllocError> {
-    let over = binders(alloc, 2, 1)?;
-    let forall = Cons::forall(alloc, over, block(alloc)?)?;
+    let forall = for_two(alloc)?;
     let mut body = alone(alloc, forall)?;
     body.push(Cons::hard(compared(alloc, 52, CmpOp::Eq)?))?;
     Ok(body)
@@ -108,11 +114,16 @@ fn rows(alloc: Global, found: &Instances) -> Result<Vec<Row>, AllocError> {
     Ok(rows)
 }
 
+/// The instances of constraints, and how many things were counted.
+fn rows_in(alloc: Global, body: &ConsList) -> Result<(Vec<Row>, u32), Fault> {
+    let (found, counted) = unfolded(alloc, body)?;
+    Ok((rows(alloc, &found)?, counted))
+}
+
 /// The instances of two of each, and how many things were counted.
 fn rows_of_two(alloc: Global) -> Result<(Vec<Row>, u32), Fault> {
     let body = two_of_each(alloc)?;
-    let (found, counted) = unfolded(alloc, &body)?;
-    Ok((rows(alloc, &found)?, counted))
+    rows_in(alloc, &body)
 }
 
 #[test]

@@ -21,12 +21,17 @@ fn binder(alloc: Global, name: &[u8], lo: Expr, hi: i64) -> Result<Binder, Alloc
     })
 }
 
+/// `j in i..most`.
+fn behind_i(alloc: Global, most: i64) -> Result<Binder, AllocError> {
+    let first = Expr::name(0, Name::from_bytes(alloc, b"i")?);
+    binder(alloc, b"j", first, most)
+}
+
 /// `sum(i in 1..last, j in i..most) 0`.
 fn sum(alloc: Global, last: i64, most: i64) -> Result<Expr, AllocError> {
     let mut over = Binders::new(alloc);
     over.push(binder(alloc, b"i", Expr::literal(0, 1), last)?)?;
-    let first = Expr::name(0, Name::from_bytes(alloc, b"i")?);
-    over.push(binder(alloc, b"j", first, most)?)?;
+    over.push(behind_i(alloc, most)?)?;
     Expr::total(alloc, 0, over, Expr::literal(0, 0))
 }
 
@@ -71,10 +76,22 @@ fn instance<'a>(alloc: Global, table: &'a Table, env: &'a Env) -> Result<Vec<i64
     Ok(found)
 }
 
+/// Whether these are the numbers at each place of a sum.
+fn has_places(
+    alloc: Global,
+    table: &Table,
+    last: i64,
+    most: i64,
+    want: &[i64],
+) -> Result<bool, Fault> {
+    let e = sum(alloc, last, most)?;
+    let found = numbers_of(alloc, table, &e)?;
+    Ok(found.as_slice() == want)
+}
+
 #[test]
 fn places(rt: HostRuntime) -> Result<(), Fail> {
-    let alloc = rt.alloc();
-    let table = Table::new(alloc);
+    let table = Table::new(rt.alloc());
     for (word, last, most, expected) in [
         (
             "some j for each i",
@@ -86,14 +103,32 @@ fn places(rt: HostRuntime) -> Result<(), Fail> {
         ("one place", 1, 1, [1, 1].as_slice()),
         ("no i", 0, 5, [].as_slice()),
     ] {
-        let e = sum(alloc, last, most)?;
-        let found = numbers_of(alloc, &table, &e)?;
-        assert_eq!(rt; found.as_slice(), expected, "{word}");
+        assert!(rt;
+            has_places(rt.alloc(), &table, last, most, expected)?,
+            "{word}"
+        );
     }
+    Ok(())
+}
+
+/// The environment of an instance, in which i is 4 and j is 9.
+fn four_and_nine(alloc: Global) -> Result<Env, AllocError> {
     let mut env = Env::new(alloc);
     env.push((Name::from_bytes(alloc, b"i")?, 4))?;
     env.push((Name::from_bytes(alloc, b"j")?, 9))?;
-    let found = instance(alloc, &table, &env)?;
-    assert_eq!(rt; found.as_slice(), [4, 9].as_slice(), "an instance");
+    Ok(env)
+}
+
+/// The numbers of that instance, where nothing is declared.
+fn numbers_of_instance(alloc: Global) -> Result<Vec<i64>, AllocError> {
+    let table = Table::new(alloc);
+    let env = four_and_nine(alloc)?;
+    instance(alloc, &table, &env)
+}
+
+#[test]
+fn instances(rt: HostRuntime) -> Result<(), Fail> {
+    let found = numbers_of_instance(rt.alloc())?;
+    assert_eq!(rt; found.as_slice(), [4, 9].as_slice());
     Ok(())
 }

@@ -4,6 +4,7 @@ ghost use Rattle.std.specs.Prelude.{◌≡◌, pos, true, false, codes, [], ◌�
 ghost use Rattle.sopl_ast.specs.Tree.{Node, Lit, Name as NameTree, Add, Mul, Cmp, Named};
 ghost use Rattle.sopl_ast.specs.Lists.{terms, factors, binders};
 ghost use Rattle.sopl_ast.specs.Whole.{RangeDecl, ForallTree, HardTree};
+ghost use Rattle.sopl_ast.specs.Constraints.{cons_trees};
 ghost use Rattle.sopl_ast.specs.WholeModel.{whole};
 
 use sopl_ast::{
@@ -14,21 +15,39 @@ use sopl_base::{CmpOp, Direction};
 use std::alloc::{AllocError, Global};
 use std::test::Fail;
 
-/// The tree of `a*2 + 3 <= x`.
+/// The tree of `a*2`.
+fn product(alloc: Global) -> Result<Expr, AllocError>
+    ensures { IfOk result (λ e. e ≡ Node 0 (Mul (Node 0 (NameTree (codes "a"))) (factors ((MulOp.Times, Node 2 (Lit (pos 2))) ∷ [])))) }
+{
+    let a = Expr::name(0, Name::from_bytes(alloc, b"a")?);
+    let mut product = Factors::new(alloc, a)?;
+    product.push((MulOp::Times, Expr::literal(2, 2)))?;
+    Ok(Expr::product_of(0, product))
+}
+
+/// The tree of `a*2 + 4`.
+fn sum(alloc: Global) -> Result<Expr, AllocError>
+    ensures { IfOk result (λ e.
+        let product = Node 0 (Mul (Node 0 (NameTree (codes "a"))) (factors ((MulOp.Times, Node 2 (Lit (pos 2))) ∷ []))) in
+        e ≡ Node 0 (Add (terms ((false, product) ∷ (false, Node 6 (Lit (pos 4))) ∷ [])))) }
+{
+    let first = product(alloc)?;
+    let mut sum = Terms::new(alloc);
+    sum.push((false, first))?;
+    sum.push((false, Expr::literal(6, 4)))?;
+    Ok(Expr::sum_of(0, sum))
+}
+
+/// The tree of `a*2 + 4 <= x`.
 fn comparison(alloc: Global) -> Result<Expr, AllocError>
     ensures built { IfOk result (λ e.
         let product = Node 0 (Mul (Node 0 (NameTree (codes "a"))) (factors ((MulOp.Times, Node 2 (Lit (pos 2))) ∷ []))) in
         let sum = Node 0 (Add (terms ((false, product) ∷ (false, Node 6 (Lit (pos 4))) ∷ []))) in
         e ≡ Node 0 (Cmp CmpOp.Le sum (Node 11 (NameTree (codes "x"))))) }
 {
-    let a = Expr::name(0, Name::from_bytes(alloc, b"a")?);
-    let mut product = Factors::new(alloc, a)?;
-    product.push((MulOp::Times, Expr::literal(2, 2)))?;
-    let mut sum = Terms::new(alloc);
-    sum.push((false, Expr::product_of(0, product)))?;
-    sum.push((false, Expr::literal(6, 4)))?;
+    let left = sum(alloc)?;
     let x = Expr::name(11, Name::from_bytes(alloc, b"x")?);
-    Expr::compare(alloc, CmpOp::Le, Expr::sum_of(0, sum), x)
+    Expr::compare(alloc, CmpOp::Le, left, x)
 }
 
 #[test]
@@ -64,21 +83,25 @@ fn takes_a_comparison_apart(rt: HostRuntime) -> Result<(), Fail> {
     Ok(())
 }
 
-/// `range r = 0..3;`, `minimize 5;` and `forall(i in r) 4;`, as far as trees go.
-#[tactic(auto, using(sopl_ast::proofs::ConstraintTrees::constraints))]
-fn small_model(alloc: Global) -> Result<Model, AllocError>
-    ensures decls { IfOk result (λ m. (whole m).decls ≡ RangeDecl (codes "r") 6 (Node 10 (Lit (pos 0))) (Node 13 (Lit (pos 3))) ∷ []) }
-    ensures goal { IfOk result (λ m. (whole m).goal ≡ Some (record { direction = Direction.Minimize; worst = false; expr = Node 25 (Lit (pos 5)) })) }
-    ensures body { IfOk result (λ m. (whole m).body ≡
-        ForallTree (binders ((record { name = codes "i"; at = 35; range = Named (codes "r") 40 }) ∷ [])) (HardTree (Node 43 (Lit (pos 4)))) ∷ []) }
+/// `range r = 0..3;`.
+fn declared(alloc: Global) -> Result<Decls, AllocError>
+    ensures { IfOk result (λ decls. decls ≡ RangeDecl (codes "r") 6 (Node 10 (Lit (pos 0))) (Node 13 (Lit (pos 3))) ∷ []) }
 {
+    let name = Name::from_bytes(alloc, b"r")?;
     let mut decls = Decls::new(alloc);
     decls.push(Decl::Range {
-        name: Name::from_bytes(alloc, b"r")?,
+        name,
         at: 6,
         lo: Expr::literal(10, 0),
         hi: Expr::literal(13, 3),
     })?;
+    Ok(decls)
+}
+
+/// `i in r`.
+fn bound(alloc: Global) -> Result<Binders, AllocError>
+    ensures { IfOk result (λ over. over ≡ (record { name = codes "i"; at = 35; range = Named (codes "r") 40 }) ∷ []) }
+{
     let range = RangeText::Named {
         name: Name::from_bytes(alloc, b"r")?,
         at: 40,
@@ -90,9 +113,31 @@ fn small_model(alloc: Global) -> Result<Model, AllocError>
         at: 35,
         range,
     })?;
+    Ok(over)
+}
+
+/// `forall(i in r) 4;`.
+#[tactic(auto, using(sopl_ast::proofs::ConstraintTrees::constraints))]
+fn constrained(alloc: Global) -> Result<ConsList, AllocError>
+    ensures { IfOk result (λ body. cons_trees body ≡
+        ForallTree (binders ((record { name = codes "i"; at = 35; range = Named (codes "r") 40 }) ∷ [])) (HardTree (Node 43 (Lit (pos 4)))) ∷ []) }
+{
+    let over = bound(alloc)?;
+    let forall = Cons::forall(alloc, over, Cons::hard(Expr::literal(43, 4)))?;
     let mut body = ConsList::new(alloc);
-    let hard = Cons::hard(Expr::literal(43, 4));
-    body.push(Cons::forall(alloc, over, hard)?)?;
+    body.push(forall)?;
+    Ok(body)
+}
+
+/// `range r = 0..3;`, `minimize 5;` and `forall(i in r) 4;`, as far as trees go.
+fn small_model(alloc: Global) -> Result<Model, AllocError>
+    ensures decls { IfOk result (λ m. (whole m).decls ≡ RangeDecl (codes "r") 6 (Node 10 (Lit (pos 0))) (Node 13 (Lit (pos 3))) ∷ []) }
+    ensures goal { IfOk result (λ m. (whole m).goal ≡ Some (record { direction = Direction.Minimize; worst = false; expr = Node 25 (Lit (pos 5)) })) }
+    ensures body { IfOk result (λ m. (whole m).body ≡
+        ForallTree (binders ((record { name = codes "i"; at = 35; range = Named (codes "r") 40 }) ∷ [])) (HardTree (Node 43 (Lit (pos 4)))) ∷ []) }
+{
+    let decls = declared(alloc)?;
+    let body = constrained(alloc)?;
     Ok(Model {
         decls,
         goal: Some(Goal {

@@ -1,10 +1,12 @@
-//! Tests of intervals over boxes: the elements of arrays, windows that intervals lie in, terms that differ, tasks that fit, and the ends of
-//! objectives.
+//! Tests of numbers, and of intervals over boxes: the elements of arrays, windows that intervals lie in, terms that differ, tasks that fit, and
+//! the ends of objectives.
 #![tactic(auto)]
 
 #[cfg(test)]
 mod arrays;
 #[cfg(test)]
 mod objectives;
+#[cfg(test)]
+mod sopl_base_numbers;
 #[cfg(test)]
 mod windows;

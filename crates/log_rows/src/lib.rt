@@ -1,6 +1,6 @@
 //! The rows of a log: the tree of a search as a table, a row for each node, what they claim, and the lines in which they are written. Lines
 //! are gathered before a sink takes them, and want no memory of their own.
-//! Its tests stand in `log_tests`.
+//! Its tests stand in `search_tests`.
 #![tactic(auto)]
 
 mod line;

@@ -1,6 +1,6 @@
 //! A log, read from its bytes: its rows and what it claims, or the code and the line of the first mistake; and written as its text. A line is read freely, and then
 //! compared with the line that is written of what was read; so what is read is what would be written.
-//! Its tests stand in `log_tests`.
+//! Its tests stand in `search_tests`.
 #![tactic(auto)]
 
 mod cutting;

@@ -1,8 +1,8 @@
 //! Branchers that answer what cuts nothing, what is odd, or what they are told to, and one that counts what it is asked and told.
 
 use crate::runs::{
-    Ended, FARMER, ORDER, ORDER_ANSWER, WIDE, ends, is_accepted, ran_branching, ran_with,
-    source_of, words_in,
+    Ended, FARMER, ORDER, ORDER_ANSWER, WIDE, ends, is_accepted, ran_as_main, ran_with, source_of,
+    words_in,
 };
 use answer_run::Status;
 use brancher::{Brancher, Choice, Event};
@@ -161,13 +161,29 @@ const fn new_odd(name: &'static str, habit: Habit) -> Odd {
     }
 }
 
-/// Runs with the words of a line on a text, with a brancher of this habit.
-fn ran_by(alloc: Global, line: &str, text: &str, habit: Habit) -> Result<Ended, AllocError> {
+/// Runs with the words of a line on a text, with these branchers.
+fn ran_over(
+    alloc: Global,
+    line: &str,
+    text: &str,
+    branchers: Vec<Box<dyn Brancher>>,
+) -> Result<Ended, AllocError> {
     let words = words_in(alloc, line)?;
     let mut source = source_of(alloc, text, &[])?;
+    ran_with(alloc, &words, &mut source, &WIDE, branchers)
+}
+
+/// One brancher of this habit.
+fn one(alloc: Global, habit: Habit) -> Result<Vec<Box<dyn Brancher>>, AllocError> {
     let mut branchers: Vec<Box<dyn Brancher>> = Vec::new(alloc);
     branchers.push(Box::new(alloc, new_odd("odd", habit))?)?;
-    ran_with(alloc, &words, &mut source, &WIDE, branchers)
+    Ok(branchers)
+}
+
+/// Runs with the words of a line on a text, with a brancher of this habit.
+fn ran_by(alloc: Global, line: &str, text: &str, habit: Habit) -> Result<Ended, AllocError> {
+    let branchers = one(alloc, habit)?;
+    ran_over(alloc, line, text, branchers)
 }
 
 /// The log is that of a brancher which counts: it was asked once at each box that was cut, and told of each one that was finished. Behind a
@@ -313,15 +329,19 @@ const NAMES: &[(&str, Status, &str)] = &[
     ("tree --branch twice m", Status::Usage, ""),
 ];
 
+/// Three branchers, the last two of one name.
+fn three(alloc: Global) -> Result<Vec<Box<dyn Brancher>>, AllocError> {
+    let mut branchers: Vec<Box<dyn Brancher>> = Vec::new(alloc);
+    for (name, cut) in [("once", 0), ("twice", 1), ("twice", 2)] {
+        branchers.push(Box::new(alloc, new_odd(name, always(0, cut, true)))?)?;
+    }
+    Ok(branchers)
+}
+
 /// Runs with the words of a line and three branchers, the last two of one name.
 fn ran_by_three(alloc: Global, line: &str) -> Result<Ended, AllocError> {
-    let words = words_in(alloc, line)?;
-    let mut source = source_of(alloc, TEN, &[])?;
-    let mut branchers: Vec<Box<dyn Brancher>> = Vec::new(alloc);
-    branchers.push(Box::new(alloc, new_odd("once", always(0, 0, true)))?)?;
-    branchers.push(Box::new(alloc, new_odd("twice", always(0, 1, true)))?)?;
-    branchers.push(Box::new(alloc, new_odd("twice", always(0, 2, true)))?)?;
-    ran_with(alloc, &words, &mut source, &WIDE, branchers)
+    let branchers = three(alloc)?;
+    ran_over(alloc, line, TEN, branchers)
 }
 
 /// Of several branchers the first one of a name is asked, or the first of all; usage where there is none.
@@ -354,10 +374,7 @@ fn first_cut(log: &str) -> &str {
 /// One that cuts at the least value is asked down to the depth 511. At the next one the box from 512 to 1000 is halved.
 #[test]
 fn no_one_is_asked_at_a_depth_of_512(rt: HostRuntime) -> Result<(), Fail> {
-    let alloc = rt.alloc();
-    let words = words_in(alloc, "solve --branch lower m")?;
-    let mut source = source_of(alloc, THOUSAND, &[])?;
-    let ended = ran_branching(alloc, &words, &mut source, &WIDE)?;
+    let ended = ran_as_main(rt.alloc(), "solve --branch lower m", THOUSAND)?;
     ends(&rt, "lower", &ended, Status::Done, THOUSAND_ANSWER);
     let log = std::str::from_utf8(ended.log.bytes()).unwrap_or("");
     let (_before, behind) = log.split_once("\nx 0 511\n").unwrap_or((log, ""));

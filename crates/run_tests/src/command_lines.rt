@@ -1,6 +1,6 @@
 //! Command lines, and how a run over them ends.
 
-use crate::runs::{ORDER, WIDE, ran_branching, words_in};
+use crate::runs::{ORDER, WIDE, file, ran_branching, words_in};
 use answer_run::Status;
 use sopl_io::MemSource;
 use std::alloc::{AllocError, Global};
@@ -97,8 +97,7 @@ const LINES: &str = "\
 fn files(alloc: Global) -> Result<MemSource, AllocError> {
     let mut texts = Vec::new(alloc);
     for (name, text) in [("m", ORDER), ("l", LOG), ("p", POLICY)] {
-        let bytes = Vec::from_slice(alloc, text.as_bytes())?;
-        texts.push((String::from_str(alloc, name)?, bytes))?;
+        texts.push(file(alloc, name, text.as_bytes())?)?;
     }
     Ok(MemSource::new(texts, Vec::new(alloc)))
 }

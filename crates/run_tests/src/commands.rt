@@ -1,6 +1,6 @@
 //! Runs that end with an answer, of each command.
 
-use crate::runs::{ORDER, ORDER_ANSWER, ORDER_LOG};
+use crate::runs::{ORDER, ORDER_ANSWER, ORDER_LOG, file};
 use std::alloc::{AllocError, Global};
 
 /// A run: its words, its model `m` and its second file `o`, which are empty where the words do not name them, its line, and its log,
@@ -89,8 +89,7 @@ pub(crate) fn files_of(
 ) -> Result<Vec<(String, Vec<u8>)>, AllocError> {
     let mut texts = Vec::new(alloc);
     for (name, text) in [("m", whole.model), ("o", whole.other)] {
-        let bytes = Vec::from_slice(alloc, text.as_bytes())?;
-        texts.push((String::from_str(alloc, name)?, bytes))?;
+        texts.push(file(alloc, name, text.as_bytes())?)?;
     }
     Ok(texts)
 }

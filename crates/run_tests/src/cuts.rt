@@ -1,6 +1,6 @@
 //! Where the branchers of `main` cut.
 
-use crate::runs::{WIDE, ran_branching, source_of, words_in};
+use crate::runs::ran_as_main;
 use sopl_io::MemSink;
 use std::alloc::{AllocError, Global};
 use std::test::Fail;
@@ -41,9 +41,7 @@ const LOGS: [(&str, &str, &str); 5] = [
 
 /// What a run with the words of a line writes to the log's sink.
 fn logged(alloc: Global, line: &str, text: &str) -> Result<MemSink, AllocError> {
-    let words = words_in(alloc, line)?;
-    let mut source = source_of(alloc, text, &[])?;
-    let ended = ran_branching(alloc, &words, &mut source, &WIDE)?;
+    let ended = ran_as_main(alloc, line, text)?;
     Ok(ended.log)
 }
 

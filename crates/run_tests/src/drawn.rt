@@ -60,12 +60,17 @@ fn no_files(alloc: Global) -> MemSource {
     MemSource::new(Vec::new(alloc), Vec::new(alloc))
 }
 
+/// Runs with the words of a line, without a file.
+fn ran(alloc: Global, line: &str, room: &Room) -> Result<Ended, AllocError> {
+    let words = words_in(alloc, line)?;
+    ran_branching(alloc, &words, &mut no_files(alloc), room)
+}
+
 #[test]
 fn drawn_texts_are_answered(rt: HostRuntime) -> Result<(), Fail> {
     let alloc = rt.alloc();
     for (line, status, want) in RUNS {
-        let words = words_in(alloc, line)?;
-        let ended = ran_branching(alloc, &words, &mut no_files(alloc), &WIDE)?;
+        let ended = ran(alloc, line, &WIDE)?;
         ends(&rt, line, &ended, status, want);
     }
     Ok(())
@@ -92,18 +97,22 @@ fn ways(alloc: Global, stage: u32, seed: u32, node: &str) -> Result<String, Allo
     )
 }
 
+/// The node of a stage, which buys two at the first one and else nothing; none is behind the last stage.
+fn node_of(alloc: Global, stage: u32, seed: u32, behind: &str) -> Result<String, AllocError> {
+    let bought = if stage == 1 { 2 } else { 0 };
+    let next = if behind.is_empty() {
+        String::new(alloc)
+    } else {
+        ways(alloc, stage, seed, behind)?
+    };
+    format!(in alloc; "{{\"decide\":[[\"x\",[{stage}],{bought}]],\"next\":[{next}]}}")
+}
+
 /// The policy that buys two at the first stage, and nothing behind it.
 fn policy(alloc: Global, stages: u32, seed: u32) -> Result<String, AllocError> {
     let mut node = String::new(alloc);
     for behind in 0..stages {
-        let stage = stages - behind;
-        let bought = if stage == 1 { 2 } else { 0 };
-        let next = if behind == 0 {
-            String::new(alloc)
-        } else {
-            ways(alloc, stage, seed, node.as_str())?
-        };
-        node = format!(in alloc; "{{\"decide\":[[\"x\",[{stage}],{bought}]],\"next\":[{next}]}}")?;
+        node = node_of(alloc, stages - behind, seed, node.as_str())?;
     }
     format!(in alloc; "{{\"policy\":{node}}}")
 }
@@ -111,8 +120,14 @@ fn policy(alloc: Global, stages: u32, seed: u32) -> Result<String, AllocError> {
 /// The text that is drawn is the answer of this run.
 fn generated(alloc: Global, stages: u32, seed: u32) -> Result<Ended, AllocError> {
     let line = format!(in alloc; "gen {stages} {seed}")?;
-    let words = words_in(alloc, line.as_str())?;
-    ran_branching(alloc, &words, &mut no_files(alloc), &LARGE)
+    ran(alloc, line.as_str(), &LARGE)
+}
+
+/// Evaluates a policy of a text.
+fn evaluated_by(alloc: Global, text: &str, policy: &[u8]) -> Result<Ended, AllocError> {
+    let words = words_in(alloc, "eval m o")?;
+    let mut source = source_of_two(alloc, text, policy)?;
+    ran_branching(alloc, &words, &mut source, &LARGE)
 }
 
 /// Evaluates a policy of the text that is drawn.
@@ -120,9 +135,7 @@ fn evaluated(alloc: Global, stages: u32, seed: u32) -> Result<Ended, AllocError>
     let made = generated(alloc, stages, seed)?;
     let text = std::str::from_utf8(made.answer.bytes()).unwrap_or("");
     let bought = policy(alloc, stages, seed)?;
-    let mut source = source_of_two(alloc, text, bought.as_bytes())?;
-    let words = words_in(alloc, "eval m o")?;
-    ran_branching(alloc, &words, &mut source, &LARGE)
+    evaluated_by(alloc, text, bought.as_bytes())
 }
 
 #[test]

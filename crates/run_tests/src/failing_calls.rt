@@ -48,12 +48,17 @@ fn sink_of(alloc: Global, one: Stream, stream: Stream, call: u64) -> Result<MemS
     MemSink::dribbling(alloc, 1000, calls, PIECE)
 }
 
+/// The sinks of the answer and of the log.
+fn sinks(alloc: Global, stream: Stream, call: u64) -> Result<(MemSink, MemSink), AllocError> {
+    let answer = sink_of(alloc, Stream::Answer, stream, call)?;
+    Ok((answer, sink_of(alloc, Stream::Log, stream, call)?))
+}
+
 /// Runs, where this call of one of the three fails.
 fn ran(alloc: Global, whole: &WholeRun, stream: Stream, call: u64) -> Result<Ended, AllocError> {
     let words = words_in(alloc, whole.words)?;
     let mut source = source_of(alloc, whole, stream, call)?;
-    let mut answer = sink_of(alloc, Stream::Answer, stream, call)?;
-    let mut log = sink_of(alloc, Stream::Log, stream, call)?;
+    let (mut answer, mut log) = sinks(alloc, stream, call)?;
     let branchers = Vec::new(alloc);
     let status = run(alloc, &words, &mut source, &mut answer, &mut log, branchers);
     Ok(Ended {

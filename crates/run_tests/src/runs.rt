@@ -31,6 +31,16 @@ pub(crate) fn words_in(alloc: Global, line: &str) -> Result<Words, AllocError> {
     Ok(words)
 }
 
+/// A file of this name.
+pub(crate) fn file(
+    alloc: Global,
+    name: &str,
+    text: &[u8],
+) -> Result<(String, Vec<u8>), AllocError> {
+    let name = String::from_str(alloc, name)?;
+    Ok((name, Vec::from_slice(alloc, text)?))
+}
+
 /// A source of a model `m`; the calls with these numbers fail.
 pub(crate) fn source_of(
     alloc: Global,
@@ -38,8 +48,7 @@ pub(crate) fn source_of(
     failing: &[u64],
 ) -> Result<MemSource, AllocError> {
     let mut texts = Vec::new(alloc);
-    let bytes = Vec::from_slice(alloc, text.as_bytes())?;
-    texts.push((String::from_str(alloc, "m")?, bytes))?;
+    texts.push(file(alloc, "m", text.as_bytes())?)?;
     Ok(MemSource::new(texts, Vec::from_slice(alloc, failing)?))
 }
 
@@ -50,10 +59,8 @@ pub(crate) fn source_of_two(
     other: &[u8],
 ) -> Result<MemSource, AllocError> {
     let mut texts = Vec::new(alloc);
-    let model = Vec::from_slice(alloc, text.as_bytes())?;
-    texts.push((String::from_str(alloc, "m")?, model))?;
-    let bytes = Vec::from_slice(alloc, other)?;
-    texts.push((String::from_str(alloc, "o")?, bytes))?;
+    texts.push(file(alloc, "m", text.as_bytes())?)?;
+    texts.push(file(alloc, "o", other)?)?;
     Ok(MemSource::new(texts, Vec::new(alloc)))
 }
 
@@ -80,6 +87,13 @@ pub(crate) const WIDE: Room = Room {
     failing: &[],
 };
 
+/// The sinks of an answer and of a log.
+fn sinks(alloc: Global, room: &Room) -> Result<(MemSink, MemSink), AllocError> {
+    let failing = Vec::from_slice(alloc, room.failing)?;
+    let log = MemSink::new(alloc, room.log, failing)?;
+    Ok((MemSink::new(alloc, room.answer, Vec::new(alloc))?, log))
+}
+
 /// Runs over a source, with sinks that take so many bytes, and with these branchers.
 pub(crate) fn ran_with(
     alloc: Global,
@@ -88,9 +102,7 @@ pub(crate) fn ran_with(
     room: &Room,
     branchers: Vec<Box<dyn Brancher>>,
 ) -> Result<Ended, AllocError> {
-    let mut answer = MemSink::new(alloc, room.answer, Vec::new(alloc))?;
-    let failing = Vec::from_slice(alloc, room.failing)?;
-    let mut log = MemSink::new(alloc, room.log, failing)?;
+    let (mut answer, mut log) = sinks(alloc, room)?;
     let status = run(alloc, words, source, &mut answer, &mut log, branchers);
     Ok(Ended {
         status,
@@ -111,6 +123,13 @@ pub(crate) fn ran_branching(
     branchers.push(Box::new(alloc, Widest::new())?)?;
     branchers.push(Box::new(alloc, Failing::new())?)?;
     ran_with(alloc, words, source, room, branchers)
+}
+
+/// Runs with the words of a line on a text, and with the branchers of `main`.
+pub(crate) fn ran_as_main(alloc: Global, line: &str, text: &str) -> Result<Ended, AllocError> {
+    let words = words_in(alloc, line)?;
+    let mut source = source_of(alloc, text, &[])?;
+    ran_branching(alloc, &words, &mut source, &WIDE)
 }
 
 /// Runs with the words of a line on a text, and without a brancher.

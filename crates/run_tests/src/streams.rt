@@ -108,13 +108,19 @@ fn one_byte_at_a_time(rt: HostRuntime) -> Result<(), Fail> {
     Ok(())
 }
 
+/// Sinks that take one byte at a time.
+fn sinks(alloc: Global) -> Result<(MemSink, MemSink), AllocError> {
+    let answer = MemSink::dribbling(alloc, 1000, Vec::new(alloc), 1)?;
+    let log = MemSink::dribbling(alloc, 1000, Vec::new(alloc), 1)?;
+    Ok((answer, log))
+}
+
 /// Runs over a source and sinks in memory that move one byte at a time.
 fn ran_by_bytes(alloc: Global, whole: &WholeRun) -> Result<Ended, AllocError> {
     let words = words_in(alloc, whole.words)?;
     let texts = files_of(alloc, whole)?;
     let mut source = MemSource::dribbling(texts, Vec::new(alloc), 1);
-    let mut answer = MemSink::dribbling(alloc, 1000, Vec::new(alloc), 1)?;
-    let mut log = MemSink::dribbling(alloc, 1000, Vec::new(alloc), 1)?;
+    let (mut answer, mut log) = sinks(alloc)?;
     let branchers = Vec::new(alloc);
     let status = run(alloc, &words, &mut source, &mut answer, &mut log, branchers);
     Ok(Ended {

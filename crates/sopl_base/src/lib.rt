@@ -1,5 +1,5 @@
 //! The small types that every layer shares, all codes and limits, and exact comparisons of whole numbers.
-//! Its tests stand beside `numbers` and `wide`; what they do not reach is reached by those of the crates above.
+//! Its tests stand in `interval_tests`; what they do not reach is reached by those of the crates above.
 #![tactic(auto)]
 
 pub mod codes;

@@ -70,30 +70,3 @@ pub fn midpoint(lo: i64, hi: i64) -> i64
 {
     lo + (hi - lo) / 2
 }
-
-#[cfg(test)]
-mod tests {
-    use super::*;
-
-    #[test]
-    fn exact_comparisons(rt: HostRuntime) {
-        for (word, sum, total, p, q, want) in [
-            ("a half, where a half is asked for", 1, 2, 1, 2, true),
-            ("a half, where a little more is", 1, 2, 501, 1000, false),
-            ("two thirds, where two thirds are", 2, 3, 2, 3, true),
-            ("nothing, where nothing is", 0, 1, 0, 1, true),
-            ("nothing, where all is", 0, 1, 1, 1, false),
-        ] {
-            assert_eq!(rt; reaches(sum, total, p, q), want, "{word}");
-        }
-        for (word, lo, hi, digits, middle) in [
-            ("one number", 3, 3, 0, 3),
-            ("two numbers", 0, 1, 1, 0),
-            ("six numbers", 0, 5, 3, 2),
-            ("eight numbers round 0", -4, 3, 3, -1),
-        ] {
-            assert_eq!(rt; bits(lo, hi), digits, "the digits of {word}");
-            assert_eq!(rt; midpoint(lo, hi), middle, "the middle of {word}");
-        }
-    }
-}

@@ -1,6 +1,6 @@
 //! Where bytes come from and go to: sources and sinks that count their faults, in memory and over files,
 //! and the two transfers between them and lists of bytes.
-//! Its tests stand in `log_tests`; real files are read and written by `.ci/files`, which runs the program.
+//! Its tests stand in `search_tests`; real files are read and written by `.ci/files`, which runs the program.
 #![tactic(auto)]
 
 mod fault;

@@ -1,6 +1,10 @@
+//! The store of a box: ends that move and come back, and which cells were changed since a mark.
+
 ghost use Rattle.std.specs.Prelude.{◌≡◌, ◌+◌, ◌<◌, ◌≤◌, length, IfOk};
 
-use super::*;
+use box_store::BoxStore;
+use sopl_base::{Interval, Side};
+use std::alloc::{AllocError, Global};
 
 /// A store of cells from 0 to 9 and from -4 to 4, with room for six changes or marks.
 fn small(alloc: Global) -> Result<BoxStore, AllocError>

@@ -4,10 +4,15 @@ use sopl_io::{Failed, Gather, MemSink, MemSource, PlainSource, read_all, write_a
 use std::alloc::{AllocError, Global};
 use std::test::Fail;
 
-fn named_source(alloc: Global, failing: &[u64]) -> Result<MemSource, AllocError> {
+// The text of the name `model`.
+fn named_text(alloc: Global) -> Result<Vec<(String, Vec<u8>)>, AllocError> {
     let name = String::from_str(alloc, "model")?;
     let text = b"abcde".to_vec(alloc)?;
-    let texts = vec![in alloc; (name, text)]?;
+    Ok(vec![in alloc; (name, text)]?)
+}
+
+fn named_source(alloc: Global, failing: &[u64]) -> Result<MemSource, AllocError> {
+    let texts = named_text(alloc)?;
     Ok(MemSource::new(texts, failing.to_vec(alloc)?))
 }
 
@@ -19,17 +24,33 @@ const CUTS: [(&str, Option<usize>, &str); 4] = [
     ("before the text", Some(0), ""),
 ];
 
-#[test]
-fn a_text_is_read_and_written(rt: HostRuntime) -> Result<(), Fail> {
-    let alloc = rt.alloc();
-    for (word, most, expected) in CUTS {
-        let mut source = named_source(alloc, &[])?;
-        let bytes = read_all(alloc, &mut source, "model", most)?;
-        assert_eq!(rt; bytes.as_slice(), expected.as_bytes(), "read, {word}");
+// The bytes that are read of a source.
+fn bytes_of(alloc: Global, source: &mut MemSource, most: Option<usize>) -> Result<Vec<u8>, Fail> {
+    let bytes = read_all(alloc, source, "model", most)?;
+    Ok(bytes)
+}
 
-        let mut sink = MemSink::new(alloc, 8, Vec::new(alloc))?;
-        write_all(&mut sink, &bytes)?;
-        assert_eq!(rt; sink.bytes(), expected.as_bytes(), "written, {word}");
+// Whether a sink holds the bytes that are written to it.
+fn holds(mut sink: MemSink, bytes: &[u8]) -> Result<bool, Fail> {
+    write_all(&mut sink, bytes)?;
+    Ok(sink.bytes() == bytes)
+}
+
+#[test]
+fn a_text_is_read(rt: HostRuntime) -> Result<(), Fail> {
+    for (word, most, expected) in &CUTS {
+        let mut source = named_source(rt.alloc(), &[])?;
+        let bytes = bytes_of(rt.alloc(), &mut source, *most)?;
+        assert_eq!(rt; bytes.as_slice(), expected.as_bytes(), "{word}");
+    }
+    Ok(())
+}
+
+#[test]
+fn a_text_is_written(rt: HostRuntime) -> Result<(), Fail> {
+    for (word, _, text) in &CUTS {
+        let sink = MemSink::new(rt.alloc(), 8, Vec::new(rt.alloc()))?;
+        assert!(rt; holds(sink, text.as_bytes())?, "{word}");
     }
     Ok(())
 }
@@ -93,19 +114,23 @@ fn texts_in_order_ignore_names(rt: HostRuntime) -> Result<(), Fail> {
 // How many bytes a source and a sink move at once.
 const MOST: [usize; 4] = [1, 2, 5, 9];
 
+// A source of the text that moves so many bytes at once.
+fn dribbling(alloc: Global, most: usize) -> Result<MemSource, AllocError> {
+    let texts = named_text(alloc)?;
+    Ok(MemSource::dribbling(texts, Vec::new(alloc), most))
+}
+
 #[test]
 fn a_text_goes_in_drops(rt: HostRuntime) -> Result<(), Fail> {
     let alloc = rt.alloc();
     for most in MOST {
-        let name = String::from_str(alloc, "model")?;
-        let texts = vec![in alloc; (name, b"abcde".to_vec(alloc)?)]?;
-        let mut source = MemSource::dribbling(texts, Vec::new(alloc), most);
-        let bytes = read_all(alloc, &mut source, "model", None)?;
+        let mut source = dribbling(alloc, most)?;
+        let bytes = bytes_of(alloc, &mut source, None)?;
         assert_eq!(rt; bytes.as_slice(), b"abcde".as_slice(), "read by {most}");
-
-        let mut sink = MemSink::dribbling(alloc, 8, Vec::new(alloc), most)?;
-        write_all(&mut sink, &bytes)?;
-        assert_eq!(rt; sink.bytes(), b"abcde".as_slice(), "written by {most}");
+    }
+    for most in MOST {
+        let sink = MemSink::dribbling(alloc, 8, Vec::new(alloc), most)?;
+        assert!(rt; holds(sink, b"abcde")?, "written by {most}");
     }
     Ok(())
 }
@@ -149,15 +174,26 @@ fn gathered(gather: &mut Gather, sink: &mut MemSink) -> Result<(), Failed> {
     Ok(())
 }
 
+// Whether the sink holds these bytes before the flush, and whether all calls pass.
+fn is_gathered(
+    alloc: Global,
+    size: usize,
+    before: &str,
+    sink: &mut MemSink,
+) -> Result<(bool, bool), AllocError> {
+    let mut gather = Gather::new(alloc, size)?;
+    let put = gathered(&mut gather, sink).is_ok();
+    let held = sink.bytes() == before.as_bytes();
+    Ok((held, put && gather.flush(sink).is_ok()))
+}
+
 #[test]
 fn pieces_are_gathered(rt: HostRuntime) -> Result<(), Fail> {
     let alloc = rt.alloc();
     for (word, size, most, failing, before, after) in GATHERED {
-        let mut gather = Gather::new(alloc, size)?;
         let mut sink = MemSink::dribbling(alloc, 16, failing.to_vec(alloc)?, most)?;
-        let put = gathered(&mut gather, &mut sink);
-        assert_eq!(rt; sink.bytes(), before.as_bytes(), "before the flush: {word}");
-        let ended = put.is_ok() && gather.flush(&mut sink).is_ok();
+        let (held, ended) = is_gathered(alloc, size, before, &mut sink)?;
+        assert!(rt; held, "before the flush: {word}");
         assert_eq!(rt; sink.bytes(), after.as_bytes(), "in the end: {word}");
         assert_eq!(rt; ended, after.len() == 7, "whether it ended: {word}");
     }

@@ -1,6 +1,9 @@
 //! Logs that are read and written again, and what is no log.
 
-use log_tree::{read_log, readings_are_texts, write_log};
+ghost use Rattle.std.specs.Prelude.{◌<◌, length};
+ghost use Rattle.log_rows.specs.Rows.{AreOrdered};
+
+use log_tree::{Log, read_log, readings_are_texts, write_log};
 use sopl_base::Fault;
 use sopl_io::{Gather, MemSink};
 use std::alloc::{AllocError, Global};
@@ -177,7 +180,6 @@ fn logs_are_read(rt: HostRuntime) -> Result<(), Fail> {
     let alloc = rt.alloc();
     for (word, text, code, at) in TEXTS {
         let told = outcome(alloc, text.as_bytes());
-        println!(rt; "{text} -> {} {}, {code} {at}", told.0, told.1)?;
         assert_eq!(rt; told.0, *code, "the code of {word}");
         assert_eq!(rt; told.1, *at, "the rows or the line of {word}");
     }
@@ -194,6 +196,17 @@ fn nodes_lie_at_a_limited_depth(rt: HostRuntime) -> Result<(), Fail> {
     Ok(())
 }
 
+// Whether a log is written as the text from which it was read, where so many bytes are gathered.
+fn is_written_again(alloc: Global, log: &Log, size: usize) -> Result<bool, AllocError>
+    requires ordered { AreOrdered log.now.rows.items }
+    requires at_least_one { 0 < length log.now.rows.items }
+{
+    let mut gather = Gather::new(alloc, size)?;
+    let mut sink = MemSink::new(alloc, 512, Vec::new(alloc))?;
+    let whole = write_log(log, &mut gather, &mut sink).is_ok();
+    Ok(whole && sink.bytes() == EACH_KIND.as_bytes())
+}
+
 #[test]
 fn what_is_read_is_written_again(rt: HostRuntime) -> Result<(), Fail> {
     let alloc = rt.alloc();
@@ -202,10 +215,7 @@ fn what_is_read_is_written_again(rt: HostRuntime) -> Result<(), Fail> {
     };
     readings_are_texts();
     for size in [1, 7, 65536] {
-        let mut gather = Gather::new(alloc, size)?;
-        let mut sink = MemSink::new(alloc, 512, Vec::new(alloc))?;
-        write_log(&log, &mut gather, &mut sink)?;
-        assert_eq!(rt; sink.bytes(), EACH_KIND.as_bytes(), "{size}");
+        assert!(rt; is_written_again(alloc, &log, size)?, "{size}");
     }
     Ok(())
 }
