@@ -1,6 +1,7 @@
 //! Texts beside those of a generator that was written apart from this one.
 
 use model_gen::generate;
+use std::alloc::{AllocError, Global};
 use std::test::Fail;
 
 // What a row is about, a number of stages and a seed, with the lines that they make; the last lines are the same in all texts.
@@ -58,12 +59,17 @@ subject to {
 }
 ";
 
+// Whether the text of so many stages and a seed has these lines, and the last ones behind them.
+fn is_drawn(alloc: Global, stages: u32, seed: u32, lines: &str) -> Result<bool, AllocError> {
+    let bytes = generate(alloc, stages, seed)?;
+    let text = str::from_utf8(bytes.as_slice()).unwrap_or("");
+    Ok(text.strip_prefix(lines) == Some(LAST_LINES))
+}
+
 #[test]
 fn texts_are_those_of_another_generator(rt: HostRuntime) -> Result<(), Fail> {
-    for (word, stages, seed, lines) in TEXTS {
-        let text = generate(rt.alloc(), stages, seed)?;
-        let expected = format!(in rt.alloc(); "{lines}{LAST_LINES}")?;
-        assert_eq!(rt; text.as_slice(), expected.as_bytes(), "{word}");
+    for (word, stages, seed, lines) in &TEXTS {
+        assert!(rt; is_drawn(rt.alloc(), *stages, *seed, lines)?, "{word}");
     }
     Ok(())
 }

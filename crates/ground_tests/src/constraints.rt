@@ -153,21 +153,27 @@ fn lists_conditions_in_text_order(rt: HostRuntime) -> Result<(), Fail> {
     Ok(())
 }
 
+/// Whether the threshold p / q is refused.
+fn refuses(alloc: Global, p: i64, q: i64) -> Result<bool, AllocError> {
+    let body = alone(alloc, chance(alloc, p, q)?)?;
+    Ok(is_refused(alloc, &body, &Refusal { code: 115, at: 44 }))
+}
+
+/// What a row is about, a numerator and a denominator, and whether these make a threshold.
+const THRESHOLDS: &[(&str, i64, i64, bool)] = &[
+    ("none of the weight", 0, 1, true),
+    ("all of the weight", 1, 1, true),
+    ("the greatest denominator", 1048576, 1048576, true),
+    ("less than none", -1, 1, false),
+    ("more than all", 2, 1, false),
+    ("a denominator of 0", 0, 0, false),
+    ("a denominator too large", 1, 1048577, false),
+];
+
 #[test]
 fn judges_thresholds(rt: HostRuntime) -> Result<(), Fail> {
-    let alloc = rt.alloc();
-    for (word, p, q, right) in [
-        ("none of the weight", 0, 1, true),
-        ("all of the weight", 1, 1, true),
-        ("the greatest denominator", 1048576, 1048576, true),
-        ("less than none", -1, 1, false),
-        ("more than all", 2, 1, false),
-        ("a denominator of 0", 0, 0, false),
-        ("a denominator too large", 1, 1048577, false),
-    ] {
-        let body = alone(alloc, chance(alloc, p, q)?)?;
-        let refusal = Refusal { code: 115, at: 44 };
-        assert_eq!(rt; is_refused(alloc, &body, &refusal), !right, "{word}");
+    for (word, p, q, right) in THRESHOLDS {
+        assert_eq!(rt; refuses(rt.alloc(), *p, *q)?, !*right, "{word}");
     }
     Ok(())
 }

@@ -21,7 +21,7 @@ fn numbers_by_name(rt: HostRuntime) -> Result<(), AllocError> {
         ("the end of a name", b"b", &[]),
         ("a name of no letter", b"", &[]),
     ];
-    for (word, name, want) in rows {
+    for (word, name, want) in &rows {
         assert!(rt; has_numbers(rt.alloc(), name, want)?, "{word}");
     }
     Ok(())

@@ -89,22 +89,20 @@ fn has_places(
     Ok(found.as_slice() == want)
 }
 
+/// What a row is about, the last i, the greatest j, and the numbers at each place.
+const PLACES: &[(&str, i64, i64, &[i64])] = &[
+    ("some j for each i", 2, 3, &[1, 1, 1, 2, 1, 3, 2, 2, 2, 3]),
+    ("no j for the last i", 3, 2, &[1, 1, 1, 2, 2, 2]),
+    ("one place", 1, 1, &[1, 1]),
+    ("no i", 0, 5, &[]),
+];
+
 #[test]
 fn places(rt: HostRuntime) -> Result<(), Fail> {
     let table = Table::new(rt.alloc());
-    for (word, last, most, expected) in [
-        (
-            "some j for each i",
-            2,
-            3,
-            [1, 1, 1, 2, 1, 3, 2, 2, 2, 3].as_slice(),
-        ),
-        ("no j for the last i", 3, 2, [1, 1, 1, 2, 2, 2].as_slice()),
-        ("one place", 1, 1, [1, 1].as_slice()),
-        ("no i", 0, 5, [].as_slice()),
-    ] {
+    for (word, last, most, want) in PLACES {
         assert!(rt;
-            has_places(rt.alloc(), &table, last, most, expected)?,
+            has_places(rt.alloc(), &table, *last, *most, want)?,
             "{word}"
         );
     }

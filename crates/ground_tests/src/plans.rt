@@ -54,7 +54,7 @@ fn plans_by_indices(rt: HostRuntime) -> Result<(), AllocError> {
             &[Some(1), Some(0)],
         ),
     ];
-    for (word, given, sets, order) in rows {
+    for (word, given, sets, order) in &rows {
         assert!(rt; is_planned(rt.alloc(), given, sets, order)?, "{word}");
     }
     Ok(())

@@ -1,5 +1,5 @@
 //! A policy is read from JSON.
-//! Its tests stand in `tests`; policies of whole texts are tested in `answer_eval`.
+//! Its tests stand in `answer_tests`.
 #![tactic(auto)]
 
 mod domains;
@@ -9,8 +9,6 @@ mod laws;
 mod lists;
 mod policy;
 mod reader;
-#[cfg(test)]
-mod tests;
 
 pub use laws::{accepted_are_read, printed_is_read};
 pub use lists::data_in;

@@ -47,7 +47,7 @@ fn logged(alloc: Global, line: &str, text: &str) -> Result<MemSink, AllocError> 
 
 #[test]
 fn each_kind_cuts_by_its_rule(rt: HostRuntime) -> Result<(), Fail> {
-    for (line, text, want) in LOGS {
+    for (line, text, want) in &LOGS {
         let log = logged(rt.alloc(), line, text)?;
         assert_eq!(rt; log.bytes(), want.as_bytes(), "{line}");
     }

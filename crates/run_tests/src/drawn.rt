@@ -69,9 +69,9 @@ fn ran(alloc: Global, line: &str, room: &Room) -> Result<Ended, AllocError> {
 #[test]
 fn drawn_texts_are_answered(rt: HostRuntime) -> Result<(), Fail> {
     let alloc = rt.alloc();
-    for (line, status, want) in RUNS {
+    for (line, status, want) in &RUNS {
         let ended = ran(alloc, line, &WIDE)?;
-        ends(&rt, line, &ended, status, want);
+        ends(&rt, line, &ended, *status, want);
     }
     Ok(())
 }
@@ -140,8 +140,8 @@ fn evaluated(alloc: Global, stages: u32, seed: u32) -> Result<Ended, AllocError>
 
 #[test]
 fn drawn_texts_have_a_policy(rt: HostRuntime) -> Result<(), Fail> {
-    for (stages, seed) in DRAWN {
-        let ended = evaluated(rt.alloc(), stages, seed)?;
+    for (stages, seed) in &DRAWN {
+        let ended = evaluated(rt.alloc(), *stages, *seed)?;
         assert_eq!(rt; ended.status, Status::Done, "{stages} {seed}");
         let answer = std::str::from_utf8(ended.answer.bytes()).unwrap_or("");
         assert!(rt;

@@ -177,11 +177,9 @@ fn chain(alloc: Global, nodes: usize) -> Result<Vec<u8>, AllocError> {
 
 #[test]
 fn logs_are_read(rt: HostRuntime) -> Result<(), Fail> {
-    let alloc = rt.alloc();
     for (word, text, code, at) in TEXTS {
-        let told = outcome(alloc, text.as_bytes());
-        assert_eq!(rt; told.0, *code, "the code of {word}");
-        assert_eq!(rt; told.1, *at, "the rows or the line of {word}");
+        let told = outcome(rt.alloc(), text.as_bytes());
+        assert_eq!(rt; told, (*code, *at), "{word}");
     }
     Ok(())
 }

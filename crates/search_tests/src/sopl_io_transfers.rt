@@ -64,13 +64,16 @@ const FAULTS: [(&str, &str, &[u64], bool); 5] = [
     ("a call behind the last one would fail", "model", &[3], true),
 ];
 
+// Whether a text is read by this name, where these calls fail.
+fn is_read(alloc: Global, name: &str, failing: &[u64]) -> Result<bool, AllocError> {
+    let mut source = named_source(alloc, failing)?;
+    Ok(read_all(alloc, &mut source, name, None).is_ok())
+}
+
 #[test]
 fn listed_calls_of_a_source_fail(rt: HostRuntime) -> Result<(), Fail> {
-    let alloc = rt.alloc();
-    for (word, name, failing, is_read) in FAULTS {
-        let mut source = named_source(alloc, failing)?;
-        let outcome = read_all(alloc, &mut source, name, None);
-        assert_eq!(rt; outcome.is_ok(), is_read, "{word}");
+    for (word, name, failing, want) in &FAULTS {
+        assert_eq!(rt; is_read(rt.alloc(), name, failing)?, *want, "{word}");
     }
     Ok(())
 }
@@ -82,31 +85,42 @@ const HELD: [(&str, usize, &[u64], &str); 3] = [
     ("the first call fails", 5, &[0], ""),
 ];
 
+// Whether a sink of so much room holds these bytes of the text in the end, and tells whether these are all.
+fn fits(alloc: Global, capacity: usize, failing: &[u64], held: &str) -> Result<bool, AllocError> {
+    let mut sink = MemSink::new(alloc, capacity, failing.to_vec(alloc)?)?;
+    let whole = write_all(&mut sink, b"abcde").is_ok();
+    Ok(whole == (held.len() == 5) && sink.bytes() == held.as_bytes())
+}
+
 #[test]
 fn a_sink_holds_what_fits(rt: HostRuntime) -> Result<(), Fail> {
-    let alloc = rt.alloc();
-    for (word, capacity, failing, held) in HELD {
-        let mut sink = MemSink::new(alloc, capacity, failing.to_vec(alloc)?)?;
-        let outcome = write_all(&mut sink, b"abcde");
-        assert_eq!(rt; outcome.is_ok(), held.len() == 5, "{word}");
-        assert_eq!(rt; sink.bytes(), held.as_bytes(), "{word}");
+    for (word, capacity, failing, held) in &HELD {
+        assert!(rt; fits(rt.alloc(), *capacity, failing, held)?, "{word}");
     }
     Ok(())
 }
+
+// Whether the next text of a source is this one.
+fn gives(alloc: Global, source: &mut PlainSource, want: &str) -> Result<bool, Fail> {
+    let bytes = read_all(alloc, source, "any", None)?;
+    Ok(bytes.as_slice() == want.as_bytes())
+}
+
+// Where a source of two texts stands, and what it gives.
+const ORDERED: [(&str, &str); 4] = [
+    ("the first text", "one"),
+    ("the second text", "two"),
+    ("behind the last text", ""),
+    ("once more behind it", ""),
+];
 
 #[test]
 fn texts_in_order_ignore_names(rt: HostRuntime) -> Result<(), Fail> {
     let alloc = rt.alloc();
     let texts = vec![in alloc; b"one".to_vec(alloc)?, b"two".to_vec(alloc)?]?;
     let mut source = PlainSource::new(texts);
-    for (word, expected) in [
-        ("the first text", "one"),
-        ("the second text", "two"),
-        ("behind the last text", ""),
-        ("once more behind it", ""),
-    ] {
-        let bytes = read_all(alloc, &mut source, "any", None)?;
-        assert_eq!(rt; bytes.as_slice(), expected.as_bytes(), "{word}");
+    for (word, want) in &ORDERED {
+        assert!(rt; gives(alloc, &mut source, want)?, "{word}");
     }
     Ok(())
 }
@@ -135,8 +149,18 @@ fn a_text_goes_in_drops(rt: HostRuntime) -> Result<(), Fail> {
     Ok(())
 }
 
-// How many bytes are gathered, how many the sink takes at once, which of its calls fails, what it holds before the flush, and in the end.
-const GATHERED: [(&str, usize, usize, &[u64], &str, &str); 7] = [
+// What a row is about, how many bytes are gathered, how many the sink takes at once, which of its calls fails, what it holds before the flush,
+// and in the end.
+type Row = (
+    &'static str,
+    usize,
+    usize,
+    &'static [u64],
+    &'static str,
+    &'static str,
+);
+
+const GATHERED: &[Row] = &[
     ("all of it", 16, 8, &[], "", "abcdefg"),
     ("four, and three are left", 4, 8, &[], "abcd", "abcdefg"),
     ("three, and one is left", 3, 8, &[], "abcdef", "abcdefg"),
@@ -174,8 +198,8 @@ fn gathered(gather: &mut Gather, sink: &mut MemSink) -> Result<(), Failed> {
     Ok(())
 }
 
-// Whether the sink holds these bytes before the flush, and whether all calls pass.
-fn is_gathered(
+// Whether a sink holds these bytes before the flush, and whether all calls pass.
+fn put_pieces(
     alloc: Global,
     size: usize,
     before: &str,
@@ -187,15 +211,18 @@ fn is_gathered(
     Ok((held, put && gather.flush(sink).is_ok()))
 }
 
+// Whether pieces are gathered as a row says; where the sink does not take all, a call tells.
+fn is_gathered(alloc: Global, row: &Row) -> Result<bool, AllocError> {
+    let (_, size, most, failing, before, after) = *row;
+    let mut sink = MemSink::dribbling(alloc, 16, failing.to_vec(alloc)?, most)?;
+    let (held, ended) = put_pieces(alloc, size, before, &mut sink)?;
+    Ok(held && sink.bytes() == after.as_bytes() && ended == (after.len() == 7))
+}
+
 #[test]
 fn pieces_are_gathered(rt: HostRuntime) -> Result<(), Fail> {
-    let alloc = rt.alloc();
-    for (word, size, most, failing, before, after) in GATHERED {
-        let mut sink = MemSink::dribbling(alloc, 16, failing.to_vec(alloc)?, most)?;
-        let (held, ended) = is_gathered(alloc, size, before, &mut sink)?;
-        assert!(rt; held, "before the flush: {word}");
-        assert_eq!(rt; sink.bytes(), after.as_bytes(), "in the end: {word}");
-        assert_eq!(rt; ended, after.len() == 7, "whether it ended: {word}");
+    for row in GATHERED {
+        assert!(rt; is_gathered(rt.alloc(), row)?, "{}", row.0);
     }
     Ok(())
 }
