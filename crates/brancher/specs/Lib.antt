@@ -3,3 +3,4 @@ pub mod Choices
 pub mod Finding
 pub mod Counters
 pub mod Picks
+pub mod Known

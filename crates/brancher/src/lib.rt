@@ -8,6 +8,7 @@ mod branching;
 mod choice;
 mod failing;
 mod finding;
+mod listing;
 mod lower;
 mod widest;
 
@@ -15,5 +16,6 @@ pub use asking::{chosen, pick, tell};
 pub use branching::Brancher;
 pub use choice::{Choice, Event};
 pub use failing::Failing;
+pub use listing::known_branchers;
 pub use lower::Lower;
 pub use widest::Widest;

@@ -1,7 +1,7 @@
 //! Runs over sources and sinks in memory, how they must end, and the rows of tables of runs.
 
 use answer_run::{Status, Word, Words, run};
-use brancher::{Brancher, Failing, Lower, Widest};
+use brancher::{Brancher, Failing, Lower, Widest, known_branchers};
 use sopl_io::{MemSink, MemSource};
 use std::alloc::{AllocError, Global};
 use std::process::Abort;
@@ -118,10 +118,10 @@ pub(crate) fn ran_branching(
     source: &mut MemSource,
     room: &Room,
 ) -> Result<Ended, AllocError> {
-    let mut branchers: Vec<Box<dyn Brancher>> = Vec::new(alloc);
-    branchers.push(Box::new(alloc, Lower::new())?)?;
-    branchers.push(Box::new(alloc, Widest::new())?)?;
-    branchers.push(Box::new(alloc, Failing::new())?)?;
+    let lower = Box::new(alloc, Lower::new())?;
+    let widest = Box::new(alloc, Widest::new())?;
+    let failing = Box::new(alloc, Failing::new())?;
+    let branchers = known_branchers(alloc, lower, widest, failing)?;
     ran_with(alloc, words, source, room, branchers)
 }
 

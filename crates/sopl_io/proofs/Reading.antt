@@ -1,5 +1,5 @@
 -- What was read so far of what was left.
-use Rattle.std.proofs.Common.{◌≡◌, ℕ, ◌-◌, ◌^◌, ◌<◌, ◌≤◌, List, [], ◌++◌, length, take, drop, Option, Some, None, unwrap_or, IfSome, subst, sym, ap, ◌∙◌, append_assoc, arith}
+use Rattle.std.proofs.Common.{◌≡◌, ℕ, ◌+◌, ◌-◌, ◌^◌, ◌<◌, ◌≤◌, List, [], ◌++◌, length, take, drop, Option, Some, None, unwrap_or, IfSome, subst, sym, ap, ◌∙◌, append_assoc, arith}
 use Rattle.std.proofs.lemmas.List.{append-nil, length-append, length-take, take_all, take_at, take-append-le}
 use Rattle.std.proofs.Math.Seq.{drop-append_seam}
 use Rattle.std.specs.Io.KnownBytes.{Consumes, IsAtEnd, Keeps}
@@ -115,3 +115,9 @@ pub kept_within : (bytes buf rest items : List ℕ) (count most : ℕ) → count
 kept_within bytes buf rest items count most within is bound fits =
     let piece : take count (buf ++ rest) ≡ take count buf = take-append-le count buf rest within in
     subst (λ (l : List ℕ). length l ≤ most) (sym (is ∙ ap (λ (l : List ℕ). bytes ++ l) piece)) (piece_fits bytes buf count most fits bound)
+
+-- one more piece that is not empty makes the list longer
+pub piece_longer : (bytes buf rest items : List ℕ) (count : ℕ) → 0 < count → count ≤ length buf → items ≡ bytes ++ take count (buf ++ rest) → length bytes + 1 ≤ length items
+piece_longer bytes buf rest items count some within is =
+    let whole : items ≡ bytes ++ take count buf = is ∙ ap (λ (l : List ℕ). bytes ++ l) (take-append-le count buf rest within) in
+    subst (λ (l : List ℕ). length bytes + 1 ≤ length l) (sym whole) (omega (arith, some, within, length-append bytes (take count buf), length-take {A = ℕ} count buf))

@@ -1,5 +1,5 @@
 -- What came of the calls of a source or a sink: none follows one that failed.
-use Rattle.std.specs.Prelude.{◌≡◌, ℕ, List, ◌∷◌, Option, None, option_map, Result, Ok, Err, OnOk, OnErr}
+use Rattle.std.specs.Prelude.{◌≡◌, ℕ, ◌+◌, ◌≤◌, List, ◌∷◌, length, Option, None, option_map, IfSome, Result, Ok, Err, OnOk, OnErr}
 use Rattle.sopl_io.specs.Causes.{one_more}
 
 -- what came of a call
@@ -48,3 +48,7 @@ pub record StopsAtFailure {T E : Type 0} (before now : Outcomes) (result : Resul
 pub record StopsWhere (failure : Type 0) (before now : Outcomes) : Type 0 where
   pub all : ¬ failure → AllSucceeded before now
   pub last : failure → LastFailed before now
+
+-- where the calls are told, at most so many were made
+pub record MakesAtMost (most : ℕ) (before now : Outcomes) : Type 0 where
+  pub calls : IfSome before.each (λ earlier. IfSome now.each (λ all. length all ≤ length earlier + most))

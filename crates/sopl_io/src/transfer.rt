@@ -1,7 +1,7 @@
 //! Transfers between sources, sinks and lists of bytes.
-ghost use Rattle.std.specs.Prelude.{◌≡◌, ◌⊎◌, ◌≤◌, drop, Some, option_map, IfOk, IfSome, OnOk, OnErr, vec_len};
+ghost use Rattle.std.specs.Prelude.{◌≡◌, ◌⊎◌, ◌+◌, ◌≤◌, drop, length, Some, option_map, IfOk, IfSome, OnOk, OnErr, vec_len};
 ghost use Rattle.std.specs.Io.KnownBytes.{Appends, IsAtEnd};
-ghost use Rattle.sopl_io.specs.Calls.{StopsAtFailure, StopsWhere};
+ghost use Rattle.sopl_io.specs.Calls.{MakesAtMost, StopsAtFailure, StopsWhere};
 ghost use Rattle.sopl_io.specs.Causes.{Rose, HasCause};
 ghost use Rattle.sopl_io.specs.Rests.{LeavesRest};
 ghost use Rattle.sopl_io.specs.Stock.{text_of, begun_stock, with_name};
@@ -68,6 +68,11 @@ pub fn read_all<S: Source>(
 
     // No call follows one that failed.
     ensures outcomes { StopsWhere (result ≡ Err ReadStop.Fault) (S.outcomes source.old) (S.outcomes source.new) }
+
+    // Each read adds at least one byte, but the one that finds the end: beside this one and the call that begins the source, no call is made
+    // without a byte.
+    ensures turns { IfOk result (λ bytes. MakesAtMost (length bytes.items + 2) (S.outcomes source.old) (S.outcomes source.new)) }
+    ensures turns_to_most { IfSome most (λ m. MakesAtMost (m + 1) (S.outcomes source.old) (S.outcomes source.new)) }
 {
     source.begin(name)?;
     let most = most.unwrap_or(usize::MAX);
@@ -91,6 +96,9 @@ pub fn write_all<K: Sink>(sink: &mut K, bytes: &[u8]) -> Result<(), Failed>
     ensures prefix { OnErr result (AppendsPrefix (K.taken sink.old) (K.taken sink.new) bytes.now) }
     ensures names { K.names sink.new ≡ K.names sink.old }
     ensures outcomes { StopsAtFailure (K.outcomes sink.old) (K.outcomes sink.new) result }
+
+    // Each write takes at least one byte.
+    ensures turns { MakesAtMost (length bytes.now) (K.outcomes sink.old) (K.outcomes sink.new) }
     ensures cause { HasCause (K.faults sink.old) (K.faults sink.new) result }
 {
     let mut at = 0;
