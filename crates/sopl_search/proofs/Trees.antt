@@ -113,7 +113,7 @@ module _ (problem : BoxProblem) (plan : SearchPlan) (frontier : Frontier) (befor
 
   listed_long : length nodes ≡ frontier.open_count
   listed_long =
-      sym (length_permutation (opens problem.root frontier) nodes listed.same) ∙ (length-map (nodes_of frontier) (pending_of problem.root) ∙ is.keeps.counted)
+      length_permutation (opens problem.root frontier) nodes listed.same ∙ (length-map (nodes_of frontier) (pending_of problem.root) ∙ is.keeps.counted)
 
   pub planned_end : (outcome : Outcome) → (0 < frontier.open_count → frontier.finished ≡ plan.budget) → EndsBy problem frontier.best (boxes (opens problem.root frontier)) outcome
       → IsPlannedEnd problem plan (state_of problem.root is.rows frontier) outcome nodes
