@@ -73,6 +73,7 @@ fn told_next(asked: &mut Option<Box<dyn Brancher>>) -> Option<Choice> {
 }
 
 /// A log as far as it was read: the cell that each node cut, the number of the last node, and the cell that its parent cut.
+#[derive(Drop)]
 struct LogReading {
     cells: [Option<u32>; 40],
     node: usize,
