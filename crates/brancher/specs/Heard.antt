@@ -2,7 +2,7 @@
 use Rattle.std.specs.Prelude.{List, [], ◌∷◌, ◌++◌, Option, option_map}
 use Rattle.brancher.specs.declared.choice.Event.{Event}
 
--- one event more, where a brancher tells what it heard
+-- one event more, where a brancher keeps what it heard
 abbrev pub with_event : Option (List Event) → Event → Option (List Event)
 with_event heard event = option_map (λ events. events ++ event ∷ []) heard
 

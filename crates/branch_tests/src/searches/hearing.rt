@@ -8,7 +8,7 @@ use sopl_io::MemSink;
 use sopl_search::Crew;
 use std::alloc::{AllocError, Global};
 
-/// It chooses nothing, and keeps the events that it hears. Asked where the first cell ends at 1000 or above, it tells the next one of them.
+/// Chooses nothing, and keeps the events that it hears. Asked where the first cell ends at 1000 or above, it answers a choice that stands for the next one.
 #[derive(Drop)]
 struct ListeningBrancher {
     heard: [Option<Event>; 40],
@@ -67,7 +67,7 @@ impl Brancher for ListeningBrancher {
     }
 }
 
-/// What the next event that a brancher heard is told by.
+/// The choice that stands for the next event which a brancher heard.
 fn told_next(asked: &mut Option<Box<dyn Brancher>>) -> Option<Choice> {
     pick(asked, &[0, 0], &[1000, 1000], 0)
 }
@@ -135,7 +135,7 @@ impl LogReading {
     }
 }
 
-/// How many nodes of each kind a log has, where a brancher heard of each finished one in order, and of nothing else.
+/// How many nodes a log has that are split, closed or a point; none where a brancher heard anything but these, in this order.
 fn counts_heard(asked: &mut Option<Box<dyn Brancher>>, log: &str) -> Option<(u32, u32, u32)> {
     let mut reading = LogReading {
         cells: [None; 40],
@@ -190,7 +190,7 @@ fn asked_in(
     }
 }
 
-/// How many nodes of each kind a search has whose log tells what its brancher heard.
+/// How many nodes of a search are split, closed or a point; none where its brancher heard anything else.
 fn counts_of(
     alloc: Global,
     pair: &Pair,
