@@ -21,7 +21,7 @@ use Rattle.log_rows.specs.declared.rows.Footer.TheVariants as claim
 use Rattle.log_rows.specs.Lines.{log_lines, text_of}
 use Rattle.log_rows.specs.LogText.{IsLogText}
 use Rattle.log_rows.specs.Made.{open_row, with_open}
-use Rattle.sopl_search.specs.Logged.{IsPrefixLogged, IsLogged, IsSearchLog, SearchPlan, footer_of}
+use Rattle.sopl_search.specs.Logged.{IsPrefixLogged, IsLogged, IsSearchLog, SearchPlan, at_end, footer_of}
 use Rattle.sopl_search.specs.Outcomes.{HasCause, IsTrueOf, value_of}
 use Rattle.sopl_search.specs.declared.outcome.Found.{Found}
 use Rattle.sopl_search.specs.declared.outcome.Outcome.{Outcome}
@@ -125,14 +125,16 @@ whole_prefix problem plan o old new log =
     let tree = log.is_log.tree in
     let text : List ℕ = text_of (log_lines (with_open tree.state.rows tree.opens) (footer_of o)) in
     let is : log.bytes ≡ text = log.is_log.text ∙ ap (λ rows. text_of (log_lines rows (footer_of o))) tree.rows_are in
+    let took : AppendsPrefix old new text =
+    subst (λ b. AppendsPrefix old new b) is (length log.bytes, subst (λ b. Appends old new b) (sym (take_all (length log.bytes) log.bytes (omega arith))) log.took) in
     record {
       state = tree.state;
       more = map open_row tree.opens;
       footer = footer_of o;
       planned = tree.planned;
       is_text = subst (IsLogText (with_open tree.state.rows tree.opens) (footer_of o)) is (subst (λ rows. IsLogText rows (footer_of o) log.bytes) tree.rows_are log.is_log.is_text);
-      took = subst (λ b. AppendsPrefix old new b) is
-          (length log.bytes, subst (λ b. Appends old new b) (sym (take_all (length log.bytes) log.bytes (omega arith))) log.took);
+      took = took;
+      cut_short = at_end o tree.opens tree.end took;
     }
 
 -- The answer.

@@ -12,12 +12,14 @@ struct Scripted {
 }
 
 impl Brancher for Scripted {
-    ghost use Rattle.std.specs.Prelude.{codes};
+    ghost use Rattle.std.specs.Prelude.{codes, None};
     ghost use Rattle.brancher.specs.Rules.{free};
 
     ghost label = { λ _. codes "scripted" };
 
     ghost rule = { λ _. free };
+
+    ghost heard = { λ _. None };
 
     fn name(&self) -> &str {
         "scripted"

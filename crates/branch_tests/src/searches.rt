@@ -18,6 +18,7 @@ use sopl_search::{Crew, Found, Outcome, Schedule, SearchProblem, SearchStop, Val
 use std::alloc::{AllocError, Global};
 
 mod answering;
+mod hearing;
 mod pairs;
 
 /// Narrows a pair of cells so that the first one is at most the second one, and better than the best value.

@@ -1,4 +1,5 @@
 pub mod Rules
+pub mod Heard
 pub mod Choices
 pub mod Finding
 pub mod Counters

@@ -3,6 +3,7 @@
 ghost use Rattle.std.specs.Prelude.{◌≡◌, true, length, find, slice_get, map, option_map, Some, if◌then◌else◌};
 ghost use Rattle.std.specs.Str.{bytes_eq};
 ghost use Rattle.brancher.specs.Choices.{AreEnds, Chooses};
+ghost use Rattle.brancher.specs.Heard.{with_event_told};
 ghost use Rattle.brancher.specs.Picks.{IsPicked, IsProperChoice, IsFirstHalved, chosen_rule, text_now};
 
 use crate::branching::Brancher;
@@ -66,6 +67,7 @@ pub fn pick(
     requires ends { AreEnds lows.now highs.now }
     ensures picked { IsPicked (option_map rule brancher.old) depth lows.now highs.now result }
     ensures same { option_map rule brancher.new ≡ option_map rule brancher.old }
+    ensures same_heard { option_map heard brancher.new ≡ option_map heard brancher.old }
 {
     let _open = first_unfixed(lows, highs)?;
     if depth >= FIRST_UNASKED {
@@ -80,6 +82,7 @@ pub fn pick(
 
 /// Tells the brancher, if one is there, how a node ended.
 pub fn tell(brancher: &mut Option<Box<dyn Brancher>>, event: Event)
+    ensures heard { option_map heard brancher.new ≡ with_event_told (option_map heard brancher.old) event }
     ensures same { option_map rule brancher.new ≡ option_map rule brancher.old }
 {
     if let Some(asked) = brancher {

@@ -34,12 +34,14 @@ impl Failing {
 }
 
 impl Brancher for Failing {
-    ghost use Rattle.std.specs.Prelude.{codes};
+    ghost use Rattle.std.specs.Prelude.{codes, None};
     ghost use Rattle.brancher.specs.Rules.{free};
 
     ghost label = { λ _. codes "failing" };
 
     ghost rule = { λ _. free };
+
+    ghost heard = { λ _. None };
 
     fn name(&self) -> &str {
         "failing"

@@ -108,11 +108,14 @@ fn cut_at_times(lows: &[i64], highs: &[i64], asked: u32) -> Option<Choice> {
 }
 
 impl Brancher for Odd {
+    ghost use Rattle.std.specs.Prelude.{None};
     ghost use Rattle.brancher.specs.Rules.{free};
 
     ghost label = { λ b. b.name.now };
 
     ghost rule = { λ _. free };
+
+    ghost heard = { λ _. None };
 
     fn name(&self) -> &str {
         self.name

@@ -11,10 +11,9 @@ use Rattle.box_problem.proofs.Opens.{covers_bound, not_better_than_itself}
 use Rattle.sopl_search.specs.declared.outcome.Found.{Found}
 use Rattle.sopl_search.specs.declared.outcome.Outcome.{Outcome}
 use Rattle.sopl_search.specs.declared.outcome.Outcome.TheVariants.{Optimal, Infeasible, Bounded}
-use Rattle.sopl_search.specs.Closes.{EndsBy}
 use Rattle.sopl_search.specs.Ends.{IsPosed}
 use Rattle.sopl_search.specs.Frontiers.{IsSound}
-use Rattle.sopl_search.specs.Outcomes.{HasCause, IsGood, IsTrueOf, found_of, value_of}
+use Rattle.sopl_search.specs.Outcomes.{EndsBy, HasCause, IsGood, IsTrueOf, found_of, value_of}
 
 hopeful : (problem : BoxProblem) (best : Option Found) (bs : List Box) (bound : ℤ) → IsBound problem (value_of best) bs bound
     → IfSome best (λ (found : Found). IsBetter problem.direction bound found.value) → IfSome best (λ (found : Found). Any (λ b. IsBetter problem.direction (problem.end b) found.value) bs)

@@ -31,7 +31,7 @@ use Rattle.sopl_search.specs.Crews.{CrewState, IsCrewRun, begun, first_state, ro
 use Rattle.sopl_search.specs.Ends.{IsPosed}
 use Rattle.sopl_search.specs.Frontiers.{AreKept, AreRowNodes, IsBegun, IsOnRows, IsRunning, IsSearchOf, IsSound, Keeps, Stands, StandsAtRoot, boxes, first_lists, nodes_of, opens, pendings, root_open, state_of}
 use Rattle.sopl_search.specs.Lines.{pending_of}
-use Rattle.sopl_search.specs.Logged.{IsPlannedRun, IsPrefixLogged, SearchPlan}
+use Rattle.sopl_search.specs.Logged.{IsPlannedRun, IsPrefixLogged, SearchPlan, in_rows}
 use Rattle.sopl_search.specs.Outcomes.{value_of}
 use Rattle.sopl_search.specs.Schedules.{AreSeats}
 use Rattle.sopl_search.proofs.MovedNodes.{seen_set}
@@ -183,6 +183,7 @@ first_breaks_off problem plan before now posed few took =
           (All-cons RowFits (open_row (root_node problem)) [] (record { parent_fits = tt; steps_fit = All-nil StepFits; end_fits = tt }) (All-nil RowFits)) tt;
       took = subst (AppendsPrefix before now) (sym (log_text rows claims.Infeasible))
           (prefix_of_first before now (ended head_line) (text_of (rows_lines 0 rows) ++ ended (footer_line claims.Infeasible)) took);
+      cut_short = in_rows (subst (AppendsPrefix before now) (sym (text_one head_line)) took);
     }
 
 pub nothing_logged : (problem : BoxProblem) (plan : SearchPlan) (before : Option (List ℕ)) → IsPosed problem → AreSeats plan.seats → IsPrefixLogged problem plan before before

@@ -20,12 +20,12 @@ use Rattle.log_rows.proofs.Logging.{logs_in_any_order}
 use Rattle.open_nodes.specs.declared.seats.OpenNode.{OpenNode}
 use Rattle.sopl_search.specs.declared.frontier.Frontier.{Frontier}
 use Rattle.sopl_search.specs.declared.outcome.Outcome.{Outcome}
-use Rattle.sopl_search.specs.Closes.{AreListed, EndsBy, IsBrokenClose, IsClosed, rest_text}
+use Rattle.sopl_search.specs.Closes.{AreListed, IsBrokenClose, IsClosed, rest_text}
 use Rattle.sopl_search.specs.Logged.{footer_of}
 use Rattle.sopl_search.specs.Ends.{IsPosed}
 use Rattle.sopl_search.specs.Frontiers.{AreEnterable, AreRowNodes, IsSplitRow, Keeps, boxes, nodes_of, opens, pendings}
 use Rattle.sopl_search.specs.Lines.{open_line, order_key, parent_above, pending_of, split_above}
-use Rattle.sopl_search.specs.Outcomes.{value_of}
+use Rattle.sopl_search.specs.Outcomes.{EndsBy, value_of}
 use Rattle.sopl_search.proofs.Answered.{ends_shuffled}
 use Rattle.sopl_search.proofs.InOrder.{apart_shuffled, in_order}
 use Rattle.sopl_search.proofs.RestTexts.{rest_same}
@@ -125,15 +125,17 @@ is_closed problem old now nodes seen again outcome footer before after keeps mov
   took = subst (Appends before after) (text_seen problem.root old now nodes again footer (footer_of outcome) counted kept too claimed) took;
 }
 
-pub is_broken : (problem : BoxProblem) (old now : Frontier) (nodes again : List OpenNode) (outcome : Outcome) (footer : Footer) (before after : Option (List ℕ))
+pub is_broken : (problem : BoxProblem) (old now : Frontier) (nodes seen again : List OpenNode) (outcome : Outcome) (footer : Footer) (before after : Option (List ℕ))
     → ((asked : Option Rule) × (rows : List Row) × Keeps problem asked rows old) → IsPermutation (nodes_of old) nodes → IsNonDecreasingBy order_key nodes
-    → now.finished ≡ old.finished → now.gather.kept ≡ old.gather.kept → again ≡ nodes → footer ≡ footer_of outcome → FooterFits (footer_of outcome)
+    → now.finished ≡ old.finished → now.gather.kept ≡ old.gather.kept → seen ≡ nodes → again ≡ nodes → footer ≡ footer_of outcome → FooterFits (footer_of outcome)
+    → EndsBy problem old.best (boxes (pendings problem.root seen)) outcome
     → AppendsPrefix before after (now.gather.kept ++ text_of (rows_lines now.finished (map (λ (x : OpenNode). open_line (parent_above x)) again) ++ footer_line footer ∷ []))
     → IsBrokenClose problem old before after
-is_broken problem old now nodes again outcome footer before after keeps moved sorted counted kept too claimed fits took = record {
+is_broken problem old now nodes seen again outcome footer before after keeps moved sorted counted kept same too claimed fits ends took = record {
   nodes = pendings problem.root nodes;
-  footer = footer_of outcome;
+  outcome = outcome;
   listed = are_listed problem old nodes keeps moved sorted;
+  ends = ends_of_all problem old nodes seen outcome moved same ends;
   fits = fits;
   took = subst (AppendsPrefix before after) (text_seen problem.root old now nodes again footer (footer_of outcome) counted kept too claimed) took;
 }

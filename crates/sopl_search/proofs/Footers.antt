@@ -14,8 +14,7 @@ use Rattle.sopl_search.specs.declared.outcome.Outcome.{Outcome}
 use Rattle.sopl_search.specs.declared.outcome.Outcome.TheVariants.{Optimal, Infeasible, Bounded}
 use Rattle.sopl_search.specs.Frontiers.{boxes}
 use Rattle.sopl_search.specs.Logged.{footer_of}
-use Rattle.sopl_search.specs.Closes.{EndsBy}
-use Rattle.sopl_search.specs.Outcomes.{value_of}
+use Rattle.sopl_search.specs.Outcomes.{EndsBy, value_of}
 
 -- open nodes by their boxes
 box_has : (nodes : List Pending) (x : Pending) → Contains nodes x → Contains (boxes nodes) x.at

@@ -12,8 +12,7 @@ use Rattle.sopl_search.specs.declared.outcome.Found.{Found}
 use Rattle.sopl_search.specs.declared.outcome.Outcome.{Outcome}
 use Rattle.sopl_search.specs.declared.outcome.Outcome.TheVariants.{Optimal, Infeasible, Bounded}
 use Rattle.sopl_search.specs.Logged.{IsPointRow, told_point}
-use Rattle.sopl_search.specs.Closes.{EndsBy}
-use Rattle.sopl_search.specs.Outcomes.{found_at}
+use Rattle.sopl_search.specs.Outcomes.{EndsBy, found_at}
 
 -- it stays where rows follow
 point_stays : (problem : BoxProblem) (xs ys : List Row) (found : Found) → IsPointRow problem xs found → IsPointRow problem (xs ++ ys) found

@@ -1,12 +1,14 @@
 -- A search that goes on by a plan.
-use Rattle.std.proofs.Common.{◌≡◌, inl, inr, ℕ, zero, suc, ℤ, Contains, ◌+◌, ◌<◌, ◌≤◌, List, [], ◌∷◌, ◌++◌, length, map, Option, All, arith, sym, ap, subst, ◌∙◌, append_assoc}
-use Rattle.std.proofs.lemmas.List.{append-nil, length-append, map-append}
+use Rattle.std.proofs.Common.{◌≡◌, inl, inr, ℕ, zero, suc, ℤ, None, Some, Contains, ◌+◌, ◌<◌, ◌≤◌, List, [], ◌∷◌, ◌++◌, length, map, Option, All, arith, sym, ap, subst, ◌∙◌, append_assoc}
+use Rattle.std.proofs.lemmas.List.{append-nil, length-append, length-map, map-append}
 use Rattle.std.proofs.lemmas.List.Elements.{All-append, All-cons, All-nil, Contains-append_left, Contains-append_right}
 use Rattle.std.specs.List.{range_with_len}
 use Rattle.sopl_base.proofs.Lists.{range_more}
+use Rattle.std.specs.Io.KnownBytes.{Appends, Keeps as KeepsBytes}
 use Rattle.sopl_io.specs.Gathered.{GathersAll}
 use Rattle.sopl_io.specs.Transfer.{AppendsPrefix}
-use Rattle.sopl_io.proofs.Gathering.{gathered_behind, gathered_both, prefix_of_first}
+use Rattle.sopl_io.proofs.Gathering.{flushed_prefix, gathered_behind, gathered_both, prefix_of_first}
+use Rattle.brancher.specs.declared.choice.Event.{Event}
 use Rattle.brancher.specs.Rules.{Rule}
 use Rattle.box_problem.specs.BoxProblem.{BoxProblem}
 use Rattle.log_rows.specs.declared.rows.Footer.{Footer}
@@ -23,10 +25,10 @@ use Rattle.log_rows.proofs.Places.{hangs_stays}
 use Rattle.log_rows.proofs.Texts.{rows_append, text_append, text_one}
 use Rattle.open_nodes.specs.Takes.{Takes, all_nodes, lists_of, seat_nodes}
 use Rattle.sopl_search.specs.declared.frontier.Frontier.{Frontier}
-use Rattle.sopl_search.specs.Crews.{IsCrewRun, one_more}
+use Rattle.sopl_search.specs.Crews.{IsCrewRun, IsNextRow, one_more}
 use Rattle.sopl_search.specs.Frontiers.{IsRunning, IsSearchOf, Keeps, Stands, opens, state_of}
 use Rattle.sopl_search.specs.Lines.{pending_of}
-use Rattle.sopl_search.specs.Logged.{IsPlannedRun, IsPrefixLogged, SearchPlan}
+use Rattle.sopl_search.specs.Logged.{IsCutShort, IsPlannedRun, IsPrefixLogged, SearchPlan, begun_text, in_next_row, in_rows}
 use Rattle.sopl_search.specs.Moves.{IsBrokenStep, IsStepped}
 use Rattle.sopl_search.specs.Outcomes.{value_of}
 use Rattle.sopl_search.specs.Schedules.{AreSeats, named_seat, named_seats}
@@ -38,10 +40,6 @@ one_more_named seats order n seat is =
     ap (map (named_seat seats order)) (range_more n)
     ∙ (map-append (named_seat seats order) (range_with_len 0 n) (n ∷ [])
     ∙ ap (λ (k : ℕ). named_seats seats order n ++ k ∷ []) (sym is))
-
--- the lines of rows behind the first line
-abbrev begun_text : List Row → List ℕ
-begun_text rows = text_of (head_line ∷ rows_lines 0 rows)
 
 begun_append : (rows more : List Row) → begun_text (rows ++ more) ≡ begun_text rows ++ text_of (rows_lines (length rows) more)
 begun_append rows more =
@@ -75,9 +73,9 @@ taken_there {A} old new seat x takes = elim takes [
 ]
 
 -- one more step by the plan
-pub runs_on : (problem : BoxProblem) (plan : SearchPlan) (old new : Frontier) (before mid now : Option (List ℕ)) (seat turn : ℕ) (is : IsRunning problem plan old before mid)
+pub runs_on : {heard told : Option (Option (List Event))} (problem : BoxProblem) (plan : SearchPlan) (old new : Frontier) (before mid now : Option (List ℕ)) (seat turn : ℕ) (is : IsRunning problem plan old before mid)
     → seat ≡ named_seat plan.seats plan.order turn → turn ≡ old.finished → old.finished < plan.budget → Stands problem new
-    → length new.seats.seats.items ≡ length old.seats.seats.items → IsStepped problem plan.asked is.rows seat old new mid now → IsRunning problem plan new before now
+    → length new.seats.seats.items ≡ length old.seats.seats.items → IsStepped problem plan.asked is.rows seat old new mid now heard told → IsRunning problem plan new before now
 runs_on problem plan old new before mid now seat turn is named counted within stands seats stepped =
     let rows = is.rows in
     let all = rows ++ stepped.row ∷ [] in
@@ -112,18 +110,44 @@ is_planned problem plan frontier before now is = record {
   low_first = λ one low. (is.keeps.kept.low_first (is.exist ∙ one) low).0;
 }
 
+-- what a sink took where it took nothing more, or a prefix of what is kept and of what comes behind it
+pub kept_appends : (mid now : Option (List ℕ)) → KeepsBytes mid now → Appends mid now []
+kept_appends None now keeps = tt
+kept_appends (Some xs) None keeps = absurd keeps
+kept_appends (Some xs) (Some ys) keeps = keeps ∙ sym (append-nil xs)
+
+pub took_rows : (problem : BoxProblem) (plan : SearchPlan) (frontier : Frontier) (before mid now : Option (List ℕ)) (is : IsRunning problem plan frontier before mid)
+    → KeepsBytes mid now → AppendsPrefix before now (begun_text is.rows)
+took_rows problem plan frontier before mid now is keeps =
+    flushed_prefix before mid now [] frontier.gather.kept (begun_text is.rows) is.lines (0, kept_appends mid now keeps)
+
+took_next : (problem : BoxProblem) (plan : SearchPlan) (frontier : Frontier) (before mid now : Option (List ℕ)) (row : Row) (is : IsRunning problem plan frontier before mid)
+    → AppendsPrefix mid now (frontier.gather.kept ++ text_of (row_lines (length is.rows) row)) → AppendsPrefix before now (begun_text (is.rows ++ row ∷ []))
+took_next problem plan frontier before mid now row is took =
+    subst (AppendsPrefix before now) (sym (begun_more is.rows row))
+    (gathered_behind before mid now [] frontier.gather.kept (begun_text is.rows) (text_of (row_lines (length is.rows) row)) is.lines took)
+
+pub took_whole : (problem : BoxProblem) (plan : SearchPlan) (frontier : Frontier) (before mid now : Option (List ℕ)) (more : List Row) (footer : Footer)
+    (is : IsRunning problem plan frontier before mid)
+    → AppendsPrefix mid now (frontier.gather.kept ++ text_of (rows_lines (length is.rows) more ++ footer_line footer ∷ []))
+    → AppendsPrefix before now (text_of (log_lines (is.rows ++ more) footer))
+took_whole problem plan frontier before mid now more footer is took =
+    subst (AppendsPrefix before now) (sym (whole_text is.rows more footer))
+    (gathered_behind before mid now [] frontier.gather.kept (begun_text is.rows) (text_of (rows_lines (length is.rows) more ++ footer_line footer ∷ [])) is.lines took)
+
 -- where the sink took a prefix of what is kept and of some rows and a last line behind it
 pub breaks_off : (problem : BoxProblem) (plan : SearchPlan) (frontier : Frontier) (before mid now : Option (List ℕ)) (more : List Row) (footer : Footer) (is : IsRunning problem plan frontier before mid)
     → AreOrdered (is.rows ++ more) → 0 < length (is.rows ++ more) → All RowFits more → FooterFits footer
-    → AppendsPrefix mid now (frontier.gather.kept ++ text_of (rows_lines (length is.rows) more ++ footer_line footer ∷ [])) → IsPrefixLogged problem plan before now
-breaks_off problem plan frontier before mid now more footer is ordered some fit footer_fit took = record {
+    → AppendsPrefix mid now (frontier.gather.kept ++ text_of (rows_lines (length is.rows) more ++ footer_line footer ∷ []))
+    → IsCutShort problem plan (state_of problem.root is.rows frontier) before now → IsPrefixLogged problem plan before now
+breaks_off problem plan frontier before mid now more footer is ordered some fit footer_fit took cut_short = record {
   state = state_of problem.root is.rows frontier;
   more = more;
   footer = footer;
   planned = is_planned problem plan frontier before mid is;
   is_text = texts_are_logs (is.rows ++ more) footer ordered some (All-append RowFits is.rows more is.keeps.kept.fit fit) footer_fit;
-  took = subst (AppendsPrefix before now) (sym (whole_text is.rows more footer))
-      (gathered_behind before mid now [] frontier.gather.kept (begun_text is.rows) (text_of (rows_lines (length is.rows) more ++ footer_line footer ∷ [])) is.lines took);
+  took = took_whole problem plan frontier before mid now more footer is took;
+  cut_short = cut_short;
 }
 
 -- where a step breaks
@@ -140,9 +164,21 @@ next_ordered problem rows nodes best row logs hangs =
     (λ i exists. hangs_stays rows (row ∷ []) i (row_at rows i).parent (omega (arith, exists)) (logs.hangs i exists))
     (hangs_stays rows (row ∷ []) (length rows) row.parent (omega arith) hangs)
 
-pub step_breaks_off : (problem : BoxProblem) (plan : SearchPlan) (old : Frontier) (before mid now : Option (List ℕ)) (seat : ℕ) (is : IsRunning problem plan old before mid)
+step_cut_short : (problem : BoxProblem) (plan : SearchPlan) (old : Frontier) (before mid now : Option (List ℕ)) (seat turn : ℕ) (is : IsRunning problem plan old before mid)
+    → seat ≡ named_seat plan.seats plan.order turn → turn ≡ old.finished → old.finished < plan.budget → IsBrokenStep problem is.rows seat old mid now
+    → IsCutShort problem plan (state_of problem.root is.rows old) before now
+step_cut_short problem plan old before mid now seat turn is named counted within broken =
+    let next_seat : seat ≡ named_seat plan.seats plan.order (length is.rows) = named ∙ ap (named_seat plan.seats plan.order) (counted ∙ sym is.keeps.kept.counted) in
+    elim broken.right [
+      | inl keeps ↦ in_rows (took_rows problem plan old before mid now is keeps)
+      | inr next ↦ in_next_row broken.row (subst (λ (n : ℕ). IsNextRow problem n (state_of problem.root is.rows old) broken.row) next_seat next)
+          (omega (arith, is.keeps.kept.counted, within)) (took_next problem plan old before mid now broken.row is broken.took)
+    ]
+
+pub step_breaks_off : (problem : BoxProblem) (plan : SearchPlan) (old : Frontier) (before mid now : Option (List ℕ)) (seat turn : ℕ) (is : IsRunning problem plan old before mid)
+    → seat ≡ named_seat plan.seats plan.order turn → turn ≡ old.finished → old.finished < plan.budget
     → IsBrokenStep problem is.rows seat old mid now → IsPrefixLogged problem plan before now
-step_breaks_off problem plan old before mid now seat is broken =
+step_breaks_off problem plan old before mid now seat turn is named counted within broken =
     let rows = is.rows in
     let planned = is_planned problem plan old before mid is in
     let there = planned.logs.placed broken.node (taken_there (state_of problem.root rows old).seats broken.others seat broken.node broken.takes) in
@@ -155,6 +191,7 @@ step_breaks_off problem plan old before mid now seat is broken =
     (subst (λ (text : List ℕ). AppendsPrefix mid now (old.gather.kept ++ text)) (sym (row_then rows broken.row claims.Infeasible))
     (subst (AppendsPrefix mid now) (append_assoc old.gather.kept (text_of (row_lines (length rows) broken.row)) (ended (footer_line claims.Infeasible)))
     (prefix_of_first mid now (old.gather.kept ++ text_of (row_lines (length rows) broken.row)) (ended (footer_line claims.Infeasible)) broken.took)))
+    (step_cut_short problem plan old before mid now seat turn is named counted within broken)
 
 -- a search stays one where the rule of its brancher is kept in another place
 pub still_search : (problem : BoxProblem) (plan : SearchPlan) (asked : Option Rule) (frontier : Frontier) (before now : Option (List ℕ)) → asked ≡ plan.asked
@@ -165,19 +202,19 @@ still_search problem plan asked frontier before now same is = record {
   keeps = subst (λ (rule : Option Rule). Keeps problem rule is.rows frontier) (sym same) is.keeps;
 }
 
-pub runs_on_asked : (problem : BoxProblem) (plan : SearchPlan) (asked : Option Rule) (old new : Frontier) (before mid now : Option (List ℕ)) (seat turn : ℕ) → asked ≡ plan.asked
+pub runs_on_asked : {heard told : Option (Option (List Event))} (problem : BoxProblem) (plan : SearchPlan) (asked : Option Rule) (old new : Frontier) (before mid now : Option (List ℕ)) (seat turn : ℕ) → asked ≡ plan.asked
     → IsRunning problem plan old before mid → seat ≡ named_seat plan.seats plan.order turn → turn ≡ old.finished → old.finished < plan.budget → IsSearchOf problem asked new
     → length new.seats.seats.items ≡ length old.seats.seats.items
-    → ((rows : List Row) → Keeps problem asked rows old → IsStepped problem asked rows seat old new mid now) → IsRunning problem plan new before now
-runs_on_asked problem plan asked old new before mid now seat turn same is named counted within search seats stepped =
+    → ((rows : List Row) → Keeps problem asked rows old → IsStepped problem asked rows seat old new mid now heard told) → IsRunning problem plan new before now
+runs_on_asked {heard} {told} problem plan asked old new before mid now seat turn same is named counted within search seats stepped =
     runs_on problem plan old new before mid now seat turn is named counted within search.stands seats
-    (subst (λ (rule : Option Rule). IsStepped problem rule is.rows seat old new mid now) same
+    (subst (λ (rule : Option Rule). IsStepped problem rule is.rows seat old new mid now heard told) same
     (stepped is.rows (subst (λ (rule : Option Rule). Keeps problem rule is.rows old) (sym same) is.keeps)))
 
-pub breaks_off_asked : (problem : BoxProblem) (plan : SearchPlan) (asked : Option Rule) (old : Frontier) (before mid now : Option (List ℕ)) (seat : ℕ) → asked ≡ plan.asked
-    → IsRunning problem plan old before mid → ((rows : List Row) → Keeps problem asked rows old → IsBrokenStep problem rows seat old mid now) → IsPrefixLogged problem plan before now
-breaks_off_asked problem plan asked old before mid now seat same is broken =
-    step_breaks_off problem plan old before mid now seat is
+pub breaks_off_asked : (problem : BoxProblem) (plan : SearchPlan) (asked : Option Rule) (old : Frontier) (before mid now : Option (List ℕ)) (seat turn : ℕ) → asked ≡ plan.asked
+    → IsRunning problem plan old before mid → seat ≡ named_seat plan.seats plan.order turn → turn ≡ old.finished → old.finished < plan.budget → ((rows : List Row) → Keeps problem asked rows old → IsBrokenStep problem rows seat old mid now) → IsPrefixLogged problem plan before now
+breaks_off_asked problem plan asked old before mid now seat turn same is named counted within broken =
+    step_breaks_off problem plan old before mid now seat turn is named counted within
     (broken is.rows (subst (λ (rule : Option Rule). Keeps problem rule is.rows old) (sym same) is.keeps))
 
 pub seat_there : (problem : BoxProblem) (plan : SearchPlan) (frontier : Frontier) (before now : Option (List ℕ)) (seat seats : ℕ) → IsRunning problem plan frontier before now → seat < seats
@@ -193,6 +230,10 @@ pub named_by_turn : (plan : SearchPlan) (seats turn : ℕ) (order : Option ℕ) 
 named_by_turn plan seats turn order seat is same_seats same_order =
     is ∙ (ap (λ (n : ℕ). named_seat n order turn) same_seats ∙ ap (λ (o : Option ℕ). named_seat plan.seats o turn) same_order)
 
+-- lists of members with the same reasons, place by place, are of one length
+pub same_long : {A B : Type 0} (f : A → B) (xs ys : List A) → map f xs ≡ map f ys → length xs ≡ length ys
+same_long f xs ys same = sym (length-map xs f) ∙ (ap length same ∙ length-map ys f)
+
 -- a search that has rows has some
 pub some_kept : (problem : BoxProblem) (asked : Option Rule) (frontier : Frontier) → IsSearchOf problem asked frontier → (rows : List Row) × Keeps problem asked rows frontier
 some_kept problem asked frontier search = (search.rows, search.keeps)
@@ -201,8 +242,8 @@ pub some_asked : (problem : BoxProblem) (asked : Option Rule) (frontier : Fronti
     → (rule : Option Rule) × (rows : List Row) × Keeps problem rule rows frontier
 some_asked problem asked frontier search = (asked, search.rows, search.keeps)
 
-pub searches_on : (problem : BoxProblem) (asked : Option Rule) (old new : Frontier) (seat : ℕ) (mid now : Option (List ℕ)) → IsSearchOf problem asked old → Stands problem new
-    → ((rows : List Row) → Keeps problem asked rows old → IsStepped problem asked rows seat old new mid now) → IsSearchOf problem asked new
+pub searches_on : {heard told : Option (Option (List Event))} (problem : BoxProblem) (asked : Option Rule) (old new : Frontier) (seat : ℕ) (mid now : Option (List ℕ)) → IsSearchOf problem asked old → Stands problem new
+    → ((rows : List Row) → Keeps problem asked rows old → IsStepped problem asked rows seat old new mid now heard told) → IsSearchOf problem asked new
 searches_on problem asked old new seat mid now search stands stepped =
     let on = stepped search.rows search.keeps in
     record { stands = stands; rows = search.rows ++ on.row ∷ []; keeps = on.keeps }

@@ -1,6 +1,6 @@
 -- A seat takes a step.
 use Rattle.std.proofs.Common.{◌≡◌, inl, inr, ℕ, ◌+◌, ◌<◌, ◌≤◌, Bool, true, false, List, [], ◌∷◌, ◌++◌, length, map, Option, Some, arith, refl, sym, ap, subst, ◌∙◌}
-use Rattle.std.proofs.lemmas.List.{length-set}
+use Rattle.std.proofs.lemmas.List.{length-map, length-set}
 use Rattle.sopl_base.specs.declared.reason.Side.TheVariants.{Le, Ge}
 use Rattle.brancher.specs.Rules.{Rule}
 use Rattle.box_problem.specs.Box.{Box, Inside}
@@ -15,6 +15,7 @@ use Rattle.log_rows.specs.LogLaws.{half}
 use Rattle.log_rows.specs.Made.{IsFinished, MadeEnd, Pending, best_after}
 use Rattle.log_rows.specs.Ranges.{RowFits}
 use Rattle.open_nodes.specs.declared.halving.Halving.{Halving}
+use Rattle.open_nodes.specs.declared.seats.Seat.{Seat}
 use Rattle.open_nodes.specs.declared.seats.Seats.{Seats}
 use Rattle.open_nodes.specs.declared.walk.BoxWalk.{BoxWalk}
 use Rattle.open_nodes.specs.Takes.{Gives, Takes, all_nodes, lists_of}
@@ -24,7 +25,7 @@ use Rattle.sopl_search.specs.declared.ending.NodeEnd.TheVariants.{Refuted, Split
 use Rattle.sopl_search.specs.declared.frontier.Frontier.{Frontier}
 use Rattle.sopl_search.specs.declared.frontier.WorkedNode.{WorkedNode}
 use Rattle.sopl_search.specs.declared.outcome.Found.{Found}
-use Rattle.sopl_search.specs.Crews.{GivesSides, IsCrewStep}
+use Rattle.sopl_search.specs.Crews.{GivesSides, IsCrewStep, IsNextRow}
 use Rattle.sopl_search.specs.Ends.{Ends, IsNewPoint, IsPosed, IsSplit}
 use Rattle.sopl_search.specs.Frontiers.{AreKept, AreRowNodes, IsOnRows, IsSound, Keeps, Stands, boxes, nodes_of, opens, pendings, state_of}
 use Rattle.sopl_search.specs.Lines.{line_of, new_row, parent_above, pending_of}
@@ -82,6 +83,21 @@ has_worked problem asked rows seat old mid put worked row before now exists is w
   steps = subst (λ (w : BoxWalk). Appended problem (value_of old.best) (pending_of problem.root worked.node).at [] worked.steps w.store.box) (sym written.walk)
       is.steps;
   ends = subst (λ (w : BoxWalk). Ends problem (value_of old.best) asked worked.depth w.store.box worked.end) (sym written.walk) is.ends;
+}
+
+-- before its lines are written
+pub worked_there : (problem : BoxProblem) (asked : Option Rule) (rows : List Row) (seat : ℕ) (old mid : Frontier) (worked : WorkedNode)
+    → seat < length old.seats.seats.items → IsWorked problem asked rows seat old mid worked → HasWorked problem asked rows seat old mid worked worked.end
+worked_there problem asked rows seat old mid worked exists is = record {
+  exists = exists;
+  takes = is.takes;
+  counted = is.counted;
+  finished = is.finished;
+  best = is.best;
+  walk = is.walk;
+  depth = is.depth;
+  steps = is.steps;
+  ends = is.ends;
 }
 
 -- the row of a node that was worked on and ends so
@@ -196,6 +212,22 @@ module _ (problem : BoxProblem) (asked : Option Rule) (rows : List Row) (seat : 
       (gives_seen (pending_of problem.root) (lists_of put.seats) (lists_of new.seats) seat gives.gives.older gives.gives.newer gives.gives.gives)
   gives_sides Point is ended = ap (λ (s : Seats). map (pendings problem.root) (lists_of s)) ended.ends.0
 
+  -- the seat is one of the crew
+  seat_exists : (end : NodeEnd) → HasWorked problem asked rows seat old put worked end → seat < length (map (pendings problem.root) (lists_of old.seats))
+  seat_exists end is =
+      omega (arith, is.exists, length-map (lists_of old.seats) (pendings problem.root), length-map old.seats.seats.items (λ (s : Seat). s.nodes.items))
+
+  pub next_row : (end : NodeEnd) → HasWorked problem asked rows seat old put worked end → IsNextRow problem seat (state_of problem.root rows old) (row_by worked end)
+  next_row end is = record {
+    node = pending_of problem.root worked.node;
+    others = map (pendings problem.root) (lists_of put.seats);
+    exists = seat_exists end is;
+    takes = takes_seen (pending_of problem.root) (lists_of old.seats) (lists_of put.seats) seat worked.node is.takes;
+    parent = refl;
+    made = record { steps = next.right problem asked rows seat old put worked end posed keeps is; end = made_end end is };
+    finished = ends_finished end;
+  }
+
   pub crew_step : (end : NodeEnd) → HasWorked problem asked rows seat old put worked end → IsEnded problem put new seat worked end
       → IsCrewStep problem seat (state_of problem.root rows old) (state_of problem.root (rows ++ row_by worked end ∷ []) new)
   crew_step end is ended = record {
@@ -203,6 +235,7 @@ module _ (problem : BoxProblem) (asked : Option Rule) (rows : List Row) (seat : 
     others = map (pendings problem.root) (lists_of put.seats);
     steps = worked.steps;
     end = line_of end;
+    exists = seat_exists end is;
     takes = takes_seen (pending_of problem.root) (lists_of old.seats) (lists_of put.seats) seat worked.node is.takes;
     made = record { steps = next.right problem asked rows seat old put worked end posed keeps is; end = made_end end is };
     finished = ends_finished end;

@@ -22,7 +22,7 @@ not_twice rows parent first second ordered before exists one other =
 low_first : (problem : BoxProblem) (plan : SearchPlan) (outcome : Outcome) (rows : List Row) → plan.seats ≡ 1 → IsLowFirst plan.asked → IsTree problem plan outcome rows → LowStandsFirst rows
 low_first problem plan outcome rows one low tree =
     subst LowStandsFirst (sym tree.rows_are)
-    (low_first_with_open problem tree.state.rows tree.opens tree.state.best tree.logs tree.in_order (tree.planned.low_first one low))
+    (low_first_with_open problem tree.state.rows tree.opens tree.state.best tree.logs tree.end.in_order (tree.planned.low_first one low))
 
 pub sides_are_ordered : (problem : BoxProblem) (plan : SearchPlan) (outcome : Outcome) (rows : List Row) (n i j : ℕ) → plan.seats ≡ 1 → IsLowFirst plan.asked
     → IsTree problem plan outcome rows → i < length rows → j < length rows

@@ -1,8 +1,8 @@
 -- The tree of a search in the end, and its log.
-use Rattle.std.proofs.Common.{◌≡◌, ℕ, ◌+◌, ◌^◌, ◌<◌, ◌≤◌, List, [], ◌∷◌, ◌++◌, length, map, Option, Some, None, Result, Ok, Err, IfOk, OnErr, All, Contains, IsPermutation, arith, refl, sym, ap, subst, ◌∙◌, append_assoc}
+use Rattle.std.proofs.Common.{◌≡◌, ◌⊎◌, inl, inr, ℕ, ◌+◌, ◌^◌, ◌<◌, ◌≤◌, List, [], ◌∷◌, ◌++◌, length, map, Option, Some, None, Result, Ok, Err, IfOk, OnErr, All, Contains, IsPermutation, arith, refl, sym, ap, subst, ◌∙◌, append_assoc}
 use Rattle.std.proofs.lemmas.List.{append-nil, length-append, length-map}
 use Rattle.std.proofs.lemmas.List.Elements.{All-append, All-cons, All-nil}
-use Rattle.std.proofs.lemmas.List.Sorted.{Contains-permutation, IsPermutation-map, IsPermutation-sym}
+use Rattle.std.proofs.lemmas.List.Sorted.{Contains-permutation, IsPermutation-map, IsPermutation-sym, length_permutation}
 use Rattle.std.specs.Io.KnownBytes.{Appends, Keeps as KeepsBytes}
 use Rattle.sopl_io.specs.Transfer.{AppendsPrefix}
 use Rattle.sopl_io.specs.Gathered.{GathersAll}
@@ -27,17 +27,17 @@ use Rattle.sopl_base.specs.declared.stop.SearchStop.TheVariants.{NoMemory, Write
 use Rattle.sopl_search.specs.declared.frontier.Frontier.{Frontier}
 use Rattle.sopl_search.specs.declared.outcome.Outcome.{Outcome}
 use Rattle.sopl_search.specs.declared.outcome.Outcome.TheVariants.{Optimal, Infeasible, Bounded}
-use Rattle.sopl_search.specs.Closes.{AreListed, EndsBy, IsBrokenClose, IsClosed, rest_text}
+use Rattle.sopl_search.specs.Closes.{AreListed, IsBrokenClose, IsClosed, rest_text}
 use Rattle.sopl_search.specs.Ends.{IsPosed}
 use Rattle.sopl_search.specs.Frontiers.{IsRunning, boxes, nodes_of, opens, state_of}
 use Rattle.sopl_search.specs.Lines.{pending_of}
-use Rattle.sopl_search.specs.Logged.{IsLogged, IsPointRow, IsPrefixLogged, IsTree, SearchPlan, SpendsAll, footer_of}
-use Rattle.sopl_search.specs.Outcomes.{HasCause, value_of}
+use Rattle.sopl_search.specs.Logged.{IsLogged, IsPlannedEnd, IsPointRow, IsPrefixLogged, IsTree, SearchPlan, SpendsAll, at_end, footer_of, in_rows}
+use Rattle.sopl_search.specs.Outcomes.{EndsBy, HasCause, value_of}
 use Rattle.sopl_search.proofs.Answered.{ends_shuffled}
 use Rattle.sopl_search.proofs.Footers.{claims_so}
 use Rattle.sopl_search.proofs.InOrder.{apart_shuffled}
 use Rattle.sopl_search.proofs.Points.{best_stays, ends_tell}
-use Rattle.sopl_search.proofs.Running.{all_open, breaks_off, is_planned, whole_text}
+use Rattle.sopl_search.proofs.Running.{all_open, breaks_off, is_planned, kept_appends, took_rows, took_whole, whole_text}
 
 -- the rows of open nodes fit
 parent_fits : (n : ℕ) (parent : Option Parent) → n < 2 ^ 64 → IsWithin n parent → ParentFits parent
@@ -50,6 +50,20 @@ open_fit n (x ∷ nodes) small within =
     All-cons RowFits (open_row x) (map open_row nodes)
     (record { parent_fits = parent_fits n x.parent small (within x (middle_is [] nodes x)); steps_fit = All-nil StepFits; end_fits = tt })
     (open_fit n nodes small (λ y has. within y (others_have [] nodes x y has)))
+
+-- a search that gives up has spent its budget
+pub spends : (problem : BoxProblem) (plan : SearchPlan) (frontier : Frontier) (before now : Option (List ℕ)) (outcome : Outcome) (is : IsRunning problem plan frontier before now)
+    → (0 < frontier.open_count → frontier.finished ≡ plan.budget) → EndsBy problem frontier.best (boxes (opens problem.root frontier)) outcome → SpendsAll outcome (length is.rows) plan.budget
+spends problem plan frontier before now (Optimal value cells) is done ends = tt
+spends problem plan frontier before now Infeasible is done ends = tt
+spends problem plan frontier before now (Bounded found bound) is done ends =
+    is.keeps.kept.counted
+    ∙ done (omega (arith, ends.2, length-map (opens problem.root frontier) (λ (x : Pending). x.at), length-map (nodes_of frontier) (pending_of problem.root), is.keeps.counted))
+
+-- no node is open, or the budget is spent
+none_or_all : (nodes : List Pending) (count finished n budget : ℕ) → length nodes ≡ count → n ≡ finished → (0 < count → finished ≡ budget) → (nodes ≡ []) ⊎ (n ≡ budget)
+none_or_all [] count finished n budget long counted done = inl refl
+none_or_all (x ∷ nodes) count finished n budget long counted done = inr (counted ∙ done (omega (arith, long)))
 
 -- a search with its open nodes by their parents
 module _ (problem : BoxProblem) (plan : SearchPlan) (frontier : Frontier) (before now : Option (List ℕ)) (nodes : List Pending)
@@ -97,17 +111,31 @@ module _ (problem : BoxProblem) (plan : SearchPlan) (frontier : Frontier) (befor
       logs_are_accepted problem bits_in is.rows nodes (value_of frontier.best) (footer_of outcome) posed.lawful listed_logs is.keeps.kept.are_finished (omega (arith, some, is.keeps.kept.counted))
       not_too_deep (claims_so problem frontier.best nodes outcome (ends_listed outcome ends))
 
-  pub is_tree : (outcome : Outcome) → IsPosed problem → 0 < frontier.finished → EndsBy problem frontier.best (boxes (opens problem.root frontier)) outcome
-      → SpendsAll outcome (length is.rows) plan.budget → IsTree problem plan outcome (with_open is.rows nodes)
-  is_tree outcome posed some ends spent = record {
+  listed_long : length nodes ≡ frontier.open_count
+  listed_long =
+      length_permutation (opens problem.root frontier) nodes listed.same ∙ (length-map (nodes_of frontier) (pending_of problem.root) ∙ is.keeps.counted)
+
+  pub planned_end : (outcome : Outcome) → (0 < frontier.open_count → frontier.finished ≡ plan.budget) → EndsBy problem frontier.best (boxes (opens problem.root frontier)) outcome
+      → IsPlannedEnd problem plan (state_of problem.root is.rows frontier) outcome nodes
+  planned_end outcome done ends = record {
+    are_open = subst (λ (xs : List Pending). IsPermutation xs nodes) (sym (all_open problem is.rows frontier)) listed.same;
+    in_order = listed.in_order;
+    done = none_or_all nodes frontier.open_count frontier.finished (length is.rows) plan.budget listed_long is.keeps.kept.counted done;
+    spent = spends problem plan frontier before now outcome is done ends;
+    best = frontier.best;
+    best_is = refl;
+    ends = ends_listed outcome ends;
+  }
+
+  pub is_tree : (outcome : Outcome) → IsPosed problem → 0 < frontier.finished → (0 < frontier.open_count → frontier.finished ≡ plan.budget)
+      → EndsBy problem frontier.best (boxes (opens problem.root frontier)) outcome → IsTree problem plan outcome (with_open is.rows nodes)
+  is_tree outcome posed some done ends = record {
     state = state_of problem.root is.rows frontier;
     opens = nodes;
     planned = is_planned problem plan frontier before now is;
-    are_open = subst (λ (xs : List Pending). IsPermutation xs nodes) (sym (all_open problem is.rows frontier)) listed.same;
+    end = planned_end outcome done ends;
     logs = listed_logs;
     rows_are = refl;
-    spent = spent;
-    in_order = listed.in_order;
     fit = All-append RowFits is.rows (map open_row nodes) is.keeps.kept.fit listed_fit;
     accepted = listed_accepted outcome posed some ends;
     by_bits = λ none. rows_shallow (bits_in problem.root) (is.keeps.kept.by_bits none);
@@ -115,15 +143,6 @@ module _ (problem : BoxProblem) (plan : SearchPlan) (frontier : Frontier) (befor
     found = ends_tell (IsPointRow problem (with_open is.rows nodes)) problem frontier.best (boxes (opens problem.root frontier)) outcome ends
         (best_stays problem is.rows (map open_row nodes) frontier.best is.keeps.kept.found);
   }
-
--- a search that gives up has spent its budget
-pub spends : (problem : BoxProblem) (plan : SearchPlan) (frontier : Frontier) (before now : Option (List ℕ)) (outcome : Outcome) (is : IsRunning problem plan frontier before now)
-    → (0 < frontier.open_count → frontier.finished ≡ plan.budget) → EndsBy problem frontier.best (boxes (opens problem.root frontier)) outcome → SpendsAll outcome (length is.rows) plan.budget
-spends problem plan frontier before now (Optimal value cells) is done ends = tt
-spends problem plan frontier before now Infeasible is done ends = tt
-spends problem plan frontier before now (Bounded found bound) is done ends =
-    is.keeps.kept.counted
-    ∙ done (omega (arith, ends.2, length-map (opens problem.root frontier) (λ (x : Pending). x.at), length-map (nodes_of frontier) (pending_of problem.root), is.keeps.counted))
 
 pub caused : (problem : BoxProblem) (finished budget nodes : ℕ) (outcome : Outcome) → nodes ≡ finished → SpendsAll outcome nodes budget → HasCause problem finished outcome → HasCause problem budget outcome
 caused problem finished budget nodes (Optimal value cells) counted spent cause = tt
@@ -146,8 +165,7 @@ pub is_logged : (problem : BoxProblem) (plan : SearchPlan) (frontier : Frontier)
     → IsClosed problem frontier mid now outcome → IsLogged problem plan outcome before now
 is_logged problem plan frontier before mid now outcome is posed some small done closed =
     let rows = with_open is.rows closed.nodes in
-    let tree = is_tree problem plan frontier before mid closed.nodes is closed.listed small outcome posed some closed.ends
-    (spends problem plan frontier before mid outcome is done closed.ends) in
+    let tree = is_tree problem plan frontier before mid closed.nodes is closed.listed small outcome posed some done closed.ends in
     record {
       bytes = text_of (log_lines rows (footer_of outcome));
       is_log = record {
@@ -164,19 +182,19 @@ is_logged problem plan frontier before mid now outcome is posed some small done 
 
 -- or where it breaks off at the end
 pub close_breaks_off : (problem : BoxProblem) (plan : SearchPlan) (frontier : Frontier) (before mid now : Option (List ℕ)) → IsRunning problem plan frontier before mid
-    → 0 < frontier.finished → frontier.finished < 2 ^ 64 → IsBrokenClose problem frontier mid now → IsPrefixLogged problem plan before now
-close_breaks_off problem plan frontier before mid now is some small broken =
-    breaks_off problem plan frontier before mid now (map open_row broken.nodes) broken.footer is
+    → 0 < frontier.finished → frontier.finished < 2 ^ 64 → (0 < frontier.open_count → frontier.finished ≡ plan.budget) → IsBrokenClose problem frontier mid now
+    → IsPrefixLogged problem plan before now
+close_breaks_off problem plan frontier before mid now is some small done broken =
+    let footer = footer_of broken.outcome in
+    let took : AppendsPrefix mid now (frontier.gather.kept ++ text_of (rows_lines (length is.rows) (map open_row broken.nodes) ++ footer_line footer ∷ [])) =
+    subst (λ (l : List ℕ). AppendsPrefix mid now (frontier.gather.kept ++ l)) (rest_from problem plan frontier before mid broken.nodes footer is) broken.took in
+    breaks_off problem plan frontier before mid now (map open_row broken.nodes) footer is
     (listed_ordered problem plan frontier before mid broken.nodes is broken.listed small)
     (omega (arith, some, is.keeps.kept.counted, length-append is.rows (map open_row broken.nodes)))
     (listed_fit problem plan frontier before mid broken.nodes is broken.listed small)
-    broken.fits
-    (subst (λ (l : List ℕ). AppendsPrefix mid now (frontier.gather.kept ++ l)) (rest_from problem plan frontier before mid broken.nodes broken.footer is) broken.took)
-
-kept_appends : (mid now : Option (List ℕ)) → KeepsBytes mid now → Appends mid now []
-kept_appends None now keeps = tt
-kept_appends (Some xs) None keeps = absurd keeps
-kept_appends (Some xs) (Some ys) keeps = keeps ∙ sym (append-nil xs)
+    broken.fits took
+    (at_end broken.outcome broken.nodes (planned_end problem plan frontier before mid broken.nodes is broken.listed small broken.outcome done broken.ends)
+    (took_whole problem plan frontier before mid now (map open_row broken.nodes) footer is took))
 
 pub close_logs_nothing : (problem : BoxProblem) (plan : SearchPlan) (frontier : Frontier) (before mid now : Option (List ℕ)) → IsRunning problem plan frontier before mid → 0 < frontier.finished
     → KeepsBytes mid now → IsPrefixLogged problem plan before now
@@ -184,7 +202,7 @@ close_logs_nothing problem plan frontier before mid now is some keeps =
     breaks_off problem plan frontier before mid now [] claims.Infeasible is
     (subst AreOrdered (sym (append-nil is.rows)) is.keeps.kept.logs.hangs)
     (omega (arith, some, is.keeps.kept.counted, length-append is.rows []))
-    (All-nil RowFits) tt (0, kept_appends mid now keeps)
+    (All-nil RowFits) tt (0, kept_appends mid now keeps) (in_rows (took_rows problem plan frontier before mid now is keeps))
 
 -- what is logged, by what the last call of a search gives
 pub all_logged : (problem : BoxProblem) (plan : SearchPlan) (frontier : Frontier) (before mid now : Option (List ℕ)) (result : Result Outcome SearchStop) → IsRunning problem plan frontier before mid
@@ -201,8 +219,8 @@ all_caused problem plan frontier before mid now (Ok outcome) is done closed caus
 all_caused problem plan frontier before mid now (Err stop) is done closed cause = tt
 
 pub prefix_logged : (problem : BoxProblem) (plan : SearchPlan) (frontier : Frontier) (before mid now : Option (List ℕ)) (result : Result Outcome SearchStop) → IsRunning problem plan frontier before mid
-    → 0 < frontier.finished → frontier.finished < 2 ^ 64 → (result ≡ Err Write → IsBrokenClose problem frontier mid now) → (result ≡ Err NoMemory → KeepsBytes mid now)
+    → 0 < frontier.finished → frontier.finished < 2 ^ 64 → (0 < frontier.open_count → frontier.finished ≡ plan.budget) → (result ≡ Err Write → IsBrokenClose problem frontier mid now) → (result ≡ Err NoMemory → KeepsBytes mid now)
     → OnErr result (IsPrefixLogged problem plan before now)
-prefix_logged problem plan frontier before mid now (Ok outcome) is some small refused nothing = tt
-prefix_logged problem plan frontier before mid now (Err NoMemory) is some small refused nothing = close_logs_nothing problem plan frontier before mid now is some (nothing refl)
-prefix_logged problem plan frontier before mid now (Err Write) is some small refused nothing = close_breaks_off problem plan frontier before mid now is some small (refused refl)
+prefix_logged problem plan frontier before mid now (Ok outcome) is some small done refused nothing = tt
+prefix_logged problem plan frontier before mid now (Err NoMemory) is some small done refused nothing = close_logs_nothing problem plan frontier before mid now is some (nothing refl)
+prefix_logged problem plan frontier before mid now (Err Write) is some small done refused nothing = close_breaks_off problem plan frontier before mid now is some small done (refused refl)

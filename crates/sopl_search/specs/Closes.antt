@@ -1,31 +1,18 @@
 -- How a search is closed.
-use Rattle.std.specs.Prelude.{◌≡◌, ℕ, ◌+◌, ◌<◌, List, [], ◌∷◌, ◌++◌, length, map, Option, None, Some, IfSome, All, AllPairs, Any, IsPermutation}
+use Rattle.std.specs.Prelude.{ℕ, List, [], ◌∷◌, ◌++◌, map, Option, AllPairs, IsPermutation}
 use Rattle.std.specs.Io.KnownBytes.{Appends}
-use Rattle.sopl_base.specs.Better.{IsBetter}
 use Rattle.sopl_io.specs.Transfer.{AppendsPrefix}
 use Rattle.box_problem.specs.Box.{Box}
 use Rattle.box_problem.specs.BoxProblem.{BoxProblem}
-use Rattle.box_problem.specs.Opens.{IsBound}
 use Rattle.log_rows.specs.declared.rows.Footer.{Footer}
 use Rattle.log_rows.specs.Lines.{footer_line, rows_lines, text_of}
 use Rattle.log_rows.specs.Made.{Pending, open_row}
 use Rattle.log_rows.specs.Ranges.{FooterFits}
 use Rattle.sopl_search.specs.declared.frontier.Frontier.{Frontier}
-use Rattle.sopl_search.specs.declared.outcome.Found.{Found}
 use Rattle.sopl_search.specs.declared.outcome.Outcome.{Outcome}
-use Rattle.sopl_search.specs.declared.outcome.Outcome.TheVariants.{Optimal, Infeasible, Bounded}
 use Rattle.sopl_search.specs.Logged.{StandsBefore, footer_of}
-use Rattle.sopl_search.specs.Outcomes.{found_of, value_of}
+use Rattle.sopl_search.specs.Outcomes.{EndsBy}
 use Rattle.sopl_search.specs.Frontiers.{boxes, opens}
-
--- why a search ends so: where no node is open, the best point is the answer, or there is none; it is the answer, too, where no open box has a better end;
--- else it is told with the best of its value and of the better ends
-abbrev pub EndsBy : BoxProblem → Option Found → List Box → Outcome → Type 0
-EndsBy problem best bs (Optimal value cells) = (best ≡ Some (found_of value cells)) × All (λ b. ¬ IsBetter problem.direction (problem.end b) value) bs
-EndsBy problem best bs Infeasible = (best ≡ None) × (bs ≡ [])
-EndsBy problem best bs (Bounded found bound) =
-    (found ≡ best) × IsBound problem (value_of best) bs bound × (0 < length bs)
-    × IfSome best (λ f. Any (λ b. IsBetter problem.direction (problem.end b) f.value) bs)
 
 -- the lines with which a log ends behind these rows: those of open nodes, and a claim
 abbrev pub rest_text : ℕ → List Pending → Footer → List ℕ
@@ -44,10 +31,11 @@ pub record IsClosed (problem : BoxProblem) (old : Frontier) (before now : Option
   pub fits : FooterFits (footer_of outcome)
   pub took : Appends before now (old.gather.kept ++ rest_text old.finished nodes (footer_of outcome))
 
--- or a prefix of that
+-- or a prefix of that, for the outcome with which it would have been closed
 pub record IsBrokenClose (problem : BoxProblem) (old : Frontier) (before now : Option (List ℕ)) : Type 0 where
   pub nodes : List Pending
-  pub footer : Footer
+  pub outcome : Outcome
   pub listed : AreListed problem.root old nodes
-  pub fits : FooterFits footer
-  pub took : AppendsPrefix before now (old.gather.kept ++ rest_text old.finished nodes footer)
+  pub ends : EndsBy problem old.best (boxes (opens problem.root old)) outcome
+  pub fits : FooterFits (footer_of outcome)
+  pub took : AppendsPrefix before now (old.gather.kept ++ rest_text old.finished nodes (footer_of outcome))

@@ -1,5 +1,5 @@
 -- A search by several seats, step by step.
-use Rattle.std.specs.Prelude.{◌≡◌, ◌⊎◌, ℕ, ◌≤◌, ℤ, List, [], ◌∷◌, ◌++◌, length, replicate, slice_set, Option, None}
+use Rattle.std.specs.Prelude.{◌≡◌, ◌⊎◌, ℕ, ◌<◌, ◌≤◌, ℤ, List, [], ◌∷◌, ◌++◌, length, replicate, slice_set, Option, None}
 use Rattle.sopl_base.specs.declared.reason.Side.TheVariants.{Le, Ge}
 use Rattle.sopl_base.specs.declared.reason.Step.{Step}
 use Rattle.box_problem.specs.Box.{Box}
@@ -32,13 +32,25 @@ GivesSides n b (Split cut) old new seat = Gives old new seat (half n b cut Ge) (
 GivesSides n b Point old new seat = new ≡ old
 GivesSides n b Unfinished old new seat = ⊥
 
--- a step of a seat: it takes its newest node, or else the oldest one of the first seat that has one. The node is finished by steps and an end that
--- are right against the best value, and gets the next number
+-- the row that a step of a seat adds: the seat exists, and takes its newest node, or else the oldest one of the first seat that has one. The row finishes this
+-- node by steps and an end that are right against the best value
+pub record IsNextRow (problem : BoxProblem) (seat : ℕ) (state : CrewState) (row : Row) : Type 0 where
+  pub node : Pending
+  pub others : List (List Pending)
+  pub exists : seat < length state.seats
+  pub takes : Takes state.seats others seat node
+  pub parent : row.parent ≡ node.parent
+  pub made : Made problem state.best node.at row (after_steps node.at row.steps)
+  pub finished : IsFinished row.end
+
+-- a step of a seat that exists: it takes its newest node, or else the oldest one of the first seat that has one. The node is finished by steps and an
+-- end that are right against the best value, and gets the next number
 pub record IsCrewStep (problem : BoxProblem) (seat : ℕ) (old new : CrewState) : Type 0 where
   pub node : Pending
   pub others : List (List Pending)
   pub steps : List Step
   pub end : EndLine
+  pub exists : seat < length old.seats
   pub takes : Takes old.seats others seat node
   pub made : Made problem old.best node.at (row_of node steps end) (after_steps node.at steps)
   pub finished : IsFinished end

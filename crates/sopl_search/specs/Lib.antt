@@ -5,6 +5,7 @@ pub mod Outcomes
 pub mod Crews
 pub mod Logged
 pub mod TreeLaws
+pub mod Events
 pub mod Frontiers
 pub mod Moves
 pub mod Closes

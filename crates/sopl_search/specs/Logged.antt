@@ -1,5 +1,5 @@
 -- The log of a search.
-use Rattle.std.specs.Prelude.{◌≡◌, ◌⊎◌, ℕ, ◌<◌, ◌≤◌, Bool, List, ◌++◌, length, Option, None, Some, IfSome, All, AllPairs, IsPermutation}
+use Rattle.std.specs.Prelude.{◌≡◌, ◌⊎◌, ℕ, ◌<◌, ◌≤◌, Bool, List, [], ◌∷◌, ◌++◌, length, map, Option, None, Some, IfSome, All, AllPairs, IsPermutation}
 use Rattle.std.specs.Io.KnownBytes.{Appends}
 use Rattle.sopl_base.specs.declared.reason.Side.TheVariants.{Le, Ge}
 use Rattle.sopl_io.specs.Transfer.{AppendsPrefix}
@@ -17,17 +17,17 @@ use Rattle.log_rows.specs.declared.rows.Row.{Row}
 use Rattle.log_rows.specs.Rows.{row_at, final_of, depth_of}
 use Rattle.log_rows.specs.Made.{AreFinished, Logs, Pending, with_open}
 use Rattle.log_rows.specs.Accepted.{Accepted}
-use Rattle.log_rows.specs.Lines.{log_lines, text_of}
+use Rattle.log_rows.specs.Lines.{head_line, log_lines, rows_lines, text_of}
 use Rattle.log_rows.specs.LogText.{IsLogText}
 use Rattle.log_rows.specs.Ranges.{RowFits}
 use Rattle.sopl_search.specs.declared.outcome.Found.{Found}
 use Rattle.sopl_search.specs.declared.outcome.Outcome.{Outcome}
 use Rattle.sopl_search.specs.declared.outcome.Outcome.TheVariants.{Optimal, Infeasible, Bounded}
 use Rattle.sopl_search.specs.declared.schedule.Schedule.{Schedule}
-use Rattle.sopl_search.specs.Crews.{CrewState, IsCrewRun}
+use Rattle.sopl_search.specs.Crews.{CrewState, IsCrewRun, IsNextRow}
 use Rattle.sopl_search.specs.Ends.{IsPickedCut}
-use Rattle.sopl_search.specs.Schedules.{named_seats}
-use Rattle.sopl_search.specs.Outcomes.{found_of, value_of}
+use Rattle.sopl_search.specs.Schedules.{named_seat, named_seats}
+use Rattle.sopl_search.specs.Outcomes.{EndsBy, found_of, value_of}
 
 -- what a log claims of an outcome
 abbrev pub footer_of : Outcome → Footer
@@ -110,6 +110,17 @@ pub record IsPlannedRun (problem : BoxProblem) (plan : SearchPlan) (state : Crew
   pub splits : AllSplitPicked plan.asked problem.root state.rows
   pub low_first : plan.seats ≡ 1 → IsLowFirst plan.asked → LowStandsFirst state.rows
 
+-- how a search ends that leaves these nodes open, by their parents: it went on until no node was open, or as many were finished as the budget allows, and always
+-- to that number where it gives up; and its outcome is the one that follows from the best point and from the boxes of these nodes
+pub record IsPlannedEnd (problem : BoxProblem) (plan : SearchPlan) (state : CrewState) (outcome : Outcome) (opens : List Pending) : Type 0 where
+  pub are_open : IsPermutation (all_nodes state.seats) opens
+  pub in_order : AllPairs (λ (x y : Pending). StandsBefore x.parent y.parent) opens
+  pub done : (opens ≡ []) ⊎ (length state.rows ≡ plan.budget)
+  pub spent : SpendsAll outcome (length state.rows) plan.budget
+  pub best : Option Found
+  pub best_is : value_of best ≡ state.best
+  pub ends : EndsBy problem best (map (λ (x : Pending). x.at) opens) outcome
+
 -- these rows are the tree of a search by a plan: the nodes in the order in which they were finished, each by the seat whose turn it was, and behind them those that
 -- are left open, by their parents; each step and end is right against the best value of its moment, and the whole is a log that is accepted. Without a
 -- brancher no node lies deeper than the bits of the root, and none ever lies deeper than 1536; what the outcome found is the point of a row
@@ -117,11 +128,9 @@ pub record IsTree (problem : BoxProblem) (plan : SearchPlan) (outcome : Outcome)
   pub state : CrewState
   pub opens : List Pending
   pub planned : IsPlannedRun problem plan state
-  pub are_open : IsPermutation (all_nodes state.seats) opens
+  pub end : IsPlannedEnd problem plan state outcome opens
   pub logs : Logs problem state.rows opens state.best
   pub rows_are : rows ≡ with_open state.rows opens
-  pub spent : SpendsAll outcome (length state.rows) plan.budget
-  pub in_order : AllPairs (λ (x y : Pending). StandsBefore x.parent y.parent) opens
   pub fit : All RowFits rows
   pub accepted : Accepted problem rows (footer_of outcome)
   pub by_bits : plan.asked ≡ None → (i : ℕ) → i < length rows → depth_of rows i ≤ bits_in problem.root
@@ -141,7 +150,20 @@ pub record IsLogged (problem : BoxProblem) (plan : SearchPlan) (outcome : Outcom
   pub is_log : IsSearchLog problem plan outcome bytes
   pub took : Appends before now bytes
 
--- or a prefix of a log whose first rows, none or more, are those of a search by the plan
+-- the first line of a log and the lines of its first rows
+abbrev pub begun_text : List Row → List ℕ
+begun_text rows = text_of (head_line ∷ rows_lines 0 rows)
+
+-- where the log of a search was cut short: within the rows of the nodes that were finished; within these and the row of the next node, which is the one that the
+-- seat takes whose turn it is; or within these, the rows of the open nodes and the claim, where the search was at its end
+pub data IsCutShort (problem : BoxProblem) (plan : SearchPlan) (state : CrewState) (before now : Option (List ℕ)) : Type 0 where
+  in_rows : AppendsPrefix before now (begun_text state.rows) → IsCutShort problem plan state before now
+  in_next_row : (row : Row) → IsNextRow problem (named_seat plan.seats plan.order (length state.rows)) state row → length state.rows < plan.budget
+      → AppendsPrefix before now (begun_text (state.rows ++ row ∷ [])) → IsCutShort problem plan state before now
+  at_end : (outcome : Outcome) (opens : List Pending) → IsPlannedEnd problem plan state outcome opens
+      → AppendsPrefix before now (text_of (log_lines (with_open state.rows opens) (footer_of outcome))) → IsCutShort problem plan state before now
+
+-- or a prefix of a log whose first rows, none or more, are those of a search by the plan; what it took ends where the search was stopped
 pub record IsPrefixLogged (problem : BoxProblem) (plan : SearchPlan) (before now : Option (List ℕ)) : Type 0 where
   pub state : CrewState
   pub more : List Row
@@ -149,3 +171,4 @@ pub record IsPrefixLogged (problem : BoxProblem) (plan : SearchPlan) (before now
   pub planned : IsPlannedRun problem plan state
   pub is_text : IsLogText (state.rows ++ more) footer (text_of (log_lines (state.rows ++ more) footer))
   pub took : AppendsPrefix before now (text_of (log_lines (state.rows ++ more) footer))
+  pub cut_short : IsCutShort problem plan state before now

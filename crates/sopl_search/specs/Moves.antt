@@ -1,12 +1,14 @@
 -- What a step of a seat does.
-use Rattle.std.specs.Prelude.{◌≡◌, ℕ, ◌+◌, Bool, List, [], ◌∷◌, ◌++◌, length, Option, Some, IfSome, if◌then◌else◌}
+use Rattle.std.specs.Prelude.{◌≡◌, ◌⊎◌, ℕ, ◌+◌, Bool, List, [], ◌∷◌, ◌++◌, length, Option, Some, IfSome, if◌then◌else◌}
 use Rattle.sopl_base.specs.declared.reason.Side.{Side}
 use Rattle.sopl_base.specs.declared.reason.Side.TheVariants.{Le, Ge}
 use Rattle.sopl_base.specs.declared.reason.Step.{Step}
+use Rattle.std.specs.Io.KnownBytes.{Keeps as KeepsBytes}
 use Rattle.sopl_io.specs.Gathered.{GathersAll}
 use Rattle.sopl_io.specs.Transfer.{AppendsPrefix}
 use Rattle.brancher.specs.declared.choice.Event.{Event}
 use Rattle.brancher.specs.declared.choice.Event.TheVariants as events
+use Rattle.brancher.specs.Heard.{with_event_told}
 use Rattle.brancher.specs.Rules.{Rule}
 use Rattle.box_problem.specs.Box.{Box}
 use Rattle.box_problem.specs.BoxProblem.{BoxProblem}
@@ -27,8 +29,9 @@ use Rattle.sopl_search.specs.declared.ending.NodeEnd.TheVariants.{Refuted, Split
 use Rattle.sopl_search.specs.declared.frontier.Frontier.{Frontier}
 use Rattle.sopl_search.specs.declared.frontier.WorkedNode.{WorkedNode}
 use Rattle.sopl_search.specs.declared.outcome.Found.{Found}
-use Rattle.sopl_search.specs.Crews.{IsCrewStep}
+use Rattle.sopl_search.specs.Crews.{IsCrewStep, IsNextRow}
 use Rattle.sopl_search.specs.Ends.{Ends}
+use Rattle.sopl_search.specs.Events.{IsEventOf}
 use Rattle.sopl_search.specs.Lines.{cell_above, line_of, new_row, parent_above, pending_of, split_above}
 use Rattle.sopl_search.specs.Outcomes.{found_at, value_of}
 use Rattle.sopl_search.specs.Frontiers.{IsOnRows, Keeps, state_of}
@@ -110,14 +113,19 @@ event_told node (Refuted reason) = events.Closed (cell_above node)
 event_told node (Split cut low_first) = events.Split cut.cell cut.k
 event_told node Point = events.Found
 
--- a seat finished a node: the rows have one more, whose lines came behind what was kept for a sink
-pub record IsStepped (problem : BoxProblem) (asked : Option Rule) (rows : List Row) (seat : ℕ) (old new : Frontier) (before now : Option (List ℕ)) : Type 0 where
+-- a seat finished a node: the rows have one more, whose lines came behind what was kept for a sink; and the brancher that is asked, if any, was told its event
+pub record IsStepped (problem : BoxProblem) (asked : Option Rule) (rows : List Row) (seat : ℕ) (old new : Frontier) (before now : Option (List ℕ))
+    (heard_before heard_now : Option (Option (List Event))) : Type 0 where
   pub row : Row
   pub keeps : Keeps problem asked (rows ++ row ∷ []) new
   pub step : IsCrewStep problem seat (state_of problem.root rows old) (state_of problem.root (rows ++ row ∷ []) new)
   pub lines : GathersAll before old.gather.kept now new.gather.kept (text_of (row_lines (length rows) row))
+  pub event : Event
+  pub event_is : IsEventOf rows row.parent row.end event
+  pub told : heard_now ≡ with_event_told heard_before event
 
--- or it did not: of the lines of a node with the next number, which is the one that the seat takes, a sink took a prefix behind what was kept for it
+-- or it did not: of the lines of a node with the next number, which is the one that the seat takes, a sink took a prefix behind what was kept for it; and where it
+-- took any byte in this step, the row of these lines is the one that the step would have added
 pub record IsBrokenStep (problem : BoxProblem) (rows : List Row) (seat : ℕ) (old : Frontier) (before now : Option (List ℕ)) : Type 0 where
   pub node : Pending
   pub others : List (List Pending)
@@ -126,3 +134,4 @@ pub record IsBrokenStep (problem : BoxProblem) (rows : List Row) (seat : ℕ) (o
   pub parent : row.parent ≡ node.parent
   pub fits : RowFits row
   pub took : AppendsPrefix before now (old.gather.kept ++ text_of (row_lines (length rows) row))
+  pub right : KeepsBytes before now ⊎ IsNextRow problem seat (state_of problem.root rows old) row

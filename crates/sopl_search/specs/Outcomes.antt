@@ -1,12 +1,12 @@
 -- What the outcome of a search says.
-use Rattle.std.specs.Prelude.{◌≡◌, ℕ, ℤ, List, Option, Some, None, IfSome}
+use Rattle.std.specs.Prelude.{◌≡◌, ℕ, ◌<◌, ℤ, List, [], length, Option, Some, None, IfSome, All, Any}
 use Rattle.sopl_base.specs.Better.{IsBetter}
 use Rattle.sopl_base.specs.declared.direction.Direction.{Direction}
 use Rattle.sopl_base.specs.declared.direction.Direction.TheVariants.{Minimize, Maximize, Nothing}
 use Rattle.box_problem.specs.Box.{Box}
 use Rattle.box_problem.specs.BoxProblem.{BoxProblem}
 use Rattle.box_problem.specs.Reached.{IsReached, NoneBetter, NoneSatisfies}
-use Rattle.box_problem.specs.Opens.{IsBetterOf, IsUnsettled}
+use Rattle.box_problem.specs.Opens.{IsBetterOf, IsBound, IsUnsettled}
 use Rattle.sopl_search.specs.declared.outcome.Found.{Found}
 use Rattle.sopl_search.specs.declared.outcome.Outcome.{Outcome}
 use Rattle.sopl_search.specs.declared.outcome.Outcome.TheVariants.{Optimal, Infeasible, Bounded}
@@ -40,6 +40,15 @@ abbrev pub HasCause : BoxProblem → ℕ → Outcome → Type 0
 HasCause problem budget (Optimal value cells) = Unit {0}
 HasCause problem budget Infeasible = Unit {0}
 HasCause problem budget (Bounded found bound) = IsUnsettled problem (value_of found) budget bound
+
+-- why a search ends so: where no node is open, the best point is the answer, or there is none; it is the answer, too, where no open box has a better end;
+-- else it is told with the best of its value and of the better ends
+abbrev pub EndsBy : BoxProblem → Option Found → List Box → Outcome → Type 0
+EndsBy problem best bs (Optimal value cells) = (best ≡ Some (found_of value cells)) × All (λ b. ¬ IsBetter problem.direction (problem.end b) value) bs
+EndsBy problem best bs Infeasible = (best ≡ None) × (bs ≡ [])
+EndsBy problem best bs (Bounded found bound) =
+    (found ≡ best) × IsBound problem (value_of best) bs bound × (0 < length bs)
+    × IfSome best (λ f. Any (λ b. IsBetter problem.direction (problem.end b) f.value) bs)
 
 -- it did not give up
 abbrev pub IsSettled : Outcome → Type 0

@@ -9,11 +9,11 @@ ghost use Rattle.sopl_base.specs.declared.stop.SearchStop.TheVariants.{NoMemory,
 ghost use Rattle.log_rows.specs.Lines.{footer_line, rows_lines, text_of};
 ghost use Rattle.log_rows.specs.declared.rows.Row.{Row};
 ghost use Rattle.open_nodes.specs.declared.seats.OpenNode.{OpenNode};
-ghost use Rattle.sopl_search.specs.Closes.{IsBrokenClose, IsClosed, EndsBy};
+ghost use Rattle.sopl_search.specs.Closes.{IsBrokenClose, IsClosed};
 ghost use Rattle.sopl_search.specs.Ends.{IsPosed};
 ghost use Rattle.sopl_search.specs.Frontiers.{AreEnterable, Keeps, Stands, boxes, pendings};
 ghost use Rattle.sopl_search.specs.Lines.{open_line, parent_above};
-ghost use Rattle.sopl_search.specs.Outcomes.{HasCause as HasSearchCause, IsTrueOf};
+ghost use Rattle.sopl_search.specs.Outcomes.{EndsBy, HasCause as HasSearchCause, IsTrueOf};
 ghost use Rattle.brancher.specs.Rules.{Rule};
 
 use crate::bounding::{best_end, outcome_of};

@@ -42,7 +42,7 @@ pub struct Crew<P> {
 }
 
 impl<P: SearchProblem + Drop> Crew<P> {
-    /// A crew of so many seats, of which the first one has the root; no node is finished.
+    /// A crew of so many seats, of which the first one has the root; no node is finished. Its members stand in the order in which they came.
     pub fn new(
         alloc: Global,
         program: &P::Program,
@@ -59,6 +59,7 @@ impl<P: SearchProblem + Drop> Crew<P> {
         ensures begun { IfOk result (λ crew. IsBegun (P.problem program.now).root seats crew.frontier) }
         ensures search { IfOk result (λ crew. IsSearchOf (P.problem program.now) (option_map rule brancher) crew.frontier) }
         ensures first_state { IfOk result (λ crew. Keeps (P.problem program.now) (option_map rule brancher) [] crew.frontier) }
+        ensures members { IfOk result (λ crew. crew.watchers.list.items ≡ props.items) }
         ensures fits { IfOk result (λ crew. AllFit P.fits program.now crew.watchers.list.items) }
         ensures all { IfOk result (λ crew. AreAll (P.problem program.now) (together (map P.reasons crew.watchers.list.items))) }
         ensures following { IfOk result (λ crew. AreFollowing P.in_step P.watches program.now (P.problem program.now).root crew.watchers) }
@@ -78,7 +79,7 @@ impl<P: SearchProblem + Drop> Crew<P> {
         })
     }
 
-    /// The propagators, in the order in which they were handed in.
+    /// The propagators as they are now, in the order in which they were handed in; no step changes their number, their order or their reasons.
     pub fn members(&self) -> &[P]
         ensures { result.now ≡ self.now.watchers.list.items }
     {
@@ -168,11 +169,13 @@ impl<P: SearchProblem + Drop> Crew<P> {
         ensures search { OnOk result (IsSearchOf (P.problem program.now) (option_map rule self.old.brancher) self.new.frontier) }
         ensures stepped { (rows : List Row) → Keeps (P.problem program.now) (option_map rule self.old.brancher) rows self.old.frontier
             → OnOk result (IsStepped (P.problem program.now) (option_map rule self.old.brancher) rows seat self.old.frontier self.new.frontier
-            (K.taken sink.old) (K.taken sink.new)) }
+            (K.taken sink.old) (K.taken sink.new) (option_map heard self.old.brancher) (option_map heard self.new.brancher)) }
         ensures refused { (rows : List Row) → Keeps (P.problem program.now) (option_map rule self.old.brancher) rows self.old.frontier
             → OnErr result (IsBrokenStep (P.problem program.now) rows seat self.old.frontier (K.taken sink.old) (K.taken sink.new)) }
         ensures finished { OnOk result (self.new.frontier.finished ≡ self.old.frontier.finished + 1) }
         ensures seats { OnOk result (length self.new.frontier.seats.seats.items ≡ length self.old.frontier.seats.seats.items) }
+        ensures same_number { length self.new.watchers.list.items ≡ length self.old.watchers.list.items }
+        ensures same_reasons { map P.reasons self.new.watchers.list.items ≡ map P.reasons self.old.watchers.list.items }
         ensures fits { AllFit P.fits program.now self.new.watchers.list.items }
         ensures all { AreAll (P.problem program.now) (together (map P.reasons self.new.watchers.list.items)) }
         ensures following { AreFollowing P.in_step P.watches program.now (P.problem program.now).root self.new.watchers }

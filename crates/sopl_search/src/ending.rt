@@ -78,6 +78,7 @@ fn end_of(store: &BoxStore, brancher: &mut Option<Box<dyn Brancher>>, depth: u32
     requires near { IsNearBox store.now.box }
     ensures ends { EndsPicked (option_map rule brancher.old) depth store.now.box result }
     ensures same_rule { option_map rule brancher.new ≡ option_map rule brancher.old }
+    ensures same_heard { option_map heard brancher.new ≡ option_map heard brancher.old }
 {
     let _cells = store.cells();
     let lows = store.lows();
@@ -115,6 +116,7 @@ pub(crate) fn finish<P: Watching + Drop>(
     ensures same_reasons { map P.reasons watchers.new.list.items ≡ map P.reasons watchers.old.list.items }
     ensures still_fit { StillFit P.fits watchers.old.list.items watchers.new.list.items }
     ensures same_rule { option_map rule brancher.new ≡ option_map rule brancher.old }
+    ensures same_heard { option_map heard brancher.new ≡ option_map heard brancher.old }
 {
     match watchers.come_to_rest(alloc, program, store, best, steps)? {
         Calm::Dead(reason) => Ok(NodeEnd::Refuted(reason)),

@@ -149,6 +149,7 @@ impl Frontier {
         ensures same_reasons { map P.reasons watchers.new.list.items ≡ map P.reasons watchers.old.list.items }
         ensures still_fit { StillFit P.fits watchers.old.list.items watchers.new.list.items }
         ensures same_rule { option_map rule brancher.new ≡ option_map rule brancher.old }
+        ensures same_heard { option_map heard brancher.new ≡ option_map heard brancher.old }
     {
         let node = self.take(seat);
         let depth = depth_of(&node);
@@ -317,7 +318,8 @@ impl Frontier {
         requires keeps { (rows : List Row) × Keeps (P.problem program.now) (option_map rule brancher.old) rows self.old }
         ensures stands { OnOk result (Stands (P.problem program.now) self.new) }
         ensures stepped { (rows : List Row) → Keeps (P.problem program.now) (option_map rule brancher.old) rows self.old
-            → OnOk result (IsStepped (P.problem program.now) (option_map rule brancher.old) rows seat self.old self.new (K.taken sink.old) (K.taken sink.new)) }
+            → OnOk result (IsStepped (P.problem program.now) (option_map rule brancher.old) rows seat self.old self.new (K.taken sink.old) (K.taken sink.new)
+            (option_map heard brancher.old) (option_map heard brancher.new)) }
         ensures broken { (rows : List Row) → Keeps (P.problem program.now) (option_map rule brancher.old) rows self.old
             → OnErr result (IsBrokenStep (P.problem program.now) rows seat self.old (K.taken sink.old) (K.taken sink.new)) }
         ensures finished { OnOk result (self.new.finished ≡ self.old.finished + 1) }

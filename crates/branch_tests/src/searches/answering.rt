@@ -34,12 +34,14 @@ fn cut_at(ends: &[i64], low_first: bool) -> Option<Choice> {
 }
 
 impl Brancher for AnsweringBrancher {
-    ghost use Rattle.std.specs.Prelude.{codes};
+    ghost use Rattle.std.specs.Prelude.{codes, None};
     ghost use Rattle.brancher.specs.Rules.{free};
 
     ghost label = { λ _. codes "answering" };
 
     ghost rule = { λ _. free };
+
+    ghost heard = { λ _. None };
 
     fn name(&self) -> &str {
         "answering"

@@ -39,7 +39,9 @@ step-requires-clause-exists g c =
 pub returns-in_err-step-clause-prefix : goal.returns-in_err-step-clause-prefix
 returns-in_err-step-clause-prefix g c = λ asked before same is. on_err _
     (breaks_off_asked (g.P.Propagator.problem c.args.program.now) (plan_of c.args.schedule asked c.args.budget) _ c.nodes.crew.frontier before (g.K.Sink.taken c.nodes.sink)
-    (g.K.Sink.taken c.step.new.sink) c.next-seat.result (c.nodes.invariant.asked ∙ same) (c.nodes.invariant.running asked before same is) c.in_err-step.ensures.refused)
+    (g.K.Sink.taken c.step.new.sink) c.next-seat.result c.nodes.turns.turn (c.nodes.invariant.asked ∙ same) (c.nodes.invariant.running asked before same is)
+    (named_by_turn (plan_of c.args.schedule asked c.args.budget) c.nodes.turns.seats c.nodes.turns.turn c.nodes.turns.order c.next-seat.result c.next-seat.ensures.named c.nodes.invariant.seats c.nodes.invariant.order)
+    c.nodes.invariant.turn (search rules) c.in_err-step.ensures.refused)
 
 pub nodes-preserved : goal.nodes-preserved
 nodes-preserved g c = record {

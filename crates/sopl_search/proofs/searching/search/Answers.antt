@@ -54,7 +54,7 @@ returns-clause-prefix g c =
     let small : c.run.new.crew.frontier.finished < 2 ^ 64 = search rules in
     prefix_logged (g.P.Propagator.problem c.args.program.now) _ c.run.new.crew.frontier (g.K.Sink.taken c.args.sink.now) (g.K.Sink.taken c.run.new.sink) (g.K.Sink.taken c.close.new.sink) c.close.result
     (c.in_ok-run.ensures.running _ (g.K.Sink.taken c.args.sink.now) c.in_ok-crew.ensures.asked c.in_ok-crew.ensures.running)
-    c.in_ok-run.ensures.some small c.close.ensures.refused c.close.ensures.nothing
+    c.in_ok-run.ensures.some small c.in_ok-run.ensures.done c.close.ensures.refused c.close.ensures.nothing
 
 pub returns-in_err-run-clause-outcomes : goal.returns-in_err-run-clause-outcomes
 returns-in_err-run-clause-outcomes g c = where_later _ _ _ (c.in_ok-crew.ensures.outcomes.all (λ is. absurd (cc))) (search rules)

@@ -38,6 +38,6 @@ returns-in-Ok-clause-closed g c =
 
 pub returns-in-Err-clause-refused : goal.returns-in-Err-clause-refused
 returns-in-Err-clause-refused g c = λ _.
-    is_broken (g.P.Propagator.problem c.args.program.now) c.args.self.now c.answer.new.self c.in_ok-nodes.nodes.items c.as_slice-2.result.now c.in_ok-outcome.outcome
+    is_broken (g.P.Propagator.problem c.args.program.now) c.args.self.now c.answer.new.self c.in_ok-nodes.nodes.items c.as_slice.result.now c.as_slice-2.result.now c.in_ok-outcome.outcome
     c.footer-footer.result _ _ c.requires.keeps c.in_ok-nodes.ensures.nodes c.in_ok-nodes.ensures.in_order c.answer.ensures.finished (ap (λ (s : GatheredBytes). s.kept) c.answer.ensures.gather)
-    c.as_slice-2.ensures.value c.footer-footer.ensures.footer c.footer-footer.ensures.fits c.in-Err.ensures.prefix
+    c.as_slice.ensures.value c.as_slice-2.ensures.value c.footer-footer.ensures.footer c.footer-footer.ensures.fits c.in_ok-outcome.ensures.ends c.in-Err.ensures.prefix

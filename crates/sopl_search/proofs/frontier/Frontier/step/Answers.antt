@@ -16,8 +16,8 @@ returns-in_err-worked-clause-outcomes g c = where_all _ _ (search rules) no_call
 pub returns-in_err-worked-2-clause-broken : goal.returns-in_err-worked-2-clause-broken
 returns-in_err-worked-2-clause-broken g c =
     λ rows keeps. on_err c.from_residual-in_err-worked-2.result
-    (broken_at_put (g.P.Propagator.problem c.args.program.now) _ rows c.args.seat c.args.self.now c.work.new.self c.in_ok-worked.worked _ _ keeps (c.in_ok-worked.ensures.worked rows keeps)
-    c.put.ensures.fits c.in_err-worked-2.ensures.prefix)
+    (broken_at_put (g.P.Propagator.problem c.args.program.now) _ rows c.args.seat c.args.self.now c.work.new.self c.in_ok-worked.worked _ _ c.requires.posed c.requires.exists keeps
+    (c.in_ok-worked.ensures.worked rows keeps) c.put.ensures.fits c.in_err-worked-2.ensures.prefix)
 
 pub end-requires-clause-inside : goal.end-requires-clause-inside
 end-requires-clause-inside g c =
@@ -36,7 +36,7 @@ end-requires-clause-exists g c =
 pub returns-in_err-end-clause-broken : goal.returns-in_err-end-clause-broken
 returns-in_err-end-clause-broken g c =
     λ rows keeps. on_err c.from_residual-in_err-end.result
-    (broken_at_end (g.P.Propagator.problem c.args.program.now) _ rows c.args.seat c.args.self.now c.work.new.self c.put.new.self c.in_ok-worked.worked _ _ keeps
+    (broken_at_end (g.P.Propagator.problem c.args.program.now) _ rows c.args.seat c.args.self.now c.work.new.self c.put.new.self c.in_ok-worked.worked _ _ c.requires.posed c.requires.exists keeps
     (c.in_ok-worked.ensures.worked rows keeps) c.put.ensures.fits c.in_ok-worked-2.ensures.put)
 
 pub returns-clause-stands : goal.returns-clause-stands
@@ -51,7 +51,8 @@ pub returns-clause-stepped : goal.returns-clause-stepped
 returns-clause-stepped g c =
     λ rows keeps. stepped (g.P.Propagator.problem c.args.program.now) _ rows c.args.seat c.args.self.now c.work.new.self c.put.new.self c.in_ok-worked.worked c.in_ok-worked-2.worked _ _
     c.requires.posed keeps c.requires.exists (c.in_ok-worked.ensures.worked rows keeps) c.in_ok-worked-2.ensures.put c.end.new.self c.in_ok-worked-2.ensures.same
-    c.in_ok-end.ensures.ended c.put.ensures.fits c.end.ensures.gather c.end.ensures.walk
+    c.in_ok-end.ensures.ended _ _ _ c.event_of-event.result c.put.ensures.fits c.end.ensures.gather c.end.ensures.walk c.event_of-event.ensures c.work.ensures.same_heard
+    c.tell.ensures.heard
 
 pub returns-clause-seats : goal.returns-clause-seats
 returns-clause-seats g c =
