@@ -39,7 +39,7 @@ use Rattle.term_program.specs.declared.program.Program.{Program}
 use Rattle.term_program.specs.Mentions.{IsListOf}
 use Rattle.term_program.specs.Programs.{no_better, problem_in, root_in, things_in}
 use Rattle.term_program.proofs.Ending.{bound_closes}
-use Rattle.prop_core.proofs.Rising.{for_each, itself}
+use Rattle.prop_core.proofs.OneReason.{for_each, itself}
 use Rattle.prop_goal.specs.Cells.{AreGoalCells, ArePartsWithin, term_in}
 use Rattle.prop_goal.specs.Goals.{Fits, FitsKept, HasLooked, IsOpenTo, KeepsGoal, RestsFor, atoms_of}
 use Rattle.prop_goal.specs.declared.goals.Goal.{Goal}
