@@ -1,1 +1,1 @@
-mod Climbing
+mod Rising

@@ -1,2 +1,2 @@
 pub mod WorkedWays
-pub mod Climbing
+pub mod Rising

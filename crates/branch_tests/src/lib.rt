@@ -1,9 +1,13 @@
-//! Tests of branch and bound over problems that are made by hand: the nodes that seats take, the ends that a walk makes again, branchers,
-//! and searches with their logs.
+//! Tests of branch and bound over problems that are made by hand: propagators that come to rest, the nodes that seats take, the ends that a
+//! walk makes again, branchers, and searches with their logs.
 #![tactic(auto)]
 
 #[cfg(test)]
 mod branchers;
+#[cfg(test)]
+mod prop_core_rest;
+#[cfg(test)]
+mod rising;
 #[cfg(test)]
 mod searches;
 #[cfg(test)]

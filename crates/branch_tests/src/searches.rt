@@ -1,183 +1,22 @@
 //! Searches of small problems: their outcomes, their logs, whom they ask, and what is left where a call fails.
 
-ghost use Rattle.std.specs.Prelude.{◌≡◌, ◌≤◌, map, All, IfOk};
-ghost use Rattle.prop_core.specs.Members.{together};
-ghost use Rattle.prop_core.specs.Watches.{FitsAndLooksAt, HasRested};
-ghost use Rattle.branch_tests.specs.Climbing.{both_reasons, climbing, pair_of, reached};
-ghost use Rattle.sopl_search.specs.Ends.{AreAll};
+ghost use Rattle.std.specs.Prelude.{◌≤◌};
 ghost use Rattle.sopl_search.specs.Schedules.{AreSeats, IsOrder};
 
+use crate::rising::{Rising, members, rising};
 use crate::searches::answering::{AnswerKind, AnsweringBrancher};
-use crate::searches::pairs::{Pair, near_pair};
-use box_store::BoxStore;
 use brancher::{Brancher, Choice};
-use prop_core::{Finding, Propagator, Resting, Watching};
-use sopl_base::{Direction, Interval, Reason, Side, Step};
 use sopl_io::MemSink;
-use sopl_search::{Crew, Found, Outcome, Schedule, SearchProblem, SearchStop, Values, search};
+use sopl_search::{Crew, Found, Outcome, Schedule, SearchStop, Values, search};
 use std::alloc::{AllocError, Global};
 
 mod answering;
 mod hearing;
-mod pairs;
 
-/// Narrows a pair of cells so that the first one is at most the second one, and better than the best value.
-#[derive(Clone, Copy)]
-struct Climb;
-
-/// The reason for which the first cell may not be above the second one.
-const CROSSED: Reason = Reason::Hard {
-    instance: 0,
-    scenario: 0,
-};
-
-/// Whether a value is at most the best one.
-fn is_reached(value: i64, best: Option<i128>) -> bool
-    ensures { result ≡ reached value best }
-{
-    match best {
-        Some(best) => i128::from(value) <= best,
-        None => false,
-    }
-}
-
-impl Propagator for Climb {
-    type Program = Pair;
-
-    ghost problem = { λ pair. climbing (pair_of pair.first pair.second) };
-
-    ghost reasons = { λ _. both_reasons };
-
-    ghost fits = { λ _ _. Unit {0} };
-
-    ghost in_step = { λ _ _ _. Unit {0} };
-
-    #[tactic(auto, using(crate::proofs::Climbing::both_cells, crate::proofs::Climbing::climb_crossed))]
-    fn revise(&mut self, _program: &Pair, store: &BoxStore, best: Option<i128>) -> Finding {
-        if store.hi(1) < store.lo(0) {
-            return Finding::Dead(CROSSED);
-        }
-        if is_reached(store.hi(0), best) {
-            return Finding::Dead(Reason::Bound);
-        }
-        if store.hi(1) < store.hi(0) {
-            return Finding::Cut(Step {
-                reason: CROSSED,
-                cell: 0,
-                side: Side::Le,
-                k: store.hi(1),
-            });
-        }
-        if store.lo(1) < store.lo(0) {
-            return Finding::Cut(Step {
-                reason: CROSSED,
-                cell: 1,
-                side: Side::Ge,
-                k: store.lo(0),
-            });
-        }
-        if is_reached(store.lo(0), best) {
-            return Finding::Cut(Step {
-                reason: Reason::Bound,
-                cell: 0,
-                side: Side::Ge,
-                k: store.lo(0) + 1,
-            });
-        }
-        Finding::Quiet
-    }
-}
-
-/// It, resting until one of its cells has changed.
-#[derive(Drop)]
-struct RestingClimb {
-    resting: Resting<Climb>,
-}
-
-impl Propagator for RestingClimb {
-    type Program = Pair;
-
-    ghost problem = { λ pair. climbing (pair_of pair.first pair.second) };
-
-    ghost reasons = { λ _. both_reasons };
-
-    ghost fits = { λ made pair. FitsAndLooksAt (Unit {0}) (climbing (pair_of pair.first pair.second)) both_reasons made.resting.cells.items };
-
-    ghost in_step = { λ made pair b. HasRested (climbing (pair_of pair.first pair.second)) both_reasons made.resting.rested b };
-
-    fn revise(&mut self, program: &Pair, store: &BoxStore, best: Option<i128>) -> Finding {
-        self.resting.revise(program, store, best)
-    }
-}
-
-impl Watching for RestingClimb {
-    ghost use Rattle.prop_core.specs.Alike.{rested_alike};
-
-    ghost watches = { λ made. made.resting.cells.items };
-
-    fn watched_cells(&self) -> &[u32] {
-        self.resting.watched_cells()
-    }
-
-    fn touched(&mut self, cell: u32) {
-        self.resting.touched(cell);
-    }
-
-    fn revise_kept(&mut self, program: &Pair, store: &BoxStore, best: Option<i128>) -> Finding {
-        self.resting.revise_kept(program, store, best)
-    }
-
-    ghost steps_agree = { λ m p b c fits b_in c_in agree rested. rested_alike (climbing (pair_of p.first p.second)) both_reasons m.resting.cells.items m.resting.rested b c
-        fits.looks b_in c_in agree rested };
-
-    ghost reasons_agree = { λ m p fits. fits.looks };
-}
-
-impl SearchProblem for RestingClimb {
-    ghost valid = { λ _. Unit {0} };
-
-    fn roots(alloc: Global, program: &Pair) -> Result<Vec<Interval>, AllocError> {
-        Vec::from_slice(alloc, &[program.first, program.second])
-    }
-
-    fn direction(_program: &Pair) -> Direction {
-        Direction::Maximize
-    }
-
-    fn end(_program: &Pair, store: &BoxStore) -> i128 {
-        i128::from(store.hi(0))
-    }
-}
-
-/// The propagator of a pair, which rests until one of its cells has changed.
-fn climber(alloc: Global, pair: &Pair) -> Result<RestingClimb, AllocError>
-    ensures fits { IfOk result (λ made. FitsAndLooksAt (Unit {0}) (climbing (pair_of pair.now.first pair.now.second)) both_reasons made.resting.cells.items) }
-    ensures in_step { IfOk result (λ made. HasRested (climbing (pair_of pair.now.first pair.now.second)) both_reasons made.resting.rested
-        (pair_of pair.now.first pair.now.second)) }
-{
-    let cells = Vec::from_slice(alloc, &[0, 1])?;
-    let resting = Resting::new(Climb, cells);
-    Ok(RestingClimb { resting })
-}
-
-/// It alone.
-fn climbers(alloc: Global, pair: &Pair) -> Result<Vec<RestingClimb>, AllocError>
-    ensures fits { IfOk result (λ list. All (λ made. FitsAndLooksAt (Unit {0}) (climbing (pair_of pair.now.first pair.now.second)) both_reasons made.resting.cells.items)
-        list.items) }
-    ensures all { IfOk result (λ list. AreAll (climbing (pair_of pair.now.first pair.now.second)) (together (map (λ _. both_reasons) list.items))) }
-    ensures in_step { IfOk result (λ list. All (λ made. HasRested (climbing (pair_of pair.now.first pair.now.second)) both_reasons made.resting.rested
-        (pair_of pair.now.first pair.now.second)) list.items) }
-{
-    let mut list = Vec::new(alloc);
-    list.push(climber(alloc, pair)?)?;
-    Ok(list)
-}
-
-/// What a search over a pair of cells answers; a sink takes its log.
-#[tactic(auto, using(crate::proofs::Climbing::pair_bits))]
+/// What a search over cells that are to rise answers; a sink takes its log.
 fn outcome_of(
     alloc: Global,
-    pair: &Pair,
+    program: &Rising,
     budget: u32,
     seats: u32,
     order: Option<u32>,
@@ -187,16 +26,15 @@ fn outcome_of(
     requires seats { AreSeats seats }
     requires order { IsOrder order }
 {
-    let props = climbers(alloc, pair)?;
+    let props = members(alloc, program)?;
     let schedule = Schedule::new(seats, order);
-    search(alloc, pair, props, budget, schedule, None, sink)
+    search(alloc, program, props, budget, schedule, None, sink)
 }
 
 /// What it answers where a brancher of this kind is asked.
-#[tactic(auto, using(crate::proofs::Climbing::pair_bits))]
 fn outcome_by(
     alloc: Global,
-    pair: &Pair,
+    program: &Rising,
     budget: u32,
     seats: u32,
     kind: AnswerKind,
@@ -205,7 +43,7 @@ fn outcome_by(
     requires budget { 1 ≤ budget }
     requires seats { AreSeats seats }
 {
-    let props = climbers(alloc, pair)?;
+    let props = members(alloc, program)?;
     let schedule = Schedule::new(seats, None);
     let answering = AnsweringBrancher {
         kind,
@@ -216,41 +54,45 @@ fn outcome_by(
         Ok(asked) => asked,
         Err(failed) => return Err(AllocError::from(failed).into()),
     };
-    search(alloc, pair, props, budget, schedule, Some(asked), sink)
+    search(alloc, program, props, budget, schedule, Some(asked), sink)
 }
 
 /// Gives two seats these turns, as long as a node is open, and closes the search; what the last call answers. No first line is written. A
 /// brancher may be asked.
-#[tactic(auto, using(crate::proofs::Climbing::climbing_posed))]
+#[tactic(auto, using(crate::proofs::Rising::rising_posed))]
 fn driven(
     alloc: Global,
-    pair: &Pair,
+    program: &Rising,
     turns: &[u32],
     brancher: Option<Box<dyn Brancher>>,
     sink: &mut MemSink,
 ) -> Result<Result<Outcome, SearchStop>, SearchStop> {
-    let props = climbers(alloc, pair)?;
-    let mut crew = Crew::new(alloc, pair, props, 2, brancher)?;
+    let props = members(alloc, program)?;
+    let mut crew = Crew::new(alloc, program, props, 2, brancher)?;
     'steps: for seat in turns {
         if crew.open_nodes() == 0 || *seat > 1 || crew.finished() > 1000 {
             break;
         }
-        crew.step(pair, *seat, sink)?;
+        crew.step(program, *seat, sink)?;
     }
     if crew.finished() == 0 || crew.finished() > 1000 {
         return Err(SearchStop::NoMemory);
     }
-    Ok(crew.close(pair, sink))
+    Ok(crew.close(program, sink))
 }
 
 /// Whether the members of a crew have rested after the first step of its one seat.
-#[tactic(auto, using(crate::proofs::Climbing::climbing_posed))]
-fn rests_after_a_step(alloc: Global, pair: &Pair, sink: &mut MemSink) -> Result<bool, SearchStop> {
-    let props = climbers(alloc, pair)?;
-    let mut crew = Crew::new(alloc, pair, props, 1, None)?;
-    crew.step(pair, 0, sink)?;
+#[tactic(auto, using(crate::proofs::Rising::rising_posed))]
+fn rests_after_a_step(
+    alloc: Global,
+    program: &Rising,
+    sink: &mut MemSink,
+) -> Result<bool, SearchStop> {
+    let props = members(alloc, program)?;
+    let mut crew = Crew::new(alloc, program, props, 1, None)?;
+    crew.step(program, 0, sink)?;
     let members = crew.members();
-    Ok(members.len() == 1 && members.iter().all(|member| member.resting.rested.is_some()))
+    Ok(members.len() == 2 && members.iter().all(|member| member.resting.rested.is_some()))
 }
 
 /// Whether a point and its value are these.
@@ -299,9 +141,9 @@ fn outcomes(rt: HostRuntime) {
             Some(5),
         ),
     ] {
-        if let Some(pair) = near_pair(first, second) {
+        if let Some(program) = rising(rt.alloc(), &[first, second]).expect(&rt, "memory") {
             let mut sink = empty_sink(rt.alloc(), &[]).expect(&rt, "memory");
-            let outcome = outcome_of(rt.alloc(), &pair, budget, 1, None, &mut sink).expect(
+            let outcome = outcome_of(rt.alloc(), &program, budget, 1, None, &mut sink).expect(
                 &rt, "outcome",
             );
             assert!(rt; is_told(&outcome, want, bound), "{word}");
@@ -355,9 +197,9 @@ fn logs(rt: HostRuntime) {
             "sopl-log 1\nn 0 r\ns h 0 0 0 le 5\nx 0 2\nn 1 0 l\nx 0 1\nn 2 1 l\nx 0 0\nn 3 2 l\nx 1 2\nn 4 3 l\nx 1 1\nn 5 4 l\nx 1 0\nn 6 5 l\nv\nn 7 0 h\no\nn 8 1 h\no\nn 9 2 h\no\nn 10 3 h\no\nn 11 4 h\no\nn 12 5 h\no\nend bounded 0 5\n",
         ),
     ] {
-        if let Some(pair) = near_pair(first, second) {
+        if let Some(program) = rising(rt.alloc(), &[first, second]).expect(&rt, "memory") {
             let mut sink = empty_sink(rt.alloc(), &[]).expect(&rt, "memory");
-            outcome_of(rt.alloc(), &pair, budget, 1, None, &mut sink).expect(&rt, "outcome");
+            outcome_of(rt.alloc(), &program, budget, 1, None, &mut sink).expect(&rt, "outcome");
             assert!(rt; sink.bytes() == log.as_bytes(), "{word}");
         }
     }
@@ -366,9 +208,9 @@ fn logs(rt: HostRuntime) {
 #[test]
 fn faults(rt: HostRuntime) {
     for (failing, log) in [(0, ""), (2, "sopl-log 1\nn 0 r\nv")] {
-        if let Some(pair) = near_pair((3, 3), (4, 4)) {
+        if let Some(program) = rising(rt.alloc(), &[(3, 3), (4, 4)]).expect(&rt, "memory") {
             let mut sink = empty_sink(rt.alloc(), &[failing]).expect(&rt, "memory");
-            let stopped = outcome_of(rt.alloc(), &pair, 1, 1, None, &mut sink);
+            let stopped = outcome_of(rt.alloc(), &program, 1, 1, None, &mut sink);
             assert!(rt; matches!(stopped, Err(SearchStop::Write)), "no fault");
             assert!(rt; sink.bytes() == log.as_bytes(), "another front");
         }
@@ -379,9 +221,9 @@ fn faults(rt: HostRuntime) {
 fn seats(rt: HostRuntime) {
     let log =
         "sopl-log 1\nn 0 r\nx 0 1\nn 1 0 h\nx 0 2\nn 2 0 l\nx 0 0\nn 3 1 l\nv\nn 4 2 l\nf b\nn 5 1 h\nv\nn 6 2 h\nf b\nend optimal 3\n";
-    if let Some(pair) = near_pair((0, 3), (3, 3)) {
+    if let Some(program) = rising(rt.alloc(), &[(0, 3), (3, 3)]).expect(&rt, "memory") {
         let mut sink = empty_sink(rt.alloc(), &[]).expect(&rt, "memory");
-        outcome_of(rt.alloc(), &pair, 100, 2, None, &mut sink).expect(&rt, "outcome");
+        outcome_of(rt.alloc(), &program, 100, 2, None, &mut sink).expect(&rt, "outcome");
         assert!(rt; sink.bytes() == log.as_bytes(), "another log of two seats");
     }
 }
@@ -398,9 +240,9 @@ fn turns_by_hand(rt: HostRuntime) {
             "n 0 r\nx 0 1\nn 1 0 h\nx 0 2\nn 2 0 l\no\nn 3 1 l\no\nn 4 1 h\no\nend bounded none 3\n",
         ),
     ] {
-        if let Some(pair) = near_pair((0, 3), (3, 3)) {
+        if let Some(program) = rising(rt.alloc(), &[(0, 3), (3, 3)]).expect(&rt, "memory") {
             let mut sink = empty_sink(rt.alloc(), &[]).expect(&rt, "memory");
-            let closed = driven(rt.alloc(), &pair, turns, None, &mut sink).expect(&rt, "steps");
+            let closed = driven(rt.alloc(), &program, turns, None, &mut sink).expect(&rt, "steps");
             assert!(rt; closed.is_ok(), "no outcome");
             assert!(rt; sink.bytes() == log.as_bytes(), "another log of two seats");
         }
@@ -409,19 +251,19 @@ fn turns_by_hand(rt: HostRuntime) {
 
 #[test]
 fn members_that_have_rested(rt: HostRuntime) {
-    if let Some(pair) = near_pair((0, 3), (3, 3)) {
+    if let Some(program) = rising(rt.alloc(), &[(0, 3), (3, 3)]).expect(&rt, "memory") {
         let mut sink = empty_sink(rt.alloc(), &[]).expect(&rt, "memory");
-        let rested = rests_after_a_step(rt.alloc(), &pair, &mut sink).expect(&rt, "a step");
+        let rested = rests_after_a_step(rt.alloc(), &program, &mut sink).expect(&rt, "a step");
         assert!(rt; rested, "not rested");
     }
 }
 
 #[test]
 fn fault_at_close(rt: HostRuntime) {
-    if let Some(pair) = near_pair((0, 3), (3, 3)) {
+    if let Some(program) = rising(rt.alloc(), &[(0, 3), (3, 3)]).expect(&rt, "memory") {
         let none = Vec::from_slice(rt.alloc(), &[]).expect(&rt, "memory");
         let mut sink = MemSink::new(rt.alloc(), 3, none).expect(&rt, "memory");
-        let closed = driven(rt.alloc(), &pair, &[0, 1, 0], None, &mut sink).expect(&rt, "steps");
+        let closed = driven(rt.alloc(), &program, &[0, 1, 0], None, &mut sink).expect(&rt, "steps");
         assert!(rt; matches!(closed, Err(SearchStop::Write)), "no fault");
         assert!(rt; sink.bytes() == "n 0".as_bytes(), "another front");
     }
@@ -450,9 +292,9 @@ fn any_brancher(rt: HostRuntime) {
         ("halves by what was counted", AnswerKind::Counting),
     ] {
         for seats in [1, 2] {
-            if let Some(pair) = near_pair((0, 7), (0, 5)) {
+            if let Some(program) = rising(rt.alloc(), &[(0, 7), (0, 5)]).expect(&rt, "memory") {
                 let mut sink = empty_sink(rt.alloc(), &[]).expect(&rt, "memory");
-                let outcome = outcome_by(rt.alloc(), &pair, 100, seats, kind, &mut sink).expect(
+                let outcome = outcome_by(rt.alloc(), &program, 100, seats, kind, &mut sink).expect(
                     &rt, "outcome",
                 );
                 assert!(rt;
@@ -486,9 +328,9 @@ fn logs_by_branchers(rt: HostRuntime) {
             "sopl-log 1\nn 0 r\nx 0 0\nn 1 0 l\nv\nn 2 0 h\nx 0 1\nn 3 2 h\nx 0 2\nn 4 3 h\nv\nn 5 3 l\nf b\nn 6 2 l\nf b\nend optimal 3\n",
         ),
     ] {
-        if let Some(pair) = near_pair((0, 3), (3, 3)) {
+        if let Some(program) = rising(rt.alloc(), &[(0, 3), (3, 3)]).expect(&rt, "memory") {
             let mut sink = empty_sink(rt.alloc(), &[]).expect(&rt, "memory");
-            outcome_by(rt.alloc(), &pair, budget, 1, kind, &mut sink).expect(&rt, "outcome");
+            outcome_by(rt.alloc(), &program, budget, 1, kind, &mut sink).expect(&rt, "outcome");
             assert!(rt; sink.bytes() == log.as_bytes(), "{word}");
         }
     }
@@ -505,9 +347,9 @@ fn one_outcome(rt: HostRuntime) {
         ("three seats by the least seed", 3, Some(0)),
         ("the most seats by the greatest seed", 64, Some(2147483647)),
     ] {
-        if let Some(pair) = near_pair((0, 7), (0, 5)) {
+        if let Some(program) = rising(rt.alloc(), &[(0, 7), (0, 5)]).expect(&rt, "memory") {
             let mut sink = empty_sink(rt.alloc(), &[]).expect(&rt, "memory");
-            let outcome = outcome_of(rt.alloc(), &pair, 100, many, order, &mut sink).expect(
+            let outcome = outcome_of(rt.alloc(), &program, 100, many, order, &mut sink).expect(
                 &rt, "outcome",
             );
             assert!(rt; is_told(&outcome, Some((5, [5, 5])), None), "{word}");

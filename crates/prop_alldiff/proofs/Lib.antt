@@ -4,3 +4,4 @@ pub mod Making
 pub mod Asking
 pub mod Alone
 pub mod Resting
+pub mod Fitted

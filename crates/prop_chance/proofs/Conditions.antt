@@ -1,6 +1,6 @@
 -- The cells that the conditions of a chance constraint mention.
 use Rattle.std.proofs.Common.{◌≡◌, ℕ, ◌+◌, ◌<◌, ◌≤◌, List, [], Option, Some, None, IfSome, slice_get, length, map, take, get_or, ◌∷◌, ◌++◌, arith, ap, subst, sym, ◌∙◌}
-use Rattle.std.specs.List.{flat_map}
+use Rattle.std.specs.List.{Contains, flat_map}
 use Rattle.std.proofs.lemmas.List.{get_or-map, length-map, map-append, take_all, take_more}
 use Rattle.std.specs.Option.{option_and_then, option_map_or}
 use Rattle.sopl_base.specs.declared.reason.Reason.TheVariants.{Chance}
@@ -11,6 +11,7 @@ use Rattle.prop_shave.specs.Probes.{HasAll}
 use Rattle.term_problem.specs.Problems.{ChanceTerms, IsChance, IsProblem, ProblemTerms}
 use Rattle.term_problem.specs.Reasons.{reason_mentions}
 use Rattle.term_program.specs.Mentions.{IsListOf}
+use Rattle.prop_chance.specs.Deciding.{chance_within}
 use Rattle.prop_chance.proofs.Reached.{AreIn, at_place, flat_in, more_in, none_mentioned}
 
 -- those of its condition in a scenario
@@ -25,6 +26,14 @@ part_more root terms instance scenario cond cells old new at listed before kept 
     more_in (part_of root terms instance) scenario old new before kept
     (subst (λ (found : Option Cond). HasAll new (option_map_or (cond_mentions root) found [])) (sym at)
     (λ cell here. put cell ((listed.mentions cell).1 here)))
+
+-- they are among those of all its conditions
+pub part_within : (root : Box) (terms : ProblemTerms) (instance scenario : ℕ) (cond : Cond) (cells : List ℕ)
+    → option_and_then (λ (chance : ChanceTerms). slice_get chance.conditions scenario) (slice_get terms.chances instance) ≡ Some cond → IsListOf (cond_mentions root cond) cells
+    → HasAll (reason_mentions root terms (Chance instance)) cells
+part_within root terms instance scenario cond cells at listed = λ cell here.
+    chance_within root (slice_get terms.chances instance) scenario cell
+    (subst (λ (found : Option Cond). Contains (option_map_or (cond_mentions root) found []) cell) (sym at) ((listed.mentions cell).0 here))
 
 -- those of all its conditions
 all_of : (root : Box) (found : Option ChanceTerms) (n : ℕ) (set : List ℕ) → IfSome found (λ (chance : ChanceTerms). length chance.conditions ≡ n)

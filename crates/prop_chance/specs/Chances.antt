@@ -22,13 +22,14 @@ use Rattle.prop_chance.specs.declared.chances.Chance.{Chance}
 abbrev pub reasons_of : Chance → List Reason
 reasons_of p = reason.Chance p.constraint.instance ∷ []
 
--- the program has that constraint; the cells are all that its conditions mention, and maybe others, ascending, each with the scenarios in
--- which the condition mentions it
+-- the program has that constraint; the cells are all that its conditions mention, and no others, ascending, each with the scenarios in which the
+-- condition mentions it
 pub record IsConstraintOf (c : ChanceConstraint) (program : Program) : Type 0 where
   pub made : IsMade program
   pub exists : c.instance < length (problem_in program).chances
   pub touched : map numbers_in c.mentioning.items ≡ map (touched_by (root_in program) (problem_in program) c.instance) c.cells.items
   pub all : HasAll c.cells.items (reason_mentions (root_in program) (problem_in program) (reason.Chance c.instance))
+  pub only : HasAll (reason_mentions (root_in program) (problem_in program) (reason.Chance c.instance)) c.cells.items
   pub ascend : IsStrictlySortedBy nat_cmp c.cells.items
 
 -- and there is room for the truth of the condition in each scenario, for whether it waits, and for the turns of each cell

@@ -1,8 +1,10 @@
 -- The cells that decide whether reasons close a box, and the truth of a chance constraint's condition in each scenario.
 use Rattle.std.proofs.Common.{◌≡◌, ℕ, zero, suc, ◌<◌, ℤ, Bool, true, List, [], ◌∷◌, Option, Some, None, IfSome, slice_get, get_or, length, arith, refl, ap₂, subst, ◌∙◌}
 use Rattle.std.specs.List.{Contains, flat_map}
+use Rattle.std.specs.List.Sorted.{IsStrictlyIncreasing}
 use Rattle.std.specs.Option.{option_and_then, option_map_or}
 use Rattle.std.proofs.lemmas.List.Elements.{Contains-append_left, Contains-append_right}
+use Rattle.std.proofs.lemmas.Map.Keys.{IsStrictlyIncreasing-from_sorted}
 use Rattle.sopl_base.specs.declared.reason.Reason.{Reason}
 use Rattle.sopl_base.specs.declared.reason.Reason.TheVariants.{Chance}
 use Rattle.box_problem.specs.Box.{Box, Inside}
@@ -47,7 +49,7 @@ cond_within root (cond ∷ conditions) zero = λ cell here. Contains-append_left
 cond_within root (cond ∷ conditions) (suc k) = λ cell here.
     Contains-append_right (cond_mentions root cond) (flat_map (cond_mentions root) conditions) cell (cond_within root conditions k cell here)
 
-chance_within : (root : Box) (found : Option ChanceTerms) (k : ℕ) → HasAll (option_map_or (λ (chance : ChanceTerms). flat_map (cond_mentions root) chance.conditions) found [])
+pub chance_within : (root : Box) (found : Option ChanceTerms) (k : ℕ) → HasAll (option_map_or (λ (chance : ChanceTerms). flat_map (cond_mentions root) chance.conditions) found [])
     (option_map_or (cond_mentions root) (option_and_then (λ (chance : ChanceTerms). slice_get chance.conditions k) found) [])
 chance_within root None k = λ cell here. here
 chance_within root (Some chance) k = cond_within root chance.conditions k
@@ -113,6 +115,9 @@ one_decided program reason cells all =
     decided program (reason ∷ []) cells (for_one (λ each. HasAll cells (reason_mentions (root_in program) (problem_in program) each)) reason all)
 
 -- the laws
+pub chance_ascends : (p : Kind) (program : Program) → Fits p program → IsStrictlyIncreasing p.constraint.cells.items
+chance_ascends p program fits = IsStrictlyIncreasing-from_sorted p.constraint.cells.items fits.constraint.ascend
+
 pub chance_looks : (p : Kind) (program : Program) → Fits p program → LooksAt (box_problem_of program) (reasons_of p) p.constraint.cells.items
 chance_looks p program fits = one_decided program (Chance p.constraint.instance) p.constraint.cells.items fits.constraint.all
 

@@ -3,7 +3,7 @@
 ghost use Rattle.std.specs.Prelude.{◌≡◌, IfOk, OnOk};
 ghost use Rattle.std.specs.List.Sorted.{IsStrictlySortedBy};
 ghost use Rattle.std.specs.Ordering.{nat_cmp};
-ghost use Rattle.prop_shave.specs.Probes.{HasAll};
+ghost use Rattle.prop_shave.specs.Probes.{HasAll, HasOnly};
 ghost use Rattle.term_cells.specs.Cells.{with_cells};
 
 use std::alloc::{AllocError, Global};
@@ -24,6 +24,7 @@ fn put(set: &mut BTreeSet<u32>, cells: &[u32]) -> Result<(), AllocError>
 pub fn put_cells(set: &mut BTreeSet<u32>, cells: &[u32]) -> Result<(), AllocError>
     ensures kept { OnOk result (HasAll set.new.keys set.old.keys) }
     ensures put { OnOk result (HasAll set.new.keys cells.now) }
+    ensures only { OnOk result (HasOnly set.new.keys set.old.keys cells.now) }
 {
     put(set, cells)?;
     Ok(())

@@ -47,6 +47,8 @@ fn chance_cells(alloc: Global, program: &Program, instance: u32) -> Result<Vec<u
     requires instance { instance < length (problem_in program.now).chances }
     ensures all { IfOk result (λ cells. HasAll cells.items (reason_mentions (root_in program.now) (problem_in program.now)
         (reason.Chance instance))) }
+    ensures only { IfOk result (λ cells. HasAll (reason_mentions (root_in program.now) (problem_in program.now) (reason.Chance instance))
+        cells.items) }
     ensures ascend { IfOk result (λ cells. IsStrictlySortedBy nat_cmp cells.items) }
 {
     let mut cells = BTreeSet::new(alloc);

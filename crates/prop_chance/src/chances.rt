@@ -118,6 +118,7 @@ impl Chance {
         ensures in_step { InStep self.new program.now store.now.box }
         ensures constraint { self.new.constraint ≡ self.old.constraint }
         ensures still_fits { (p : Stated) → Fits self.old p → Fits self.new p }
+        ensures fitted_before { (p : Stated) → Fits self.new p → Fits self.old p }
     {
         let known = self.look(program, store);
         let finding = self.found(program, store, best, known);
@@ -137,6 +138,8 @@ impl Propagator for Chance {
 
     ghost in_step = { InStep };
 
+    ghost watches = { λ chance. chance.constraint.cells.items };
+
     fn revise(&mut self, program: &Program, store: &BoxStore, best: Option<i128>) -> Finding {
         self.weight.forget();
         self.turns.forget_all();
@@ -145,9 +148,7 @@ impl Propagator for Chance {
 }
 
 impl Watching for Chance {
-    ghost use Rattle.prop_chance.specs.Deciding.{chance_looks, chance_steps};
-
-    ghost watches = { λ chance. chance.constraint.cells.items };
+    ghost use Rattle.prop_chance.specs.Deciding.{chance_ascends, chance_looks, chance_steps};
 
     fn watched_cells(&self) -> &[u32] {
         self.constraint.cells.as_slice()
@@ -165,6 +166,8 @@ impl Watching for Chance {
         }
         self.ask(program, store, best)
     }
+
+    ghost cells_ascend = { λ m p fits. chance_ascends m p fits };
 
     ghost steps_agree = { λ m p b c fits b_in c_in agree step. chance_steps m p b c fits b_in c_in agree step };
 

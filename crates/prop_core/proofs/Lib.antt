@@ -1,7 +1,7 @@
 pub mod Members
 pub mod Rests
 pub mod Stepping
-pub mod Rising
+pub mod OneReason
 pub mod Calmed
 pub mod Told
 pub mod Onward

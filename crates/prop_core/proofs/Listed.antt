@@ -1,12 +1,12 @@
 -- How the places of the members that watch a cell are listed.
 use Rattle.std.proofs.Common.{◌≡◌, ◌⊎◌, inl, inr, ℕ, ◌+◌, ◌<◌, ◌≤◌, List, [], ◌∷◌, ◌++◌, length, map, take, get_or, set, length-set, Contains, refl, sym, ap, subst, ◌∙◌, arith}
 use Rattle.std.proofs.lemmas.Bool.{cases_eq}
-use Rattle.std.proofs.lemmas.List.{get_or-map, get_or-set_same, get_or-set_other, get_or-take, length-map, length-take-le, map-set, take_more}
+use Rattle.std.proofs.lemmas.List.{get_or-map, get_or-set_same, get_or-set_other, get_or-take, length-map, length-take-le, map-set, take_all, take_more}
 use Rattle.std.proofs.lemmas.List.Elements.{Contains-append_cases, Contains-append_left, Contains-append_right}
 use Rattle.sopl_base.proofs.Lists.{contains_one}
 use Rattle.prop_core.specs.declared.watch.WatchPlaces.{WatchPlaces}
 use Rattle.prop_core.specs.declared.watch.Watch.{Watch}
-use Rattle.prop_core.specs.Places.{AddsPlaces}
+use Rattle.prop_core.specs.Places.{AddsPlaces, HasEmptyLists}
 use Rattle.prop_core.specs.Waking.{IsWatchOf, places_at}
 
 abbrev pub list_of : WatchPlaces → List ℕ
@@ -62,11 +62,11 @@ one_added old new cell at d after exists is pushed =
     kept_at k place here there (inr other) has = subst (λ (xs : List ℕ). Contains xs place) (sym (there k other)) has
 
     only_at : (k place : ℕ) → places_at new cell ≡ places_at old cell ++ at ∷ [] → ((k : ℕ) → ¬ k ≡ cell → places_at new k ≡ places_at old k) → (k ≡ cell) ⊎ (¬ k ≡ cell)
-        → Contains (places_at new k) place → Contains (places_at old k) place ⊎ (place ≡ at)
+        → Contains (places_at new k) place → Contains (places_at old k) place ⊎ ((place ≡ at) × Contains (cell ∷ []) k)
     only_at k place here there (inl same) has =
         elim (Contains-append_cases (places_at old cell) (at ∷ []) place (subst (λ (xs : List ℕ). Contains xs place) here (subst (λ (i : ℕ). Contains (places_at new i) place) same has))) [
           | inl before ↦ inl (subst (λ (i : ℕ). Contains (places_at old i) place) (sym same) before)
-          | inr last ↦ inr (sym (contains_one at place last))
+          | inr last ↦ inr (sym (contains_one at place last), subst (Contains (cell ∷ [])) (sym same) (0, omega arith, refl))
         ]
     only_at k place here there (inr other) has = inl (subst (λ (xs : List ℕ). Contains xs place) (there k other) has)
 
@@ -80,8 +80,11 @@ joined old mid new cells more at first second = record {
     | inr other ↦ second.added cell (omega (arith, exists, first.as_long)) other
   ];
   only = λ cell k has. elim (second.only cell k has) [
-    | inl before ↦ first.only cell k before
-    | inr is ↦ inr is
+    | inl before ↦ elim (first.only cell k before) [
+      | inl earlier ↦ inl earlier
+      | inr one ↦ inr (one.0, Contains-append_left cells more cell one.1)
+    ]
+    | inr other ↦ inr (other.0, Contains-append_right cells more cell other.1)
   ];
 }
 
@@ -90,20 +93,51 @@ pub more_added : (old mid new : Watch) (cells : List ℕ) (i at : ℕ) → i < l
 more_added old mid new cells i at exists first second =
     subst (λ (xs : List ℕ). AddsPlaces old new xs at) (sym (take_more cells i 0 exists)) (joined old mid new (take i cells) (get_or cells i 0 ∷ []) at first second)
 
+-- the places of no member, of one member more, and of all
+pub watch_of_none : (watches : List (List ℕ)) (watch : Watch) (cells : ℕ) → HasEmptyLists cells watch → IsWatchOf (take 0 watches) watch cells
+watch_of_none watches watch cells empty = record {
+  as_long = empty.as_long;
+  each = λ cell k there. (
+    λ has. absurd (no_place k (subst (λ (xs : List ℕ). Contains xs k) (empty.none cell) has)),
+    λ watched. absurd (no_member k watched.0),
+  );
+}
+  where
+    no_place : (k : ℕ) → Contains [] k → ⊥
+    no_place k has = omega (arith, has.1)
+
+    no_member : (k : ℕ) → k < length (take 0 watches) → ⊥
+    no_member k below = omega (arith, below, length-take-le 0 watches (omega arith))
+
 pub watch_of_more : (watches : List (List ℕ)) (old new : Watch) (cells i : ℕ) (own : List ℕ) → i < length watches → own ≡ get_or watches i [] → IsWatchOf (take i watches) old cells
     → AddsPlaces old new own i → IsWatchOf (take (i + 1) watches) new cells
 watch_of_more watches old new cells i own exists is before adds =
     let some : length (take i watches) ≡ i = length-take-le i watches (omega (arith, exists)) in
     let more : length (take (i + 1) watches) ≡ i + 1 = length-take-le (i + 1) watches (omega (arith, exists)) in
     record {
-      as_long = omega (arith, before.as_long, adds.as_long);
-      below = λ cell k has. elim (adds.only cell k has) [
-        | inl earlier ↦ omega (arith, before.below cell k earlier, some, more)
-        | inr last ↦ omega (arith, last, more)
-      ];
-      all = λ cell k there below has. watched_at cell k there (omega (arith, below, more)) (cases_eq k i) has some;
+      as_long = adds.as_long ∙ before.as_long;
+      each = λ cell k there. (
+        λ has. elim (adds.only cell k has) [
+          | inl earlier ↦ earlier_at cell k ((before.each cell k there).0 earlier) some more
+          | inr last ↦ last_at cell k last more
+        ],
+        λ watched. watched_at cell k there (omega (arith, watched.0, more)) (cases_eq k i) watched.1 some,
+      );
     }
   where
+    earlier_at : (cell k : ℕ) → (k < length (take i watches)) × Contains (get_or (take i watches) k []) cell → length (take i watches) ≡ i → length (take (i + 1) watches) ≡ i + 1
+        → (k < length (take (i + 1) watches)) × Contains (get_or (take (i + 1) watches) k []) cell
+    earlier_at cell k watched some more =
+        let below : k < i = omega (arith, watched.0, some) in
+        let same : get_or (take i watches) k [] ≡ get_or (take (i + 1) watches) k [] = get_or-take i watches k [] below ∙ sym (get_or-take (i + 1) watches k [] (omega (arith, below))) in
+        (omega (arith, below, more), subst (λ (xs : List ℕ). Contains xs cell) same watched.1)
+
+    last_at : (cell k : ℕ) → (k ≡ i) × Contains own cell → length (take (i + 1) watches) ≡ i + 1 → (k < length (take (i + 1) watches)) × Contains (get_or (take (i + 1) watches) k []) cell
+    last_at cell k last more =
+        let here : own ≡ get_or (take (i + 1) watches) k [] =
+        is ∙ (sym (ap (λ (n : ℕ). get_or watches n []) last.0) ∙ sym (get_or-take (i + 1) watches k [] (omega (arith, last.0)))) in
+        (omega (arith, last.0, more), subst (λ (xs : List ℕ). Contains xs cell) here last.1)
+
     watched_at : (cell k : ℕ) → cell < cells → k < i + 1 → (k ≡ i) ⊎ (¬ k ≡ i) → Contains (get_or (take (i + 1) watches) k []) cell → length (take i watches) ≡ i → Contains (places_at new cell) k
     watched_at cell k there below (inl same) has some =
         let here : get_or (take (i + 1) watches) k [] ≡ own = get_or-take (i + 1) watches k [] below ∙ (ap (λ (n : ℕ). get_or watches n []) same ∙ sym is) in
@@ -112,4 +146,7 @@ watch_of_more watches old new cells i own exists is before adds =
     watched_at cell k there below (inr other) has some =
         let earlier : k < i = omega (arith, below, other) in
         let same : get_or (take (i + 1) watches) k [] ≡ get_or (take i watches) k [] = get_or-take (i + 1) watches k [] below ∙ sym (get_or-take i watches k [] earlier) in
-        adds.kept cell k (before.all cell k there (omega (arith, earlier, some)) (subst (λ (xs : List ℕ). Contains xs cell) same has))
+        adds.kept cell k ((before.each cell k there).1 (omega (arith, earlier, some), subst (λ (xs : List ℕ). Contains xs cell) same has))
+
+pub watch_of_all : (watches : List (List ℕ)) (watch : Watch) (cells i : ℕ) → length watches ≤ i → IsWatchOf (take i watches) watch cells → IsWatchOf watches watch cells
+watch_of_all watches watch cells i past is = subst (λ (lists : List (List ℕ)). IsWatchOf lists watch cells) (take_all i watches past) is

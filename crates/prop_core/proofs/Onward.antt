@@ -63,7 +63,7 @@ as_many f xs ys same = sym (ap length same) ∙ length-map xs f
 does_not_watch : {P : Type 0} (watches : P → List ℕ) (watch : Watch) (cells cell : ℕ) (before now : List P) (k : ℕ) (d : P) → cell < cells → IsWatchOf (map watches before) watch cells
     → map watches now ≡ map watches before → k < length now → ¬ Contains (places_at watch cell) k → ¬ Contains (watches (get_or now k d)) cell
 does_not_watch watches watch cells cell before now k d there is same below without has =
-    without (is.all cell k there (omega (arith, below, as_many watches now before same)) (subst (λ (cs : List ℕ). Contains cs cell) (own_list watches now before k d same below) has))
+    without ((is.each cell k there).1 (omega (arith, below, as_many watches now before same), subst (λ (cs : List ℕ). Contains cs cell) (own_list watches now before k d same below) has))
 
 pub in_step_on : {P Program : Type 0} (in_step : P → Program → Box → Type 0) (fits : P → Program → Type 0) (watches : P → List ℕ) (program : Program) (b c : Box) (watch : Watch) (cells cell : ℕ)
     (before now : List P) → ((m : P) → fits m program → AgreeOnCells (watches m) b c → in_step m program b → in_step m program c)

@@ -1,5 +1,6 @@
 -- A propagator that has rested.
 use Rattle.std.proofs.Common.{◌≡◌, ℕ, ℤ, true, List, Option, Some, None, refl, sym, ap, subst}
+use Rattle.std.specs.List.Sorted.{IsStrictlyIncreasing}
 use Rattle.std.specs.Option.{option_eq}
 use Rattle.std.specs.Ordering.{int_eq}
 use Rattle.sopl_base.specs.declared.reason.Reason.{Reason}
@@ -36,4 +37,10 @@ pub still_looks_at : {F G : Type 0} (problem : BoxProblem) (before after : List 
 still_looks_at problem before after cells same reasons_are cells_are still fit = record {
   fits = still fit.fits;
   looks = subst (λ (list : List ℕ). LooksAt problem after list) (sym cells_are) (subst (λ (reasons : List Reason). LooksAt problem reasons cells) (sym reasons_are) fit.looks);
+  ascend = subst IsStrictlyIncreasing (sym cells_are) fit.ascend;
 }
+
+-- and did so before
+pub looked_at_before : {F G : Type 0} (problem : BoxProblem) (before after : List Reason) (cells same : List ℕ) → after ≡ before → same ≡ cells → (G → F) → FitsAndLooksAt G problem after same
+    → FitsAndLooksAt F problem before cells
+looked_at_before problem before after cells same reasons_are cells_are back fit = still_looks_at problem after before same cells (sym reasons_are) (sym cells_are) back fit

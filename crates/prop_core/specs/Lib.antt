@@ -2,7 +2,6 @@ pub mod Findings
 pub mod Rests
 pub mod Members
 pub mod Sweeps
-pub mod Rising
 pub mod Watches
 pub mod Waking
 pub mod Places

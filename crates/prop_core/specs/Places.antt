@@ -13,4 +13,4 @@ pub record AddsPlaces (old new : Watch) (cells : List ℕ) (at : ℕ) : Type 0 w
   pub as_long : length new.lists.items ≡ length old.lists.items
   pub kept : (cell k : ℕ) → Contains (places_at old cell) k → Contains (places_at new cell) k
   pub added : (cell : ℕ) → cell < length old.lists.items → Contains cells cell → Contains (places_at new cell) at
-  pub only : (cell k : ℕ) → Contains (places_at new cell) k → Contains (places_at old cell) k ⊎ (k ≡ at)
+  pub only : (cell k : ℕ) → Contains (places_at new cell) k → Contains (places_at old cell) k ⊎ ((k ≡ at) × Contains cells cell)

@@ -1,5 +1,5 @@
 -- Members that are told of a cell that has changed.
-use Rattle.std.specs.Prelude.{◌≡◌, ℕ, ◌<◌, ◌≤◌, Bool, false, List, [], length, map, Contains, slice_index_or}
+use Rattle.std.specs.Prelude.{◌≡◌, ◌↔◌, ℕ, ◌<◌, Bool, false, List, [], length, map, Contains, slice_index_or}
 use Rattle.box_problem.specs.Box.{Box, Inside}
 use Rattle.box_problem.specs.BoxProblem.{BoxProblem}
 use Rattle.prop_core.specs.declared.watch.WatchPlaces.{WatchPlaces}
@@ -11,11 +11,10 @@ use Rattle.prop_core.specs.Watches.{AgreeElsewhere, AllInStep, waits_at}
 abbrev pub places_at : Watch → ℕ → List ℕ
 places_at watch cell = slice_index_or (map (λ (p : WatchPlaces). p.items.items) watch.lists.items) cell []
 
--- these are places of members alone, and for each of so many cells those of all members that watch it
+-- there is one list for each of so many cells: the places of just the members that watch it
 pub record IsWatchOf (watches : List (List ℕ)) (watch : Watch) (cells : ℕ) : Type 0 where
-  pub as_long : cells ≤ length watch.lists.items
-  pub below : (cell k : ℕ) → Contains (places_at watch cell) k → k < length watches
-  pub all : (cell k : ℕ) → cell < cells → k < length watches → Contains (slice_index_or watches k []) cell → Contains (places_at watch cell) k
+  pub as_long : length watch.lists.items ≡ cells
+  pub each : (cell k : ℕ) → cell < cells → Contains (places_at watch cell) k ↔ ((k < length watches) × Contains (slice_index_or watches k []) cell)
 
 -- members are in step with each box with which they were
 abbrev pub StillInStep : {P Program : Type 0} → (P → Program → Box → Type 0) → List P → List P → Type 0

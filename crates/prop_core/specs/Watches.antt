@@ -1,5 +1,6 @@
 -- Propagators that look at some cells of a box alone.
 use Rattle.std.specs.Prelude.{◌≡◌, ℕ, ◌<◌, ℤ, Bool, true, false, List, [], length, Option, IfSome, All, Contains, slice_index_or}
+use Rattle.std.specs.List.Sorted.{IsStrictlyIncreasing}
 use Rattle.sopl_base.specs.declared.reason.Reason.{Reason}
 use Rattle.box_problem.specs.Box.{Box, Inside, low, high}
 use Rattle.box_problem.specs.BoxProblem.{BoxProblem}
@@ -34,10 +35,11 @@ RestsAlike =
     (problem : BoxProblem) (reasons : List Reason) (cells : List ℕ) (v : Option ℤ) (b c : Box) → LooksAt problem reasons cells → Inside b problem.root → Inside c problem.root
     → AgreeOnCells cells b c → Quiets problem reasons v b → Quiets problem reasons v c
 
--- a propagator fits, and its reasons look at these cells alone
+-- a propagator fits, its reasons look at these cells alone, and the cells ascend
 pub record FitsAndLooksAt (Fits : Type 0) (problem : BoxProblem) (reasons : List Reason) (cells : List ℕ) : Type 0 where
   pub fits : Fits
   pub looks : LooksAt problem reasons cells
+  pub ascend : IsStrictlyIncreasing cells
 
 -- nothing more is found for these reasons against the best value that is kept, if one is
 abbrev pub HasRested : BoxProblem → List Reason → Option (Option ℤ) → Box → Type 0

@@ -1,6 +1,6 @@
 //! Propagators, which narrow a box by right steps, and the box in which several of them come to rest; a propagator that keeps what it reckoned is
 //! asked again only where a cell that it watches has changed.
-//! Its tests stand in `tests`; those of all kinds of propagators in `search_tests`.
+//! Its tests stand in `branch_tests`; those of all kinds of propagators in `search_tests`.
 #![tactic(auto)]
 
 mod calming;
@@ -26,6 +26,3 @@ pub use resting::Resting;
 pub use waking::touch;
 pub use watch::{Watch, WatchPlaces};
 pub use watching::Watching;
-
-#[cfg(test)]
-mod tests;

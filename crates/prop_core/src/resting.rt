@@ -13,8 +13,8 @@ use crate::propagator::Propagator;
 use crate::watching::Watching;
 use box_store::BoxStore;
 
-/// A propagator, the cells at which its reasons look, in ascending order, and the best value against which it has rested, as long as none of them was
-/// touched since; against this value it rests without being asked.
+/// A propagator, the cells that it watches, in ascending order, and the best value against which it has rested, as long as none of these cells was
+/// touched since; against this value it rests without being asked. Its reasons look at the watched cells alone.
 #[derive(Drop)]
 pub struct Resting<M> {
     pub member: M,
@@ -47,6 +47,7 @@ impl<M: Propagator> Resting<M> {
         ensures same_reasons { M.reasons self.new.member ≡ M.reasons self.old.member }
         ensures same_cells { self.new.cells.items ≡ self.old.cells.items }
         ensures still_fits { (p : M.Program) → M.fits self.old.member p → M.fits self.new.member p }
+        ensures fitted_before { (p : M.Program) → M.fits self.new.member p → M.fits self.old.member p }
     {
         let finding = self.member.revise(program, store, best);
         self.rested = rested_by(&finding, best);
@@ -67,6 +68,8 @@ impl<M: Propagator> Propagator for Resting<M> {
 
     ghost in_step = { λ resting program b. HasRested (M.problem program) (M.reasons resting.member) resting.rested b };
 
+    ghost watches = { λ resting. resting.cells.items };
+
     #[tactic(auto, using(crate::proofs::Rested::still_looks_at))]
     fn revise(&mut self, program: &M::Program, store: &BoxStore, best: Option<i128>) -> Finding {
         self.ask(program, store, best)
@@ -75,8 +78,6 @@ impl<M: Propagator> Propagator for Resting<M> {
 
 impl<M: Propagator> Watching for Resting<M> {
     ghost use Rattle.prop_core.specs.Alike.{rested_alike};
-
-    ghost watches = { λ resting. resting.cells.items };
 
     fn watched_cells(&self) -> &[u32] {
         self.cells.as_slice()
@@ -98,6 +99,8 @@ impl<M: Propagator> Watching for Resting<M> {
         }
         self.ask(program, store, best)
     }
+
+    ghost cells_ascend = { λ m p fits. fits.ascend };
 
     ghost steps_agree = { λ m p b c fits b_in c_in agree rested. rested_alike (M.problem p) (M.reasons m.member) m.cells.items m.rested b c fits.looks b_in c_in agree rested };
 

@@ -13,7 +13,7 @@ pub struct WatchPlaces {
     pub items: Vec<usize>,
 }
 
-/// For each cell the places of the members that watch it.
+/// For each cell one list: the places of the members that watch it.
 #[derive(Drop)]
 pub struct Watch {
     pub lists: Vec<WatchPlaces>,
@@ -40,7 +40,7 @@ fn unwatched(alloc: Global, cells: u32) -> Result<Watch, AllocError>
 }
 
 impl Watch {
-    /// For each of so many cells the places of the members of a list that watch it.
+    /// For each of so many cells one list: the places of just the members that watch it.
     pub fn new<P: Watching>(alloc: Global, list: &[P], cells: u32) -> Result<Watch, AllocError>
         ensures { IfOk result (λ watch. IsWatchOf (map P.watches list.now) watch cells) }
     {

@@ -1,3 +1,4 @@
 pub mod Slots
 pub mod Making
 pub mod Asking
+pub mod Fitted

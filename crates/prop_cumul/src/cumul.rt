@@ -116,6 +116,8 @@ impl Propagator for Cumul {
 
     ghost in_step = { λ _ _ _. Unit {0} };
 
+    ghost watches = { λ _. [] };
+
     fn revise(&mut self, program: &Program, store: &BoxStore, best: Option<i128>) -> Finding {
         let probe = self.probe(program, store, best);
         self.found(&probe)

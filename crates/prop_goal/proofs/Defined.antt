@@ -26,7 +26,7 @@ use Rattle.term_problem.specs.Problems.{GoalTerms, ProblemTerms}
 use Rattle.term_problem.specs.Refuted.{is_never, refutes}
 use Rattle.term_program.specs.declared.program.Program.{Program}
 use Rattle.term_program.specs.Programs.{IsMade, problem_in, root_in}
-use Rattle.prop_core.proofs.Rising.{for_each}
+use Rattle.prop_core.proofs.OneReason.{for_each}
 use Rattle.prop_goal.specs.Cells.{term_in}
 use Rattle.prop_goal.specs.Goals.{ArePartial, IsDefined}
 use Rattle.prop_chance.proofs.Reached.{at_place}

@@ -38,6 +38,9 @@ one_each_on old new alike one = record {
   waits = alike.waits ∙ (one.waits ∙ sym (ap (λ list. length list.items) alike.atoms));
 }
 
+pub alike_back : (old new : KeptParts) → AreAlike old new → AreAlike new old
+alike_back old new alike = record { atoms = sym alike.atoms; ends = sym alike.ends; waits = sym alike.waits }
+
 -- one cell more was told
 touched_in : (program : Program) (atoms : List Atom) (cell number : ℕ) (a : Atom) → slice_get atoms number ≡ Some a → touches program atoms cell number ≡ false
     → is_touched (root_in program) (things_in program) cell a ≡ false

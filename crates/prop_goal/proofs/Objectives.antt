@@ -20,7 +20,7 @@ use Rattle.term_language.specs.Mentions.{mentions}
 use Rattle.prop_core.proofs.Onward.{has_or_not}
 use Rattle.prop_shave.specs.declared.probes.Probe.{Probe}
 use Rattle.prop_shave.specs.Opened.{IsOpen, IsWhole}
-use Rattle.prop_shave.specs.Probes.{HasAll, closes}
+use Rattle.prop_shave.specs.Probes.{HasAll, HasOnly, closes}
 use Rattle.prop_shave.proofs.Finding.{found_quiet}
 use Rattle.prop_shave.proofs.GoalMentioned as parts
 use Rattle.prop_shave.proofs.GoalMentioned.{part_found}
@@ -39,8 +39,8 @@ use Rattle.term_program.specs.declared.program.Program.{Program}
 use Rattle.term_program.specs.Mentions.{IsListOf}
 use Rattle.term_program.specs.Programs.{no_better, problem_in, root_in, things_in}
 use Rattle.term_program.proofs.Ending.{bound_closes}
-use Rattle.prop_core.proofs.Rising.{for_each, itself}
-use Rattle.prop_goal.specs.Cells.{AreGoalCells, ArePartsWithin, term_in}
+use Rattle.prop_core.proofs.OneReason.{for_each, itself}
+use Rattle.prop_goal.specs.Cells.{AreGoalCells, ArePartsWithin, parts_mention, term_in}
 use Rattle.prop_goal.specs.Goals.{Fits, FitsKept, HasLooked, IsOpenTo, KeepsGoal, RestsFor, atoms_of}
 use Rattle.prop_goal.specs.declared.goals.Goal.{Goal}
 use Rattle.prop_goal.specs.declared.kept_goal.KeptGoal.{KeptGoal}
@@ -68,6 +68,24 @@ nothing_undefined root terms scenario set at =
 pub put_through : {A B : Type 0} (r : Result A B) (new cells mentioned : List ℕ) → HasAll cells mentioned → OnOk r (HasAll new cells) → OnOk r (HasAll new mentioned)
 put_through (Ok x) new cells mentioned all put = λ cell here. put cell (all cell here)
 put_through (Err e) new cells mentioned all put = tt
+
+pub only_through : {A B : Type 0} (r : Result A B) (new old cells mentioned : List ℕ) → HasAll mentioned cells → OnOk r (HasOnly new old cells) → OnOk r (HasOnly new old mentioned)
+only_through (Ok x) new old cells mentioned all only = λ cell here.
+    elim (only cell here) [
+      | inl earlier ↦ inl earlier
+      | inr now ↦ inr (all cell now)
+    ]
+only_through (Err e) new old cells mentioned all only = tt
+
+pub only_itself : (set mentioned : List ℕ) → HasOnly set set mentioned
+only_itself set mentioned = λ cell here. inl here
+
+pub undefined_only : (root : Box) (terms : ProblemTerms) (scenario : ℕ) (term : Term) (cells : List ℕ) → Some term ≡ term_in terms scenario → IsListOf (mentions root term) cells
+    → HasAll (reason_mentions root terms (Undefined scenario)) cells
+undefined_only root terms scenario term cells at listed =
+    subst (λ (list : List ℕ). HasAll list cells) (sym (by_goal root terms.goal scenario))
+    (subst (λ (found : Option Term). HasAll (option_map_or (mentions root) found []) cells) at
+    (λ cell here. (listed.mentions cell).0 here))
 
 -- those of all terms
 abbrev pub scenario_of : Box → ProblemTerms → ℕ → List ℕ
@@ -206,6 +224,7 @@ pub not_looked : (p : Goal) (program : Program) (b : Box) → KeepsGoal p.kept p
 not_looked p program b keeps = record {
   keeps = keeps;
   fits = λ q fits. fits;
+  fitted = λ q fits. fits;
   scenarios = refl;
   watched = refl;
 }
@@ -222,6 +241,18 @@ fits_kept p k rested atoms kept = λ q fits.
       kept = kept q (length p.watched.cells.items) fits.kept;
     }
 
+-- and did before
+pub kept_fitted : (p : Goal) (k : KeptGoal) (rested : Option (Option ℤ)) → atoms_of k ≡ atoms_of p.kept → ((q : Program) (cells : ℕ) → FitsKept k q cells → FitsKept p.kept q cells) → (q : Program)
+    → Fits (record { scenarios = p.scenarios; partial = p.partial; watched = p.watched; kept = k; rested = rested }) q → Fits p q
+kept_fitted p k rested atoms kept = λ q fits.
+    record {
+      made = fits.made;
+      scenarios = fits.scenarios;
+      partial = fits.partial;
+      watched = subst (AreGoalCells p.watched q) atoms fits.watched;
+      kept = kept q (length p.watched.cells.items) fits.kept;
+    }
+
 -- the cells of one part more, and of none
 pub no_part_yet : (program : Program) (atoms : List Atom) (cells : List ℕ) → ArePartsWithin program atoms 0 cells
 no_part_yet program atoms cells = λ number a below. absurd (omega (arith, below))
@@ -235,6 +266,30 @@ part_within program atoms number d old new mentioned exists listed kept put befo
           subst (λ (x : Atom). HasAll new (mentions (root_in program) (term_at (things_in program) x.term))) is (λ cell here. put cell ((listed.mentions cell).1 here))
       | inr other ↦ λ cell here. kept cell (before k a (omega (arith, below, other)) at cell here)
     ]
+
+-- those of a part are among those of all
+pub part_mentioned : (program : Program) (atoms : List Atom) (number : ℕ) (d : Atom) (mentioned : List ℕ) → number < length atoms
+    → IsListOf (mentions (root_in program) (term_at (things_in program) (get_or atoms number d).term)) mentioned → HasAll (parts_mention program atoms) mentioned
+part_mentioned program [] number d mentioned exists listed = absurd (omega (arith, exists))
+part_mentioned program (a ∷ atoms) zero d mentioned exists listed = λ cell here.
+    Contains-append_left (mentions (root_in program) (term_at (things_in program) a.term)) (parts_mention program atoms) cell ((listed.mentions cell).0 here)
+part_mentioned program (a ∷ atoms) (suc number) d mentioned exists listed = λ cell here.
+    Contains-append_right (mentions (root_in program) (term_at (things_in program) a.term)) (parts_mention program atoms) cell
+    (part_mentioned program atoms number d mentioned (omega (arith, exists)) listed cell here)
+
+-- terms and parts were put into no cells
+pub goal_only : (bound parts first mid last : List ℕ) → first ≡ [] → HasOnly mid first bound → HasOnly last mid parts → HasAll (bound ++ parts) last
+goal_only bound parts first mid last none of_terms of_parts = λ cell here.
+    elim (of_parts cell here) [
+      | inl earlier ↦ elim (of_terms cell earlier) [
+        | inl start ↦ absurd (no_cell cell (subst (λ (set : List ℕ). Contains set cell) none start))
+        | inr term ↦ Contains-append_left bound parts cell term
+      ]
+      | inr part ↦ Contains-append_right bound parts cell part
+    ]
+  where
+    no_cell : (cell : ℕ) → Contains [] cell → ⊥
+    no_cell cell here = omega (arith, here.1)
 
 -- a part mentions the cells that are listed for it
 pub part_listed : (root : Box) (all : List Thing) (atoms : List Atom) (cell number : ℕ) (d : Atom) (list : List ℕ) → number < length atoms

@@ -1,5 +1,6 @@
 -- The terms and the cells of an objective.
-use Rattle.std.specs.Prelude.{◌≡◌, ℕ, ◌<◌, Bool, false, List, Option, Some, length, map, slice_get}
+use Rattle.std.specs.Prelude.{◌≡◌, ◌++◌, ℕ, ◌<◌, Bool, false, List, Option, Some, length, map, slice_get}
+use Rattle.std.specs.List.{flat_map}
 use Rattle.std.specs.List.Sorted.{IsStrictlySortedBy}
 use Rattle.std.specs.Option.{option_and_then, option_map_or}
 use Rattle.std.specs.Ordering.{nat_cmp}
@@ -31,9 +32,18 @@ ArePartsWithin program atoms count cells =
     (number : ℕ) (a : Atom) → number < count → slice_get atoms number ≡ Some a
     → HasAll cells (mentions (root_in program) (term_at (things_in program) a.term))
 
--- the cells are all that the objective's terms and its parts mention, and maybe others, ascending, each with the parts that mention it
+-- the cells that parts of an objective mention
+abbrev pub parts_mention : Program → List Atom → List ℕ
+parts_mention program atoms = flat_map (λ (a : Atom). mentions (root_in program) (term_at (things_in program) a.term)) atoms
+
+-- and those that its terms or its parts mention
+abbrev pub goal_mentions : Program → List Atom → List ℕ
+goal_mentions program atoms = reason_mentions (root_in program) (problem_in program) Bound ++ parts_mention program atoms
+
+-- the cells are all that the objective's terms and its parts mention, and no others, ascending, each with the parts that mention it
 pub record AreGoalCells (g : GoalCells) (program : Program) (atoms : List Atom) : Type 0 where
   pub all : HasAll g.cells.items (reason_mentions (root_in program) (problem_in program) Bound)
   pub within : ArePartsWithin program atoms (length atoms) g.cells.items
+  pub only : HasAll (goal_mentions program atoms) g.cells.items
   pub touched : map part_numbers g.touched.items ≡ map (touched_by (root_in program) (things_in program) atoms) g.cells.items
   pub ascend : IsStrictlySortedBy nat_cmp g.cells.items

@@ -1,7 +1,9 @@
 -- The cells that decide the ends of the parts of an objective's sum, and whether its reasons close a box.
 use Rattle.std.proofs.Common.{◌≡◌, inl, inr, ℕ, zero, suc, List, [], ◌∷◌, ◌++◌, Option, Some, None, IfSome, slice_get, get_or, length, map, arith, refl, ap, subst, ◌∙◌}
 use Rattle.std.specs.List.{Contains, flat_map}
+use Rattle.std.specs.List.Sorted.{IsStrictlyIncreasing}
 use Rattle.std.specs.Option.{option_map_or}
+use Rattle.std.proofs.lemmas.Map.Keys.{IsStrictlyIncreasing-from_sorted}
 use Rattle.std.proofs.lemmas.Option.{slice_get_within}
 use Rattle.std.proofs.lemmas.List.Elements.{Contains-append_cases, Contains-append_left, Contains-append_right}
 use Rattle.sopl_base.specs.declared.reason.Reason.{Reason}
@@ -74,7 +76,7 @@ term_within root (t ∷ terms) zero = λ cell here. Contains-append_left (mentio
 term_within root (t ∷ terms) (suc scenario) = λ cell here.
     Contains-append_right (mentions root t) (flat_map (mentions root) terms) cell (term_within root terms scenario cell here)
 
-lack_within : (root : Box) (goal : Option GoalTerms) (scenario : ℕ) → HasAll (option_map_or (λ (g : GoalTerms). flat_map (mentions root) g.terms) goal [])
+pub lack_within : (root : Box) (goal : Option GoalTerms) (scenario : ℕ) → HasAll (option_map_or (λ (g : GoalTerms). flat_map (mentions root) g.terms) goal [])
     (option_map_or (λ (g : GoalTerms). option_map_or (mentions root) (slice_get g.terms scenario) []) goal [])
 lack_within root None scenario = λ cell here. here
 lack_within root (Some goal) scenario = term_within root goal.terms scenario
@@ -88,6 +90,9 @@ for_lacks P lack bound (n ∷ numbers) reason own =
     ]
 
 -- the laws
+pub goal_ascends : (p : Goal) (program : Program) → Fits p program → IsStrictlyIncreasing p.watched.cells.items
+goal_ascends p program fits = IsStrictlyIncreasing-from_sorted p.watched.cells.items fits.watched.ascend
+
 pub goal_looks : (p : Goal) (program : Program) → Fits p program → LooksAt (box_problem_of program) (reasons_of p) p.watched.cells.items
 goal_looks p program fits =
     decided program (reasons_of p) p.watched.cells.items

@@ -73,6 +73,7 @@ pub record InStep (p : Goal) (program : Program) (b : Box) : Type 0 where
 pub record HasLooked (old new : Goal) (program : Program) (b : Box) : Type 0 where
   pub keeps : KeepsGoal new.kept program new.watched.cells.items b
   pub fits : (p : Program) → Fits old p → Fits new p
+  pub fitted : (p : Program) → Fits new p → Fits old p
   pub scenarios : new.scenarios ≡ old.scenarios
   pub watched : new.watched ≡ old.watched
 

@@ -9,13 +9,13 @@ ghost use Rattle.box_problem.specs.Rightness.{IsRight, Quiets};
 ghost use Rattle.prop_core.specs.Watches.{waits_at};
 ghost use Rattle.prop_shave.specs.GoalSums.{AreParts, parts_over, touched_by, touches_at};
 ghost use Rattle.prop_shave.specs.Opened.{IsOpen, IsWhole};
-ghost use Rattle.prop_shave.specs.Probes.{HasAll, IsAsked};
+ghost use Rattle.prop_shave.specs.Probes.{HasAll, HasOnly, IsAsked};
 ghost use Rattle.prop_shave.specs.Turns.{AreEndTurns, HoldsAtEnds};
 ghost use Rattle.term_problem.specs.Reasons.{reason_mentions};
 ghost use Rattle.term_program.specs.Mentions.{atom_ids};
 ghost use Rattle.term_program.specs.Programs.{IsListedTerm, IsMade, problem_in, root_in, things_in};
 ghost use Rattle.term_program.specs.Stated.{box_problem_of};
-ghost use Rattle.prop_goal.specs.Cells.{AreGoalCells, ArePartsWithin};
+ghost use Rattle.prop_goal.specs.Cells.{AreGoalCells, ArePartsWithin, goal_mentions, parts_mention};
 ghost use Rattle.prop_goal.specs.KeptEnds.{KnowsEnds};
 ghost use Rattle.prop_chance.specs.KeptTurns.{AreFewer, AreForgottenIn, AreForgottenTo, KnowsTurns, turns_of};
 ghost use Rattle.prop_chance.specs.UpToDate.{AreListed, part_numbers};
@@ -38,7 +38,7 @@ pub struct GoalCells {
 }
 
 /// Puts the cells that the objective's term mentions in a scenario into a set.
-#[tactic(auto, using(crate::proofs::Objectives::nothing_undefined, prop_chance::proofs::CellSets::has_itself))]
+#[tactic(auto, using(crate::proofs::Objectives::nothing_undefined, prop_chance::proofs::CellSets::has_itself, crate::proofs::Objectives::only_itself))]
 fn put_scenario(
     cells: &mut BTreeSet<u32>,
     program: &Program,
@@ -49,6 +49,7 @@ fn put_scenario(
     ensures kept { OnOk result (HasAll cells.new.keys cells.old.keys) }
     ensures put { OnOk result (HasAll cells.new.keys (reason_mentions (root_in program.now) (problem_in program.now)
         (Undefined scenario))) }
+    ensures only { OnOk result (HasOnly cells.new.keys cells.old.keys (reason_mentions (root_in program.now) (problem_in program.now) (Undefined scenario))) }
 {
     match program.goal(scenario) {
         Some(term) => put_cells(cells, program.term_cells(term)),
@@ -60,6 +61,7 @@ fn put_scenario(
 fn put_scenarios(cells: &mut BTreeSet<u32>, program: &Program) -> Result<(), AllocError>
     requires made { IsMade program.now }
     ensures all { OnOk result (HasAll cells.new.keys (reason_mentions (root_in program.now) (problem_in program.now) Bound)) }
+    ensures only { OnOk result (HasOnly cells.new.keys cells.old.keys (reason_mentions (root_in program.now) (problem_in program.now) Bound)) }
 {
     'scenarios: for scenario in 0..program.scenarios() {
         put_scenario(cells, program, scenario)?;
@@ -74,6 +76,7 @@ fn put_parts(cells: &mut BTreeSet<u32>, program: &Program, atoms: &[Atom]) -> Re
     requires listed { AllByRecursion (IsListedTerm program.now) (atom_ids atoms.now) }
     ensures kept { OnOk result (HasAll cells.new.keys cells.old.keys) }
     ensures within { OnOk result (ArePartsWithin program.now atoms.now (length atoms.now) cells.new.keys) }
+    ensures only { OnOk result (HasOnly cells.new.keys cells.old.keys (parts_mention program.now atoms.now)) }
 {
     'parts: for number in 0..atoms.len() {
         put_cells(cells, program.term_cells(TermId(atoms[number].term)))?;
@@ -87,6 +90,7 @@ fn goal_cells(alloc: Global, program: &Program, atoms: &[Atom]) -> Result<Vec<u3
     requires listed { AllByRecursion (IsListedTerm program.now) (atom_ids atoms.now) }
     ensures all { IfOk result (λ cells. HasAll cells.items (reason_mentions (root_in program.now) (problem_in program.now) Bound)) }
     ensures within { IfOk result (λ cells. ArePartsWithin program.now atoms.now (length atoms.now) cells.items) }
+    ensures only { IfOk result (λ cells. HasAll (goal_mentions program.now atoms.now) cells.items) }
     ensures ascend { IfOk result (λ cells. IsStrictlySortedBy nat_cmp cells.items) }
 {
     let mut cells = BTreeSet::new(alloc);

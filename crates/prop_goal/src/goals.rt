@@ -357,6 +357,7 @@ impl Goal {
         ensures scenarios { self.new.scenarios ≡ self.old.scenarios }
         ensures watched { self.new.watched ≡ self.old.watched }
         ensures still_fits { (p : Stated) → Fits self.old p → Fits self.new p }
+        ensures fitted_before { (p : Stated) → Fits self.new p → Fits self.old p }
     {
         let finding = self.finding(program, store, best);
         self.rested = rested_by(&finding, best);
@@ -375,6 +376,8 @@ impl Propagator for Goal {
 
     ghost in_step = { InStep };
 
+    ghost watches = { λ goal. goal.watched.cells.items };
+
     fn revise(&mut self, program: &Program, store: &BoxStore, best: Option<i128>) -> Finding {
         self.kept.forget(program);
         self.ask(program, store, best)
@@ -382,9 +385,7 @@ impl Propagator for Goal {
 }
 
 impl Watching for Goal {
-    ghost use Rattle.prop_goal.specs.Deciding.{goal_looks, goal_steps};
-
-    ghost watches = { λ goal. goal.watched.cells.items };
+    ghost use Rattle.prop_goal.specs.Deciding.{goal_ascends, goal_looks, goal_steps};
 
     fn watched_cells(&self) -> &[u32] {
         self.watched.cells.as_slice()
@@ -402,6 +403,8 @@ impl Watching for Goal {
         }
         self.ask(program, store, best)
     }
+
+    ghost cells_ascend = { λ m p fits. goal_ascends m p fits };
 
     ghost steps_agree = { λ m p b c fits b_in c_in agree step. goal_steps m p b c fits b_in c_in agree step };
 

@@ -66,6 +66,7 @@ impl KeptEnds {
         ensures keeps { (program : Stated) (list : List ℕ) (b : Box) → constant.value ≡ constant_of program
             → KeepsEnds program list b self.new }
         ensures fits { (program : Stated) (cells : ℕ) → FitsEnds self.old program cells → FitsEnds self.new program cells }
+        ensures fitted { (program : Stated) (cells : ℕ) → FitsEnds self.new program cells → FitsEnds self.old program cells }
         ensures atoms { self.new.parts.atoms ≡ self.old.parts.atoms }
     {
         self.parts.forget();
@@ -78,6 +79,7 @@ impl KeptEnds {
         ensures keeps { (program : Stated) (list : List ℕ) (b c : Box) → AgreeElsewhere cell b c → KeepsEnds program list b self.old
             → KeepsEnds program list c self.new }
         ensures fits { (program : Stated) (cells : ℕ) → FitsEnds self.old program cells → FitsEnds self.new program cells }
+        ensures fitted { (program : Stated) (cells : ℕ) → FitsEnds self.new program cells → FitsEnds self.old program cells }
         ensures atoms { self.new.parts.atoms ≡ self.old.parts.atoms }
     {
         self.parts.tell(cell);
@@ -187,6 +189,7 @@ impl KeptEnds {
         ensures known { IfSo result (KnowsEnd program.now watched.now.cells.items store.now.box self.new) }
         ensures keeps { KeepsEnds program.now watched.now.cells.items store.now.box self.new }
         ensures fits { (p : Stated) (cells : ℕ) → FitsEnds self.old p cells → FitsEnds self.new p cells }
+        ensures fitted { (p : Stated) (cells : ℕ) → FitsEnds self.new p cells → FitsEnds self.old p cells }
         ensures atoms { self.new.parts.atoms ≡ self.old.parts.atoms }
     {
         self.parts.let_told_wait(watched);
@@ -223,6 +226,7 @@ impl KeptEnds {
             probe.now.store.now.box) }
         ensures keeps { KeepsEnds probe.now.program.now watched.now.cells.items probe.now.store.now.box self.new }
         ensures fits { (p : Stated) (cells : ℕ) → FitsEnds self.old p cells → FitsEnds self.new p cells }
+        ensures fitted { (p : Stated) (cells : ℕ) → FitsEnds self.new p cells → FitsEnds self.old p cells }
         ensures atoms { self.new.parts.atoms ≡ self.old.parts.atoms }
     {
         watched.step_by(probe, &self.parts, self.end, &mut self.turns)

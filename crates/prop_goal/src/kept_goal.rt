@@ -75,6 +75,7 @@ impl KeptGoal {
         requires made { IsMade program.now }
         ensures keeps { (cells : ℕ) (list : List ℕ) (b : Box) → FitsKept self.old program.now cells → KeepsGoal self.new program.now list b }
         ensures fits { (p : Stated) (cells : ℕ) → FitsKept self.old p cells → FitsKept self.new p cells }
+        ensures fitted { (p : Stated) (cells : ℕ) → FitsKept self.new p cells → FitsKept self.old p cells }
         ensures atoms { atoms_of self.new ≡ atoms_of self.old }
     {
         match self {
@@ -88,6 +89,7 @@ impl KeptGoal {
         ensures keeps { (program : Stated) (list : List ℕ) (b c : Box) → AgreeElsewhere cell b c → KeepsGoal self.old program list b
             → KeepsGoal self.new program list c }
         ensures fits { (p : Stated) (cells : ℕ) → FitsKept self.old p cells → FitsKept self.new p cells }
+        ensures fitted { (p : Stated) (cells : ℕ) → FitsKept self.new p cells → FitsKept self.old p cells }
         ensures atoms { atoms_of self.new ≡ atoms_of self.old }
     {
         match self {
@@ -106,6 +108,7 @@ impl KeptGoal {
         ensures known { IfSo result (KnowsGoal self.new program.now watched.now.cells.items store.now.box) }
         ensures keeps { KeepsGoal self.new program.now watched.now.cells.items store.now.box }
         ensures fits { (p : Stated) (cells : ℕ) → FitsKept self.old p cells → FitsKept self.new p cells }
+        ensures fitted { (p : Stated) (cells : ℕ) → FitsKept self.new p cells → FitsKept self.old p cells }
         ensures atoms { atoms_of self.new ≡ atoms_of self.old }
     {
         match self {
@@ -143,6 +146,7 @@ impl KeptGoal {
             probe.now.store.now.box) }
         ensures keeps { KeepsGoal self.new probe.now.program.now watched.now.cells.items probe.now.store.now.box }
         ensures fits { (p : Stated) (cells : ℕ) → FitsKept self.old p cells → FitsKept self.new p cells }
+        ensures fitted { (p : Stated) (cells : ℕ) → FitsKept self.new p cells → FitsKept self.old p cells }
         ensures atoms { atoms_of self.new ≡ atoms_of self.old }
     {
         match self {

@@ -55,6 +55,7 @@ impl KeptWorst {
     pub(crate) fn forget(&mut self)
         ensures keeps { (program : Stated) (b : Box) → KeepsParts program b self.new.parts }
         ensures fits { (program : Stated) → FitsWorst self.old program → FitsWorst self.new program }
+        ensures fitted { (program : Stated) → FitsWorst self.new program → FitsWorst self.old program }
         ensures atoms { self.new.parts.atoms ≡ self.old.parts.atoms }
     {
         self.parts.forget();
@@ -65,6 +66,7 @@ impl KeptWorst {
         ensures keeps { (program : Stated) (b c : Box) → AgreeElsewhere cell b c → KeepsParts program b self.old.parts
             → KeepsParts program c self.new.parts }
         ensures fits { (program : Stated) → FitsWorst self.old program → FitsWorst self.new program }
+        ensures fitted { (program : Stated) → FitsWorst self.new program → FitsWorst self.old program }
         ensures atoms { self.new.parts.atoms ≡ self.old.parts.atoms }
     {
         self.parts.tell(cell);
@@ -147,6 +149,7 @@ impl KeptWorst {
         ensures seen { IfSo result (AreAllSeen program.now store.now.box self.new.parts) }
         ensures keeps { KeepsParts program.now store.now.box self.new.parts }
         ensures fits { (p : Stated) → FitsWorst self.old p → FitsWorst self.new p }
+        ensures fitted { (p : Stated) → FitsWorst self.new p → FitsWorst self.old p }
         ensures atoms { self.new.parts.atoms ≡ self.old.parts.atoms }
     {
         self.parts.let_told_wait(watched);

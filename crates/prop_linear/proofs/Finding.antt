@@ -34,7 +34,7 @@ use Rattle.term_program.specs.Programs.{problem_in, root_in}
 use Rattle.term_math.specs.declared.forms.Coefficient.{Coefficient}
 use Rattle.term_math.specs.Shown.{cells_of}
 use Rattle.term_store.proofs.OrderedForms.{Ordered}
-use Rattle.prop_core.proofs.Rising.{for_each, itself}
+use Rattle.prop_core.proofs.OneReason.{for_each, itself}
 use Rattle.prop_linear.specs.declared.balances.Difference.{Difference}
 use Rattle.prop_linear.specs.declared.linear_constraint.LinearConstraint.{LinearConstraint}
 use Rattle.prop_linear.specs.Balances.{AreAbove, Ascend, IsLight, box_of, closes}

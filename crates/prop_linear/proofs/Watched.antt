@@ -19,7 +19,7 @@ use Rattle.term_program.specs.Comparisons.{Difference, linear_in}
 use Rattle.term_program.specs.Mentions.{IsListOf}
 use Rattle.term_program.specs.Programs.{problem_in, root_in}
 use Rattle.term_program.specs.Stated.{box_problem_of}
-use Rattle.prop_core.proofs.Rising.{for_each}
+use Rattle.prop_core.proofs.OneReason.{for_each}
 use Rattle.prop_core.specs.Watches.{LooksAt}
 use Rattle.prop_linear.specs.declared.linear_constraint.LinearConstraint.{LinearConstraint}
 use Rattle.prop_linear.specs.Kinds.{AreWatched, IsLinearOf, reason_of}

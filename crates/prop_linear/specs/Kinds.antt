@@ -4,12 +4,14 @@ use Rattle.std.specs.Option.{option_and_then}
 use Rattle.sopl_base.specs.declared.reason.Reason.{Reason}
 use Rattle.sopl_base.specs.declared.reason.Reason.TheVariants.{Hard}
 use Rattle.box_problem.specs.Box.{Box, Inside}
+use Rattle.term_language.specs.Mentions.{cond_mentions}
 use Rattle.term_language.specs.Terms.{Cond}
 use Rattle.term_problem.specs.Refuted.{refutes}
 use Rattle.term_nodes.specs.Things.{cond_at}
 use Rattle.term_program.specs.declared.program.Program.{Program}
 use Rattle.term_program.specs.declared.shapes.Form.TheVariants.{Linear}
 use Rattle.term_program.specs.Comparisons.{linear_in, shape_in}
+use Rattle.term_program.specs.Mentions.{IsListOf}
 use Rattle.term_program.specs.Programs.{IsMade, problem_in, root_in, things_in}
 use Rattle.term_program.specs.Stated.{box_problem_of}
 use Rattle.term_math.specs.declared.forms.Coefficient.{Coefficient}
@@ -53,10 +55,12 @@ pub record IsLinearOf (c : LinearConstraint) (program : Program) : Type 0 where
 pub record AreWatched (c : LinearConstraint) : Type 0 where
   pub each : (part : Coefficient) → Contains c.parts.items part → Contains c.cells.items part.cell
 
--- its reason looks at the watched cells alone, and there is a place for each of its parts
+-- the watched cells are just those that the condition mentions, ascending; its reason looks at them alone, and there is a place for each of its
+-- parts
 pub record Fits (p : own.Linear) (program : Program) : Type 0 where
   pub constraint : IsLinearOf p.constraint program
   pub watched : AreWatched p.constraint
+  pub listed : IsListOf (cond_mentions (root_in program) (condition_of p.constraint program)) p.constraint.cells.items
   pub looks : LooksAt (box_problem_of program) (reasons_of p) p.constraint.cells.items
   pub places : HasPlaces (length p.constraint.parts.items) p.sum
 

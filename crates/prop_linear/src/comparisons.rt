@@ -63,6 +63,7 @@ impl Linear {
         ensures in_step { InStep self.new program.now store.now.box }
         ensures constraint { self.new.constraint ≡ self.old.constraint }
         ensures still_fits { (p : Stated) → Fits self.old p → Fits self.new p }
+        ensures fitted_before { (p : Stated) → Fits self.new p → Fits self.old p }
     {
         let difference = self.constraint.difference(program, store);
         self.sum.renew(&difference);
@@ -84,6 +85,8 @@ impl Propagator for Linear {
 
     ghost in_step = { InStep };
 
+    ghost watches = { λ linear. linear.constraint.cells.items };
+
     fn revise(&mut self, program: &Program, store: &BoxStore, best: Option<i128>) -> Finding {
         self.sum.forget();
         self.ask(program, store, best)
@@ -92,8 +95,6 @@ impl Propagator for Linear {
 
 impl Watching for Linear {
     ghost use Rattle.prop_linear.specs.Deciding.{linear_steps};
-
-    ghost watches = { λ linear. linear.constraint.cells.items };
 
     fn watched_cells(&self) -> &[u32] {
         self.constraint.cells.as_slice()
@@ -111,6 +112,8 @@ impl Watching for Linear {
         }
         self.ask(program, store, best)
     }
+
+    ghost cells_ascend = { λ m p fits. fits.listed.ascending };
 
     ghost steps_agree = { λ m p b c fits b_in c_in agree step. linear_steps m p b c fits b_in c_in agree step };
 

@@ -76,6 +76,7 @@ impl KeptSum {
         ensures sums { (constant : ℤ) (parts : List Multiple) (b c : Box) → AgreeElsewhere cell b c
             → SumsUpIfKnown constant parts b self.old → SumsUpIfKnown constant parts c self.new }
         ensures places { (count : ℕ) → HasPlaces count self.old → HasPlaces count self.new }
+        ensures places_before { (count : ℕ) → HasPlaces count self.new → HasPlaces count self.old }
     {
         if self.told.len() < self.told.capacity() {
             self.told.push_reserved(cell);

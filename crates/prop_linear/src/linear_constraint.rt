@@ -3,6 +3,8 @@
 ghost use Rattle.std.specs.Prelude.{◌≡◌, ◌<◌, ◌∷◌, [], ℤ, Option, length, IfOk};
 ghost use Rattle.sopl_base.specs.declared.reason.Reason.TheVariants.{Hard};
 ghost use Rattle.box_problem.specs.Box.{Inside};
+ghost use Rattle.term_language.specs.Mentions.{cond_mentions};
+ghost use Rattle.term_program.specs.Mentions.{IsListOf};
 ghost use Rattle.term_program.specs.Stated.{box_problem_of};
 ghost use Rattle.term_program.specs.Programs.{IsMade, problem_in, root_in};
 ghost use Rattle.term_program.specs.declared.program.Program.{Program as Stated};
@@ -10,7 +12,7 @@ ghost use Rattle.term_math.specs.Shown.{box_in};
 ghost use Rattle.prop_core.specs.Findings.{Finds};
 ghost use Rattle.prop_linear.specs.Balances.{IsLight, IsSummed, box_of};
 ghost use Rattle.prop_linear.specs.KeptSums.{AreWidths};
-ghost use Rattle.prop_linear.specs.Kinds.{AreWatched, IsLinear, IsLinearOf, TellsOf, reason_of};
+ghost use Rattle.prop_linear.specs.Kinds.{AreWatched, IsLinear, IsLinearOf, TellsOf, condition_of, reason_of};
 
 use crate::balances::{Balance, Difference};
 use crate::maxima::Maxima;
@@ -61,6 +63,7 @@ impl LinearConstraint {
         ensures reason { IfOk result (λ made. reason_of made ≡ Hard instance scenario) }
         ensures fits { IfOk result (λ made. IsLinearOf made program.now) }
         ensures watched { IfOk result AreWatched }
+        ensures listed { IfOk result (λ made. IsListOf (cond_mentions (root_in program.now) (condition_of made program.now)) made.cells.items) }
     {
         let cond = program.hard(instance, scenario);
         let parts = Vec::from_slice(alloc, program.parts(cond))?;

@@ -1,8 +1,9 @@
--- Boxes that agree on the cells that a propagator of any kind watches.
+-- The cells that a propagator of any kind watches, and boxes that agree on them.
+use Rattle.std.specs.List.Sorted.{IsStrictlyIncreasing}
 use Rattle.box_problem.specs.Box.{Box, Inside}
 use Rattle.prop_alldiff.specs.Kinds as different
-use Rattle.prop_chance.specs.Deciding.{chance_looks, chance_steps}
-use Rattle.prop_goal.specs.Deciding.{goal_looks, goal_steps}
+use Rattle.prop_chance.specs.Deciding.{chance_ascends, chance_looks, chance_steps}
+use Rattle.prop_goal.specs.Deciding.{goal_ascends, goal_looks, goal_steps}
 use Rattle.prop_core.specs.Alike.{rested_alike}
 use Rattle.prop_core.specs.Watches.{AgreeOnCells, LooksAt}
 use Rattle.prop_cumul.specs.Kinds as cumulative
@@ -13,6 +14,14 @@ use Rattle.prop_set.specs.declared.any_prop.AnyProp.{AnyProp}
 use Rattle.prop_set.specs.declared.any_prop.AnyProp.TheVariants as kind
 use Rattle.term_program.specs.declared.program.Program.{Program}
 use Rattle.term_program.specs.Stated.{box_problem_of}
+
+pub watches_ascend : (m : AnyProp) (program : Program) → Fits m program → IsStrictlyIncreasing (watches_of m)
+watches_ascend (kind.Linear p) program fits = fits.listed.ascending
+watches_ascend (kind.AllDiff p) program fits = fits.ascend
+watches_ascend (kind.Cumul p) program fits = fits.ascend
+watches_ascend (kind.AnyTerm p) program fits = fits.ascend
+watches_ascend (kind.Chance p) program fits = chance_ascends p program fits
+watches_ascend (kind.Goal p) program fits = goal_ascends p program fits
 
 pub looks_alike : (m : AnyProp) (program : Program) → Fits m program → LooksAt (box_problem_of program) (reasons_of m) (watches_of m)
 looks_alike (kind.Linear p) program fits = fits.looks

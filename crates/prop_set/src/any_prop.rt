@@ -37,6 +37,8 @@ impl Propagator for AnyProp {
 
     ghost in_step = { IsInStep };
 
+    ghost watches = { watches_of };
+
     fn revise(&mut self, program: &Program, store: &BoxStore, best: Option<i128>) -> Finding {
         match self {
             AnyProp::Linear(prop) => prop.revise(program, store, best),
@@ -50,9 +52,7 @@ impl Propagator for AnyProp {
 }
 
 impl Watching for AnyProp {
-    ghost use Rattle.prop_set.specs.Agreeing.{looks_alike, steps_alike};
-
-    ghost watches = { watches_of };
+    ghost use Rattle.prop_set.specs.Agreeing.{looks_alike, steps_alike, watches_ascend};
 
     fn watched_cells(&self) -> &[u32] {
         match self {
@@ -86,6 +86,8 @@ impl Watching for AnyProp {
             AnyProp::Goal(prop) => prop.revise_kept(program, store, best),
         }
     }
+
+    ghost cells_ascend = { λ m p fits. watches_ascend m p fits };
 
     ghost steps_agree = { λ m p b c fits b_in c_in agree step. steps_alike m p b c fits b_in c_in agree step };
 

@@ -1,6 +1,7 @@
 //! The propagators of all hard constraints of a program.
 
 ghost use Rattle.std.specs.Prelude.{◌≡◌, ◌<◌, ◌∷◌, ◌++◌, [], length, map, IfOk, OnOk};
+ghost use Rattle.std.specs.List.Sorted.{IsStrictlyIncreasing};
 ghost use Rattle.sopl_base.specs.declared.reason.Reason.TheVariants.{Hard};
 ghost use Rattle.box_problem.specs.Box.{Box};
 ghost use Rattle.prop_core.specs.Members.{AllFit, together};
@@ -29,12 +30,14 @@ fn hard_cells(
     requires instance { instance < length (problem_in program.now).hards }
     requires scenario { scenario < length (problem_in program.now).weights }
     ensures decide { IfOk result (λ cells. LooksAt (box_problem_of program.now) (Hard instance scenario ∷ []) cells.items) }
+    ensures ascend { IfOk result (λ cells. IsStrictlyIncreasing cells.items) }
 {
     let cells = Vec::from_slice(alloc, program.cells_of(program.hard(instance, scenario)))?;
     Ok(cells)
 }
 
-/// The propagator of a hard constraint in a scenario that is no linear comparison, for which another one is quicker; it watches these cells.
+/// The propagator of a hard constraint in a scenario that is no linear comparison, for which another one is quicker; it watches these cells, which
+/// ascend.
 #[tactic(auto, using(crate::proofs::Together::different_there, crate::proofs::Together::cumulative_there))]
 fn prop_with(
     alloc: Global,
@@ -47,6 +50,7 @@ fn prop_with(
     requires instance { instance < length (problem_in program.now).hards }
     requires scenario { scenario < length (problem_in program.now).weights }
     requires decide { LooksAt (box_problem_of program.now) (Hard instance scenario ∷ []) cells.items }
+    requires ascend { IsStrictlyIncreasing cells.items }
     ensures reasons { IfOk result (λ made. reasons_of made ≡ Hard instance scenario ∷ []) }
     ensures fits { IfOk result (λ made. Fits made program.now) }
     ensures in_step { IfOk result (λ made. (b : Box) → IsInStep made program.now b) }

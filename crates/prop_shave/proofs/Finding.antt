@@ -20,7 +20,7 @@ use Rattle.term_problem.proofs.Reasons.{reasons_agree}
 use Rattle.term_program.specs.Programs.{no_better, problem_in, root_in, with_interval}
 use Rattle.term_program.proofs.Ending.{closes_by}
 use Rattle.prop_core.proofs.Onward.{has_or_not}
-use Rattle.prop_core.proofs.Rising.{for_each, itself}
+use Rattle.prop_core.proofs.OneReason.{for_each, itself}
 use Rattle.prop_shave.specs.declared.probes.Probe.{Probe}
 use Rattle.prop_shave.specs.Opened.{AreOpen, IsOpen, IsWhole}
 use Rattle.prop_shave.specs.Probes.{HasAll, IsAsked, IsCountedOf, IsWeighedOf, closes}

@@ -1,5 +1,5 @@
 -- Whether a reason closes a box or parts of it.
-use Rattle.std.specs.Prelude.{◌≡◌, ℕ, ◌<◌, pos, ℤ, ◌≤ℤ◌, ◌-ℤ◌, Bool, true, List, length, Contains, IfSome}
+use Rattle.std.specs.Prelude.{◌≡◌, ◌⊎◌, ℕ, ◌<◌, pos, ℤ, ◌≤ℤ◌, ◌-ℤ◌, Bool, true, List, length, Contains, IfSome}
 use Rattle.sopl_base.specs.declared.reason.Reason.TheVariants.{Bound, Chance}
 use Rattle.box_problem.specs.Box.{Box, Inside, high, low}
 use Rattle.prop_shave.specs.ChanceKnown.{IsWeighed}
@@ -16,6 +16,10 @@ use Rattle.prop_shave.specs.Ends.{IsWide, highest, lowest}
 -- each of these cells is one of those
 abbrev pub HasAll : List ℕ → List ℕ → Type 0
 HasAll those these = (cell : ℕ) → Contains these cell → Contains those cell
+
+-- each cell of the first list is one of the second or of the third
+abbrev pub HasOnly : List ℕ → List ℕ → List ℕ → Type 0
+HasOnly these old more = (cell : ℕ) → Contains these cell → Contains old cell ⊎ Contains more cell
 
 -- the weight is that of the reason's constraint over the box of the store
 pub record IsWeighedOf (q : Probe) (w : ChanceDelta) : Type 0 where

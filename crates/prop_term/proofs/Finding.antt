@@ -18,7 +18,7 @@ use Rattle.term_language.specs.Terms.{Cond}
 use Rattle.term_language.specs.Mentions.{cond_mentions}
 use Rattle.term_program.specs.Stated.{box_problem_of}
 use Rattle.prop_core.specs.Findings.{Closes, Finds}
-use Rattle.prop_core.proofs.Rising.{for_each, itself}
+use Rattle.prop_core.proofs.OneReason.{for_each, itself}
 use Rattle.prop_core.specs.declared.finding.Finding.{Finding}
 use Rattle.term_problem.specs.Problems.{ProblemTerms}
 use Rattle.term_problem.specs.Reasons.{reason_mentions}

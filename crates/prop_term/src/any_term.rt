@@ -80,6 +80,8 @@ impl Propagator for AnyTerm {
 
     ghost in_step = { λ _ _ _. Unit {0} };
 
+    ghost watches = { λ _. [] };
+
     fn revise(&mut self, program: &Program, store: &BoxStore, best: Option<i128>) -> Finding {
         self.found(program, store, best)
     }

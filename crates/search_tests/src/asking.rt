@@ -37,6 +37,8 @@ impl Propagator for CountingProp {
 
     ghost in_step = { λ counting program b. IsInStep counting.prop program b };
 
+    ghost watches = { λ counting. watches_of counting.prop };
+
     fn revise(&mut self, program: &Program, store: &BoxStore, best: Option<i128>) -> Finding {
         self.calls = self.calls.wrapping_add(1);
         self.prop.revise(program, store, best)
@@ -44,9 +46,7 @@ impl Propagator for CountingProp {
 }
 
 impl Watching for CountingProp {
-    ghost use Rattle.prop_set.specs.Agreeing.{looks_alike, steps_alike};
-
-    ghost watches = { λ counting. watches_of counting.prop };
+    ghost use Rattle.prop_set.specs.Agreeing.{looks_alike, steps_alike, watches_ascend};
 
     fn watched_cells(&self) -> &[u32] {
         self.prop.watched_cells()
@@ -60,6 +60,8 @@ impl Watching for CountingProp {
         self.calls = self.calls.wrapping_add(1);
         self.prop.revise_kept(program, store, best)
     }
+
+    ghost cells_ascend = { λ m p fits. watches_ascend m.prop p fits };
 
     ghost steps_agree = { λ m p b c fits b_in c_in agree step. steps_alike m.prop p b c fits b_in c_in agree step };
 

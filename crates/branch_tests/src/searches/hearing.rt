@@ -1,7 +1,7 @@
 //! What a brancher hears of the nodes of a search, held against the log.
 
-use super::pairs::{Pair, near_pair};
-use super::{climbers, empty_sink};
+use super::empty_sink;
+use crate::rising::{Rising, members, rising};
 use brancher::{Brancher, Choice, Event, pick};
 use sopl_base::SearchStop;
 use sopl_io::MemSink;
@@ -165,26 +165,26 @@ fn counts_heard(asked: &mut Option<Box<dyn Brancher>>, log: &str) -> Option<(u32
 }
 
 /// Gives two seats these turns, as long as a node is open, and closes the search. The brancher that was asked comes back.
-#[tactic(auto, using(crate::proofs::Climbing::climbing_posed))]
+#[tactic(auto, using(crate::proofs::Rising::rising_posed))]
 fn asked_in(
     alloc: Global,
-    pair: &Pair,
+    program: &Rising,
     turns: &[u32],
     brancher: Option<Box<dyn Brancher>>,
     sink: &mut MemSink,
 ) -> Result<Option<Box<dyn Brancher>>, SearchStop> {
-    let props = climbers(alloc, pair)?;
-    let mut crew = Crew::new(alloc, pair, props, 2, brancher)?;
+    let props = members(alloc, program)?;
+    let mut crew = Crew::new(alloc, program, props, 2, brancher)?;
     'steps: for seat in turns {
         if crew.open_nodes() == 0 || *seat > 1 || crew.finished() > 1000 {
             break;
         }
-        crew.step(pair, *seat, sink)?;
+        crew.step(program, *seat, sink)?;
     }
     if crew.finished() == 0 || crew.finished() > 1000 {
         return Err(SearchStop::NoMemory);
     }
-    match crew.close(pair, sink) {
+    match crew.close(program, sink) {
         Ok(_) => Ok(crew.brancher.take()),
         Err(stop) => Err(stop),
     }
@@ -193,7 +193,7 @@ fn asked_in(
 /// How many nodes of a search are split, closed or a point; none where its brancher heard anything else.
 fn counts_of(
     alloc: Global,
-    pair: &Pair,
+    program: &Rising,
     turns: &[u32],
     sink: &mut MemSink,
 ) -> Result<Option<(u32, u32, u32)>, SearchStop> {
@@ -206,7 +206,7 @@ fn counts_of(
         Ok(asked) => asked,
         Err(failed) => return Err(AllocError::from(failed).into()),
     };
-    let mut heard = asked_in(alloc, pair, turns, Some(asked), sink)?;
+    let mut heard = asked_in(alloc, program, turns, Some(asked), sink)?;
     let log = std::str::from_utf8(sink.bytes()).unwrap_or("");
     Ok(counts_heard(&mut heard, log))
 }
@@ -238,9 +238,9 @@ fn events_in_the_order_of_the_log(rt: HostRuntime) {
             (3, 2, 2),
         ),
     ] {
-        if let Some(pair) = near_pair(first, second) {
+        if let Some(program) = rising(rt.alloc(), &[first, second]).expect(&rt, "memory") {
             let mut sink = empty_sink(rt.alloc(), &[]).expect(&rt, "memory");
-            let counts = counts_of(rt.alloc(), &pair, turns, &mut sink).expect(&rt, "steps");
+            let counts = counts_of(rt.alloc(), &program, turns, &mut sink).expect(&rt, "steps");
             assert_eq!(rt; counts, Some(want), "{word}");
         }
     }

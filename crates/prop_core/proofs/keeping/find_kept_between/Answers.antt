@@ -22,7 +22,7 @@ returns-in_default g c =
       in_step = All-set (λ member. g.P.Propagator.in_step member c.args.program.now c.args.store.now.box) c.members.list c.members.at c.revise_kept.new.self c.revise_kept.ensures.in_step inv.in_step;
       calm = inv.calm;
       same_reasons = same_set g.P.Propagator.reasons c.members.list c.args.list.now c.members.at c.revise_kept.new.self c.index-list-at.result inv.same_reasons c.revise_kept.ensures.same_reasons;
-      same_watches = map-set_same g.P.Watching.watches c.members.list c.members.at c.revise_kept.new.self c.index-list-at.result c.revise_kept.ensures.same_watches ∙ inv.same_watches;
+      same_watches = map-set_same g.P.Propagator.watches c.members.list c.members.at c.revise_kept.new.self c.index-list-at.result c.revise_kept.ensures.same_watches ∙ inv.same_watches;
       still_fit = fit_set g.P.Propagator.fits c.args.list.now c.members.list c.members.at c.revise_kept.new.self c.index-list-at.result inv.still_fit exists
           (λ program fits. c.revise_kept.ensures.still_fits program fits);
     }
@@ -40,7 +40,7 @@ members-preserved g c =
           (subst (λ reasons. Quiets problem reasons c.args.best c.args.store.now.box)
           (own_reasons g.P.Propagator.reasons c.members.list c.args.list.now c.members.at c.index-list-at.result inv.same_reasons exists) c.in-Quiet.ensures.finds);
       same_reasons = same_set g.P.Propagator.reasons c.members.list c.args.list.now c.members.at c.revise_kept.new.self c.index-list-at.result inv.same_reasons c.revise_kept.ensures.same_reasons;
-      same_watches = map-set_same g.P.Watching.watches c.members.list c.members.at c.revise_kept.new.self c.index-list-at.result c.revise_kept.ensures.same_watches ∙ inv.same_watches;
+      same_watches = map-set_same g.P.Propagator.watches c.members.list c.members.at c.revise_kept.new.self c.index-list-at.result c.revise_kept.ensures.same_watches ∙ inv.same_watches;
       still_fit = fit_set g.P.Propagator.fits c.args.list.now c.members.list c.members.at c.revise_kept.new.self c.index-list-at.result inv.still_fit exists
           (λ program fits. c.revise_kept.ensures.still_fits program fits);
     }

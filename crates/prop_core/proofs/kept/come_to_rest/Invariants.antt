@@ -14,7 +14,7 @@ invariant-cuts g l = record {
   in_step : AllInStep g.P.Propagator.in_step l.program l.store.box l.list;
   calm : AreCalm (g.P.Propagator.problem l.program) (map g.P.Propagator.reasons l.fn.list) l.best l.store.box l.waits;
   same_reasons : map g.P.Propagator.reasons l.list ≡ map g.P.Propagator.reasons l.fn.list;
-  same_watches : map g.P.Watching.watches l.list ≡ map g.P.Watching.watches l.fn.list;
+  same_watches : map g.P.Propagator.watches l.list ≡ map g.P.Propagator.watches l.fn.list;
   bound : l.start ≤ length l.list;
   still_fit : StillFit g.P.Propagator.fits l.fn.list l.list;
 }

@@ -8,14 +8,17 @@ use Rattle.prop_core.proofs.kept.go_on.Goals as goal
 pub touch-requires : goal.touch-requires
 touch-requires g c = record { watch = (length c.args.store.now.box.lows, c.requires.right.cut.exists, c.requires.watch) }
 
+pub places-requires : goal.places-requires
+places-requires g c = record { exists = omega (arith, c.requires.right.cut.exists, c.requires.watch.as_long) }
+
 pub let_wait-requires : goal.let_wait-requires
 let_wait-requires g c = record {
   below = λ k has.
       omega (
         arith,
-        length-map c.args.list.now g.P.Watching.watches,
+        length-map c.args.list.now g.P.Propagator.watches,
         c.requires.as_long,
-        c.requires.watch.below c.args.step.now.cell k (subst (λ (ps : List ℕ). Contains ps k) c.places.ensures has),
+        ((c.requires.watch.each c.args.step.now.cell k c.requires.right.cut.exists).0 (subst (λ (ps : List ℕ). Contains ps k) c.places.ensures has)).0,
       );
 }
 
@@ -34,7 +37,7 @@ returns-clause-calm g c =
     let b = c.args.store.now.box in
     let after = c.make.new.store.box in
     let c_in = inside_step problem c.args.best b after c.args.step.now c.requires.inside c.requires.right c.in_ok-make.ensures.made in
-    calm_on problem g.P.Propagator.reasons g.P.Propagator.fits g.P.Watching.watches program c.args.best b after c.args.watch.now (length c.args.store.now.box.lows) c.args.step.now.cell _
+    calm_on problem g.P.Propagator.reasons g.P.Propagator.fits g.P.Propagator.watches program c.args.best b after c.args.watch.now (length c.args.store.now.box.lows) c.args.step.now.cell _
     c.args.list.now c.touch.new.list c.args.waits.now c.let_wait.new.waits
     (λ m fit. g.met.P.Watching.reasons_agree m program fit)
     (c.touch.ensures.still_fit program c.requires.fits) c.requires.right.cut.exists c.requires.watch c.touch.ensures.same_watches c.touch.ensures.same_reasons

@@ -25,7 +25,7 @@ places-preserved g c =
       touched = touched_next g.P.Propagator.in_step c.args.cell c.args.places.now c.args.list.now c.places.list c.places.place-index c.index-list-at.result c.touched.new.self c.places-test.true exists
           inv.still_in_step inv.touched c.touched.ensures.in_step;
       same_reasons = same_set g.P.Propagator.reasons c.places.list c.args.list.now at c.touched.new.self c.index-list-at.result inv.same_reasons c.touched.ensures.same_reasons;
-      same_watches = map-set_same g.P.Watching.watches c.places.list at c.touched.new.self c.index-list-at.result c.touched.ensures.same_watches ∙ inv.same_watches;
+      same_watches = map-set_same g.P.Propagator.watches c.places.list at c.touched.new.self c.index-list-at.result c.touched.ensures.same_watches ∙ inv.same_watches;
       still_fit = fit_set g.P.Propagator.fits c.args.list.now c.places.list at c.touched.new.self c.index-list-at.result inv.still_fit exists (λ program fits. c.touched.ensures.still_fits program fits);
     }
 

@@ -17,7 +17,7 @@ invariant-nodes g l = record {
       ≡ option_map (λ b. (goal.Brancher-dyn g (b.vtable, b.value)).rule b.value) l.fn.crew.brancher;
   fits : AllFit g.P.Propagator.fits l.program l.crew.watchers.list.items;
   all : AreAll (g.P.Propagator.problem l.program) (together (map g.P.Propagator.reasons l.crew.watchers.list.items));
-  following : AreFollowing g.P.Propagator.in_step g.P.Watching.watches l.program (g.P.Propagator.problem l.program).root l.crew.watchers;
+  following : AreFollowing g.P.Propagator.in_step g.P.Propagator.watches l.program (g.P.Propagator.problem l.program).root l.crew.watchers;
   whole : l.crew.broken ≡ false;
   seats : l.turns.seats ≡ l.fn.schedule.seats;
   order : l.turns.order ≡ l.fn.schedule.order;

@@ -48,4 +48,6 @@ returns c =
       constraint = alike.constraint;
       still_fits = λ program fits.
           still_fits c.args.self.now _ program (record { constraint = alike.constraint; room = alike.room; waits = alike.waits; turns = alike.turns }) fits;
+      fitted_before = λ program fits.
+          still_fits _ c.args.self.now program (record { constraint = sym alike.constraint; room = sym alike.room; waits = sym alike.waits; turns = sym alike.turns }) fits;
     }

@@ -1,4 +1,4 @@
-use Rattle.std.proofs.Common.{length}
+use Rattle.std.proofs.Common.{◌∙◌, length, sym}
 use Rattle.term_program.specs.Programs.{problem_in, root_in}
 use Rattle.prop_shave.proofs.AtEnds.{condition_cells, weight_turns_alike}
 use Rattle.prop_shave.proofs.Mentioned.{untouched}
@@ -20,3 +20,11 @@ returns-clause-in_step c = λ program before after agree step.
           (λ scenario is. untouched c.args.cell (condition_cells root terms instance scenario) is) (λ scenario. c.tell.ensures.told mentions scenario) agree step.turns;
       rested = tt;
     }
+
+pub returns-clause-fitted_before : goal.returns-clause-fitted_before
+returns-clause-fitted_before c = λ program fits. record {
+  constraint = fits.constraint;
+  room = sym c.tell.ensures.room ∙ fits.room;
+  waits = sym c.tell.ensures.waits ∙ fits.waits;
+  turns = fits.turns;
+}

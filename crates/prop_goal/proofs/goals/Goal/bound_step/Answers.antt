@@ -6,7 +6,7 @@ use Rattle.term_problem.specs.Reasons.{reason_mentions}
 use Rattle.term_program.specs.Programs.{problem_in, root_in}
 use Rattle.prop_chance.specs.KeptWeights.{IfSo}
 use Rattle.prop_goal.specs.Goals.{KnowsGoal}
-use Rattle.prop_goal.proofs.Objectives.{fits_kept}
+use Rattle.prop_goal.proofs.Objectives.{fits_kept, kept_fitted}
 use Rattle.prop_goal.proofs.goals.Goal.bound_step.Goals as goal
 
 pub first_step-requires-clause-all : goal.first_step-requires-clause-all
@@ -33,6 +33,7 @@ pub returns-clause-looked : goal.returns-clause-looked
 returns-clause-looked c = record {
   keeps = c.step.ensures.keeps;
   fits = fits_kept c.args.self.now c.step.new.self c.args.self.now.rested c.step.ensures.atoms c.step.ensures.fits;
+  fitted = kept_fitted c.args.self.now c.step.new.self c.args.self.now.rested c.step.ensures.atoms c.step.ensures.fitted;
   scenarios = refl;
   watched = refl;
 }

@@ -18,6 +18,7 @@ returns c =
       looked = record {
         keeps = then.keeps;
         fits = λ p fits. then.fits p (looked.fits p fits);
+        fitted = λ p fits. looked.fitted p (then.fitted p fits);
         scenarios = then.scenarios ∙ looked.scenarios;
         watched = then.watched ∙ looked.watched;
       };

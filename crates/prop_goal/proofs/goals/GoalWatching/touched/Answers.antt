@@ -1,5 +1,5 @@
 use Rattle.std.proofs.Common.{None}
-use Rattle.prop_goal.proofs.Objectives.{fits_kept}
+use Rattle.prop_goal.proofs.Objectives.{fits_kept, kept_fitted}
 use Rattle.prop_goal.proofs.goals.GoalWatching.touched.Goals as goal
 
 pub returns-clause-in_step : goal.returns-clause-in_step
@@ -8,3 +8,6 @@ returns-clause-in_step c = λ program before after agree step.
 
 pub returns-clause-still_fits : goal.returns-clause-still_fits
 returns-clause-still_fits c = λ q fits. fits_kept c.args.self.now c.tell.new.self None c.tell.ensures.atoms c.tell.ensures.fits q fits
+
+pub returns-clause-fitted_before : goal.returns-clause-fitted_before
+returns-clause-fitted_before c = λ q fits. kept_fitted c.args.self.now c.tell.new.self None c.tell.ensures.atoms c.tell.ensures.fitted q fits

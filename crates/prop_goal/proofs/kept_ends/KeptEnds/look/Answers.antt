@@ -8,7 +8,7 @@ use Rattle.prop_goal.specs.KeptEnds.{KnowsEnd}
 use Rattle.prop_goal.specs.KeptParts.{AreAlike, AreCalm, touches}
 use Rattle.prop_goal.specs.declared.kept_ends.KeptEnds.{KeptEnds}
 use Rattle.prop_goal.proofs.KeptEnds.{end_seen, ends_fit, if_so_map, same_sum}
-use Rattle.prop_goal.proofs.KeptParts.{ends_seen, one_each_on, parts_wait}
+use Rattle.prop_goal.proofs.KeptParts.{alike_back, ends_seen, one_each_on, parts_wait}
 use Rattle.prop_goal.proofs.kept_ends.KeptEnds.look.Goals as goal
 
 pub let_told_wait-requires-clause-watched : goal.let_told_wait-requires-clause-watched
@@ -100,5 +100,6 @@ returns c =
         turns = turns_kept (parts_over program k.parts.atoms.items) (touches program k.parts.atoms.items) (length k.parts.atoms.items) b k.parts.outdated cells k.turns turns;
       };
       fits = ends_fit p k frames (ap (λ t. length t.known.items) c.renew_all.ensures.turns ∙ c.forget_waiting.ensures.room);
+      fitted = ends_fit k p (alike_back p.parts k.parts frames) (sym (ap (λ t. length t.known.items) c.renew_all.ensures.turns ∙ c.forget_waiting.ensures.room));
       atoms = c.renew_all.ensures.atoms ∙ alike.atoms;
     }

@@ -1,4 +1,4 @@
-use Rattle.std.proofs.Common.{length, refl}
+use Rattle.std.proofs.Common.{length, refl, sym}
 use Rattle.prop_shave.specs.GoalSums.{parts_over}
 use Rattle.prop_chance.proofs.Turned.{turns_kept}
 use Rattle.prop_goal.specs.KeptParts.{touches}
@@ -32,3 +32,9 @@ returns-clause-fits c =
     let p = c.args.self.now in
     let k : KeptEnds = record { parts = p.parts; end = p.end; turns = c.step_by.new.turns } in
     ends_fit p k (record { atoms = refl; ends = refl; waits = refl }) c.step_by.ensures.room
+
+pub returns-clause-fitted : goal.returns-clause-fitted
+returns-clause-fitted c =
+    let p = c.args.self.now in
+    let k : KeptEnds = record { parts = p.parts; end = p.end; turns = c.step_by.new.turns } in
+    ends_fit k p (record { atoms = refl; ends = refl; waits = refl }) (sym c.step_by.ensures.room)

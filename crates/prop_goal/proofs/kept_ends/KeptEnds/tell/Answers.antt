@@ -7,6 +7,7 @@ use Rattle.prop_chance.proofs.Turned.{turns_told}
 use Rattle.prop_goal.specs.KeptParts.{touches}
 use Rattle.prop_goal.specs.declared.kept_ends.KeptEnds.{KeptEnds}
 use Rattle.prop_goal.proofs.KeptEnds.{ends_fit, same_sum}
+use Rattle.prop_goal.proofs.KeptParts.{alike_back}
 use Rattle.prop_goal.proofs.kept_ends.KeptEnds.tell.Goals as goal
 
 pub returns : goal.returns
@@ -27,5 +28,6 @@ returns c =
             (λ number. c.tell.ensures.told (touches program atoms) number) agree keeps.turns);
       };
       fits = ends_fit old k alike refl;
+      fitted = ends_fit k old (alike_back old.parts parts alike) refl;
       atoms = alike.atoms;
     }

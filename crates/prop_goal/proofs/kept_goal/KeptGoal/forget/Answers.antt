@@ -9,6 +9,7 @@ returns-in-Expected c = record {
       let fact = subst (λ (k : KeptGoal). FitsKept k c.args.program.now cells) c.in-Expected.is fits in
       c.forget.ensures.keeps c.args.program.now list b (c.goal_constant.ensures.constant fact.expected);
   fits = λ p cells fits. c.forget.ensures.fits p cells (subst (λ (k : KeptGoal). FitsKept k p cells) c.in-Expected.is fits);
+  fitted = λ p cells fits. subst (λ (k : KeptGoal). FitsKept k p cells) (sym c.in-Expected.is) (c.forget.ensures.fitted p cells fits);
   atoms = ap (λ list. list.items) c.forget.ensures.atoms ∙ sym (ap atoms_of c.in-Expected.is);
 }
 
@@ -16,5 +17,6 @@ pub returns-in-Worst : goal.returns-in-Worst
 returns-in-Worst c = record {
   keeps = λ cells list b fits. c.forget-in-Worst.ensures.keeps c.args.program.now b;
   fits = λ p cells fits. c.forget-in-Worst.ensures.fits p (subst (λ (k : KeptGoal). FitsKept k p cells) c.in-Worst.is fits);
+  fitted = λ p cells fits. subst (λ (k : KeptGoal). FitsKept k p cells) (sym c.in-Worst.is) (c.forget-in-Worst.ensures.fitted p fits);
   atoms = ap (λ list. list.items) c.forget-in-Worst.ensures.atoms ∙ sym (ap atoms_of c.in-Worst.is);
 }

@@ -8,6 +8,7 @@ returns-in-Expected c = record {
   known = c.look.ensures.known;
   keeps = c.look.ensures.keeps;
   fits = λ p cells fits. c.look.ensures.fits p cells (subst (λ (k : KeptGoal). FitsKept k p cells) c.in-Expected.is fits);
+  fitted = λ p cells fits. subst (λ (k : KeptGoal). FitsKept k p cells) (sym c.in-Expected.is) (c.look.ensures.fitted p cells fits);
   atoms = ap (λ list. list.items) c.look.ensures.atoms ∙ sym (ap atoms_of c.in-Expected.is);
 }
 
@@ -16,5 +17,6 @@ returns-in-Worst c = record {
   known = c.look-in-Worst.ensures.seen;
   keeps = c.look-in-Worst.ensures.keeps;
   fits = λ p cells fits. c.look-in-Worst.ensures.fits p (subst (λ (k : KeptGoal). FitsKept k p cells) c.in-Worst.is fits);
+  fitted = λ p cells fits. subst (λ (k : KeptGoal). FitsKept k p cells) (sym c.in-Worst.is) (c.look-in-Worst.ensures.fitted p fits);
   atoms = ap (λ list. list.items) c.look-in-Worst.ensures.atoms ∙ sym (ap atoms_of c.in-Worst.is);
 }

@@ -3,7 +3,7 @@ use Rattle.term_goals.specs.Goals.{AtomsExist}
 use Rattle.term_program.specs.Programs.{things_in}
 use Rattle.prop_goal.specs.KeptParts.{AreAllSeen, AreAlike, AreCalm}
 use Rattle.prop_goal.proofs.KeptEnds.{if_so_map}
-use Rattle.prop_goal.proofs.KeptParts.{one_each_on, parts_wait}
+use Rattle.prop_goal.proofs.KeptParts.{alike_back, one_each_on, parts_wait}
 use Rattle.prop_goal.proofs.Worst.{worst_fits}
 use Rattle.prop_goal.proofs.kept_worst.KeptWorst.look.Goals as goal
 
@@ -42,5 +42,6 @@ returns c =
           c.renew_all.ensures.calm;
       keeps = record { ends = c.renew_all.ensures.seen.keeps; listed = c.renew_all.ensures.listed };
       fits = λ program fits. worst_fits p k frames program fits;
+      fitted = λ program fits. worst_fits k p (alike_back p.parts k.parts frames) program fits;
       atoms = frames.atoms;
     }

@@ -55,7 +55,15 @@ returns c =
       still_fits = λ other fits. record {
         constraint = fits.constraint;
         watched = fits.watched;
+        listed = fits.listed;
         looks = fits.looks;
         places = subst (λ (parts : List Coefficient). HasPlaces (length parts) c.renew.new.self) told.parts c.renew.ensures.places;
+      };
+      fitted_before = λ other fits. record {
+        constraint = fits.constraint;
+        watched = fits.watched;
+        listed = fits.listed;
+        looks = fits.looks;
+        places = c.requires.fits.places;
       };
     }

@@ -11,6 +11,7 @@ returns-clause-fits c =
     record {
       constraint = read.fits;
       watched = read.watched;
+      listed = read.listed;
       looks = constraint_looks made c.args.program.now read.fits read.watched;
       places = subst (λ (n : ℕ). HasPlaces n c.in_ok-sum.sum) same c.in_ok-sum.ensures.places;
     }

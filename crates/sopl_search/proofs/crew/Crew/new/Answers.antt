@@ -25,6 +25,6 @@ returns-clause-first_state g c =
 
 pub returns-clause-following : goal.returns-clause-following
 returns-clause-following g c =
-    follows_root g.P.Propagator.in_step g.P.Watching.watches c.args.program.now (g.P.Propagator.problem c.args.program.now).root c.in_ok-store.store.box c.args.props.items c.in_ok-watchers.watchers
+    follows_root g.P.Propagator.in_step g.P.Propagator.watches c.args.program.now (g.P.Propagator.problem c.args.program.now).root c.in_ok-store.store.box c.args.props.items c.in_ok-watchers.watchers
     c.requires.posed.lawful.root (c.in_ok-store.ensures.root ∙ (ap box_of c.as_slice.ensures.value ∙ c.in_ok-roots.ensures.root)) c.in_ok-watchers.ensures.list c.in_ok-watchers.ensures.ends
     c.in_ok-watchers.ensures.watch c.requires.in_step

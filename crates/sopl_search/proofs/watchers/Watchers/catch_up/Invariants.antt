@@ -10,6 +10,6 @@ invariant-cells g l = record {
   in_step : FollowsOn g.P.Propagator.problem g.P.Propagator.fits g.P.Propagator.in_step (followed_box l.fn.self) l.store.box (followed_box l.self) l.fn.self.list.items l.self.list.items;
   watch : l.self.watch ≡ l.fn.self.watch;
   same_reasons : map g.P.Propagator.reasons l.self.list.items ≡ map g.P.Propagator.reasons l.fn.self.list.items;
-  same_watches : map g.P.Watching.watches l.self.list.items ≡ map g.P.Watching.watches l.fn.self.list.items;
+  same_watches : map g.P.Propagator.watches l.self.list.items ≡ map g.P.Propagator.watches l.fn.self.list.items;
   still_fit : StillFit g.P.Propagator.fits l.fn.self.list.items l.self.list.items;
 }

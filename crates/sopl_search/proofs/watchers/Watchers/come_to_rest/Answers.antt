@@ -30,11 +30,11 @@ returns-clause-following g c =
     c.stand_at.ensures.list
     ∙ given_back c.catch_up.new.self.list.len c.fixpoint_kept-calm.new.list (drop (length c.fixpoint_kept-calm.new.list) c.catch_up.new.self.list.items)
     (c.fixpoint_kept-calm.auto.list ∙ c.as_mut_slice-list.ensures.len) in
-    follows_at g.P.Propagator.in_step g.P.Watching.watches c.args.program.now problem.root after c.stand_at.new.self inside c.stand_at.ensures.ends
+    follows_at g.P.Propagator.in_step g.P.Propagator.watches c.args.program.now problem.root after c.stand_at.new.self inside c.stand_at.ensures.ends
     (subst (λ xs. AllInStep g.P.Propagator.in_step c.args.program.now after xs) (sym items) c.fixpoint_kept-calm.ensures.in_step)
-    (still_watch (map g.P.Watching.watches c.args.self.now.list.items) (map g.P.Watching.watches c.stand_at.new.self.list.items) c.args.self.now.watch c.stand_at.new.self.watch
+    (still_watch (map g.P.Propagator.watches c.args.self.now.list.items) (map g.P.Propagator.watches c.stand_at.new.self.list.items) c.args.self.now.watch c.stand_at.new.self.watch
     (length c.args.self.now.lows.items) (length c.stand_at.new.self.lows.items)
-    (ap (map g.P.Watching.watches) items ∙ (c.fixpoint_kept-calm.ensures.same_watches ∙ (ap (map g.P.Watching.watches) c.as_mut_slice-list.ensures.value ∙ c.catch_up.ensures.same_watches)))
+    (ap (map g.P.Propagator.watches) items ∙ (c.fixpoint_kept-calm.ensures.same_watches ∙ (ap (map g.P.Propagator.watches) c.as_mut_slice-list.ensures.value ∙ c.catch_up.ensures.same_watches)))
     (c.stand_at.ensures.watch ∙ c.catch_up.ensures.watch)
     (ap (λ (b : Box). length b.lows) c.stand_at.ensures.ends ∙ (inside.same_cells ∙ sym c.requires.following.inside.same_cells))
     c.requires.following.watch)
