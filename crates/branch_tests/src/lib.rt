@@ -1,7 +1,9 @@
-//! Tests of branch and bound over problems that are made by hand: propagators that come to rest, the nodes that seats take, the ends that a
-//! walk makes again, branchers, and searches with their logs.
+//! Tests of branch and bound over problems that are made by hand: the store of a box, propagators that come to rest, the nodes that seats take,
+//! the ends that a walk makes again, branchers, and searches with their logs.
 #![tactic(auto)]
 
+#[cfg(test)]
+mod box_store_marks;
 #[cfg(test)]
 mod branchers;
 #[cfg(test)]

@@ -9,7 +9,7 @@ use term_windows::{
 };
 
 /// The interval from one number to another.
-const fn ends(low: i64, high: i64) -> Ends {
+fn ends(low: i64, high: i64) -> Ends {
     Ends { low, high }
 }
 
@@ -36,24 +36,22 @@ fn told_of(ends: &[Ends]) -> Option<(bool, bool)> {
     Some((never_differ(ends), always_differ(ends)))
 }
 
-/// Intervals, and whether they lie in the window from 1 to 3.
-const LYING: &[(&str, Ends, bool)] = &[
-    ("the whole window", ends(1, 3), true),
-    ("its middle", ends(2, 2), true),
-    ("its last number", ends(3, 3), true),
-    ("one number above it", ends(1, 4), false),
-    ("just above it", ends(4, 4), false),
-    ("one number below it", ends(0, 1), false),
-    ("all of it and more", ends(-7, 9), false),
-    ("an empty interval", ends(2, -7), true),
-    ("all numbers", ends(i64::MIN, i64::MAX), false),
-];
-
 #[test]
 fn intervals_in_a_window(rt: HostRuntime) {
     let window = Window::from(&ends(1, 9), 3);
-    for (word, interval, want) in LYING {
-        assert_eq!(rt; window.has(interval), *want, "{word}");
+    let cases = [
+        ("the whole window", ends(1, 3), true),
+        ("its middle", ends(2, 2), true),
+        ("its last number", ends(3, 3), true),
+        ("one number above it", ends(1, 4), false),
+        ("just above it", ends(4, 4), false),
+        ("one number below it", ends(0, 1), false),
+        ("all of it and more", ends(-7, 9), false),
+        ("an empty interval", ends(2, -7), true),
+        ("all numbers", ends(i64::MIN, i64::MAX), false),
+    ];
+    for (word, interval, want) in cases {
+        assert_eq!(rt; window.has(&interval), want, "{word}");
     }
     assert_eq!(rt;
         window.count(&[ends(1, 3), ends(2, 5), ends(2, 2), ends(0, 3)]),
@@ -84,56 +82,54 @@ fn intervals_in_a_window(rt: HostRuntime) {
     );
 }
 
-/// Intervals, whether they surely do not differ, and whether they surely do.
-const DIFFERENT: &[(&str, &[Ends], (bool, bool))] = &[
-    (
-        "three in two numbers",
-        &[ends(1, 2), ends(1, 2), ends(1, 2), ends(5, 9)],
-        (true, false),
-    ),
-    (
-        "two in two numbers",
-        &[ends(1, 2), ends(1, 2), ends(5, 9)],
-        (false, false),
-    ),
-    ("a number twice", &[ends(3, 3), ends(3, 3)], (true, false)),
-    ("two numbers", &[ends(3, 3), ends(4, 4)], (false, true)),
-    (
-        "four in three numbers",
-        &[ends(1, 2), ends(2, 3), ends(1, 2), ends(2, 3)],
-        (true, false),
-    ),
-    (
-        "three in two numbers, one of them fixed",
-        &[ends(1, 2), ends(0, 3), ends(1, 2), ends(1, 1)],
-        (true, false),
-    ),
-    (
-        "all apart",
-        &[ends(1, 2), ends(5, 9), ends(3, 4)],
-        (false, true),
-    ),
-    (
-        "two that share a number",
-        &[ends(1, 2), ends(3, 4), ends(4, 5)],
-        (false, false),
-    ),
-    (
-        "the greatest number twice",
-        &[
-            ends(i64::MIN, i64::MAX),
-            ends(i64::MAX, i64::MAX),
-            ends(i64::MAX, i64::MAX),
-        ],
-        (true, false),
-    ),
-    ("no interval", &[], (false, true)),
-];
-
 #[test]
 fn intervals_that_differ(rt: HostRuntime) {
-    for (word, intervals, want) in DIFFERENT {
-        assert_eq!(rt; told_of(intervals), Some(*want), "{word}");
+    let cases: [(&str, &[Ends], (bool, bool)); 10] = [
+        (
+            "three in two numbers",
+            &[ends(1, 2), ends(1, 2), ends(1, 2), ends(5, 9)],
+            (true, false),
+        ),
+        (
+            "two in two numbers",
+            &[ends(1, 2), ends(1, 2), ends(5, 9)],
+            (false, false),
+        ),
+        ("a number twice", &[ends(3, 3), ends(3, 3)], (true, false)),
+        ("two numbers", &[ends(3, 3), ends(4, 4)], (false, true)),
+        (
+            "four in three numbers",
+            &[ends(1, 2), ends(2, 3), ends(1, 2), ends(2, 3)],
+            (true, false),
+        ),
+        (
+            "three in two numbers, one of them fixed",
+            &[ends(1, 2), ends(0, 3), ends(1, 2), ends(1, 1)],
+            (true, false),
+        ),
+        (
+            "all apart",
+            &[ends(1, 2), ends(5, 9), ends(3, 4)],
+            (false, true),
+        ),
+        (
+            "two that share a number",
+            &[ends(1, 2), ends(3, 4), ends(4, 5)],
+            (false, false),
+        ),
+        (
+            "the greatest number twice",
+            &[
+                ends(i64::MIN, i64::MAX),
+                ends(i64::MAX, i64::MAX),
+                ends(i64::MAX, i64::MAX),
+            ],
+            (true, false),
+        ),
+        ("no interval", &[], (false, true)),
+    ];
+    for (word, intervals, want) in cases {
+        assert_eq!(rt; told_of(intervals), Some(want), "{word}");
     }
     assert!(rt; are_apart(&ends(3, 4), &ends(1, 2)), "neighbours");
     assert!(rt;
@@ -143,58 +139,56 @@ fn intervals_that_differ(rt: HostRuntime) {
 }
 
 /// An overlap at a place, by its window.
-const fn overlap(low: i64, width: usize, place: usize) -> Option<Overlap> {
+fn overlap(low: i64, width: usize, place: usize) -> Option<Overlap> {
     Some(Overlap {
         window: Window { low, width },
         place,
     })
 }
 
-/// Intervals, and the first that has an end in a tight window and does not lie in it.
-const OVERLAPPING: &[(&str, &[Ends], Option<Overlap>)] = &[
-    (
-        "one begins in it",
-        &[ends(1, 2), ends(1, 2), ends(2, 5)],
-        overlap(1, 2, 2),
-    ),
-    (
-        "one ends in it",
-        &[ends(0, 5), ends(4, 5), ends(4, 5)],
-        overlap(4, 2, 0),
-    ),
-    (
-        "a window of one number",
-        &[ends(1, 1), ends(1, 4)],
-        overlap(1, 1, 1),
-    ),
-    (
-        "the window of the first interval",
-        &[ends(2, 2), ends(1, 1), ends(2, 4)],
-        overlap(2, 1, 2),
-    ),
-    (
-        "a window of two fixed numbers",
-        &[ends(1, 1), ends(2, 2), ends(2, 4)],
-        overlap(1, 2, 2),
-    ),
-    (
-        "one just above it",
-        &[ends(1, 2), ends(1, 2), ends(3, 4)],
-        None,
-    ),
-    ("one round it", &[ends(2, 2), ends(1, 3)], None),
-    ("no interval", &[], None),
-];
-
 #[test]
 fn intervals_that_overlap_a_tight_window(rt: HostRuntime) {
-    for (word, intervals, want) in OVERLAPPING {
-        assert_eq!(rt; first_overlap(intervals), *want, "{word}");
+    let cases: [(&str, &[Ends], Option<Overlap>); 8] = [
+        (
+            "one begins in it",
+            &[ends(1, 2), ends(1, 2), ends(2, 5)],
+            overlap(1, 2, 2),
+        ),
+        (
+            "one ends in it",
+            &[ends(0, 5), ends(4, 5), ends(4, 5)],
+            overlap(4, 2, 0),
+        ),
+        (
+            "a window of one number",
+            &[ends(1, 1), ends(1, 4)],
+            overlap(1, 1, 1),
+        ),
+        (
+            "the window of the first interval",
+            &[ends(2, 2), ends(1, 1), ends(2, 4)],
+            overlap(2, 1, 2),
+        ),
+        (
+            "a window of two fixed numbers",
+            &[ends(1, 1), ends(2, 2), ends(2, 4)],
+            overlap(1, 2, 2),
+        ),
+        (
+            "one just above it",
+            &[ends(1, 2), ends(1, 2), ends(3, 4)],
+            None,
+        ),
+        ("one round it", &[ends(2, 2), ends(1, 3)], None),
+        ("no interval", &[], None),
+    ];
+    for (word, intervals, want) in cases {
+        assert_eq!(rt; first_overlap(intervals), want, "{word}");
     }
 }
 
 /// A task that is Always defined.
-const fn task(start: Ends, duration: Ends, demand: Ends) -> TaskRange {
+fn task(start: Ends, duration: Ends, demand: Ends) -> TaskRange {
     TaskRange {
         start,
         duration,
@@ -203,20 +197,9 @@ const fn task(start: Ends, duration: Ends, demand: Ends) -> TaskRange {
     }
 }
 
-const PLAIN: TaskRange = task(ends(0, 1), ends(2, 3), ends(2, 4));
-
-/// A task whose demand may be below 0.
-const OPEN: TaskRange = task(ends(0, 1), ends(2, 3), ends(-3, 4));
-
-/// A task that begins at the least number and is as long as can be.
-const LONG: TaskRange = task(
-    ends(i64::MIN, i64::MIN),
-    ends(i64::MAX, i64::MAX),
-    ends(5, 5),
-);
-
 #[test]
 fn what_a_task_asks_for(rt: HostRuntime) {
+    let plain = task(ends(0, 1), ends(2, 3), ends(2, 4));
     let cases = [
         ("before it", -1, 0, 0),
         ("where it may have begun", 0, 0, 4),
@@ -228,77 +211,81 @@ fn what_a_task_asks_for(rt: HostRuntime) {
     for (word, number, least, most) in cases {
         let time = Amount { number };
         assert_eq!(rt;
-            PLAIN.least_asked(&time),
+            plain.least_asked(&time),
             Amount { number: least },
             "at least, {word}"
         );
         assert_eq!(rt;
-            PLAIN.most_asked(&time),
+            plain.most_asked(&time),
             Amount { number: most },
             "at most, {word}"
         );
     }
+    let open = task(ends(0, 1), ends(2, 3), ends(-3, 4));
     assert_eq!(rt;
-        OPEN.least_asked(&Amount { number: 1 }),
+        open.least_asked(&Amount { number: 1 }),
         Amount { number: 0 },
         "a demand that may be below 0"
     );
+    let long = task(
+        ends(i64::MIN, i64::MIN),
+        ends(i64::MAX, i64::MAX),
+        ends(5, 5),
+    );
     assert_eq!(rt;
-        LONG.least_asked(&Amount { number: -2 }),
+        long.least_asked(&Amount { number: -2 }),
         Amount { number: 5 },
         "at the last time of a long task"
     );
     assert_eq!(rt;
-        LONG.least_asked(&Amount { number: -1 }),
+        long.least_asked(&Amount { number: -1 }),
         Amount { number: 0 },
         "just behind a long task"
     );
     assert_eq!(rt;
-        LONG.most_asked(&Amount { number: i64::MAX }),
+        long.most_asked(&Amount { number: i64::MAX }),
         Amount { number: 0 },
         "far behind a long task"
     );
 }
 
-/// Tasks, whether they are surely below zero in some part, and whether none of their parts can be.
-const BELOW: &[(&str, TaskRange, bool, bool)] = &[
-    (
-        "the start",
-        task(ends(-9, -9), ends(0, 3), ends(0, 4)),
-        false,
-        true,
-    ),
-    (
-        "perhaps the length",
-        task(ends(0, 1), ends(-1, 3), ends(0, 4)),
-        false,
-        false,
-    ),
-    (
-        "perhaps the demand",
-        task(ends(0, 1), ends(0, 3), ends(-1, 4)),
-        false,
-        false,
-    ),
-    (
-        "the length",
-        task(ends(0, 1), ends(-2, -1), ends(0, 4)),
-        true,
-        false,
-    ),
-    (
-        "the demand",
-        task(ends(0, 1), ends(0, 3), ends(-2, -1)),
-        true,
-        false,
-    ),
-];
-
 #[test]
 fn parts_of_a_task_below_zero(rt: HostRuntime) {
-    for (word, range, negative, sound) in BELOW {
-        assert_eq!(rt; range.is_negative(), *negative, "negative by {word}");
-        assert_eq!(rt; range.is_sound(), *sound, "sound with {word}");
+    let cases = [
+        (
+            "the start",
+            task(ends(-9, -9), ends(0, 3), ends(0, 4)),
+            false,
+            true,
+        ),
+        (
+            "perhaps the length",
+            task(ends(0, 1), ends(-1, 3), ends(0, 4)),
+            false,
+            false,
+        ),
+        (
+            "perhaps the demand",
+            task(ends(0, 1), ends(0, 3), ends(-1, 4)),
+            false,
+            false,
+        ),
+        (
+            "the length",
+            task(ends(0, 1), ends(-2, -1), ends(0, 4)),
+            true,
+            false,
+        ),
+        (
+            "the demand",
+            task(ends(0, 1), ends(0, 3), ends(-2, -1)),
+            true,
+            false,
+        ),
+    ];
+    for (word, range, negative, sound) in cases {
+        assert_eq!(rt; range.is_negative(), negative, "negative by {word}");
+        assert_eq!(rt; range.is_sound(), sound, "sound with {word}");
     }
     assert_eq!(rt;
         Amount::lower(&ends(2, 9)),
@@ -337,68 +324,61 @@ fn fit(tasks: &[TaskRange], capacity: &Ends) -> Option<(bool, bool)> {
     Some((never_fit(tasks, capacity), always_fit(tasks, capacity)))
 }
 
-const FIRST: TaskRange = task(ends(0, 0), ends(2, 3), ends(2, 2));
-
-const SECOND: TaskRange = task(ends(0, 1), ends(2, 3), ends(2, 2));
-
-const LATER: TaskRange = task(ends(3, 4), ends(2, 3), ends(2, 2));
-
-const SHORTER: TaskRange = task(ends(0, 1), ends(1, 3), ends(2, 2));
-
-const BACKWARDS: TaskRange = task(ends(0, 1), ends(-2, -1), ends(2, 2));
-
-/// Tasks, a capacity, whether they surely do not fit, and whether they surely do.
-const FITTING: &[(&str, &[TaskRange], Ends, (bool, bool))] = &[
-    (
-        "two at once, too much",
-        &[FIRST, SECOND],
-        ends(1, 3),
-        (true, false),
-    ),
-    (
-        "two at once, perhaps too much",
-        &[FIRST, SECOND],
-        ends(1, 4),
-        (false, false),
-    ),
-    ("two at once", &[FIRST, SECOND], ends(4, 9), (false, true)),
-    (
-        "one behind the other",
-        &[FIRST, LATER],
-        ends(2, 2),
-        (false, true),
-    ),
-    (
-        "one behind the other, each too much",
-        &[FIRST, LATER],
-        ends(1, 1),
-        (true, false),
-    ),
-    (
-        "two that need not meet",
-        &[FIRST, SHORTER],
-        ends(3, 3),
-        (false, false),
-    ),
-    ("a length below 0", &[BACKWARDS], ends(9, 9), (true, false)),
-    (
-        "no task, a capacity below 0",
-        &[],
-        ends(-3, -1),
-        (true, false),
-    ),
-    (
-        "no task, a capacity perhaps below 0",
-        &[],
-        ends(-1, 1),
-        (false, false),
-    ),
-    ("no task", &[], ends(0, 1), (false, true)),
-];
-
 #[test]
 fn tasks_that_fit(rt: HostRuntime) {
-    for (word, tasks, capacity, want) in FITTING {
-        assert_eq!(rt; fit(tasks, capacity), Some(*want), "{word}");
+    let first = task(ends(0, 0), ends(2, 3), ends(2, 2));
+    let second = task(ends(0, 1), ends(2, 3), ends(2, 2));
+    let later = task(ends(3, 4), ends(2, 3), ends(2, 2));
+    let shorter = task(ends(0, 1), ends(1, 3), ends(2, 2));
+    let backwards = task(ends(0, 1), ends(-2, -1), ends(2, 2));
+    let cases: [(&str, &[TaskRange], Ends, (bool, bool)); 10] = [
+        (
+            "two at once, too much",
+            &[first, second],
+            ends(1, 3),
+            (true, false),
+        ),
+        (
+            "two at once, perhaps too much",
+            &[first, second],
+            ends(1, 4),
+            (false, false),
+        ),
+        ("two at once", &[first, second], ends(4, 9), (false, true)),
+        (
+            "one behind the other",
+            &[first, later],
+            ends(2, 2),
+            (false, true),
+        ),
+        (
+            "one behind the other, each too much",
+            &[first, later],
+            ends(1, 1),
+            (true, false),
+        ),
+        (
+            "two that need not meet",
+            &[first, shorter],
+            ends(3, 3),
+            (false, false),
+        ),
+        ("a length below 0", &[backwards], ends(9, 9), (true, false)),
+        (
+            "no task, a capacity below 0",
+            &[],
+            ends(-3, -1),
+            (true, false),
+        ),
+        (
+            "no task, a capacity perhaps below 0",
+            &[],
+            ends(-1, 1),
+            (false, false),
+        ),
+        ("no task", &[], ends(0, 1), (false, true)),
+    ];
+    for (word, tasks, capacity, want) in cases {
+        assert_eq!(rt; fit(tasks, &capacity), Some(want), "{word}");
     }
 }

@@ -1,11 +1,9 @@
 //! Tests of the programs of texts: their limits, what they tell of themselves, where their propagators come to rest, how often they are asked, and what
-//! they find that keep what they have seen. Beside them stand tests of what a search needs: the store of a box, bytes that go in and out, and logs.
+//! they find that keep what they have seen. Beside them stand tests of bytes that go in and out, and of logs.
 #![tactic(auto)]
 
 #[cfg(test)]
 mod asking;
-#[cfg(test)]
-mod box_store_marks;
 #[cfg(test)]
 mod keeping;
 #[cfg(test)]

@@ -92,7 +92,7 @@ fn valued(alloc: Global, values: &str) -> Result<String, AllocError> {
 fn shaped(alloc: Global, shape: &str) -> Result<String, AllocError> {
     let mut text = String::from_str(alloc, shape)?;
     for (word, stands) in WORDS {
-        text = text.replace(alloc, word, stands)?;
+        text = text.as_str().replace(alloc, word, stands)?;
     }
     Ok(text)
 }
