@@ -12,6 +12,6 @@ mod reader;
 #[cfg(test)]
 mod tests;
 
-pub use laws::{accepted_are_read, printed_is_read};
+pub use laws::{accepted_are_read, printed_is_read, read_is_there};
 pub use lists::data_in;
 pub use reader::read;
