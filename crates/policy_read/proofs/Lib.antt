@@ -6,10 +6,14 @@ mod Domained
 mod Placing
 mod Nodes
 mod Printing
+mod Having
 mod Small
 mod Visited
+mod Apart
+mod Walking
 mod Putting
 mod Indices
 mod Inside
 mod RoundTrip
+mod Reversed
 mod Reading

@@ -37,7 +37,7 @@ index_same : (index : List ℤ) → AllByRecursion IsReadBack index → alike sa
 index_same [] all = refl
 index_same (z ∷ zs) all = λ i. whole_same z all.0 i && index_same zs all.1 i
 
-list_back : (ds : List Data) → list_in (list_of ds) ≡ Some ds
+pub list_back : (ds : List Data) → list_in (list_of ds) ≡ Some ds
 list_back ds = ap Some (listed ds)
 
 -- entries of one name and one index

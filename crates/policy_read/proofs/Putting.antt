@@ -9,6 +9,7 @@ use Rattle.policy_read.specs.declared.entry.Told.{Told}
 use Rattle.sopl_scen.specs.Domains.{cell_ends}
 use Rattle.policy_read.specs.Domains.{first_outside, low_in}
 use Rattle.policy_read.specs.Policies.{put_all_at, put_at}
+use Rattle.policy_read.proofs.Apart.{put_long}
 
 -- a value is put where another list has it: what was the same stays so, and it is the same there
 put_same : (xs vs : List ℤ) (c i : ℕ) → get_or xs i (pos 0) ≡ get_or vs i (pos 0) → get_or (set xs c (get_or vs c (pos 0))) i (pos 0) ≡ get_or vs i (pos 0)
@@ -27,11 +28,6 @@ put_there [] vs c below = absurd (omega (arith, below))
 put_there (x ∷ xs) vs zero below = refl
 put_there (x ∷ xs) [] (suc c) below = put_there xs [] c (omega (arith, below))
 put_there (x ∷ xs) (v ∷ vs) (suc c) below = put_there xs vs c (omega (arith, below))
-
-put_long : (xs : List ℤ) (c : ℕ) (v : ℤ) → length (set xs c v) ≡ length xs
-put_long [] c v = refl
-put_long (x ∷ xs) zero v = refl
-put_long (x ∷ xs) (suc c) v = ap suc (put_long xs c v)
 
 put_point : (cs : List Cell) (xs vs : List ℤ) (c : ℕ) → IsPoint cs xs → IsPoint cs vs → IsPoint cs (set xs c (get_or vs c (pos 0)))
 put_point [] [] vs c one two = tt

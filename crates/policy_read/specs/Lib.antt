@@ -1,5 +1,6 @@
 pub mod Listed
 pub mod Entries
+pub mod Having
 pub mod Forms
 pub mod Domains
 pub mod Policies

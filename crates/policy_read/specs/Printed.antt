@@ -14,6 +14,7 @@ use Rattle.policy_json.specs.LastStage.{last_stage}
 use Rattle.policy_json.specs.Nodes.{policy_data}
 use Rattle.policy_json.specs.Staged.{IsStaged}
 use Rattle.policy_read.specs.Listed.{data_in}
+use Rattle.policy_read.specs.Having.{Has}
 use Rattle.policy_read.specs.Forms.{facing, first_difference, nodes_of}
 use Rattle.policy_read.specs.Policies.{Point, form_for, node_read, policy_in}
 
@@ -58,3 +59,18 @@ AcceptedAreRead =
     (model : ModelTree) → IsFromTokens model → NothingFails (text_events model) → (values : List ℤ) → IsPoint (cells (problem_of model)) values
     → (text : List ℕ) (d : Data) → data_in text ≡ Some d → get (codes "policy") d ≡ Some (policy_data (problem_of model) (policy_at (cells (problem_of model)) values))
     → policy_in (problem_of model).decisions (problem_of model).stochastics text ≡ Point values
+
+-- the data of a text has a member `policy`, which has what this node has
+pub record HasPolicy (shown : Data) (text : List ℕ) : Type 0 where
+  pub data_of : Data
+  pub read : data_in text ≡ Some data_of
+  pub node : Data
+  pub member : get (codes "policy") data_of ≡ Some node
+  pub has : Has shown node
+
+-- the other direction: a text that is read as a point has, as its member `policy`, all that is printed of the policy of this point
+abbrev pub ReadIsThere : Type 0
+ReadIsThere =
+    (model : ModelTree) → IsFromTokens model → NothingFails (text_events model) → (values : List ℤ) (text : List ℕ)
+    → policy_in (problem_of model).decisions (problem_of model).stochastics text ≡ Point values
+    → HasPolicy (policy_data (problem_of model) (policy_at (cells (problem_of model)) values)) text

@@ -10,6 +10,6 @@ mod lists;
 mod policy;
 mod reader;
 
-pub use laws::{accepted_are_read, printed_is_read};
+pub use laws::{accepted_are_read, printed_is_read, read_is_there};
 pub use lists::data_in;
 pub use reader::read;

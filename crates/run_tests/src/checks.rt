@@ -14,6 +14,13 @@ a text that breaks a rule, whose log is not begun:  | sopl-log 1 / n 0 r / v / e
 a root that is closed: range R = 1..3; dvar int x[R] in 1..2; subject to { allDifferent(all(i in R) x[i]); } | sopl-log 1 / n 0 r / f h 0 0 / end infeasible -> 0 {"answer":"accepted","claim":"infeasible"}
 the greatest cell number: dvar int x in 0..9; maximize expected(x); subject to { 3*x <= 20; } | sopl-log 1 / n 0 r / s b 4294967295 le 0 / f h 0 0 / end infeasible -> 1 {"answer":"rejected","line":3,"node":0}
 a value of 2^127: dvar int x in 0..9; maximize expected(x); subject to { 3*x <= 20; } | sopl-log 1 / n 0 r / v / end optimal 170141183460469231731687303715884105728 -> 9 {"answer":"unreadable","at":4,"code":301}
+a bound of 0: dvar int x in 0..1; minimize expected(x); subject to { } | sopl-log 1 / n 0 r / o / end bounded none 0 -> 0 {"answer":"accepted","bound":"0/1","claim":"bounded"}
+a bound one below it: dvar int x in 0..1; minimize expected(x); subject to { } | sopl-log 1 / n 0 r / o / end bounded none -1 -> 1 {"answer":"rejected","line":4,"node":1}
+a factor whose decision goes out: dvar int x in 0..5; dvar int y in 0..4; subject to { (x - x + 2)*y >= 9; } | sopl-log 1 / n 0 r / f h 0 0 / end infeasible -> 0 {"answer":"accepted","claim":"infeasible"}
+a factor with a product of 0: dvar int x in 0..5; dvar int y in 0..4; subject to { (0*(x*x) + 2)*y >= 9; } | sopl-log 1 / n 0 r / f h 0 0 / end infeasible -> 0 {"answer":"accepted","claim":"infeasible"}
+a factor whose products do not go out: dvar int x in 0..5; dvar int y in 0..4; subject to { (x*x - x*x + 2)*y >= 9; } | sopl-log 1 / n 0 r / f h 0 0 / end infeasible -> 1 {"answer":"rejected","line":3,"node":0}
+an index whose decision goes out: range R = 1..2; dvar int z[i in R] in 0..i; dvar int x in 0..5; subject to { z[x - x + 1] >= 2; } | sopl-log 1 / n 0 r / f h 0 0 / end infeasible -> 0 {"answer":"accepted","claim":"infeasible"}
+an index whose products do not go out: range R = 1..2; dvar int z[i in R] in 0..i; dvar int x in 0..5; subject to { z[x*x - x*x + 1] >= 2; } | sopl-log 1 / n 0 r / f h 0 0 / end infeasible -> 1 {"answer":"rejected","line":3,"node":0}
 a zero with a sign: dvar int x in 0..9; maximize expected(x); subject to { 3*x <= 20; } | sopl-log 1 / n 0 r / v / end optimal -0 -> 9 {"answer":"unreadable","at":4,"code":301}
 "##;
 

@@ -83,6 +83,24 @@ const TEXTS: &[(&str, &str, u16, usize)] = &[
         3,
     ),
     (
+        "a node below 0",
+        "sopl-log 1\nn -1 r\nv\nend optimal 1\n",
+        301,
+        2,
+    ),
+    (
+        "a parent below 0",
+        "sopl-log 1\nn 0 r\nx 0 0\nn 1 -1 l\nv\nend optimal 1\n",
+        301,
+        4,
+    ),
+    (
+        "a cell below 0",
+        "sopl-log 1\nn 0 r\ns b -1 le 1\nv\nend optimal 1\n",
+        301,
+        3,
+    ),
+    (
         "a cell too large",
         "sopl-log 1\nn 0 r\ns h 0 0 4294967296 le 1\nv\nend optimal 1\n",
         301,

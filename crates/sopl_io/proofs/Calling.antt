@@ -64,7 +64,7 @@ few_most None now k m few within = tt
 few_most (Some earlier) None k m few within = tt
 few_most (Some earlier) (Some all) k m few within = omega (arith, few, within)
 
--- no call, one call more behind or before the others, and a greater number
+-- no call; one call more, after the others or before them; a greater number
 pub none_made : (calls : Outcomes) → MakesAtMost 0 calls calls
 none_made calls = record { calls = few_none calls.each }
 
@@ -80,7 +80,7 @@ made_earlier before next now outcome k m is made within =
 pub made_most : (before now : Outcomes) (k m : ℕ) → MakesAtMost k before now → k ≤ m → MakesAtMost m before now
 made_most before now k m made within = record { calls = few_most before.each now.each k m made.calls within }
 
--- and where a most is given
+-- a most that is given
 pub made_given : (most : Option ℕ) (before now : Outcomes) (k : ℕ) → MakesAtMost k before now → k ≤ unwrap_or most (2 ^ 64 - 1) + 1 → IfSome most (λ m. MakesAtMost (m + 1) before now)
 made_given None before now k made within = tt
 made_given (Some m) before now k made within = made_most before now k (m + 1) made within

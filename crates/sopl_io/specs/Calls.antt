@@ -49,6 +49,6 @@ pub record StopsWhere (failure : Type 0) (before now : Outcomes) : Type 0 where
   pub all : ¬ failure → AllSucceeded before now
   pub last : failure → LastFailed before now
 
--- where the calls are told, at most so many were made
+-- at most this number of calls were made, where the calls are told
 pub record MakesAtMost (most : ℕ) (before now : Outcomes) : Type 0 where
   pub calls : IfSome before.each (λ earlier. IfSome now.each (λ all. length all ≤ length earlier + most))

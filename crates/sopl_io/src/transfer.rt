@@ -69,8 +69,7 @@ pub fn read_all<S: Source>(
     // No call follows one that failed.
     ensures outcomes { StopsWhere (result ≡ Err ReadStop.Fault) (S.outcomes source.old) (S.outcomes source.new) }
 
-    // Each read adds at least one byte, but the one that finds the end: beside this one and the call that begins the source, no call is made
-    // without a byte.
+    // Each read adds at least one byte, except the one that finds the end. One call more begins the source.
     ensures turns { IfOk result (λ bytes. MakesAtMost (length bytes.items + 2) (S.outcomes source.old) (S.outcomes source.new)) }
     ensures turns_to_most { IfSome most (λ m. MakesAtMost (m + 1) (S.outcomes source.old) (S.outcomes source.new)) }
 {
