@@ -9,10 +9,10 @@ mod branchers;
 #[cfg(test)]
 mod prop_core_rest;
 #[cfg(test)]
-mod rising;
-#[cfg(test)]
 mod searches;
 #[cfg(test)]
 mod seats;
+#[cfg(test)]
+mod small_problem;
 #[cfg(test)]
 mod ways;

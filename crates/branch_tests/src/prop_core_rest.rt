@@ -2,7 +2,7 @@
 
 ghost use Rattle.std.specs.Prelude.{◌<◌, ◌^◌, length};
 
-use crate::rising::{Rising, members, rising};
+use crate::small_problem::{Rising, members, rising_with};
 use box_store::BoxStore;
 use prop_core::{Calm, Watch, fixpoint, fixpoint_kept};
 use sopl_base::Steps;
@@ -58,7 +58,7 @@ fn comes_to_rest_kept(
 
 #[test]
 fn cells_come_to_rest(rt: HostRuntime) {
-    let made = rising(rt.alloc(), &[(2, 9), (0, 9), (0, 9), (0, 5)]).expect(&rt, "memory");
+    let made = rising_with(rt.alloc(), &[(2, 9), (0, 9), (0, 9), (0, 5)]).expect(&rt, "memory");
     let program = made.expect(&rt, "near ends");
     if program.intervals.len() <= 4 {
         let rests = comes_to_rest(rt.alloc(), &program, &[2, 2, 2, 2], &[5, 5, 5, 5], 6);

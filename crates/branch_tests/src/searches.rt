@@ -3,8 +3,8 @@
 ghost use Rattle.std.specs.Prelude.{◌≤◌};
 ghost use Rattle.sopl_search.specs.Schedules.{AreSeats, IsOrder};
 
-use crate::rising::{Rising, members, rising};
 use crate::searches::answering::{AnswerKind, AnsweringBrancher};
+use crate::small_problem::{Rising, members, rising_with};
 use brancher::{Brancher, Choice};
 use sopl_io::MemSink;
 use sopl_search::{Crew, Found, Outcome, Schedule, SearchStop, Values, search};
@@ -141,7 +141,7 @@ fn outcomes(rt: HostRuntime) {
             Some(5),
         ),
     ] {
-        if let Some(program) = rising(rt.alloc(), &[first, second]).expect(&rt, "memory") {
+        if let Some(program) = rising_with(rt.alloc(), &[first, second]).expect(&rt, "memory") {
             let mut sink = empty_sink(rt.alloc(), &[]).expect(&rt, "memory");
             let outcome = outcome_of(rt.alloc(), &program, budget, 1, None, &mut sink).expect(
                 &rt, "outcome",
@@ -197,7 +197,7 @@ fn logs(rt: HostRuntime) {
             "sopl-log 1\nn 0 r\ns h 0 0 0 le 5\nx 0 2\nn 1 0 l\nx 0 1\nn 2 1 l\nx 0 0\nn 3 2 l\nx 1 2\nn 4 3 l\nx 1 1\nn 5 4 l\nx 1 0\nn 6 5 l\nv\nn 7 0 h\no\nn 8 1 h\no\nn 9 2 h\no\nn 10 3 h\no\nn 11 4 h\no\nn 12 5 h\no\nend bounded 0 5\n",
         ),
     ] {
-        if let Some(program) = rising(rt.alloc(), &[first, second]).expect(&rt, "memory") {
+        if let Some(program) = rising_with(rt.alloc(), &[first, second]).expect(&rt, "memory") {
             let mut sink = empty_sink(rt.alloc(), &[]).expect(&rt, "memory");
             outcome_of(rt.alloc(), &program, budget, 1, None, &mut sink).expect(&rt, "outcome");
             assert!(rt; sink.bytes() == log.as_bytes(), "{word}");
@@ -208,7 +208,7 @@ fn logs(rt: HostRuntime) {
 #[test]
 fn faults(rt: HostRuntime) {
     for (failing, log) in [(0, ""), (2, "sopl-log 1\nn 0 r\nv")] {
-        if let Some(program) = rising(rt.alloc(), &[(3, 3), (4, 4)]).expect(&rt, "memory") {
+        if let Some(program) = rising_with(rt.alloc(), &[(3, 3), (4, 4)]).expect(&rt, "memory") {
             let mut sink = empty_sink(rt.alloc(), &[failing]).expect(&rt, "memory");
             let stopped = outcome_of(rt.alloc(), &program, 1, 1, None, &mut sink);
             assert!(rt; matches!(stopped, Err(SearchStop::Write)), "no fault");
@@ -221,7 +221,7 @@ fn faults(rt: HostRuntime) {
 fn seats(rt: HostRuntime) {
     let log =
         "sopl-log 1\nn 0 r\nx 0 1\nn 1 0 h\nx 0 2\nn 2 0 l\nx 0 0\nn 3 1 l\nv\nn 4 2 l\nf b\nn 5 1 h\nv\nn 6 2 h\nf b\nend optimal 3\n";
-    if let Some(program) = rising(rt.alloc(), &[(0, 3), (3, 3)]).expect(&rt, "memory") {
+    if let Some(program) = rising_with(rt.alloc(), &[(0, 3), (3, 3)]).expect(&rt, "memory") {
         let mut sink = empty_sink(rt.alloc(), &[]).expect(&rt, "memory");
         outcome_of(rt.alloc(), &program, 100, 2, None, &mut sink).expect(&rt, "outcome");
         assert!(rt; sink.bytes() == log.as_bytes(), "another log of two seats");
@@ -240,7 +240,7 @@ fn turns_by_hand(rt: HostRuntime) {
             "n 0 r\nx 0 1\nn 1 0 h\nx 0 2\nn 2 0 l\no\nn 3 1 l\no\nn 4 1 h\no\nend bounded none 3\n",
         ),
     ] {
-        if let Some(program) = rising(rt.alloc(), &[(0, 3), (3, 3)]).expect(&rt, "memory") {
+        if let Some(program) = rising_with(rt.alloc(), &[(0, 3), (3, 3)]).expect(&rt, "memory") {
             let mut sink = empty_sink(rt.alloc(), &[]).expect(&rt, "memory");
             let closed = driven(rt.alloc(), &program, turns, None, &mut sink).expect(&rt, "steps");
             assert!(rt; closed.is_ok(), "no outcome");
@@ -251,7 +251,7 @@ fn turns_by_hand(rt: HostRuntime) {
 
 #[test]
 fn members_that_have_rested(rt: HostRuntime) {
-    if let Some(program) = rising(rt.alloc(), &[(0, 3), (3, 3)]).expect(&rt, "memory") {
+    if let Some(program) = rising_with(rt.alloc(), &[(0, 3), (3, 3)]).expect(&rt, "memory") {
         let mut sink = empty_sink(rt.alloc(), &[]).expect(&rt, "memory");
         let rested = rests_after_a_step(rt.alloc(), &program, &mut sink).expect(&rt, "a step");
         assert!(rt; rested, "not rested");
@@ -260,7 +260,7 @@ fn members_that_have_rested(rt: HostRuntime) {
 
 #[test]
 fn fault_at_close(rt: HostRuntime) {
-    if let Some(program) = rising(rt.alloc(), &[(0, 3), (3, 3)]).expect(&rt, "memory") {
+    if let Some(program) = rising_with(rt.alloc(), &[(0, 3), (3, 3)]).expect(&rt, "memory") {
         let none = Vec::from_slice(rt.alloc(), &[]).expect(&rt, "memory");
         let mut sink = MemSink::new(rt.alloc(), 3, none).expect(&rt, "memory");
         let closed = driven(rt.alloc(), &program, &[0, 1, 0], None, &mut sink).expect(&rt, "steps");
@@ -292,7 +292,9 @@ fn any_brancher(rt: HostRuntime) {
         ("halves by what was counted", AnswerKind::Counting),
     ] {
         for seats in [1, 2] {
-            if let Some(program) = rising(rt.alloc(), &[(0, 7), (0, 5)]).expect(&rt, "memory") {
+            if let Some(program) = rising_with(rt.alloc(), &[(0, 7), (0, 5)]).expect(
+                &rt, "memory",
+            ) {
                 let mut sink = empty_sink(rt.alloc(), &[]).expect(&rt, "memory");
                 let outcome = outcome_by(rt.alloc(), &program, 100, seats, kind, &mut sink).expect(
                     &rt, "outcome",
@@ -328,7 +330,7 @@ fn logs_by_branchers(rt: HostRuntime) {
             "sopl-log 1\nn 0 r\nx 0 0\nn 1 0 l\nv\nn 2 0 h\nx 0 1\nn 3 2 h\nx 0 2\nn 4 3 h\nv\nn 5 3 l\nf b\nn 6 2 l\nf b\nend optimal 3\n",
         ),
     ] {
-        if let Some(program) = rising(rt.alloc(), &[(0, 3), (3, 3)]).expect(&rt, "memory") {
+        if let Some(program) = rising_with(rt.alloc(), &[(0, 3), (3, 3)]).expect(&rt, "memory") {
             let mut sink = empty_sink(rt.alloc(), &[]).expect(&rt, "memory");
             outcome_by(rt.alloc(), &program, budget, 1, kind, &mut sink).expect(&rt, "outcome");
             assert!(rt; sink.bytes() == log.as_bytes(), "{word}");
@@ -347,7 +349,7 @@ fn one_outcome(rt: HostRuntime) {
         ("three seats by the least seed", 3, Some(0)),
         ("the most seats by the greatest seed", 64, Some(2147483647)),
     ] {
-        if let Some(program) = rising(rt.alloc(), &[(0, 7), (0, 5)]).expect(&rt, "memory") {
+        if let Some(program) = rising_with(rt.alloc(), &[(0, 7), (0, 5)]).expect(&rt, "memory") {
             let mut sink = empty_sink(rt.alloc(), &[]).expect(&rt, "memory");
             let outcome = outcome_of(rt.alloc(), &program, 100, many, order, &mut sink).expect(
                 &rt, "outcome",

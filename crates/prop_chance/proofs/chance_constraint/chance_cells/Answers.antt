@@ -1,4 +1,4 @@
-use Rattle.std.proofs.Common.{◌≤◌, List, arith, length, rules, subst, sym, ℕ}
+use Rattle.std.proofs.Common.{◌≤◌, arith, length, rules, subst, sym}
 use Rattle.sopl_base.specs.declared.reason.Reason.TheVariants.{Chance}
 use Rattle.prop_shave.specs.Probes.{HasAll}
 use Rattle.term_problem.specs.Reasons.{reason_mentions}

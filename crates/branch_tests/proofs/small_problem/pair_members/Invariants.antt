@@ -3,9 +3,9 @@ use Rattle.std.specs.List.{All, Contains}
 use Rattle.sopl_base.specs.declared.reason.Reason.TheVariants.{Hard}
 use Rattle.box_problem.specs.Box.{Box}
 use Rattle.prop_core.specs.Members.{together}
-use Rattle.branch_tests.specs.declared.rising.RestingRise.{RestingRise}
+use Rattle.branch_tests.specs.declared.small_problem.RestingRise.{RestingRise}
 use Rattle.branch_tests.specs.Rising.{LooksAtRise, RestsAtRise, reasons_for}
-use Rattle.branch_tests.proofs.rising.pair_members.Given as goal
+use Rattle.branch_tests.proofs.small_problem.pair_members.Given as goal
 
 abbrev pub invariant-pairs : goal.invariant-pairs
 invariant-pairs l = record {

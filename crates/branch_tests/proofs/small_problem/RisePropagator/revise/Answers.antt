@@ -1,7 +1,7 @@
 use Rattle.std.proofs.Common.{Option, subst, sym, ℕ}
 use Rattle.prop_core.specs.Findings.{Finds}
 use Rattle.branch_tests.specs.Rising.{FitsFor, problem_of, reasons_for}
-use Rattle.branch_tests.proofs.rising.RisePropagator.revise.Goals as goal
+use Rattle.branch_tests.proofs.small_problem.RisePropagator.revise.Goals as goal
 
 pub pair_finding-requires-clause-pair : goal.pair_finding-requires-clause-pair
 pair_finding-requires-clause-pair c = subst (FitsFor c.args.program.now.intervals.items c.args.program.now.pairs) c.in-Some.is c.requires.fits

@@ -2,7 +2,7 @@ use Rattle.std.proofs.Common.{rules, ℤ, pos, ◌+ℤ◌, ◌<◌, true, false,
 use Rattle.sopl_base.proofs.Sizes.{same_small}
 use Rattle.box_problem.specs.Box.{box_of, high, low}
 use Rattle.branch_tests.proofs.Rising.{bound_dead, bound_quiet, bound_up, cell_there, reached_at}
-use Rattle.branch_tests.proofs.rising.bound_finding.Goals as goal
+use Rattle.branch_tests.proofs.small_problem.bound_finding.Goals as goal
 
 pub returns-then-is_reached : goal.returns-then-is_reached
 returns-then-is_reached c =

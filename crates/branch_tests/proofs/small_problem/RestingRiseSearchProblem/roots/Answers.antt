@@ -1,6 +1,6 @@
 use Rattle.std.proofs.Common.{ap, arith, length, ◌∙◌}
 use Rattle.box_problem.specs.Box.{box_of}
-use Rattle.branch_tests.proofs.rising.RestingRiseSearchProblem.roots.Goals as goal
+use Rattle.branch_tests.proofs.small_problem.RestingRiseSearchProblem.roots.Goals as goal
 
 pub returns : goal.returns
 returns c =

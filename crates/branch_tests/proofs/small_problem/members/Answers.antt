@@ -1,8 +1,8 @@
 use Rattle.std.proofs.Common.{◌≡◌, [], ◌∷◌, ◌++◌, ap, arith, rules}
-use Rattle.branch_tests.specs.declared.rising.RestingRise.{RestingRise}
+use Rattle.branch_tests.specs.declared.small_problem.RestingRise.{RestingRise}
 use Rattle.branch_tests.specs.Rising.{LooksAtRise, RestsAtRise, reasons_for}
 use Rattle.branch_tests.proofs.Rising.{all_more, reasons_all}
-use Rattle.branch_tests.proofs.rising.members.Goals as goal
+use Rattle.branch_tests.proofs.small_problem.members.Goals as goal
 
 pub returns : goal.returns
 returns c =

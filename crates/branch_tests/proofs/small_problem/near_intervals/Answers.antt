@@ -1,7 +1,7 @@
 use Rattle.std.proofs.Common.{◌≡◌, [], ◌∷◌, ◌++◌, arith, rules}
 use Rattle.branch_tests.specs.Rising.{IsNearInterval}
 use Rattle.branch_tests.proofs.Rising.{all_more}
-use Rattle.branch_tests.proofs.rising.near_intervals.Goals as goal
+use Rattle.branch_tests.proofs.small_problem.near_intervals.Goals as goal
 
 pub cells-preserved : goal.cells-preserved
 cells-preserved c =

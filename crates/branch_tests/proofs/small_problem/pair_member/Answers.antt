@@ -1,8 +1,8 @@
 use Rattle.std.proofs.Common.{arith, subst, sym, ◌∙◌}
-use Rattle.branch_tests.specs.declared.rising.Rise.{Rise}
+use Rattle.branch_tests.specs.declared.small_problem.Rise.{Rise}
 use Rattle.branch_tests.specs.Rising.{LooksAtRise}
 use Rattle.branch_tests.proofs.Rising.{pair_fits}
-use Rattle.branch_tests.proofs.rising.pair_member.Goals as goal
+use Rattle.branch_tests.proofs.small_problem.pair_member.Goals as goal
 
 pub next_cell-second-requires : goal.next_cell-second-requires
 next_cell-second-requires c = record { small = omega (arith, c.requires.below, c.args.program.now.chain.many, c.args.program.now.chain.few) }

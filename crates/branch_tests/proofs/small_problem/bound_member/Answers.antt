@@ -1,8 +1,8 @@
 use Rattle.std.proofs.Common.{subst, sym, ◌∙◌}
-use Rattle.branch_tests.specs.declared.rising.Rise.{Rise}
+use Rattle.branch_tests.specs.declared.small_problem.Rise.{Rise}
 use Rattle.branch_tests.specs.Rising.{LooksAtRise}
 use Rattle.branch_tests.proofs.Rising.{bound_fits}
-use Rattle.branch_tests.proofs.rising.bound_member.Goals as goal
+use Rattle.branch_tests.proofs.small_problem.bound_member.Goals as goal
 
 pub returns-clause-fits : goal.returns-clause-fits
 returns-clause-fits c =

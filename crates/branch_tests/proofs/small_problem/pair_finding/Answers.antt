@@ -2,7 +2,7 @@ use Rattle.std.proofs.Common.{◌<◌, ◌≤ℤ◌, ◌<ℤ◌, ◌∙◌, SFit
 use Rattle.std.proofs.lemmas.Int.{to_z-of_z}
 use Rattle.box_problem.specs.Box.{box_of, high, low}
 use Rattle.branch_tests.proofs.Rising.{cell_there, pair_first, pair_quiet, pair_second}
-use Rattle.branch_tests.proofs.rising.pair_finding.Goals as goal
+use Rattle.branch_tests.proofs.small_problem.pair_finding.Goals as goal
 
 pub returns-then-hi : goal.returns-then-hi
 returns-then-hi c =

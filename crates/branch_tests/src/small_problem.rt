@@ -68,7 +68,10 @@ fn chain(intervals: Vec<Interval>) -> Option<Rising>
 }
 
 /// Cells with these ends, if there are one to sixteen, and all of their ends are near.
-pub(super) fn rising(alloc: Global, ends: &[(i64, i64)]) -> Result<Option<Rising>, AllocError> {
+pub(super) fn rising_with(
+    alloc: Global,
+    ends: &[(i64, i64)],
+) -> Result<Option<Rising>, AllocError> {
     let Some(intervals) = near_intervals(alloc, ends)? else {
         return Ok(None);
     };
@@ -78,7 +81,7 @@ pub(super) fn rising(alloc: Global, ends: &[(i64, i64)]) -> Result<Option<Rising
 /// Narrows a box for one reason: that this cell is at most the next one; or without a cell, that the first one is better than the best value.
 #[derive(Clone, Copy)]
 pub(super) struct Rise {
-    pair: Option<u32>,
+    pub(super) pair: Option<u32>,
 }
 
 /// The cell after this one.
