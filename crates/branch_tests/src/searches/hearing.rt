@@ -1,7 +1,7 @@
 //! What a brancher hears of the nodes of a search, held against the log.
 
 use super::empty_sink;
-use crate::rising::{Rising, members, rising};
+use crate::small_problem::{Rising, members, rising_with};
 use brancher::{Brancher, Choice, Event, pick};
 use sopl_base::SearchStop;
 use sopl_io::MemSink;
@@ -238,7 +238,7 @@ fn events_in_the_order_of_the_log(rt: HostRuntime) {
             (3, 2, 2),
         ),
     ] {
-        if let Some(program) = rising(rt.alloc(), &[first, second]).expect(&rt, "memory") {
+        if let Some(program) = rising_with(rt.alloc(), &[first, second]).expect(&rt, "memory") {
             let mut sink = empty_sink(rt.alloc(), &[]).expect(&rt, "memory");
             let counts = counts_of(rt.alloc(), &program, turns, &mut sink).expect(&rt, "steps");
             assert_eq!(rt; counts, Some(want), "{word}");

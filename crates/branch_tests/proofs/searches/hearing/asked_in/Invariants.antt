@@ -2,8 +2,8 @@ use Rattle.std.proofs.Common.{◌≡◌, false, length, map, option_map}
 use Rattle.std.specs.List.{All}
 use Rattle.box_problem.specs.Box.{Box}
 use Rattle.prop_core.specs.Members.{together}
-use Rattle.branch_tests.specs.declared.rising.RestingRise.{RestingRise}
-use Rattle.branch_tests.specs.declared.rising.Rising.{Rising}
+use Rattle.branch_tests.specs.declared.small_problem.RestingRise.{RestingRise}
+use Rattle.branch_tests.specs.declared.small_problem.Rising.{Rising}
 use Rattle.branch_tests.specs.Rising.{LooksAtRise, RestsAtRise, problem_of, reasons_for}
 use Rattle.sopl_search.specs.Ends.{AreAll}
 use Rattle.sopl_search.specs.Following.{AreFollowing}
