@@ -1,8 +1,9 @@
 # What is told beside an answer of `sopl`, for the scripts that run it: `./sopl` of the repository and bin/sopl of an installed copy.
 #
-# Who reads this file sets `program` to the program, `views` to the folder of this file, and `formats` to the file FORMATS.md, whose
-# tables are told from; calls `read_options` with its words and drops as many as that has counted; then calls `run_and_tell` where
-# something `is_told` and else the program; and calls `drop_notes` when it ends.
+# A script that reads this file sets `program` to the program, `views` to the folder of this file, and `formats` to the file FORMATS.md, whose
+# tables are told from; has the words read by `answer_words` of words.sh; then calls `run_and_tell` on the words of the program; and calls
+# `drop_notes` when it ends.
+. "$views/words.sh"
 
 # The folder of an answer that is told in words, and the processes of a run that can be stopped: none of them outlives the script.
 notes=
@@ -13,62 +14,8 @@ drop_notes() {
     rm -rf ${notes:+"$notes"}
 }
 
-# Ends with a status that is none of the program's, or with 2 where the words are not of the form.
-fail() {
-    echo "sopl: $2" >&2
-    exit "$1"
-}
-
-# The options of the scripts, which stand before the command.
-
-table=
-page=
-why=
-seconds=
-
-# Sets `table`, `page`, `why` and `seconds` by the words, and `options` to how many words these options are.
-read_options() {
-    options=0
-    while :; do
-        case $1 in
-            --table) table=1 ;;
-            --why) why=1 ;;
-            --page=?*) page=${1#--page=} ;;
-            --page)
-                [ -n "$2" ] || fail 2 'behind --page stands the FILE that the page goes to'
-                page=$2
-                options=$((options + 1))
-                shift
-                ;;
-            --seconds=*) take_seconds "${1#--seconds=}" ;;
-            --seconds)
-                take_seconds "$2"
-                options=$((options + 1))
-                shift
-                ;;
-            *) break ;;
-        esac
-        options=$((options + 1))
-        shift
-    done
-    [ -z "$table$page$why$seconds" ] || fit_options "$@"
-}
-take_seconds() {
-    case $1 in
-        '' | *[!0-9]* | ??????????*) seconds=0 ;;
-        *) seconds=$1 ;;
-    esac
-    [ "$seconds" -gt 0 ] || fail 2 'behind --seconds stands N, a whole number from 1 to 999999999'
-}
-
-# Ends where the options do not go with the command, or cannot be done here.
-fit_options() {
-    case $1 in
-        solve) ;;
-        tree) [ -z "$page$why$seconds" ] ;;
-        check) [ -z "$table$page$seconds" ] ;;
-        *) false ;;
-    esac || fail 2 "--table stands before 'solve' or 'tree', --page FILE and --seconds N before 'solve', --why before 'solve' or 'check'"
+# Ends where what the script's words ask for cannot be done here.
+fit_files() {
     [ -z "$why" ] || [ "$1" = check ] || no_log "$@" ||
         fail 2 "--why has a log of its own: leave --log out, or run 'solve --log FILE MODEL', and then '--why check MODEL FILE'"
     [ -z "$page" ] || can_write "$page" || fail 70 "the page $page cannot be written"
@@ -115,6 +62,11 @@ is_told() {
     [ -n "$table$page$why$seconds" ] || explains
 }
 
+# Whether the script may say anything on its own: a wrong word, a file that cannot be read, what ended a search.
+speaks() {
+    [ "${SOPL_EXPLAIN:-1}" = 1 ]
+}
+
 # Whether answers are told in words.
 explains() {
     [ "$SOPL_EXPLAIN" = 1 ] || { [ -z "$SOPL_EXPLAIN" ] && { [ -n "$table$page$why" ] || [ -t 2 ]; }; }
@@ -128,14 +80,6 @@ member() {
 # What a code means: the first table of FORMATS.md that has a line for it.
 meaning() {
     awk -F ' *[|] *' -v code="$1" '$2 == code { print $3; exit }' "$formats"
-}
-
-# The forms of the words that end with this one: the first table of FORMATS.md.
-forms() {
-    awk -F ' *[|] *' -v last="$1" '
-        /^## / { in_words = ($0 == "## Words") }
-        in_words && $2 ~ /^`[a-z]/ && $2 ~ " " last "`$" { gsub(/`/, "\047", $2); forms = forms (forms == "" ? "" : " or ") $2 }
-        END { print forms }' "$formats"
 }
 
 # The file that stands at this place, 1 or 2, behind the command: of the words that are neither an option nor its value.
@@ -254,14 +198,7 @@ explain() {
             said='this line is not right'
             show_line "$@"
             ;;
-        2)
-            echo "sopl: the words are $(forms MODEL), where MODEL is the file of a model," \
-                "or $(forms LOG), where LOG is the file of a log of the model," \
-                "or $(forms POLICY), where POLICY is the file of a policy of it," \
-                "or $(forms SEED), where a text of STAGES, 1 to 9, is drawn by SEED"
-            echo 'sopl: before them may stand --table, --page FILE or --why, which tell more of an answer, and --seconds N, which ends a search' \
-                '(docs/FORMATS.md)'
-            ;;
+        2) explain_usage "$@" ;;
         3)
             if [ -n "$is_file" ]; then
                 show_place "$at" "$(meaning "$code") ($code)"
@@ -274,7 +211,8 @@ explain() {
             echo "$model: $(member counted "$answer") where $(member limit "$answer") is the limit: $(meaning "$code") ($code)"
             [ -z "$is_file" ] || advise "$code" ''
             ;;
-        6 | 7 | 8) echo "sopl: $(meaning "$status")" ;;
+        6) explain_read_fault "$@" ;;
+        7 | 8) echo "sopl: $(meaning "$status")" ;;
         9)
             node=
             said="$(meaning "$code") ($code)"
@@ -502,11 +440,19 @@ show_why() {
     [ ! -f "$log" ] || count_reasons "$log"
 }
 
+# Whether this status is told even where answers are not told in words: a wrong word, and a file that cannot be read.
+is_spoken() {
+    case $1 in
+        2 | 6) speaks ;;
+        *) false ;;
+    esac
+}
+
 # Tells an answer in the ways that are asked for: its status, and the words of the program.
 tell() {
     status=$1
     shift
-    ! explains || explain "$status" "$(head -c 1000 "$notes/answer")" "$@"
+    if explains || is_spoken "$status"; then explain "$status" "$(head -c 1000 "$notes/answer")" "$@"; fi
     case $status in
         0 | 5) ;;
         *) return ;;
@@ -536,4 +482,17 @@ run_and_tell() {
     cat "$notes/answer" || return 7
     tell "$status" "$@" >&2
     return "$status"
+}
+
+# Runs the program where nothing is told of its answer but a wrong word or a file that cannot be read.
+run_plainly() {
+    "$program" "$@"
+    status=$?
+    ! is_spoken "$status" || explain "$status" '' "$@" >&2
+    return "$status"
+}
+
+# Runs the program on its words, and tells what is asked for.
+run() {
+    if is_told; then run_and_tell "$@"; else run_plainly "$@"; fi
 }
