@@ -4,13 +4,17 @@
 # tables are told from; has the words read by `answer_words` of words.sh; then calls `run_and_tell` on the words of the program; and calls
 # `drop_notes` when it ends.
 . "$views/words.sh"
+. "$views/watch.sh"
 
 # The folder of an answer that is told in words, and the processes of a run that can be stopped: none of them outlives the script.
 notes=
 running=
+timer=
 watcher=
 drop_notes() {
-    [ -z "$running$watcher" ] || kill -KILL $running $watcher 2>/dev/null
+    kill_program
+    [ -z "$timer" ] || kill -TERM $timer 2>/dev/null
+    [ -z "$watcher" ] || kill -KILL $watcher 2>/dev/null
     rm -rf ${notes:+"$notes"}
 }
 
@@ -20,7 +24,8 @@ fit_files() {
         fail 2 "--why has a log of its own: leave --log out, or run 'solve --log FILE MODEL', and then '--why check MODEL FILE'"
     [ -z "$page" ] || can_write "$page" || fail 70 "the page $page cannot be written"
     [ -z "$page" ] || command -v python3 >/dev/null || fail 127 '--page asks for python3, which is not on this machine'
-    [ -z "$seconds" ] || can_read_again "$@" || fail 70 '--seconds reads the model and the log once more: each has to be a file, and no pipe or device'
+    [ -z "$seconds$gap" ] || can_read_again "$@" ||
+        fail 70 '--seconds and --gap read the model and the log once more: each has to be a file, and no pipe or device'
 }
 no_log() {
     for word do
@@ -59,7 +64,7 @@ can_write() {
 
 # Whether anything is told beside the answer.
 is_told() {
-    [ -n "$table$page$why$seconds" ] || explains
+    [ -n "$table$page$why$seconds$gap$stats" ] || explains
 }
 
 # Whether the script may say anything on its own: a wrong word, a file that cannot be read, what ended a search.
@@ -257,174 +262,6 @@ count_reasons() {
     LC_ALL=C awk -v name="$model" -f "$views/text.awk" -f "$views/why.awk" role=text "$text" role=tree "$notes/tree" role=log "$1"
 }
 
-# Has the log counted while the program writes it, into a pipe of which both ends are open before either is used, so that nobody waits for
-# the other to open it; once the program has ended and this script's own end is closed, the log ends.
-begin_reading() {
-    keep_tree
-    mkfifo "$notes/log" || exit 70
-    exec 3<>"$notes/log" 4<"$notes/log"
-    exec 3>"$notes/log"
-    (
-        # A redirection of the call itself would leave a copy of the writing end open here.
-        exec <&4 3>&- 4<&-
-        count_reasons - >"$notes/why"
-    ) &
-    reader=$!
-    exec 4<&-
-}
-end_reading() {
-    exec 3>&-
-    wait "$reader"
-}
-
-# A run that can be stopped: it has a log, which tells how far it came, and the same search up to there has an answer.
-
-# Of the last bytes of the log, as many as are given: how many nodes there are up to the last one with a policy, and how many are whole; 0
-# where there is none. Numbers of nodes ascend. A line that is cut off at its begin is left out, and so is one that the full stop changes.
-read_end() {
-    { tail -c "$1" "$log" 2>/dev/null; echo .; } | LC_ALL=C awk '
-        NR == 1 { next }
-        /^n [0-9]+ (r|[0-9]+ [lh])$/ { node = $2 + 1 }
-        node && /^([fx] .*[0-9b]|v)$/ { whole = node }
-        node && $0 == "v" { found = node }
-        END { printf "%.0f %.0f\n", found, whole }'
-}
-
-# Whether the program has begun the log: else an older one may stand there.
-is_begun() {
-    [ -n "$(find "$log" -newer "$notes/begun" 2>/dev/null)" ]
-}
-
-# Sets `found` and `whole` as `read_end` tells them, by no more of the log's end than it takes to see a policy.
-read_log() {
-    found=0
-    whole=0
-    is_begun || return 0
-    size=65536
-    bytes=$(wc -c <"$log")
-    while :; do
-        counts=$(read_end "$size")
-        found=${counts% *}
-        whole=${counts#* }
-        [ "$found" -eq 0 ] && [ "$size" -lt "$bytes" ] || return 0
-        size=$((16 * size))
-    done
-}
-
-# Ends the program after as many seconds as are given, if any are, and tells on a terminal how far it came. What sleeps holds nothing open.
-watch() {
-    passed=0
-    whole=0
-    until [ -n "$1" ] && [ "$passed" -ge "$1" ]; do
-        sleep 1 </dev/null >/dev/null 2>&1 5<&-
-        passed=$((passed + 1))
-        [ -t 2 ] || continue
-        ! is_begun || whole=$(read_end 65536)
-        printf '\r%s nodes, %s s ' "${whole#* }" "$passed" >&2
-    done
-    : >"$notes/late"
-    kill -KILL "$running"
-}
-
-# Ends the program.
-stop() {
-    stopped=1
-    interrupted=1
-    [ -z "$running" ] || kill -KILL "$running" 2>/dev/null
-}
-
-# Runs the program on the words behind the first, which is how many seconds it may take, or empty, and sets `status`. A `wait` that a signal
-# ends is begun anew, and says 127 where the program had ended before.
-run_watched() {
-    limit=$1
-    shift
-    status=127
-    if [ -e "$log" ]; then touch -r "$log" "$notes/begun"; else touch -t 200001010000 "$notes/begun"; fi
-    "$program" "$@" <&5 5<&- >"$notes/answer" &
-    running=$!
-    [ -z "$stopped" ] || kill -KILL "$running"
-    watch "$limit" &
-    watcher=$!
-    while :; do
-        interrupted=
-        wait "$running" 2>/dev/null
-        ended=$?
-        [ "$ended" -eq 127 ] || status=$ended
-        [ -n "$interrupted" ] || break
-    done
-    running=
-    kill -KILL "$watcher" 2>/dev/null
-    wait "$watcher" 2>/dev/null
-    watcher=
-    [ ! -t 2 ] || printf '\r%40s\r' '' >&2
-}
-
-# Runs the same search in as many seconds as are given, or empty, with a budget in place of that of the words, which is not smaller; of the
-# budget is told what is said.
-run_bounded() {
-    limit=$1
-    budget=$2
-    what=$3
-    shift 3
-    echo "sopl: the search was ended; it runs again with --budget $budget, $what, which takes as long again at most, and answers" >&2
-    echo 'sopl: what its last nodes found may be missing; who ends this run too has no answer' >&2
-    is_budget=
-    for word do
-        shift
-        [ -z "$is_budget" ] || { is_budget=; continue; }
-        case $word in
-            --budget) is_budget=1 ;;
-            --budget=*) ;;
-            *) set -- "$@" "$word" ;;
-        esac
-    done
-    run_watched "$limit" "$@" --budget "$budget"
-}
-
-# Whether the run was ended, by its seconds or by a signal.
-was_ended() {
-    [ "$status" -gt 128 ] && { [ -n "$stopped" ] || [ -e "$notes/late" ]; }
-}
-
-# Runs a search that was ended once more, up to what its log has; where it has no node yet, the first one has a bound, if it is not too long.
-run_again() {
-    stopped=
-    rm -f "$notes/late"
-    read_log
-    if [ "$found" -gt 0 ]; then
-        run_bounded '' "$found" 'up to the last node with a policy' "$@"
-    elif [ "$whole" -gt 0 ]; then
-        run_bounded '' "$whole" 'all nodes of its log, none with a policy' "$@"
-    else
-        run_bounded "$seconds" 1 'since its log had no node yet' "$@"
-        ! was_ended || fail 70 'nothing is known yet: the first node takes more seconds than that'
-    fi
-}
-
-# Runs the program so that it can be stopped, and where it was, the same search up to what its log has.
-run_stoppable() {
-    log=$(log_of "$@")
-    if no_log "$@"; then
-        log=$notes/log
-        set -- "$@" --log "$log"
-    fi
-    case $log in
-        /*) ;;
-        *) log=./$log ;;
-    esac
-    exec 5<&0
-    stopped=
-    trap stop INT TERM
-    run_watched "$seconds" "$@"
-    trap 'exit 130' INT
-    trap 'exit 143' TERM
-    ! was_ended || run_again "$@"
-    [ -z "$why" ] || [ ! -e "$log" ] || {
-        keep_tree
-        count_reasons - <"$log" >"$notes/why"
-    }
-}
-
 # What closed the nodes of the search, or of the log that was checked.
 show_why() {
     if [ "$command" = solve ]; then
@@ -452,47 +289,53 @@ is_spoken() {
 tell() {
     status=$1
     shift
-    if explains || is_spoken "$status"; then explain "$status" "$(head -c 1000 "$notes/answer")" "$@"; fi
+    if explains || is_spoken "$status"; then explain "$status" "$(head -c 1000 "$notes/answer" 2>/dev/null)" "$@"; fi
     case $status in
-        0 | 5) ;;
+        0) ;;
+        5) say_ended "$@" ;;
         *) return ;;
     esac
     [ -z "$table" ] || show_table
     [ -z "$page" ] || write_page
     [ -z "$why" ] || show_why "$@"
+    [ -z "$stats" ] || show_stats "$status"
 }
 
-# Runs the program and tells its answer.
-run_and_tell() {
-    notes=$(mktemp -d) || exit 70
+# Runs the program and tells its answer. A search is watched even where nothing is told of it, so that a signal that ends it leaves its best
+# policy; its answer goes to standard output at once then (`is_direct`).
+run() {
     command=$1
+    is_direct=
+    is_made=1
     take_model "$@"
-    if [ -n "$seconds" ]; then
-        run_stoppable "$@"
-    elif [ "$why$command" = 1solve ]; then
-        begin_reading
-        "$program" "$@" --log "$notes/log" >"$notes/answer" 3>&-
-        status=$?
-        end_reading
+    if ! is_told; then
+        is_direct=1
+        is_made=
+        [ "$command" = solve ] && [ -n "$is_file" ] && is_file_log "$@" && notes=$(mktemp -d 2>/dev/null) || command=
     else
-        "$program" "$@" >"$notes/answer"
-        status=$?
+        notes=$(mktemp -d) || exit 70
     fi
+    if [ "$command" = solve ] && is_file_log "$@"; then run_search "$@"; else run_simply "$@"; fi
     # Where standard output fails here, that is the program's status for it.
-    cat "$notes/answer" || return 7
+    [ -z "$is_made" ] || cat "$notes/answer" || return 7
     tell "$status" "$@" >&2
     return "$status"
 }
 
-# Runs the program where nothing is told of its answer but a wrong word or a file that cannot be read.
-run_plainly() {
-    "$program" "$@"
+# Runs the program so that it ends with this script, and sets `status`.
+run_simply() {
+    exec 5<&0
+    if [ -n "$is_direct" ]; then exec 6>&1; else exec 6>"$notes/answer"; fi
+    "$program" "$@" <&5 >&6 5<&- 6>&- &
+    running=$!
+    wait "$running"
     status=$?
-    ! is_spoken "$status" || explain "$status" '' "$@" >&2
-    return "$status"
+    running=
+    exec 5<&- 6>&-
 }
 
-# Runs the program on its words, and tells what is asked for.
-run() {
-    if is_told; then run_and_tell "$@"; else run_plainly "$@"; fi
+# Whether the log of the words, where there is one, is a file, or can become one.
+is_file_log() {
+    set -- "$(log_of "$@")"
+    [ -z "$1" ] || [ ! -e "$1" ] || [ -f "$1" ]
 }

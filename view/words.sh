@@ -243,7 +243,7 @@ unknown_command() {
     fi
 }
 
-# Says which word is the first that is not of the form, and the nearest that would do.
+# Says which word is the first that is not of the form, and the nearest that would do; nothing where there is none.
 wrong_word() {
     if [ "$#" -eq 0 ]; then
         echo "no command stands there: $(nearest '' $(commands))"
@@ -291,7 +291,8 @@ wrong_word() {
         esac
         shift
     done
-    echo "$(place_name "$form" "$((places + 1))") is missing"
+    wanted=$(place_name "$form" "$((places + 1))")
+    [ -z "$wanted" ] || echo "$wanted is missing"
 }
 
 # What a value of this name is.
