@@ -8,8 +8,9 @@ log=
 is_piped=
 stopped=
 ended_by=
-budget=
 last_budget=0
+gap_value=
+gap_bound=
 
 # The greatest budget there is, and that of the program where no words say one.
 most_budget=4294967295
@@ -190,7 +191,7 @@ watch() {
     nodes=0
     policies=0
     told_policies=0
-    best_value=none
+    best_value=${gap_value:-none}
     while sleep 1; do
         see_state
         if [ "$policies" -ne "$told_policies" ] && [ -n "$is_file" ]; then
@@ -408,9 +409,9 @@ take_read() {
 
 # Whether value and bound of the last answer are within the per cent that are asked for, of the value.
 is_near() {
-    value=$(fraction value "$notes/last")
+    gap_value=$(fraction value "$notes/last")
     gap_bound=$(fraction bound "$notes/last")
-    [ -n "$value" ] && awk -v value="${value%/*}" -v bound="${gap_bound%/*}" -v gap="$gap" '
+    [ -n "$gap_value" ] && awk -v value="${gap_value%/*}" -v bound="${gap_bound%/*}" -v gap="$gap" '
         function size(a) { return a < 0 ? -a : a }
         BEGIN { exit !(100 * size(bound - value) <= gap * size(value)) }'
 }
@@ -469,7 +470,6 @@ run_search() {
     if [ -n "$gap" ] && is_of_form "$@"; then
         run_to_gap "$@"
     elif [ -n "$seconds" ] && no_budget "$@"; then
-        budget=$most_budget
         with_budget run_watched "$most_budget" "$@"
     else
         run_watched "$@"
@@ -500,9 +500,9 @@ is_of_form() {
 # Says of a bounded answer what ended the search: its budget, its seconds, a signal, or its gap.
 say_ended() {
     case $ended_by in
-        seconds) say "$seconds seconds ended the search" ;;
+        seconds) say "--seconds $seconds ended the search" ;;
         signal) say "a signal ended the search" ;;
-        gap) say "value and bound are within $gap per cent, which ended the search after $last_budget nodes" ;;
+        gap) say "--gap $gap ended the search after $last_budget nodes: value and bound are within $gap per cent" ;;
         *)
             spent=$(option_of --budget "$@")
             [ "$last_budget" -eq 0 ] || spent=$last_budget

@@ -163,7 +163,7 @@ fit() {
 form_of() {
     name=$1 awk -F ' *[|] *' '
         /^##/ { in_words = ($0 == "## Words") }
-        in_words && index($2, "`" ENVIRON["name"] " ") == 1 { gsub(/`/, "", $2); print $2; exit }' "$formats"
+        in_words && $2 ~ /^`[a-z]/ && index($2, "`" ENVIRON["name"] " ") == 1 { gsub(/`/, "", $2); print $2; exit }' "$formats"
 }
 
 # The names of the commands, by the same table.
