@@ -1,8 +1,8 @@
 # What is told beside an answer of `sopl`, for the scripts that run it: `./sopl` of the repository and bin/sopl of an installed copy.
 #
 # A script that reads this file sets `program` to the program, `views` to the folder of this file, and `formats` to the file FORMATS.md, whose
-# tables are told from; has the words read by `answer_words` of words.sh; then calls `run_and_tell` on the words of the program; and calls
-# `drop_notes` when it ends.
+# tables are told from; has its words answered by `answer_words` of words.sh, which calls the script's own `run_words`, which calls `run`; and
+# calls `drop_notes` when it ends.
 . "$views/words.sh"
 . "$views/watch.sh"
 
@@ -15,6 +15,7 @@ drop_notes() {
     kill_program
     [ -z "$timer" ] || kill -TERM $timer 2>/dev/null
     [ -z "$watcher" ] || kill -KILL $watcher 2>/dev/null
+    [ -z "$reader" ] || end_reading
     rm -rf ${notes:+"$notes"}
 }
 

@@ -6,6 +6,8 @@
 
 log=
 is_piped=
+reader=
+measure=
 stopped=
 ended_by=
 last_budget=0
@@ -88,6 +90,7 @@ begin_reading() {
 end_reading() {
     exec 3>&-
     while kill -0 "$reader" 2>/dev/null; do wait "$reader"; done
+    reader=
 }
 
 # Sets `nodes`, `policies`, `deepest`, `bytes`, `best` and `is_whole` by the state of the log in a folder; they stay where there is none yet.
@@ -161,9 +164,18 @@ answer_of_log() {
 
 # What runs beside the program.
 
-# Kills the program. Where its memory is measured its own number stands in a file.
+# Kills the program. Where its memory is measured, what was started is not the program itself, whose number stands in a file soon after.
 kill_program() {
-    [ -z "$running" ] || kill -KILL "$( { [ -n "$stats" ] && cat "$notes/number"; } 2>/dev/null || echo "$running")" 2>/dev/null
+    [ -n "$running" ] || return 0
+    target=$running
+    if [ -n "$measure" ]; then
+        for try in 1 2 3 4 5 6 7 8 9 10; do
+            [ ! -s "$notes/number" ] || break
+            sleep 0.05
+        done
+        target=$(cat "$notes/number" 2>/dev/null || echo "$running")
+    fi
+    kill -KILL "$target" 2>/dev/null
 }
 
 # Ends the program, for a signal.
@@ -219,21 +231,28 @@ see_state() {
     fi
 }
 
-# Runs the program on words, with its memory measured where statistics are asked for and something is there to measure it.
+# Sets `measure` to what measures the memory of the program, where statistics are asked for and something is there that does.
+find_measure() {
+    measure=
+    [ -n "$stats" ] || return 0
+    if [ -x /usr/bin/time ]; then measure=time; elif command -v python3 >/dev/null; then measure=python3; fi
+}
+
+# Runs the program on words, with its memory measured.
 run_measured() {
     rm -f "$notes/number"
-    if [ -n "$stats" ] && [ -x /usr/bin/time ]; then
-        set -- /usr/bin/time -q -o "$notes/memory" -f %M sh -c 'echo "$$" >"$0"; exec "$@"' "$notes/number" "$program" "$@"
-    elif [ -n "$stats" ] && command -v python3 >/dev/null; then
-        set -- python3 -c '
+    [ -z "$measure" ] || set -- sh -c 'echo "$$" >"$0"; exec "$@"' "$notes/number" "$program" "$@"
+    case $measure in
+        time) exec /usr/bin/time -q -o "$notes/memory" -f %M "$@" ;;
+        python3)
+            exec python3 -c '
 import resource, subprocess, sys
 status = subprocess.call(sys.argv[2:])
 open(sys.argv[1], "w").write("%d\n" % resource.getrusage(resource.RUSAGE_CHILDREN).ru_maxrss)
-sys.exit(status if status >= 0 else 128 - status)' "$notes/memory" sh -c 'echo "$$" >"$0"; exec "$@"' "$notes/number" "$program" "$@"
-    else
-        set -- "$program" "$@"
-    fi
-    exec "$@"
+sys.exit(status if status >= 0 else 128 - status)' "$notes/memory" "$@"
+            ;;
+        *) exec "$program" "$@" ;;
+    esac
 }
 
 # Runs the program on words and sets `status`. It ends at `limit` seconds, where that is not empty. A `wait` that a signal ends is begun
@@ -463,6 +482,7 @@ run_search() {
         *) log=./$log ;;
     esac
     limit=$seconds
+    find_measure
     exec 5<&0
     if [ -n "$is_direct" ]; then exec 6>&1; else exec 6>"$notes/answer"; fi
     trap 'stop 130' INT
