@@ -27,29 +27,46 @@ fit_files() {
     [ -z "$page" ] || command -v python3 >/dev/null || fail 127 '--page asks for python3, which is not on this machine'
     [ -z "$seconds$gap" ] || can_read_again "$@" ||
         fail 70 '--seconds and --gap read the model and the log once more: each has to be a file, and no pipe or device'
+    [ -z "$stats" ] || is_file_log "$@" || fail 70 '-s and --stats read the log: it has to be a file, and no pipe or device'
 }
-no_log() {
-    for word do
-        case $word in
-            --log | --log=*) return 1 ;;
-        esac
-    done
-}
-# The file of the log, where the words name one.
-log_of() {
+
+# The value of an option in the words; empty where it does not stand there.
+option_of() {
+    wanted=$1
+    shift
     while [ "$#" -gt 0 ]; do
         case $1 in
-            --log=*)
-                printf '%s\n' "${1#--log=}"
+            "$wanted="*)
+                printf '%s\n' "${1#"$wanted="}"
                 return
                 ;;
-            --log)
+            "$wanted")
                 printf '%s\n' "$2"
                 return
                 ;;
         esac
         shift
     done
+}
+
+# Whether an option stands in the words.
+has_option() {
+    wanted=$1
+    shift
+    for word do
+        case $word in
+            "$wanted" | "$wanted="*) return 0 ;;
+        esac
+    done
+    return 1
+}
+
+# The file of the log, where the words name one, and whether they name none.
+log_of() {
+    option_of --log "$@"
+}
+no_log() {
+    ! has_option --log "$@"
 }
 can_read_again() {
     for file in "$(file_at 1 "$@")" "$(log_of "$@")"; do

@@ -320,27 +320,6 @@ with_budget() {
     "$next" "$@" --budget "$budget"
 }
 
-# The value of an option in the words; empty where it does not stand there.
-option_of() {
-    wanted=$1
-    shift
-    while [ "$#" -gt 0 ]; do
-        case $1 in
-            "$wanted="*)
-                printf '%s\n' "${1#"$wanted="}"
-                return
-                ;;
-            "$wanted")
-                printf '%s\n' "$2"
-                return
-                ;;
-            --*=*) ;;
-            --*) [ "$#" -eq 1 ] || shift ;;
-        esac
-        shift
-    done
-}
-
 # What is done where a search was ended.
 
 # Runs the same search in as many seconds as `limit` says, or empty, with a budget in place of that of the words, which is not smaller; of the
@@ -489,7 +468,7 @@ run_search() {
     trap 'stop 143' TERM
     if [ -n "$gap" ] && is_of_form "$@"; then
         run_to_gap "$@"
-    elif [ -n "$seconds" ] && no_budget "$@"; then
+    elif [ -n "$seconds" ] && ! has_option --budget "$@"; then
         with_budget run_watched "$most_budget" "$@"
     else
         run_watched "$@"
@@ -499,15 +478,6 @@ run_search() {
     trap 'exit 143' TERM
     exec 5<&- 6>&-
     search_time=$(($(now) - begun))
-}
-
-# Whether the words have no option of this name.
-no_budget() {
-    for word do
-        case $word in
-            --budget | --budget=*) return 1 ;;
-        esac
-    done
 }
 
 # Whether the words are of the form: the budget of others is not replaced, so that the program refuses them.

@@ -31,6 +31,9 @@ help=
 version=
 alone=
 
+# The script's words that stand beside a command.
+free_words='--table --page --why --seconds --gap --stats --quiet --help --version -s -h'
+
 # Sets what the script's words say, and `marks`: a letter for each word, `h` where it is handed on to the program, `t` where it is taken.
 # The word after an option of the program is its value, and is handed on with it; so is all that follows a `--`.
 read_words() {
@@ -193,7 +196,8 @@ shown() {
     printf '%s' "'$1'" | tr -d '\000-\037\177'
 }
 
-# Says which of the words behind the first is the nearest to the first one; all of them, where none is near.
+# Says which of the words after the first is the nearest to the first one; all of them, where none is near. Some words that other solvers know
+# have a near one by their meaning.
 nearest() {
     wanted=$1
     case $wanted in
@@ -239,60 +243,68 @@ unknown_command() {
     if [ -f "$1" ]; then
         echo "$(shown "$1") is a file, and no command: is 'solve $1' meant?" | tr -d '\000-\037\177'
     else
-        echo "$(shown "$1") is no command: $(nearest "$1" $(commands) --help --version --table --page --why --seconds --gap --stats --quiet --build --install --test)"
+        echo "$(shown "$1") is no command: $(nearest "${1%%=*}" $(commands) $free_words --build --install --test)"
     fi
 }
 
 # Says which word is the first that is not of the form, and the nearest that would do; nothing where there is none.
 wrong_word() {
-    if [ "$#" -eq 0 ]; then
-        echo "no command stands there: $(nearest '' $(commands))"
-        return
-    fi
+    [ "$#" -gt 0 ] || { echo "no command stands there: $(nearest '' $(commands))"; return; }
     form=$(form_of "$1")
-    if [ -z "$form" ]; then
-        unknown_command "$1"
-        return
-    fi
+    [ -n "$form" ] || { unknown_command "$1"; return; }
     command=$1
     names=' '
     places=0
     shift
     while [ "$#" -gt 0 ]; do
         case $1 in
-            --) echo "'--' is no word of sopl: leave it out"; return ;;
-            -*)
-                name=${1%%=*}
-                wanted=$(value_name "$form" "$name")
-                if [ -z "$wanted" ]; then
-                    echo "$(shown "$name") is no option of '$command': $(nearest "$name" $(options_of "$form") --table --page --why --seconds --gap --stats --quiet --help --version -s -h)"
-                    return
-                fi
-                case $names in
-                    *" $name "*) echo "$name stands twice"; return ;;
-                esac
-                names="$names$name "
-                case $1 in
-                    *=*) value=${1#*=} ;;
-                    *)
-                        [ "$#" -gt 1 ] || { echo "after $name stands $wanted, and there is no word"; return; }
-                        shift
-                        value=$1
-                        ;;
-                esac
-                is_value "$wanted" "$value" || { echo "after $name stands $wanted, $(rule_of "$wanted"), and not $(shown "$value")$(value_meant "$wanted" "$value")"; return; }
-                ;;
+            -*) wrong=$(wrong_option "$@") ;;
             *)
                 places=$((places + 1))
-                wanted=$(place_name "$form" "$places")
-                [ -n "$wanted" ] || { echo "$(shown "$1") is a word too many for '$command'"; return; }
-                is_value "$wanted" "$1" || { echo "$wanted is $(rule_of "$wanted"), and not $(shown "$1")"; return; }
+                wrong=$(wrong_place "$1")
+                ;;
+        esac
+        [ -z "$wrong" ] || { printf '%s\n' "$wrong"; return; }
+        case $1 in
+            -*=*) names="$names${1%%=*} " ;;
+            -*)
+                names="$names$1 "
+                shift
                 ;;
         esac
         shift
     done
     wanted=$(place_name "$form" "$((places + 1))")
     [ -z "$wanted" ] || echo "$wanted is missing"
+}
+
+# Says what is wrong with the option that stands first, or with its value: it is none of the form's, stands twice, or has another value.
+wrong_option() {
+    [ "$1" != -- ] || { echo "'--' is no word of sopl: leave it out"; return; }
+    name=${1%%=*}
+    wanted=$(value_name "$form" "$name")
+    [ -n "$wanted" ] || {
+        echo "$(shown "$name") is no option of '$command': $(nearest "$name" $(options_of "$form") $free_words)"
+        return
+    }
+    case $names in
+        *" $name "*) echo "$name stands twice"; return ;;
+    esac
+    case $1 in
+        *=*) value=${1#*=} ;;
+        *)
+            [ "$#" -gt 1 ] || { echo "after $name stands $wanted, and there is no word"; return; }
+            value=$2
+            ;;
+    esac
+    is_value "$wanted" "$value" || echo "after $name stands $wanted, $(rule_of "$wanted"), and not $(shown "$value")$(value_meant "$wanted" "$value")"
+}
+
+# Says what is wrong with the word at this place, of those that are neither an option nor its value.
+wrong_place() {
+    wanted=$(place_name "$form" "$places")
+    [ -n "$wanted" ] || { echo "$(shown "$1") is a word too many for '$command'"; return; }
+    is_value "$wanted" "$1" || echo "$wanted is $(rule_of "$wanted"), and not $(shown "$1")"
 }
 
 # What a value of this name is.
