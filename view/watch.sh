@@ -262,7 +262,9 @@ run_watched() {
     rm -f "$notes/late"
     if [ -n "$is_piped" ]; then
         begin_reading || fail 70 'a pipe for the log cannot be made'
-        set -- "$@" --log "$log"
+        command=$1
+        shift
+        set -- "$command" --log "$log" "$@"
     elif [ -e "$log" ]; then
         touch -r "$log" "$notes/begun"
     else
