@@ -25,14 +25,16 @@ table=
 page=
 why=
 seconds=
+quiet=
 
-# Sets `table`, `page`, `why` and `seconds` by the words, and `options` to how many words these options are.
+# Sets `table`, `page`, `why`, `seconds` and `quiet` by the words, and `options` to how many words these options are.
 read_options() {
     options=0
     while :; do
         case $1 in
             --table) table=1 ;;
             --why) why=1 ;;
+            --quiet) quiet=1 ;;
             --page=?*) page=${1#--page=} ;;
             --page)
                 [ -n "$2" ] || fail 2 'behind --page stands the FILE that the page goes to'
