@@ -9,9 +9,11 @@ function warn(   number) {
     for (number = 1; number <= declarations; number++) {
         if (declares[number] !~ /^(dvar|stoch)$/) continue
         if (!is_used(number)) say_warning(number, declares[number] == "dvar" ? "unused" : "unseen", "", "")
-        else if (declares[number] == "dvar" && lacks_stage(number)) warn_of_stage(number)
-        if (declares[number] == "stoch") warn_of_weights(number)
-        else warn_of_order(number)
+        else if (declares[number] == "stoch") warn_of_weights(number)
+        else {
+            if (lacks_stage(number)) warn_of_stage(number)
+            warn_of_order(number)
+        }
     }
 }
 
@@ -96,7 +98,7 @@ function stages_of(number) {
     return least[number] == greatest[number] ? "stage " least[number] : "stages " least[number] " to " greatest[number]
 }
 
-# The parts of the text that are true or false, or summed up, by themselves: constraints, and terms of the objective.
+# The pieces of the text: each constraint, and each term of the objective.
 
 function learn_pieces(   i, from) {
     for (i = declaration_end[declarations] + 1; i <= count && token[i] != "subject"; i++) if (token[i] ~ /^(expected|worst)$/) {
