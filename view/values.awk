@@ -1,7 +1,10 @@
 # What a text of `sopl` declares, and what its constant expressions are worth, as far as both stand plainly in the text: literals, constants,
 # their arrays, bound names, and `+ - * div mod min max abs` and comparisons of these. It is given to awk after text.awk, and reads no file.
 
-BEGIN { most_listed = 4096 }
+BEGIN {
+    most_listed = 4096
+    most_looked_up = 100000
+}
 
 # The declarations.
 
@@ -190,6 +193,7 @@ function element_here(i, number,   indices, value, later, formula) {
         indices = indices " " sum_here()
         if (token[reading++] != "]") is_unknown = 1
     }
+    if (++looked_up > most_looked_up) is_unknown = 1
     if (is_unknown) return 0
     formula = after_word(number, "=")
     if (token[formula] == "[") {

@@ -2,11 +2,13 @@
 # weights that are nearly per cent, and a decision of a later stage before one of an earlier stage. It is given to awk after text.awk,
 # values.awk and explain.awk, for the `code` `warning`; the sentences are rows of the table that explain.awk reads.
 
+BEGIN { most_warnings = 10 }
+
 function warn(   number) {
     learn_declarations()
     learn_stages()
-    learn_pieces()
-    for (number = 1; number <= declarations; number++) {
+    learn_uses()
+    for (number = 1; number <= declarations && warnings <= most_warnings; number++) {
         if (declares[number] !~ /^(dvar|stoch)$/) continue
         if (!is_used(number)) say_warning(number, declares[number] == "dvar" ? "unused" : "unseen", "", "")
         else if (declares[number] == "stoch") warn_of_weights(number)
@@ -17,8 +19,12 @@ function warn(   number) {
     }
 }
 
-# The row for a warning, with the line of a declaration; its marks are the declared name and two words more.
+# The row for a warning, with the line of a declaration; its marks are the declared name and two words more. Ten warnings are enough.
 function say_warning(number, what, second, third,   i) {
+    if (++warnings > most_warnings) {
+        print name ": .."
+        return
+    }
     this = token[name_at[number]]
     previous = second
     seen = third
@@ -28,12 +34,8 @@ function say_warning(number, what, second, third,   i) {
     }
 }
 
-# Whether a name stands anywhere after its declaration.
-function is_used(number,   i, wanted) {
-    wanted = token[name_at[number]]
-    for (i = declaration_end[number]; i <= count; i++) if (token[i] == wanted) return 1
-    return 0
-}
+# Whether the name stands anywhere after its declaration.
+function is_used(number) { return last_use[token[name_at[number]]] > declaration_end[number] }
 
 # Stages.
 
@@ -69,22 +71,12 @@ function lacks_stage(number) {
 }
 
 # Warns of a decision without a stage that stands with chance: where it may follow what is seen, its stage is forgotten.
-function warn_of_stage(number,   i, j, wanted, place, chance) {
-    wanted = token[name_at[number]]
-    for (i = 1; i <= pieces; i++) {
-        place = chance = 0
-        for (j = piece_from[i]; j <= piece_to[i]; j++) {
-            if (token[j] == wanted && !place) place = j
-            if (kind[j] == "name" && !chance && declares[declaration[token[j]]] == "stoch") chance = j
-        }
-        if (place && chance) {
-            say_warning(number, "unstaged", token[chance], line[place])
-            return
-        }
-    }
+function warn_of_stage(number,   decision) {
+    decision = token[name_at[number]]
+    if (decision in meets) say_warning(number, "unstaged", meets[decision], meets_in[decision])
 }
 
-# Warns of a decision that stands before one of an earlier stage, so that the search decides it first.
+# Warns of a decision that is declared before one of an earlier stage, so that the search begins with it.
 function warn_of_order(number,   other) {
     for (other = number + 1; other <= declarations; other++) {
         if (!(number in least) || !(other in least)) continue
@@ -98,9 +90,12 @@ function stages_of(number) {
     return least[number] == greatest[number] ? "stage " least[number] : "stages " least[number] " to " greatest[number]
 }
 
-# The pieces of the text: each constraint, and each term of the objective.
+# Where names are used, and which decisions stand with chance.
 
-function learn_pieces(   i, from) {
+# Keeps of each name the last token that is this name, and of each decision the chance that it first stands with, in one constraint or in one
+# term of the objective, and the line.
+function learn_uses(   i, from) {
+    for (i = 1; i <= count; i++) if (kind[i] == "name") last_use[token[i]] = i
     for (i = declaration_end[declarations] + 1; i <= count && token[i] != "subject"; i++) if (token[i] ~ /^(expected|worst)$/) {
         add_terms(i + 2, after_bracket(i + 1) - 2)
         break
@@ -111,10 +106,12 @@ function learn_pieces(   i, from) {
         from = i + 1
     }
 }
-function add_piece(from, to) {
-    pieces++
-    piece_from[pieces] = from
-    piece_to[pieces] = to
+function add_piece(from, to,   i, chance) {
+    for (i = from; i <= to && !chance; i++) if (kind[i] == "name" && declares[declaration[token[i]]] == "stoch") chance = token[i]
+    for (i = from; i <= to && chance; i++) if (kind[i] == "name" && declares[declaration[token[i]]] == "dvar" && !(token[i] in meets)) {
+        meets[token[i]] = chance
+        meets_in[token[i]] = line[i]
+    }
 }
 # The terms of the sum that stands between two tokens, those of the sums in its brackets too.
 function add_terms(from, to,   i, first) {
