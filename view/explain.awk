@@ -1,7 +1,7 @@
 # Says in plain words what a text has where an answer of `sopl` points: what is awaited at a refused place, which declaration passes a
 # limit, which constraint nobody can meet. Only what is known is said. The sentences are a table of docs/FORMATS.md.
 #
-# It stands behind text.awk, values.awk and warnings.awk, with these files in turn, each behind the word that says what it is, the last two
+# It stands with text.awk, values.awk and warnings.awk, and reads these files in turn, each after the word that says what it is, the last two
 # where the answer is infeasible:
 #   role=rows docs/FORMATS.md role=text MODEL role=log LOG role=tree TREE
 # and with `code` (of the refusal or limit, or `infeasible`, or `warning` where a text is answered), `at` (the offset of a refusal) and `name`
@@ -243,7 +243,8 @@ function explain_infeasible(   i, other) {
 # for which values of the names that are bound there.
 function find_outside(   i, from, number, turn, bindings) {
     learn_declarations()
-    from = closed == "u" ? objective_at() : closed == "c" || closed == "alone" || closed == "constraints" ? instance_at(closed == "c", instance) : 0
+    if (closed == "later") return 0
+    from = closed == "u" ? objective_at() : instance_at(closed == "c", instance)
     if (!from) return 0
     for (i = 1; closed != "u" && i <= foralls; i++) {
         split(bind_binders(bindings, around_instance[i] + 1), turn, ";")

@@ -1,6 +1,6 @@
 # Warns of what a text may not mean, though it is answered: a decision whose stage may be forgotten, a decision or chance that nothing uses,
-# weights that are nearly per cent, and a decision of a later stage before one of an earlier stage. It is given to awk after text.awk,
-# values.awk and explain.awk, for the `code` `warning`; the sentences are rows of the table that explain.awk reads.
+# weights that are nearly per cent, and a decision of a later stage before one of an earlier stage. It stands with text.awk,
+# values.awk and explain.awk, which calls it for the `code` `warning`; the sentences are rows of the tables that explain.awk reads.
 
 BEGIN { most_warnings = 10 }
 
