@@ -190,7 +190,7 @@ show_place() {
 # 64 KiB is no beginner's, and takes awk long.
 advise() {
     [ "$(wc -c <"$file")" -le 65536 ] || return 0
-    LC_ALL=C awk -v code="$1" -v at="$2" -v name="$model" -f "$views/text.awk" -f "$views/explain.awk" \
+    LC_ALL=C awk -v code="$1" -v at="$2" -v name="$model" -f "$views/text.awk" -f "$views/values.awk" -f "$views/warnings.awk" -f "$views/explain.awk" \
         role=rows "$formats" role=text "$file" ${3:+role=log "$3" role=tree "$4"}
 }
 
@@ -317,6 +317,7 @@ tell() {
     [ -z "$page" ] || write_page
     [ -z "$why" ] || show_why "$@"
     [ -z "$stats" ] || show_stats "$status"
+    [ "$command" != solve ] || [ -n "$quiet" ] || [ -z "$is_file" ] || ! explains || advise warning ''
 }
 
 # Runs the program and tells its answer. A search is watched even where nothing is told of it, so that a signal that ends it leaves its best

@@ -147,8 +147,11 @@ function condition_at(i, number,   size, item, binders) {
         binders = binders_size(i + 1)
         item = behind
         size = instances(item)
-        if (number >= 0 && size > 0 && binders > 0)
+        if (number >= 0 && size > 0 && binders > 0) {
             turn = turn " (turn " int(number / size) + 1 " of " binders " of its `forall`)"
+            around_instance[++foralls] = i
+            turn_of[foralls] = int(number / size) + 1
+        }
         return condition_at(item, number >= 0 && size > 0 ? number % size : -1)
     }
     if (token[i] != "{") return i
@@ -162,10 +165,12 @@ function condition_at(i, number,   size, item, binders) {
 }
 
 # The token at which the instance with a number begins, of chance constraints where `is_chance` is 1 and else of hard ones, or 0; `turn` says
-# for which values of a `forall` it stands, where one is before it.
+# for which values of a `forall` it stands, where one is before it, and `turn_of` has the number of the turn for each `forall` of the list
+# `around_instance`, which counts `foralls`.
 function instance_at(is_chance, number,   i) {
     chances = is_chance
     turn = ""
+    foralls = 0
     for (i = 1; i < count && token[i] != "subject"; i++) ;
     return condition_at(i + 2, number)
 }
