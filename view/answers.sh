@@ -123,8 +123,7 @@ file_at() {
     done
 }
 
-# What is told of a line of the log, the line, of which 200 bytes are shown, and, where it is not right, when such a line is, by the table
-# of FORMATS.md; where the log has no such line it ends before it. What comes by a pipe cannot be read once more.
+# What is told of a line of the log, with its text and its rule. What comes by a pipe cannot be read once more.
 show_line() {
     log=$(file_at 2 "$@")
     told="$log:$at: $said"
@@ -136,26 +135,7 @@ show_line() {
         echo "$told${node:+, node $node}"
         return
     fi
-    told=$told LC_ALL=C awk -v number="$at" -v node="$node" '
-        is_log && FNR == number {
-            sub(/\r$/, "")
-            kind = $1 == "s" ? "s .. " $(NF - 1) : $1 != "end" ? $1 : $2 == "bounded" && $3 == "none" ? "end bounded none" : "end " $2
-            where = node == "" ? "" : $1 == "end" ? ", behind " node " nodes" : ", in node " node
-            text = substr($0, 1, 200)
-            gsub(/[^ -~\t]/, "?", text)
-        }
-        is_log { lines = FNR; next }
-        /^##/ { in_rules = ($0 == "### When a log is right") }
-        node != "" && in_rules && index($0, "| `" kind "` | ") == 1 {
-            rule = $0
-            sub(/^[^|]*[|][^|]*[|] /, "", rule)
-            sub(/ [|]$/, "", rule)
-        }
-        END {
-            print ENVIRON["told"] where
-            print lines < number ? "(the log ends behind line " lines + 0 ")" : text
-            if (rule != "") print "`" kind "` is right where " rule
-        }' is_log=1 "$log" is_log= "$formats"
+    told=$told LC_ALL=C awk -v number="$at" -v node="$node" -f "$views/printable.awk" -f "$views/log_line.awk" role=log "$log" role=rules "$formats"
 }
 
 # What fails under a policy that does not satisfy.
@@ -172,25 +152,14 @@ show_failing() {
 
 # The line and column of a place in the text, what is wrong there, and the line with a caret below the place.
 show_place() {
-    LC_ALL=C awk -v at="$1" -v name="$model" -v what="$2" '
-        { last = $0; number = NR; from = begin; begin += length($0) + 1 }
-        begin > at { shown = 1; exit }
-        END {
-            if (NR == 0) number = 1
-            else if (!shown) from = begin - length(last) - 1
-            column = at - from
-            printf "%s:%d:%d: %s\n%s\n", name, number, column + 1, what, last
-            before = substr(last, 1, column)
-            gsub(/[^\t]/, " ", before)
-            print before "^"
-        }' "$file"
+    LC_ALL=C awk -v at="$1" -v name="$model" -v what="$2" -f "$views/printable.awk" -f "$views/place.awk" "$file"
 }
 
 # Says what stands in the text where an answer points: its code and place, or what log and tree an infeasible text has. A text above
 # 64 KiB is no beginner's, and takes awk long.
 advise() {
     [ "$(wc -c <"$file")" -le 65536 ] || return 0
-    LC_ALL=C awk -v code="$1" -v at="$2" -v name="$model" -f "$views/text.awk" -f "$views/values.awk" -f "$views/warnings.awk" -f "$views/explain.awk" \
+    LC_ALL=C awk -v code="$1" -v at="$2" -v name="$model" -f "$views/printable.awk" -f "$views/text.awk" -f "$views/values.awk" -f "$views/warnings.awk" -f "$views/explain.awk" \
         role=rows "$formats" role=text "$file" ${3:+role=log "$3" role=tree "$4"}
 }
 
@@ -277,7 +246,7 @@ write_page() {
 count_reasons() {
     text=$file
     [ -n "$is_file" ] && [ "$(wc -c <"$file")" -le 65536 ] || text=/dev/null
-    LC_ALL=C awk -v name="$model" -f "$views/text.awk" -f "$views/why.awk" role=text "$text" role=tree "$notes/tree" role=log "$1"
+    LC_ALL=C awk -v name="$model" -f "$views/printable.awk" -f "$views/text.awk" -f "$views/why.awk" role=text "$text" role=tree "$notes/tree" role=log "$1"
 }
 
 # What closed the nodes of the search, or of the log that was checked.

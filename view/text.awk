@@ -1,5 +1,5 @@
 # A text of `sopl` as tokens, with what of it stands plainly there: numbers, sizes, which line an instance of a constraint is of; and its
-# scenarios, as people name them. Other scripts of this folder are given to awk behind it, and these files, each behind the word for it:
+# scenarios, as people name them. It follows printable.awk, and other scripts of this folder follow it; with these files, each behind the word for it:
 #   role=text MODEL role=tree TREE
 # where TREE has the answer of `sopl tree MODEL`, and `name` is what the text's file is called.
 
@@ -13,7 +13,7 @@ BEGIN {
 
 role == "text" {
     lines++
-    source[lines] = $0
+    source[lines] = printable($0)
     read_tokens($0, bytes)
     bytes += length($0) + 1
 }
