@@ -123,14 +123,24 @@ file_at() {
     done
 }
 
+# The path of a file that the words name: one that no command takes for an option, and awk not for an assignment.
+path_of() {
+    case $1 in
+        /*) printf '%s\n' "$1" ;;
+        *) printf '%s\n' "./$1" ;;
+    esac
+}
+
+# Whether the text has at most 64 KiB: a longer one is no beginner's, and takes awk long.
+is_short() {
+    [ "$(wc -c <"$file")" -le 65536 ]
+}
+
 # What is told of a line of the log, with its text and its rule. What comes by a pipe cannot be read once more.
 show_line() {
     log=$(file_at 2 "$@")
     told="$log:$at: $said"
-    case $log in
-        /*) ;;
-        *) log=./$log ;;
-    esac
+    log=$(path_of "$log")
     if [ ! -f "$log" ]; then
         echo "$told${node:+, node $node}"
         return
@@ -155,10 +165,9 @@ show_place() {
     LC_ALL=C awk -v at="$1" -v name="$model" -v what="$2" -f "$views/printable.awk" -f "$views/place.awk" "$file"
 }
 
-# Says what stands in the text where an answer points: its code and place, or what log and tree an infeasible text has. A text above
-# 64 KiB is no beginner's, and takes awk long.
+# Says what stands in the text where an answer points: its code and place, or what log and tree an infeasible text has.
 advise() {
-    [ "$(wc -c <"$file")" -le 65536 ] || return 0
+    is_short || return 0
     LC_ALL=C awk -v code="$1" -v at="$2" -v name="$model" -f "$views/printable.awk" -f "$views/text.awk" -f "$views/values.awk" -f "$views/warnings.awk" -f "$views/explain.awk" \
         role=rows "$formats" role=text "$file" ${3:+role=log "$3" role=tree "$4"}
 }
@@ -214,13 +223,10 @@ explain() {
 }
 
 # Sets `model` to the model's name, `file` to that which stands for it where a command reads it, and `is_file` where it can be read once
-# more: what comes by a pipe cannot. A name with `=` in it is no file to awk.
+# more: what comes by a pipe cannot.
 take_model() {
     model=$(file_at 1 "$@")
-    case $model in
-        /*) file=$model ;;
-        *) file=./$model ;;
-    esac
+    file=$(path_of "$model")
     [ -f "$file" ] && is_file=1 || is_file=
 }
 
@@ -245,7 +251,7 @@ write_page() {
 # What the nodes of a log were closed by. Of a text above 64 KiB no lines are told.
 count_reasons() {
     text=$file
-    [ -n "$is_file" ] && [ "$(wc -c <"$file")" -le 65536 ] || text=/dev/null
+    [ -n "$is_file" ] && is_short || text=/dev/null
     LC_ALL=C awk -v name="$model" -f "$views/printable.awk" -f "$views/text.awk" -f "$views/why.awk" role=text "$text" role=tree "$notes/tree" role=log "$1"
 }
 
@@ -256,11 +262,7 @@ show_why() {
         return
     fi
     keep_tree
-    log=$(file_at 2 "$@")
-    case $log in
-        /*) ;;
-        *) log=./$log ;;
-    esac
+    log=$(path_of "$(file_at 2 "$@")")
     [ ! -f "$log" ] || count_reasons "$log"
 }
 
