@@ -1,7 +1,6 @@
 //! What `check` answers of a text and the bytes of a log: that the log is accepted, with what it claims; its first wrong line; or that it cannot be read as a
 //! log. A text that is refused, or whose terms pass a limit, is told as `solve` tells it.
-//! Its tests stand in `answer_tests`: `checks`, those of logs that are right but for one line in `checks/changes`, and those of a checker that was made for
-//! another program in `checks/other_programs`.
+//! Its tests stand in `answer_tests`.
 #![tactic(auto)]
 
 mod answer;

@@ -3,12 +3,12 @@
 #![tactic(auto)]
 
 #[cfg(test)]
-mod checks;
+mod answer_check_logs;
 #[cfg(test)]
-mod drawn;
+mod answer_eval_policies;
 #[cfg(test)]
-mod entries;
+mod model_gen_drawn;
 #[cfg(test)]
-mod evals;
+mod policy_json_entries;
 #[cfg(test)]
-mod printed;
+mod policy_json_printed;

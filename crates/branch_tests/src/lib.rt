@@ -5,14 +5,14 @@
 #[cfg(test)]
 mod box_store_marks;
 #[cfg(test)]
-mod branchers;
+mod brancher_choices;
+#[cfg(test)]
+mod open_nodes_seats;
+#[cfg(test)]
+mod open_nodes_ways;
 #[cfg(test)]
 mod prop_core_rest;
 #[cfg(test)]
-mod searches;
-#[cfg(test)]
-mod seats;
-#[cfg(test)]
 mod small_problem;
 #[cfg(test)]
-mod ways;
+mod sopl_search_runs;

@@ -3,32 +3,32 @@
 #![tactic(auto)]
 
 #[cfg(test)]
-mod array_tests;
+mod compile_counts_nodes;
 #[cfg(test)]
-mod divisor_tests;
+mod compile_counts_places;
 #[cfg(test)]
-mod element_tests;
-#[cfg(test)]
-mod expression_texts;
-#[cfg(test)]
-mod grammar_tests;
+mod compile_names_arrays;
 #[cfg(test)]
 mod instances;
 #[cfg(test)]
-mod kind_tests;
-#[cfg(test)]
-mod list_tests;
-#[cfg(test)]
-mod model_texts;
-#[cfg(test)]
-mod nesting_texts;
-#[cfg(test)]
-mod node_tests;
-#[cfg(test)]
-mod place_tests;
+mod parse_exprs_texts;
 #[cfg(test)]
 mod printed;
 #[cfg(test)]
 mod rows;
 #[cfg(test)]
-mod unfold_tests;
+mod sopl_ast_lists;
+#[cfg(test)]
+mod sopl_parse_models;
+#[cfg(test)]
+mod sopl_parse_nesting;
+#[cfg(test)]
+mod sopl_parse_texts;
+#[cfg(test)]
+mod sopl_types_mistakes;
+#[cfg(test)]
+mod sopl_unfold_texts;
+#[cfg(test)]
+mod unfold_constants_divisors;
+#[cfg(test)]
+mod unfold_tables_elements;

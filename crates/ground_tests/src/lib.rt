@@ -3,18 +3,18 @@
 #![tactic(auto)]
 
 #[cfg(test)]
-mod constraints;
+mod compile_counts_places;
 #[cfg(test)]
-mod names;
+mod compile_names_numbers;
 #[cfg(test)]
-mod places;
+mod compile_names_plans;
 #[cfg(test)]
-mod plans;
+mod sopl_ast_trees;
 #[cfg(test)]
-mod scenarios;
+mod sopl_lex_tokens;
 #[cfg(test)]
-mod tokens;
+mod sopl_scen_trees;
 #[cfg(test)]
-mod trees;
+mod unfold_constraints_instances;
 #[cfg(test)]
-mod variables;
+mod unfold_variables_declared;

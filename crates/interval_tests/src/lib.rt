@@ -3,10 +3,10 @@
 #![tactic(auto)]
 
 #[cfg(test)]
-mod arrays;
-#[cfg(test)]
-mod objectives;
-#[cfg(test)]
 mod sopl_base_numbers;
 #[cfg(test)]
-mod windows;
+mod term_goals_objectives;
+#[cfg(test)]
+mod term_math_arrays;
+#[cfg(test)]
+mod term_windows_conditions;

@@ -1,6 +1,6 @@
 //! What stands first in a list of tokens, and the reading of each phrase on lists of tokens, as functions, one for each that reads
 //! tokens in the crates above.
-//! Its tests stand in `compile_tests`.
+//! The tests of `sopl_parse` in `compile_tests` reach it, text by text.
 #![tactic(auto)]
 
 mod marks;

@@ -1,6 +1,6 @@
 //! Whether a policy satisfies a text, by the text itself: its value and the sums of its chance constraints, or what fails first. `solve` and
 //! this crate have no line of reckoning in common: what an expression is worth is said by `policy_values`, and no term is made.
-//! Its tests stand in `answer_tests`.
+//! The tests of `answer_eval` in `answer_tests` reach it: they tell what a policy is worth, and what fails first.
 #![tactic(auto)]
 
 mod evaluation;

@@ -1,6 +1,6 @@
 //! The operands of a global condition: what each of them is over a box, and over a part of it in which one cell has another interval, for which
 //! those operands alone are evaluated anew that mention the cell.
-//! Its tests stand in `search_tests`.
+//! The tests of `prop_set` in `search_tests` reach it by the texts that have a global condition.
 #![tactic(auto)]
 
 mod operands;

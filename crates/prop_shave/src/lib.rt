@@ -3,7 +3,7 @@
 //! of an objective over the box are handed in: where one cell has another interval, only the scenarios and the parts that mention the cell are seen
 //! anew, and a cell is passed over where these cannot close the box whatever they become, or where the weight or the end, turned by as much as is handed in
 //! for each of the cell's ends, leaves it open.
-//! Its tests stand in `search_tests`.
+//! The tests of `prop_term` and of `prop_chance` in `search_tests` reach it.
 #![tactic(auto)]
 
 mod chance_delta;

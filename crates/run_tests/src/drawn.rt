@@ -1,6 +1,6 @@
 //! Texts that are drawn, and searches of them.
 
-use crate::commands::FIRST;
+use crate::answer_lines_commands::FIRST;
 use crate::runs::{Ended, Room, WIDE, ends, ran_branching, source_of_two, words_in};
 use answer_run::Status;
 use sopl_io::MemSource;

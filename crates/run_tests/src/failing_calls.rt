@@ -1,6 +1,6 @@
 //! Runs in which one call of the source or of a sink fails: each call once, until a run meets none that fails.
 
-use crate::commands::{RUNS, WholeRun, files_of};
+use crate::answer_lines_commands::{RUNS, WholeRun, files_of};
 use crate::runs::{Ended, ends, words_in};
 use answer_run::{Status, run};
 use sopl_io::{MemSink, MemSource};

@@ -1,21 +1,23 @@
 //! Tests of whole runs: words, texts and files go in, and an answer line, a status and a log come out, over sources and sinks in memory.
 //!
-//! What each command answers stands in `answers`, `whole_texts`, `whole_logs`, `drawn`, `checks` and `evals`, and how each command line ends
+//! What each command answers stands in `answer_run_words`, `answer_texts_solved`, `whole_logs`, `drawn`, `checks` and `evals`, and how each command line ends
 //! in `command_lines`; where the branchers of `main` cut in `cuts`; that no schedule and no habit of a brancher changes an answer in `crews`
 //! and `branchers`; and what is left where a call fails, where little fits or where memory runs out in `failing_calls`, `faults` and
 //! `streams`. They reach `answer_run` and all crates below it.
 #![tactic(auto)]
 
 #[cfg(test)]
-mod answers;
+mod answer_lines_commands;
+#[cfg(test)]
+mod answer_run_words;
+#[cfg(test)]
+mod answer_texts_solved;
 #[cfg(test)]
 mod branchers;
 #[cfg(test)]
 mod checks;
 #[cfg(test)]
 mod command_lines;
-#[cfg(test)]
-mod commands;
 #[cfg(test)]
 mod crews;
 #[cfg(test)]
@@ -34,5 +36,3 @@ mod runs;
 mod streams;
 #[cfg(test)]
 mod whole_logs;
-#[cfg(test)]
-mod whole_texts;

@@ -3,7 +3,7 @@
 ghost use Rattle.std.specs.Prelude.{None};
 ghost use Rattle.sopl_io.specs.Calls.{counted};
 
-use crate::commands::{RUNS, WholeRun, files_of};
+use crate::answer_lines_commands::{RUNS, WholeRun, files_of};
 use crate::runs::{Ended, ORDER, ORDER_ANSWER, ORDER_LOG, ends, words_in};
 use answer_run::{Status, run};
 use sopl_io::{

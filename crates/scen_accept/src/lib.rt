@@ -1,5 +1,5 @@
 //! From the bytes of a text to what it states, or to the first refusal or limit.
-//! Its tests stand in `compile_tests`.
+//! The tests of `sopl_types` and of `sopl_unfold` in `compile_tests` reach it: it reads their texts.
 #![tactic(auto)]
 
 mod accepted;

@@ -3,18 +3,22 @@
 #![tactic(auto)]
 
 #[cfg(test)]
-mod asking;
+mod compile_exprs_limits;
 #[cfg(test)]
-mod keeping;
+mod compile_scene_texts;
 #[cfg(test)]
 mod log_rows_writing;
 #[cfg(test)]
 mod log_tree_reading;
 #[cfg(test)]
-mod narrowing;
+mod prop_chance_keeping;
 #[cfg(test)]
-mod programs;
+mod prop_core_asking;
+#[cfg(test)]
+mod prop_set_narrowing;
+#[cfg(test)]
+mod prop_term_conditions;
+#[cfg(test)]
+mod sopl_compile_programs;
 #[cfg(test)]
 mod sopl_io_transfers;
-#[cfg(test)]
-mod tests;

@@ -1,4 +1,4 @@
-//! The program `sopl`: words in, one answer line out. Its tests stand in `run_tests`.
+//! The program `sopl`: words in, one answer line out. What it calls is tested in `run_tests`; the program itself is run by `.ci/run`.
 #![tactic(auto)]
 
 ghost use Rattle.std.specs.Prelude.{◌≡◌, map};

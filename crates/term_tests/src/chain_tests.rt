@@ -1,4 +1,4 @@
 //! Long chains of operations, and programs.
 
-mod chains;
-mod programs;
+mod term_nodes_chains;
+mod term_program_closings;

@@ -444,9 +444,9 @@ fn elements_refused_for_their_size(rt: HostRuntime) {
     assert_eq!(rt; large(&mut store, array), Ok(None));
 }
 
-mod arrays;
-mod builders;
-mod global_conditions;
-mod global_terms;
-mod indices;
-mod mentions;
+mod sopl_term_builders;
+mod term_cells_mentions;
+mod term_math_elements;
+mod term_program_terms;
+mod term_store_global_conditions;
+mod term_store_indices;

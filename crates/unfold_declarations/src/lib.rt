@@ -1,5 +1,5 @@
 //! What declarations state of constants, ranges and sets, and the dimensions of arrays.
-//! Its tests stand in `compile_tests`.
+//! The tests of `sopl_unfold` in `compile_tests` reach it: they unfold whole texts.
 #![tactic(auto)]
 
 mod arrays;
