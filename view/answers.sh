@@ -123,39 +123,29 @@ file_at() {
     done
 }
 
-# What is told of a line of the log, the line, of which 200 bytes are shown, and, where it is not right, when such a line is, by the table
-# of FORMATS.md; where the log has no such line it ends before it. What comes by a pipe cannot be read once more.
+# The path of a file that the words name: one that no command takes for an option, and awk not for an assignment.
+path_of() {
+    case $1 in
+        /*) printf '%s\n' "$1" ;;
+        *) printf '%s\n' "./$1" ;;
+    esac
+}
+
+# Whether the text has at most 64 KiB: a longer one is no beginner's, and takes awk long.
+is_short() {
+    [ "$(wc -c <"$file")" -le 65536 ]
+}
+
+# What is told of a line of the log, with its text and its rule. What comes by a pipe cannot be read once more.
 show_line() {
     log=$(file_at 2 "$@")
     told="$log:$at: $said"
-    case $log in
-        /*) ;;
-        *) log=./$log ;;
-    esac
+    log=$(path_of "$log")
     if [ ! -f "$log" ]; then
         echo "$told${node:+, node $node}"
         return
     fi
-    told=$told LC_ALL=C awk -v number="$at" -v node="$node" '
-        is_log && FNR == number {
-            sub(/\r$/, "")
-            kind = $1 == "s" ? "s .. " $(NF - 1) : $1 != "end" ? $1 : $2 == "bounded" && $3 == "none" ? "end bounded none" : "end " $2
-            where = node == "" ? "" : $1 == "end" ? ", behind " node " nodes" : ", in node " node
-            text = substr($0, 1, 200)
-            gsub(/[^ -~\t]/, "?", text)
-        }
-        is_log { lines = FNR; next }
-        /^##/ { in_rules = ($0 == "### When a log is right") }
-        node != "" && in_rules && index($0, "| `" kind "` | ") == 1 {
-            rule = $0
-            sub(/^[^|]*[|][^|]*[|] /, "", rule)
-            sub(/ [|]$/, "", rule)
-        }
-        END {
-            print ENVIRON["told"] where
-            print lines < number ? "(the log ends behind line " lines + 0 ")" : text
-            if (rule != "") print "`" kind "` is right where " rule
-        }' is_log=1 "$log" is_log= "$formats"
+    told=$told LC_ALL=C awk -v number="$at" -v node="$node" -f "$views/printable.awk" -f "$views/log_line.awk" role=log "$log" role=rules "$formats"
 }
 
 # What fails under a policy that does not satisfy.
@@ -172,25 +162,13 @@ show_failing() {
 
 # The line and column of a place in the text, what is wrong there, and the line with a caret below the place.
 show_place() {
-    LC_ALL=C awk -v at="$1" -v name="$model" -v what="$2" '
-        { last = $0; number = NR; from = begin; begin += length($0) + 1 }
-        begin > at { shown = 1; exit }
-        END {
-            if (NR == 0) number = 1
-            else if (!shown) from = begin - length(last) - 1
-            column = at - from
-            printf "%s:%d:%d: %s\n%s\n", name, number, column + 1, what, last
-            before = substr(last, 1, column)
-            gsub(/[^\t]/, " ", before)
-            print before "^"
-        }' "$file"
+    LC_ALL=C awk -v at="$1" -v name="$model" -v what="$2" -f "$views/printable.awk" -f "$views/place.awk" "$file"
 }
 
-# Says what stands in the text where an answer points: its code and place, or what log and tree an infeasible text has. A text above
-# 64 KiB is no beginner's, and takes awk long.
+# Says what stands in the text where an answer points: its code and place, or what log and tree an infeasible text has.
 advise() {
-    [ "$(wc -c <"$file")" -le 65536 ] || return 0
-    LC_ALL=C awk -v code="$1" -v at="$2" -v name="$model" -f "$views/text.awk" -f "$views/explain.awk" \
+    is_short || return 0
+    LC_ALL=C awk -v code="$1" -v at="$2" -v name="$model" -f "$views/printable.awk" -f "$views/text.awk" -f "$views/values.awk" -f "$views/warnings.awk" -f "$views/explain.awk" \
         role=rows "$formats" role=text "$file" ${3:+role=log "$3" role=tree "$4"}
 }
 
@@ -245,13 +223,10 @@ explain() {
 }
 
 # Sets `model` to the model's name, `file` to that which stands for it where a command reads it, and `is_file` where it can be read once
-# more: what comes by a pipe cannot. A name with `=` in it is no file to awk.
+# more: what comes by a pipe cannot.
 take_model() {
     model=$(file_at 1 "$@")
-    case $model in
-        /*) file=$model ;;
-        *) file=./$model ;;
-    esac
+    file=$(path_of "$model")
     [ -f "$file" ] && is_file=1 || is_file=
 }
 
@@ -276,8 +251,8 @@ write_page() {
 # What the nodes of a log were closed by. Of a text above 64 KiB no lines are told.
 count_reasons() {
     text=$file
-    [ -n "$is_file" ] && [ "$(wc -c <"$file")" -le 65536 ] || text=/dev/null
-    LC_ALL=C awk -v name="$model" -f "$views/text.awk" -f "$views/why.awk" role=text "$text" role=tree "$notes/tree" role=log "$1"
+    [ -n "$is_file" ] && is_short || text=/dev/null
+    LC_ALL=C awk -v name="$model" -f "$views/printable.awk" -f "$views/text.awk" -f "$views/why.awk" role=text "$text" role=tree "$notes/tree" role=log "$1"
 }
 
 # What closed the nodes of the search, or of the log that was checked.
@@ -287,11 +262,7 @@ show_why() {
         return
     fi
     keep_tree
-    log=$(file_at 2 "$@")
-    case $log in
-        /*) ;;
-        *) log=./$log ;;
-    esac
+    log=$(path_of "$(file_at 2 "$@")")
     [ ! -f "$log" ] || count_reasons "$log"
 }
 
@@ -317,6 +288,7 @@ tell() {
     [ -z "$page" ] || write_page
     [ -z "$why" ] || show_why "$@"
     [ -z "$stats" ] || show_stats "$status"
+    [ "$command" != solve ] || [ -n "$quiet" ] || [ -z "$is_file" ] || ! explains || advise warning ''
 }
 
 # Runs the program and tells its answer. A search is watched even where nothing is told of it, so that a signal that ends it leaves its best

@@ -1,10 +1,11 @@
 # Says in plain words what a text has where an answer of `sopl` points: what is awaited at a refused place, which declaration passes a
 # limit, which constraint nobody can meet. Only what is known is said. The sentences are a table of docs/FORMATS.md.
 #
-# It stands behind text.awk, with these files in turn, each behind the word that says what it is, the last two where the answer is
-# infeasible:
+# It stands with text.awk, values.awk and warnings.awk, and reads these files in turn, each after the word that says what it is, the last two
+# where the answer is infeasible:
 #   role=rows docs/FORMATS.md role=text MODEL role=log LOG role=tree TREE
-# and with `code` (of the refusal or limit, or `infeasible`), `at` (the offset of a refusal) and `name` (of the model's file).
+# and with `code` (of the refusal or limit, or `infeasible`, or `warning` where a text is answered), `at` (the offset of a refusal) and `name`
+# (of the model's file).
 
 # The rows of the table for the code.
 
@@ -35,6 +36,7 @@ role == "log" && closed == "" {
 
 END {
     if (code == "infeasible") explain_infeasible()
+    else if (code == "warning") warn()
     else if (at == "") explain_limit()
     else explain_refusal()
 }
@@ -61,6 +63,7 @@ function explain_refusal(   found, declared, i) {
     declared = kind[found] == "name" ? declaration_of(this, found) : 0
     if (declared && line[declared] != line[found] && code > 105 && code < 110) show_line(line[declared])
     if (declared && token[declared - 1] != "int") there["range"]
+    if (code == 113) find_index(found)
     for (i = 1; i <= rows; i++) if (is_in(row[i, 3], around) && is_in(row[i, 4], before) && is_in(row[i, 5], there)) {
         say(row[i, 6])
         return
@@ -105,14 +108,46 @@ function look_around(place,   i, depth, opener, head, side, section, threshold, 
     before["`" token[place - 1] "`"]
     before["`" group "`"]
     if (kind[place - 1] ~ /^(name|number)$/ || token[place - 1] ~ /^[])}]$/) before["operand"]
+    if (place == 1 || line[place] != line[place - 1]) before["line"]
     there["`" token[place] "`"]
     there[kind[place]]
+    if (start[place] == 0 && token[place] ~ /^[\357\376\377]/) there["mark"]
+    if (token[place] ~ /^([eE]|_[0-9])[0-9_]*$/ && kind[place - 1] == "number" && start[place] == start[place - 1] + length(token[place - 1])) there["digits"]
 }
 
 # The token that declares a name and stands before another one, or 0.
 function declaration_of(wanted, before_token,   i) {
     for (i = 2; i < before_token; i++)
         if (token[i] == wanted && (token[i - 1] ~ /^(int|range)$/ || (token[i - 1] == "}" && token[i - 2] == "int"))) return i
+    return 0
+}
+
+# Finds for which index of its array a value or weight is refused, where an index decides that and it is plain.
+function find_index(found,   number, turn, turns, i) {
+    learn_declarations()
+    for (number = 1; number < declarations && declaration_end[number] < found; number++) ;
+    turns = split(bind_dimensions(number), turn, ";")
+    for (i = 1; i <= turns && turn[1] != "?"; i++) {
+        use(turn[i])
+        if (!is_wrong_at(number, found)) continue
+        there["index"]
+        previous = worth
+        seen = "for " turn[i]
+        return
+    }
+}
+# Whether the value that begins at a token is an earlier one of its distribution, or the weight is below 1; `worth` is what it is.
+function is_wrong_at(number, found,   i, values) {
+    for (i = after_word(number, "{"); i < declaration_end[number] && token[i - 1] != "}"; i = reading + 1) {
+        worth = value_here(i)
+        if (is_unknown) return 0
+        if (i == found) return worth in values
+        values[worth]
+        i = reading + 1
+        worth = value_here(i)
+        if (is_unknown) return 0
+        if (i == found) return worth < 1
+    }
     return 0
 }
 
@@ -201,4 +236,73 @@ function explain_infeasible(   i, other) {
         if (closed == "h") closed = steps ? "constraints" : "alone"
     }
     for (i = 1; i <= rows; i++) if (row[i, 5] == "`" closed "`") say(row[i, 6])
+    if (find_outside()) for (i = 1; i <= rows; i++) if (row[i, 5] == "`outside`") say(row[i, 6])
+}
+
+# Finds in what closed the first box an element whose array has no such index, whatever is decided and seen: what is written, its index, and
+# for which values of the names that are bound there.
+function find_outside(   i, from, number, turn, bindings) {
+    learn_declarations()
+    if (closed == "later") return 0
+    from = closed == "u" ? objective_at() : instance_at(closed == "c", instance)
+    if (!from) return 0
+    for (i = 1; closed != "u" && i <= foralls; i++) {
+        split(bind_binders(bindings, around_instance[i] + 1), turn, ";")
+        bindings = turn[turn_of[i]]
+    }
+    for (i = from; i < count && token[i] != ";"; i++) ;
+    return is_outside(from, i - 1, bindings)
+}
+# Whether an element between two tokens is outside of its array for one of some bindings.
+function is_outside(from, to, bindings,   i, last, wider) {
+    for (i = from; i <= to; i++) {
+        if (token[i] ~ /^(sum|all)$/) {
+            wider = bind_binders(bindings, i + 1)
+            last = end_of_product(after_bracket(i + 1), to)
+            if (wider != "?" && is_outside(after_bracket(i + 1), last, wider)) return 1
+            i = last
+        } else if (token[i + 1] == "[" && declaration[token[i]] && lacks_index(i, declaration[token[i]], bindings)) return 1
+    }
+    return 0
+}
+# The last token of the product that begins at a token.
+function end_of_product(from, to,   i) {
+    for (i = from; i <= to; i++) {
+        if (token[i] ~ /^[])},;]$/ || (i > from && token[i] ~ /^([+-]|==|!=|<|<=|>|>=|=>|&&|[|][|])$/ && token[i - 1] !~ /^([*]|div|mod|-)$/)) break
+        if (token[i] ~ /^[[({]$/) i = after_bracket(i) - 1
+    }
+    return i - 1
+}
+# Whether an index of the element at a token is none of its array for one of some bindings.
+function lacks_index(i, number, bindings,   dimension, from, last, turn, turns, j, value, values) {
+    turns = split(bindings, turn, ";")
+    if (turns == 0) turns = 1
+    dimension = name_at[number] + 1
+    for (from = i + 1; token[from] == "[" && token[dimension] == "["; from = last + 2) {
+        values = range_values(token[dimension + 2] == "in" ? dimension + 3 : dimension + 1) " "
+        last = after_bracket(from) - 2
+        for (j = 1; j <= turns && values != "? "; j++) {
+            use(turn[j])
+            value = value_between(from + 1, last)
+            if (is_unknown) break
+            if (index(values, " " value " ")) continue
+            seen = named_in(turn[j], from, last)
+            previous = value
+            for (last += 1; token[last + 1] == "["; last = after_bracket(last + 1) - 1) ;
+            this = words_of(i, last)
+            return 1
+        }
+        dimension = after_bracket(dimension)
+    }
+    return 0
+}
+# Of a binding what the names have that stand between two tokens, as ` where i = 3`.
+function named_in(binding, from, to,   parts, part, pair, i, j, said) {
+    parts = split(binding, part, ", ")
+    for (i = 1; i <= parts; i++) {
+        split(part[i], pair, " = ")
+        for (j = from; j <= to && token[j] != pair[1]; j++) ;
+        if (j <= to) said = said (said == "" ? " where " : ", ") part[i]
+    }
+    return said
 }

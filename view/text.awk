@@ -1,5 +1,5 @@
 # A text of `sopl` as tokens, with what of it stands plainly there: numbers, sizes, which line an instance of a constraint is of; and its
-# scenarios, as people name them. Other scripts of this folder are given to awk behind it, and these files, each behind the word for it:
+# scenarios, as people name them. It follows printable.awk, and other scripts of this folder follow it; with these files, each behind the word for it:
 #   role=text MODEL role=tree TREE
 # where TREE has the answer of `sopl tree MODEL`, and `name` is what the text's file is called.
 
@@ -13,7 +13,7 @@ BEGIN {
 
 role == "text" {
     lines++
-    source[lines] = $0
+    source[lines] = printable($0)
     read_tokens($0, bytes)
     bytes += length($0) + 1
 }
@@ -147,8 +147,11 @@ function condition_at(i, number,   size, item, binders) {
         binders = binders_size(i + 1)
         item = behind
         size = instances(item)
-        if (number >= 0 && size > 0 && binders > 0)
+        if (number >= 0 && size > 0 && binders > 0) {
             turn = turn " (turn " int(number / size) + 1 " of " binders " of its `forall`)"
+            around_instance[++foralls] = i
+            turn_of[foralls] = int(number / size) + 1
+        }
         return condition_at(item, number >= 0 && size > 0 ? number % size : -1)
     }
     if (token[i] != "{") return i
@@ -162,10 +165,12 @@ function condition_at(i, number,   size, item, binders) {
 }
 
 # The token at which the instance with a number begins, of chance constraints where `is_chance` is 1 and else of hard ones, or 0; `turn` says
-# for which values of a `forall` it stands, where one is before it.
+# for which values of a `forall` it stands, where one is before it, and `turn_of` has the number of the turn for each `forall` of the list
+# `around_instance`, which counts `foralls`.
 function instance_at(is_chance, number,   i) {
     chances = is_chance
     turn = ""
+    foralls = 0
     for (i = 1; i < count && token[i] != "subject"; i++) ;
     return condition_at(i + 2, number)
 }

@@ -477,10 +477,7 @@ run_search() {
         is_piped=1
         [ -z "$why" ] || keep_tree
     fi
-    case $log in
-        /*) ;;
-        *) log=./$log ;;
-    esac
+    log=$(path_of "$log")
     limit=$seconds
     find_measure
     exec 5<&0
