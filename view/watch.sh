@@ -237,6 +237,7 @@ feed() {
 end_watching() {
     [ -n "$watcher" ] || return 0
     { kill -KILL "$watcher" $(cat "$notes/seen/feeder"); wait "$watcher"; } 2>/dev/null
+    rm -f "$notes/seen/feeder"
     printf '\r%78s\r' '' >&2
 }
 
