@@ -52,6 +52,16 @@ names() {
     grep -qF -- "$2" told || miss "$1: messages: $(cat told)"
 }
 
+# Checks that a document has all lines of a file, one after the other.
+shows() {
+    sed 's/^    //' "$1" >lines
+    awk '
+        FNR == NR { row[++rows] = $0; next }
+        { for (start in begun) if ($0 == row[FNR - start + 1]) { if (FNR - start + 1 == rows) shown = 1 } else delete begun[start] }
+        $0 == row[1] { begun[FNR] }
+        END { exit !shown }' "$2" lines || miss "$1 does not show the lines of $2: $(cat "$2")"
+}
+
 # Makes an installed copy in a folder. Its program is a stand-in: the script on standard input.
 install_stand_in() {
     mkdir -p "$1/bin" "$1/lib/sopl" "$1/share/doc/sopl"

@@ -204,6 +204,7 @@ watch() {
     policies=0
     told_policies=0
     best_value=${gap_value:-none}
+    [ -n "$is_piped" ] || begin_feeding
     while sleep 1; do
         see_state
         if [ "$policies" -ne "$told_policies" ] && [ -n "$is_file" ]; then
@@ -215,19 +216,39 @@ watch() {
     done
 }
 
-# Sees the state of the log: of a pipe what its reader wrote, of a file its end, and the file whole where it is not large.
+# Has a log that is a file followed beside the program: what is new in it goes through a pipe.
+begin_feeding() {
+    fed=0
+    rm -f "$seen/feed" "$seen/state" "$seen/point"
+    mkfifo "$seen/feed" || return
+    follow "$seen" <"$seen/feed" >/dev/null 2>&1 &
+    echo "$!" >"$seen/feeder"
+    exec 7>"$seen/feed"
+}
+feed() {
+    is_begun || return 0
+    size=$(wc -c <"$log")
+    [ "$size" -gt "$fed" ] || return 0
+    tail -c "+$((fed + 1))" "$log" | head -c "$((size - fed))" >&7
+    fed=$size
+}
+
+# Ends what is told of a run.
+end_watching() {
+    [ -n "$watcher" ] || return 0
+    { kill -KILL "$watcher" $(cat "$notes/seen/feeder"); wait "$watcher"; } 2>/dev/null
+    rm -f "$notes/seen/feeder"
+    printf '\r%78s\r' '' >&2
+}
+
+# Sees the state of the log: what its reader wrote, once what is new in a file has gone there.
 see_state() {
     if [ -n "$is_piped" ]; then
-        read_state "$notes"
         cp "$notes/point" "$seen/point" 2>/dev/null
-    elif is_begun; then
-        if [ "$(wc -c <"$log")" -le 16777216 ]; then
-            follow "$seen" <"$log"
-            read_state "$seen"
-        else
-            counts=$(read_end 65536)
-            nodes=${counts#* }
-        fi
+        read_state "$notes"
+    else
+        feed
+        read_state "$seen"
     fi
 }
 
@@ -292,8 +313,7 @@ run_watched() {
     done
     running=
     [ -z "$timer" ] || { kill -TERM "$timer"; wait "$timer"; } 2>/dev/null
-    [ -z "$watcher" ] || { kill -KILL "$watcher"; wait "$watcher"; } 2>/dev/null
-    [ -z "$watcher" ] || printf '\r%78s\r' '' >&2
+    end_watching
     timer=
     watcher=
     [ -z "$is_piped" ] || end_reading
