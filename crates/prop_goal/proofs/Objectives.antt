@@ -1,5 +1,5 @@
 -- The cells that the objective's terms mention, and what is found for the objective.
-use Rattle.std.proofs.Common.{◌≡◌, ◌∙◌, inl, inr, ap, take, get_or, ℕ, ◌+◌, ◌<◌, ◌≤◌, ℤ, Bool, true, false, List, [], ◌∷◌, ◌++◌, Option, Some, None, IfSome, slice_get, length, map, Result, Ok, Err, OnOk, arith, refl, subst, sym}
+use Rattle.std.proofs.Common.{◌≡◌, ◌∙◌, inl, inr, ap, take, get_or, ℕ, suc, zero, ◌+◌, ◌<◌, ◌≤◌, ℤ, Bool, true, false, List, [], ◌∷◌, ◌++◌, Option, Some, None, IfSome, slice_get, length, map, Result, Ok, Err, OnOk, arith, refl, subst, sym}
 use Rattle.std.specs.List.{All, Contains, flat_map, range_with_len}
 use Rattle.std.proofs.lemmas.Bool.{cases_eq}
 use Rattle.std.proofs.lemmas.Option.{same_Some}
