@@ -20,3 +20,9 @@ step-requires-clause-exists c =
       seats_are (problem_of p.intervals.items p.pairs) None 1 c.in_ok-crew.crew.frontier (rising_posed p.intervals.items p.pairs p.chain) (omega arith, omega arith)
           (at_once (box_of p.intervals.items) 1 c.in_ok-crew.crew.frontier c.in_ok-crew.ensures.begun),
     )
+
+pub new-requires-clause-posed : goal.new-requires-clause-posed
+new-requires-clause-posed c = rising_posed c.args.program.now.intervals.items c.args.program.now.pairs c.args.program.now.chain
+
+pub step-requires-clause-posed : goal.step-requires-clause-posed
+step-requires-clause-posed c = rising_posed c.args.program.now.intervals.items c.args.program.now.pairs c.args.program.now.chain

@@ -32,3 +32,12 @@ steps-preserved g c =
       whole = c.in_ok-step.ensures.whole;
       seats = c.in_ok-step.ensures.seats ∙ c.steps.invariant.seats;
     }
+
+pub new-requires-clause-posed : goal.new-requires-clause-posed
+new-requires-clause-posed g c = rising_posed c.args.program.now.intervals.items c.args.program.now.pairs c.args.program.now.chain
+
+pub step-requires-clause-posed : goal.step-requires-clause-posed
+step-requires-clause-posed g c = rising_posed c.args.program.now.intervals.items c.args.program.now.pairs c.args.program.now.chain
+
+pub close-requires-clause-posed : goal.close-requires-clause-posed
+close-requires-clause-posed g c = rising_posed c.args.program.now.intervals.items c.args.program.now.pairs c.args.program.now.chain
