@@ -168,7 +168,7 @@ fn a_full_sink_has_a_prefix(rt: HostRuntime) -> Result<(), Fail> {
 
 // Puts the lines of the first row, and whether the sink holds these bytes before it is flushed.
 fn is_kept(alloc: Global, size: usize, before: &str, sink: &mut MemSink) -> Result<bool, Fail> {
-    let mut gather = Gather::new(alloc, size)?;
+    let mut gather = Gather::new(alloc, size.max(1))?;
     put_head(&mut gather, sink)?;
     put_node(&mut gather, sink, 0, None)?;
     let kept = sink.bytes() == before.as_bytes();

@@ -217,7 +217,7 @@ fn is_written_again(alloc: Global, log: &Log, size: usize) -> Result<bool, Alloc
     requires ordered { AreOrdered log.now.rows.items }
     requires at_least_one { 0 < length log.now.rows.items }
 {
-    let mut gather = Gather::new(alloc, size)?;
+    let mut gather = Gather::new(alloc, size.max(1))?;
     let mut sink = MemSink::new(alloc, 512, Vec::new(alloc))?;
     let whole = write_log(log, &mut gather, &mut sink).is_ok();
     Ok(whole && sink.bytes() == EACH_KIND.as_bytes())

@@ -131,7 +131,7 @@ const MOST: [usize; 4] = [1, 2, 5, 9];
 // A source of the text that moves so many bytes at once.
 fn dribbling(alloc: Global, most: usize) -> Result<MemSource, AllocError> {
     let texts = named_text(alloc)?;
-    Ok(MemSource::dribbling(texts, Vec::new(alloc), most))
+    Ok(MemSource::dribbling(texts, Vec::new(alloc), most.max(1)))
 }
 
 #[test]
@@ -205,7 +205,7 @@ fn put_pieces(
     before: &str,
     sink: &mut MemSink,
 ) -> Result<(bool, bool), AllocError> {
-    let mut gather = Gather::new(alloc, size)?;
+    let mut gather = Gather::new(alloc, size.max(1))?;
     let put = gathered(&mut gather, sink).is_ok();
     let held = sink.bytes() == before.as_bytes();
     Ok((held, put && gather.flush(sink).is_ok()))
@@ -214,7 +214,7 @@ fn put_pieces(
 // Whether pieces are gathered as a row says; where the sink does not take all, a call tells.
 fn is_gathered(alloc: Global, row: &Row) -> Result<bool, AllocError> {
     let (_, size, most, failing, before, after) = *row;
-    let mut sink = MemSink::dribbling(alloc, 16, failing.to_vec(alloc)?, most)?;
+    let mut sink = MemSink::dribbling(alloc, 16, failing.to_vec(alloc)?, most.max(1))?;
     let (held, ended) = put_pieces(alloc, size, before, &mut sink)?;
     Ok(held && sink.bytes() == after.as_bytes() && ended == (after.len() == 7))
 }
