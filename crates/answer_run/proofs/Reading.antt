@@ -6,6 +6,7 @@ use Rattle.sopl_io.specs.Stock.{Stock, begun_stock, text_of, with_name}
 use Rattle.sopl_io.specs.Transfer.{cut_at}
 use Rattle.sopl_base.specs.declared.stop.SearchStop.{SearchStop}
 use Rattle.sopl_base.specs.declared.stop.SearchStop.TheVariants as search
+use Rattle.sopl_ast.specs.Tokens.{max_length}
 use Rattle.log_rows.proofs.Written.{rose_later}
 use Rattle.answer_texts.specs.declared.command.Command.{Command}
 use Rattle.answer_texts.specs.declared.reply.Reply.{Reply}
@@ -89,7 +90,7 @@ module _ (wanted : Option Request) (stock : Option Stock) (old : Option (List (L
 
   -- where the command has a second file
   pub both_begun : (later new : Option (List (List ℕ))) (request : Request) (command : PairCommand) (bytes slice : List ℕ) (most : ℕ) → wanted ≡ Some request
-      → request.job ≡ Pair command → 1048576 < most → slice ≡ bytes → IfSome stock (λ s. bytes ≡ cut_at (Some most) (text_of s request.model))
+      → request.job ≡ Pair command → max_length < most → slice ≡ bytes → IfSome stock (λ s. bytes ≡ cut_at (Some most) (text_of s request.model))
       → later ≡ with_name old request.model → (status : Status) → BeginsSecond command slice request.second later new status
       → BeginsFiles stock old new wanted status
   both_begun later new request command bytes slice most asked job more same read first status (second_not_begun is not_answered) =

@@ -10,7 +10,7 @@ use Rattle.sopl_io.specs.Transfer.{cut_at}
 use Rattle.sopl_base.specs.declared.fault.Excess.{Excess}
 use Rattle.sopl_base.specs.declared.fault.Refusal.{Refusal}
 use Rattle.sopl_ast.specs.Accepted.{IsRefusedFor, no_tokens, misspelled, mistaken, stopped, IsLimitedFor, unfolding_passes, sizes_pass}
-use Rattle.sopl_ast.specs.Tokens.{too_long, no_piece, too_large}
+use Rattle.sopl_ast.specs.Tokens.{too_long, no_piece, too_large, max_length}
 use Rattle.sopl_ast.specs.Limits.{usual_limits}
 use Rattle.sopl_base.specs.declared.stop.SearchStop.{SearchStop}
 use Rattle.sopl_base.specs.declared.stop.SearchStop.TheVariants.{Write, NoMemory}
@@ -40,23 +40,23 @@ use Rattle.answer_run.specs.Replies.{IsAnswered, IsCutOff, cut_off, demo_cut_off
 use Rattle.answer_run.specs.Runs.{Replied, StopsWith, AnswersBoth, second_read, second_unread}
 
 -- a prefix of a text that is short enough is the whole text
-prefix_is_whole : (most : ℕ) → 1048576 < most → (text : List ℕ) → length (take most text) ≤ 1048576 → take most text ≡ text
+prefix_is_whole : (most : ℕ) → max_length < most → (text : List ℕ) → length (take most text) ≤ max_length → take most text ≡ text
 prefix_is_whole most more text short = take_all most text (omega (arith, more, short, length-take {A = ℕ} most text))
 
 -- a text that passes a limit is no longer than a text may be
-size_short : (text : List ℕ) (excess : Excess) → IsLimitedFor usual_limits text excess → length text ≤ 1048576
+size_short : (text : List ℕ) (excess : Excess) → IsLimitedFor usual_limits text excess → length text ≤ max_length
 size_short text excess (unfolding_passes model is typed stops) = is.read.0
 size_short text excess (sizes_pass model is typed passes over) = is.read.0
 
-limited_short : (text : List ℕ) (excess : Excess) (command : Command) → IsLimitedOn text excess command → length text ≤ 1048576
+limited_short : (text : List ℕ) (excess : Excess) (command : Command) → IsLimitedOn text excess command → length text ≤ max_length
 limited_short text excess _ (by_size command over) = size_short text excess over
 limited_short text excess _ (by_terms command over) = over.spelled.read.0
 
 -- a text is refused where what is read of it is
-refused_short : (most : ℕ) → 1048576 < most → (text : List ℕ) (refusal : Refusal) → length (take most text) ≤ 1048576 → IsRefusedFor (take most text) refusal → IsRefusedFor text refusal
+refused_short : (most : ℕ) → max_length < most → (text : List ℕ) (refusal : Refusal) → length (take most text) ≤ max_length → IsRefusedFor (take most text) refusal → IsRefusedFor text refusal
 refused_short most more text refusal short r = subst (λ t. IsRefusedFor t refusal) (prefix_is_whole most more text short) r
 
-refused_whole : (most : ℕ) → 1048576 < most → (text : List ℕ) (refusal : Refusal) → IsRefusedFor (take most text) refusal → IsRefusedFor text refusal
+refused_whole : (most : ℕ) → max_length < most → (text : List ℕ) (refusal : Refusal) → IsRefusedFor (take most text) refusal → IsRefusedFor text refusal
 refused_whole most more text refusal (no_tokens (too_long code at long)) =
     no_tokens (too_long code at (omega (arith, long, length-take {A = ℕ} most text)))
 refused_whole most more text refusal (no_tokens (no_piece rest code short reaches stuck)) =
@@ -67,17 +67,17 @@ refused_whole most more text refusal (misspelled tokens read wrong) = refused_sh
 refused_whole most more text refusal (mistaken model is first) = refused_short most more text refusal is.read.0 (mistaken model is first)
 refused_whole most more text refusal (stopped model is typed stops) = refused_short most more text refusal is.read.0 (stopped model is typed stops)
 
-refused_on : (most : ℕ) → 1048576 < most → (text : List ℕ) (refusal : Refusal) (command : Command) → IsRefusedOn (take most text) refusal command → IsRefusedOn text refusal command
+refused_on : (most : ℕ) → max_length < most → (text : List ℕ) (refusal : Refusal) (command : Command) → IsRefusedOn (take most text) refusal command → IsRefusedOn text refusal command
 refused_on most more text refusal _ (by_rule command reason) = by_rule command (refused_whole most more text refusal reason)
 
 -- a reply to what was read of a text, where that is no longer than a text may be
-reply_moved : (most : ℕ) → 1048576 < most → (text : List ℕ) (plan : SearchPlan) (command : Command) (log : Option (List ℕ)) (status : Status) (line : List ℕ)
-    → length (take most text) ≤ 1048576 → IsTextReply (take most text) plan command log status line → IsTextReply text plan command log status line
+reply_moved : (most : ℕ) → max_length < most → (text : List ℕ) (plan : SearchPlan) (command : Command) (log : Option (List ℕ)) (status : Status) (line : List ℕ)
+    → length (take most text) ≤ max_length → IsTextReply (take most text) plan command log status line → IsTextReply text plan command log status line
 reply_moved most more text plan command log status line short r =
     subst (λ t. IsTextReply t plan command log status line) (prefix_is_whole most more text short) r
 
 -- a reply to what was read of a text is a reply to the text
-reply_whole : (most : ℕ) → 1048576 < most → (text : List ℕ) (plan : SearchPlan) (command : Command) (log : Option (List ℕ)) (status : Status) (line : List ℕ)
+reply_whole : (most : ℕ) → max_length < most → (text : List ℕ) (plan : SearchPlan) (command : Command) (log : Option (List ℕ)) (status : Status) (line : List ℕ)
     → IsTextReply (take most text) plan command log status line → IsTextReply text plan command log status line
 reply_whole most more text plan _ _ _ _ (optimal k problem policy value log is best logged) =
     reply_moved most more text plan _ _ _ _ is.spelled.read.0 (optimal k problem policy value log is best logged)
@@ -92,7 +92,7 @@ reply_whole most more text plan _ _ _ _ (limited command excess over) =
     reply_moved most more text plan _ _ _ _ (limited_short (take most text) excess command over) (limited command excess over)
 
 -- so it is of a log that was cut off
-cut_whole : (most : ℕ) → 1048576 < most → (text : List ℕ) (plan : SearchPlan) (command : Command) (name : List ℕ) (old new : SinkState)
+cut_whole : (most : ℕ) → max_length < most → (text : List ℕ) (plan : SearchPlan) (command : Command) (name : List ℕ) (old new : SinkState)
     → IsCut (take most text) plan command name old new → IsCut text plan command name old new
 cut_whole most more text plan command name old new cut =
     subst (λ t. IsCut t plan command name old new) (prefix_is_whole most more text cut.is_solved.spelled.read.0) cut
@@ -109,7 +109,7 @@ module _ (wanted : Option Request) (stock : Option Stock) (before now : ℕ) (ol
   name_is request asked = ap (λ (o : Option Request). option_map_or (λ (r : Request). r.log) o []) asked
 
   module _ (bytes : List ℕ) (request : Request) (command : Command) (job : request.job ≡ Text command) (most : ℕ) (asked : wanted ≡ Some request)
-      (more : 1048576 < most) where
+      (more : max_length < most) where
     -- what is answered of the bytes that were read is a reply to the words
     read_reply : (o : Option Stock) → IfSome o (λ s. bytes ≡ cut_at (Some most) (text_of s request.model)) → (log : Option (List ℕ)) (status : Status) (line : List ℕ)
         → IsTextReply bytes request.plan command log status line → IsReply wanted o before now log status line
@@ -167,7 +167,7 @@ away_no_answer status (inr away) (inr (inr (inr done))) = cc
 
 -- a text that is answered is no longer than a text may be
 answered_short : (text : List ℕ) (plan : SearchPlan) (command : Command) (log : Option (List ℕ)) (status : Status) (line : List ℕ)
-    → IsTextReply text plan command log status line → IsAnswered status → length text ≤ 1048576
+    → IsTextReply text plan command log status line → IsAnswered status → length text ≤ max_length
 answered_short text plan _ _ _ _ (optimal k problem policy value log is best logged) done = is.spelled.read.0
 answered_short text plan _ _ _ _ (infeasible k problem log is none logged) done = is.spelled.read.0
 answered_short text plan _ _ _ _ (bounded k problem found bound log is known less logged) done = is.spelled.read.0
@@ -183,14 +183,14 @@ not_full most size same below = absurd (omega (arith, below, one most size same)
 
 -- so it was read to its end
 pub ended_made : (bytes : List ℕ) (plan : SearchPlan) (command : Command) (name : List ℕ) (old new : SinkState) (most size : ℕ) (left : Option (List ℕ)) (result : Result Reply SearchStop)
-    → length bytes ≡ size → IsAtEnd left ⊎ (Some most ≡ Some size) → 1048576 < most
+    → length bytes ≡ size → IsAtEnd left ⊎ (Some most ≡ Some size) → max_length < most
     → IfOk result (λ reply. Replies bytes plan command name old new reply.status (string_bytes reply.line))
     → IfOk result (λ reply. IsAnswered reply.status → IsAtEnd left)
 ended_made bytes plan command name old new most size left (Err stop) same end more replies = tt
 ended_made bytes plan command name old new most size left (Ok reply) same (inl at_end) more replies = λ done. at_end
 ended_made bytes plan command name old new most size left (Ok reply) same (inr full) more replies =
     λ done.
-    let short : length bytes ≤ 1048576 = answered_short bytes plan command replies.log reply.status (string_bytes reply.line) replies.reply done in
+    let short : length bytes ≤ max_length = answered_short bytes plan command replies.log reply.status (string_bytes reply.line) replies.reply done in
     absurd (not_full most size full (omega (arith, more, short, same)))
 
 -- The lines that speak of no text.
@@ -266,31 +266,31 @@ module _ (request : Request) (stock : Option Stock) (before now : ℕ) (old new 
 -- A command on the text and a second file.
 
 -- a text that is taken was read whole
-pub taken_whole : (command : PairCommand) (most : ℕ) → 1048576 < most → (text : List ℕ) → IsTaken command (take most text) → IsTaken command text
+pub taken_whole : (command : PairCommand) (most : ℕ) → max_length < most → (text : List ℕ) → IsTaken command (take most text) → IsTaken command text
 taken_whole command most more text (problem, is) = (problem, subst (λ t. SolvedText t problem) (prefix_is_whole most more text is.spelled.read.0) is)
 
 -- a reply to what was read of a text and to a second file is one to the text
-check_whole : (most : ℕ) → 1048576 < most → (text log : List ℕ) (status : Status) (line : List ℕ) → IsCheckReply (take most text) log status line → IsCheckReply text log status line
+check_whole : (most : ℕ) → max_length < most → (text log : List ℕ) (status : Status) (line : List ℕ) → IsCheckReply (take most text) log status line → IsCheckReply text log status line
 check_whole most more text log status line (checks problem s l is reply) =
     subst (λ t. IsCheckReply t log s l) (prefix_is_whole most more text is.spelled.read.0) (checks problem s l is reply)
 check_whole most more text log _ _ (refused_text refusal why) = refused_text refusal (refused_on most more text refusal (Solve Full) why)
 check_whole most more text log _ _ (limited_text excess over) =
     subst (λ t. IsCheckReply t log Limit (line_of (limit_data excess))) (prefix_is_whole most more text (limited_short (take most text) excess (Solve Full) over)) (limited_text excess over)
 
-eval_whole : (most : ℕ) → 1048576 < most → (text bytes : List ℕ) (status : Status) (line : List ℕ) → IsEvalReply (take most text) bytes status line → IsEvalReply text bytes status line
+eval_whole : (most : ℕ) → max_length < most → (text bytes : List ℕ) (status : Status) (line : List ℕ) → IsEvalReply (take most text) bytes status line → IsEvalReply text bytes status line
 eval_whole most more text bytes status line (evaluated problem s l is reply) =
     subst (λ t. IsEvalReply t bytes s l) (prefix_is_whole most more text is.spelled.read.0) (evaluated problem s l is reply)
 eval_whole most more text bytes _ _ (text_refused refusal why) = text_refused refusal (refused_on most more text refusal (Solve Full) why)
 eval_whole most more text bytes _ _ (text_limited excess over) =
     subst (λ t. IsEvalReply t bytes Limit (line_of (limit_data excess))) (prefix_is_whole most more text (limited_short (take most text) excess (Solve Full) over)) (text_limited excess over)
 
-pair_whole : (command : PairCommand) (most : ℕ) → 1048576 < most → (text bytes : List ℕ) (status : Status) (line : List ℕ) → IsPairReply command (take most text) bytes status line
+pair_whole : (command : PairCommand) (most : ℕ) → max_length < most → (text bytes : List ℕ) (status : Status) (line : List ℕ) → IsPairReply command (take most text) bytes status line
     → IsPairReply command text bytes status line
 pair_whole Check most more text bytes status line is = check_whole most more text bytes status line is
 pair_whole Eval most more text bytes status line is = eval_whole most more text bytes status line is
 
 module _ (wanted : Option Request) (before later now : ℕ) (up : before ≤ later) (at : SinkState) (bytes : List ℕ) (request : Request) (command : PairCommand)
-    (job : request.job ≡ Pair command) (most : ℕ) (asked : wanted ≡ Some request) (more : 1048576 < most) where
+    (job : request.job ≡ Pair command) (most : ℕ) (asked : wanted ≡ Some request) (more : max_length < most) where
   -- what is answered of both files is a reply to the words
   both_reply : (o : Option Stock) → IfSome o (λ s. bytes ≡ cut_at (Some most) (text_of s request.model)) → (status : Status) (line : List ℕ)
       → AnswersBoth command bytes request.second (option_map begun_stock o) later now status line → IsReply wanted o before now None status line

@@ -4,6 +4,7 @@ ghost use Rattle.std.specs.Prelude.{◌≡◌, ◌≤◌, false, option_map, Som
 ghost use Rattle.std.specs.Io.KnownBytes.{IsAtEnd};
 ghost use Rattle.sopl_io.specs.Causes.{Rose};
 ghost use Rattle.sopl_base.specs.declared.stop.SearchStop.TheVariants as search;
+ghost use Rattle.sopl_ast.specs.Tokens.{max_length};
 ghost use Rattle.sopl_search.specs.Schedules.{AreSeats, IsOrder};
 ghost use Rattle.answer_texts.specs.Logs.{state_of};
 ghost use Rattle.answer_run.specs.Calls.{ReplyCalls};
@@ -45,7 +46,7 @@ pub fn files_reply<S: Source, K: Sink>(
     ensures stopped { IfErr result (StopsWith (Some (request_with (request_shown request.now) (option_map rule brancher)))
         (S.stock source.old) (state_of K.taken K.names log.old) (state_of K.taken K.names log.new)) }
     ensures ended { IfOk result (λ reply. IsAnswered reply.status → IsAtEnd (S.left source.new)) }
-    ensures taken_at_most { TakesAtMost 1048577 (asked_in (S.stock source.old) (Some (request_with (request_shown request.now) (option_map rule brancher))))
+    ensures taken_at_most { TakesAtMost (max_length + 1) (asked_in (S.stock source.old) (Some (request_with (request_shown request.now) (option_map rule brancher))))
         (S.faults source.old) (S.faults source.new) (S.left source.new) }
     ensures faults_grow { S.faults source.old ≤ S.faults source.new }
     ensures log_later { K.faults log.old ≤ K.faults log.new }

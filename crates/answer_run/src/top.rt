@@ -4,6 +4,7 @@ ghost use Rattle.std.specs.Prelude.{◌≡◌, ◌⊎◌, ◌≤◌, true, false
 ghost use Rattle.std.specs.Io.KnownBytes.{IsAtEnd};
 ghost use Rattle.sopl_io.specs.Causes.{Rose};
 ghost use Rattle.sopl_base.specs.declared.stop.SearchStop.TheVariants as search;
+ghost use Rattle.sopl_ast.specs.Tokens.{max_length};
 ghost use Rattle.answer_texts.specs.Logs.{state_of};
 ghost use Rattle.answer_run.specs.Calls.{calls_of, EndsAtFailure, LineCalls, ReplyCalls};
 ghost use Rattle.sopl_search.specs.Schedules.{AreSeats, IsOrder};
@@ -70,7 +71,7 @@ pub fn run<S: Source, K: Sink>(
         → IsAnswered result → IsAtEnd (S.left source.new) }
 
     // Of the model's text one byte more is taken than a text may have, at most; a second file has no limit.
-    ensures taken_at_most { TakesAtMost 1048577 (asked_in (S.stock source.old)
+    ensures taken_at_most { TakesAtMost (max_length + 1) (asked_in (S.stock source.old)
         (asked_of (map (λ b. (label b, rule b)) branchers.items) words.now)) (S.faults source.old) (S.faults source.new) (S.left source.new) }
 
     // Faults have their causes.
@@ -158,7 +159,7 @@ fn request_reply<S: Source, K: Sink>(
         (S.stock source.old) (state_of K.taken K.names log.old) (state_of K.taken K.names log.new)) }
     ensures ended { reads_files (Some (request_with (request_shown request.now) (option_map rule brancher))) ≡ true
         → IfOk result (λ reply. IsAnswered reply.status → IsAtEnd (S.left source.new)) }
-    ensures taken_at_most { TakesAtMost 1048577 (asked_in (S.stock source.old) (Some (request_with (request_shown request.now) (option_map rule brancher))))
+    ensures taken_at_most { TakesAtMost (max_length + 1) (asked_in (S.stock source.old) (Some (request_with (request_shown request.now) (option_map rule brancher))))
         (S.faults source.old) (S.faults source.new) (S.left source.new) }
     ensures faults_grow { S.faults source.old ≤ S.faults source.new }
     ensures log_later { K.faults log.old ≤ K.faults log.new }
@@ -191,7 +192,7 @@ fn reply_for<S: Source, K: Sink>(
         (state_of K.taken K.names log.old) (state_of K.taken K.names log.new)) }
     ensures ended { reads_files (asked_of (map (λ b. (label b, rule b)) branchers.items) words.now) ≡ true
         → IfOk result (λ reply. IsAnswered reply.status → IsAtEnd (S.left source.new)) }
-    ensures taken_at_most { TakesAtMost 1048577 (asked_in (S.stock source.old)
+    ensures taken_at_most { TakesAtMost (max_length + 1) (asked_in (S.stock source.old)
         (asked_of (map (λ b. (label b, rule b)) branchers.items) words.now)) (S.faults source.old) (S.faults source.new) (S.left source.new) }
     ensures faults_grow { S.faults source.old ≤ S.faults source.new }
     ensures log_later { K.faults log.old ≤ K.faults log.new }

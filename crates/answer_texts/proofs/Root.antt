@@ -18,6 +18,6 @@ unfolding box_problem_of
 root_is stated program is = is.root
 
 -- it has 1024 bits at most
-pub root_few_bits : (text : List ℕ) (stated : AcceptedProblem) (program : Program) → States text stated → IsProgramOf (problem_in stated) program → bits_in (box_problem_of program).root ≤ 1024
+pub root_few_bits : (text : List ℕ) (stated : AcceptedProblem) (program : Program) → States text stated → IsProgramOf (problem_in stated) program → bits_in (box_problem_of program).root ≤ usual_limits.bits
 root_few_bits text stated program states is =
-    subst (λ (b : Box). bits_in b ≤ 1024) (sym (root_is stated program is)) (root_has_few_bits usual_limits (model_in stated) (problem_in stated) states.accepted)
+    subst (λ (b : Box). bits_in b ≤ usual_limits.bits) (sym (root_is stated program is)) (root_has_few_bits usual_limits (model_in stated) (problem_in stated) states.accepted)

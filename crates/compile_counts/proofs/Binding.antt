@@ -3,6 +3,7 @@ use Rattle.std.proofs.Common.{◌≡◌, refl, sym, ap, subst, ◌∙◌, ℕ, �
 use Rattle.std.specs.List.{flat_map, AllByRecursion}
 use Rattle.std.specs.Option.{unwrap_or}
 use Rattle.sopl_base.proofs.Lists.{all_joined}
+use Rattle.sopl_base.specs.declared.codes.TheConstants as codes
 use Rattle.sopl_ast.specs.Tree.{Range, Named, Ends, Binders, no_binder, binder, place_of}
 use Rattle.sopl_ast.specs.Numbers.{both_of, all_of, joined, up_to, count_between}
 use Rattle.sopl_ast.specs.Known.{Known, with_bound}
@@ -25,8 +26,8 @@ range_there known whole (Ends lo hi) is =
     let least = unwrap_or whole (place_of lo) in
     let greatest = unwrap_or whole (place_of hi) in
     let first = parts_pass (constant_events known least lo)
-    (constant_events known greatest hi ++ too_many 208 (count_between (value_or_zero known lo) (value_or_zero known hi))) is in
-    let second = parts_pass (constant_events known greatest hi) (too_many 208 (count_between (value_or_zero known lo) (value_or_zero known hi))) first.1 in
+    (constant_events known greatest hi ++ too_many codes.NUMBERS (count_between (value_or_zero known lo) (value_or_zero known hi))) is in
+    let second = parts_pass (constant_events known greatest hi) (too_many codes.NUMBERS (count_between (value_or_zero known lo) (value_or_zero known hi))) first.1 in
     let a = value_given known least lo first.0 in
     let b = value_given known greatest hi second.0 in
     there (numbers_of known (Ends lo hi)) (up_to a.0 b.0) [] (λ i. both_of up_to (a.1 i) (b.1 i))

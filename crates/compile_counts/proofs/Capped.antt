@@ -4,7 +4,8 @@ use Rattle.std.proofs.lemmas.Bool.{cases_lt}
 use Rattle.std.proofs.lemmas.Int.{ints, clamps}
 use Rattle.std.specs.Prelude.{int_le}
 use Rattle.std.specs.Int.{w128, saturate_signed, int_min}
-use Rattle.sopl_ast.specs.Limits.{first_above}
+use Rattle.sopl_base.specs.declared.codes.TheConstants as codes
+use Rattle.sopl_ast.specs.Limits.{first_above, usual_limits}
 use Rattle.sopl_ast.specs.UnfoldEvents.{excess}
 use Rattle.sopl_scen.proofs.Runs.{one_within, one_above}
 use Rattle.compile_counts.specs.Counted.{capped}
@@ -48,17 +49,17 @@ capped_least : (a : ℕ) → capped a ≡ int_min (pos a) (pos (2 ^ 127 - 1))
 unfolding capped
 capped_least a = omega (arith, ints, clamps)
 
-pub few : (a : ℕ) (y z : ℤ) → y ≡ z → z ≡ capped a → int_le y (pos 4194304) ≡ true → None ≡ first_above 206 4194304 (pos a ∷ [])
+pub few : (a : ℕ) (y z : ℤ) → y ≡ z → z ≡ capped a → int_le y (pos usual_limits.nodes) ≡ true → None ≡ first_above codes.TERM_NODES usual_limits.nodes (pos a ∷ [])
 unfolding capped
 few a y z same is test =
-    let least : int_le (pos (min a (2 ^ 127 - 1))) (pos 4194304) ≡ true = subst (λ x. int_le x (pos 4194304) ≡ true) (same ∙ is) test in
-    let small : pos (min a (2 ^ 127 - 1)) ≤ℤ pos 4194304 = omega (arith, ints, least) in
-    sym (one_within 206 4194304 (pos a) (omega (arith, ints, small)))
+    let least : int_le (pos (min a (2 ^ 127 - 1))) (pos usual_limits.nodes) ≡ true = subst (λ x. int_le x (pos usual_limits.nodes) ≡ true) (same ∙ is) test in
+    let small : pos (min a (2 ^ 127 - 1)) ≤ℤ pos usual_limits.nodes = omega (arith, ints, least) in
+    sym (one_within codes.TERM_NODES usual_limits.nodes (pos a) (omega (arith, ints, small)))
 
-pub many : (a : ℕ) (y z : ℤ) → y ≡ z → z ≡ capped a → int_le y (pos 4194304) ≡ false → Some (excess 206 y (pos 4194304)) ≡ first_above 206 4194304 (pos a ∷ [])
+pub many : (a : ℕ) (y z : ℤ) → y ≡ z → z ≡ capped a → int_le y (pos usual_limits.nodes) ≡ false → Some (excess codes.TERM_NODES y (pos usual_limits.nodes)) ≡ first_above codes.TERM_NODES usual_limits.nodes (pos a ∷ [])
 unfolding capped
 many a y z same is test =
-    let least : int_le (pos (min a (2 ^ 127 - 1))) (pos 4194304) ≡ false = subst (λ x. int_le x (pos 4194304) ≡ false) (same ∙ is) test in
-    let large : pos 4194304 <ℤ pos (min a (2 ^ 127 - 1)) = omega (arith, ints, least) in
-    sym (one_above 206 4194304 (pos a) (excess 206 y (pos 4194304)) (omega (arith, ints, large))
-    (ap (λ x. excess 206 x (pos 4194304)) (same ∙ is ∙ capped_least a)))
+    let least : int_le (pos (min a (2 ^ 127 - 1))) (pos usual_limits.nodes) ≡ false = subst (λ x. int_le x (pos usual_limits.nodes) ≡ false) (same ∙ is) test in
+    let large : pos usual_limits.nodes <ℤ pos (min a (2 ^ 127 - 1)) = omega (arith, ints, least) in
+    sym (one_above codes.TERM_NODES usual_limits.nodes (pos a) (excess codes.TERM_NODES y (pos usual_limits.nodes)) (omega (arith, ints, large))
+    (ap (λ x. excess codes.TERM_NODES x (pos usual_limits.nodes)) (same ∙ is ∙ capped_least a)))

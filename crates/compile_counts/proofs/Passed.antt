@@ -6,6 +6,7 @@ use Rattle.std.specs.declared.alloc.AllocError.{AllocError}
 use Rattle.sopl_base.specs.declared.fault.Fault.{Fault}
 use Rattle.sopl_base.specs.declared.fault.Fault.TheVariants.{NoMemory}
 use Rattle.sopl_base.proofs.Booleans.{not_true}
+use Rattle.sopl_base.specs.declared.codes.TheConstants as codes
 use Rattle.sopl_ast.specs.Tree.{Tree, Range, place_of}
 use Rattle.sopl_ast.specs.Known.{Known}
 use Rattle.sopl_ast.specs.Constants.{value, numbers_of, numbers_in}
@@ -35,13 +36,13 @@ handed_further P Q so (Err f) holds = tt
 
 -- the parts of a divisor
 pub divisor_part : (known : Known) (e : Tree) → NothingFails (divisor_events known e) → NothingFails (constant_place known e)
-divisor_part known e is = (parts_pass (constant_place known e) (refused_unless (not (is_zero (value known e))) 110 (place_of e)) is).0
+divisor_part known e is = (parts_pass (constant_place known e) (refused_unless (not (is_zero (value known e))) codes.UNDEFINED (place_of e)) is).0
 
 -- a divisor is not 0
 pub divisor_nonzero : (known : Known) (e : Tree) (x : ℤ) → NothingFails (divisor_events known e) → value known e ≡ Some x → int_eq x (pos 0) ≡ false
 divisor_nonzero known e x is there =
-    let test = test_holds (not (is_zero (value known e))) 110 (place_of e)
-    (parts_pass (constant_place known e) (refused_unless (not (is_zero (value known e))) 110 (place_of e)) is).1 in
+    let test = test_holds (not (is_zero (value known e))) codes.UNDEFINED (place_of e)
+    (parts_pass (constant_place known e) (refused_unless (not (is_zero (value known e))) codes.UNDEFINED (place_of e)) is).1 in
     not_true (int_eq x (pos 0)) (subst (λ v. not (is_zero v) ≡ true) there test)
 
 -- the numbers of a range

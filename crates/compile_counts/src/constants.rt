@@ -1,9 +1,10 @@
 //! What is asked at constant places of a text that passes, where no refusal is left but out of memory.
 
-ghost use Rattle.std.specs.Prelude.{◌≡◌, ◌≤◌, ◌^◌, false, Ok, IfOk, IfErr, Some, pos};
+ghost use Rattle.std.specs.Prelude.{◌≡◌, ◌≤◌, false, Ok, IfOk, IfErr, Some, pos};
 ghost use Rattle.std.specs.Int.RustNames.{unsigned_abs};
 ghost use Rattle.std.specs.Ordering.{int_eq};
 ghost use Rattle.sopl_base.specs.declared.fault.Fault.TheVariants.{NoMemory};
+ghost use Rattle.sopl_base.specs.declared.limits.TheConstants as largest;
 ghost use Rattle.sopl_ast.specs.Constants.{value, numbers_in};
 ghost use Rattle.sopl_ast.specs.UnfoldEvents.{divisor_events, range_events};
 ghost use Rattle.sopl_ast.specs.Ranges.{range_of};
@@ -22,7 +23,7 @@ pub fn divisor<'a>(known: &ConstantScope<'a>, e: &'a Expr) -> Result<i64, AllocE
     requires passes { NothingFails (divisor_events (known_in known.now) e.now) }
     ensures value { IfOk result (λ x. value (known_in known.now) e.now ≡ Some x) }
     ensures nonzero { IfOk result (λ x. int_eq x (pos 0) ≡ false) }
-    ensures small { IfOk result (λ x. unsigned_abs x ≤ 2 ^ 40) }
+    ensures small { IfOk result (λ x. unsigned_abs x ≤ largest.CONSTANT_SIZE) }
 {
     let mut count = Count::new();
     memory_alone(known.constant(&mut count, e))

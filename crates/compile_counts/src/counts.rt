@@ -1,7 +1,8 @@
 //! Numbers of term nodes.
 
 ghost use Rattle.std.specs.Prelude.{◌≡◌, ◌+◌, ◌*◌, ℕ, pos, [], ◌∷◌};
-ghost use Rattle.sopl_ast.specs.Limits.{first_above};
+ghost use Rattle.sopl_base.specs.declared.codes.TheConstants as codes;
+ghost use Rattle.sopl_ast.specs.Limits.{first_above, usual_limits};
 ghost use Rattle.compile_counts.specs.Counted.{capped};
 
 use sopl_base::{Excess, codes, limits};
@@ -54,7 +55,7 @@ impl Nodes {
 
     /// The limit that they pass, if there are too many.
     pub(crate) fn excess(self) -> Option<Excess>
-        ensures excess { (a : ℕ) → self.count ≡ capped a → result ≡ first_above 206 4194304 (pos a ∷ []) }
+        ensures excess { (a : ℕ) → self.count ≡ capped a → result ≡ first_above codes.TERM_NODES usual_limits.nodes (pos a ∷ []) }
     {
         if self.count <= limits::TERM_NODES {
             return None;

@@ -3,6 +3,7 @@ use Rattle.std.proofs.Common.{◌≡◌, refl, sym, subst, arith, ℕ, ◌≤◌
 use Rattle.std.proofs.lemmas.Int.{ints}
 use Rattle.std.specs.List.{sum_by}
 use Rattle.sopl_base.specs.declared.fault.Excess.{Excess}
+use Rattle.sopl_base.specs.declared.codes.TheConstants as codes
 use Rattle.sopl_ast.specs.Instances.{Problem}
 use Rattle.sopl_ast.specs.Limits.{Limits, bits_of, bit_excess, copy_excess, first_above, scenario_excess, size_excess, weight_excess}
 use Rattle.sopl_ast.specs.Numbers.{or_else}
@@ -27,7 +28,7 @@ few_bits limits problem is =
     let behind_weights = second_none (weight_excess limits problem) (or_else (scenario_excess limits problem) (or_else (copy_excess limits problem) (bit_excess limits problem))) is in
     let behind_scenarios = second_none (scenario_excess limits problem) (or_else (copy_excess limits problem) (bit_excess limits problem)) behind_weights in
     let bits = second_none (copy_excess limits problem) (bit_excess limits problem) behind_scenarios in
-    let within = within_limit 204 limits.bits (pos (sum_by (bits_of problem.stochastics) problem.decisions)) bits in
+    let within = within_limit codes.BITS limits.bits (pos (sum_by (bits_of problem.stochastics) problem.decisions)) bits in
     omega (arith, ints, within)
 
 pub root_has_few_bits : RootHasFewBits

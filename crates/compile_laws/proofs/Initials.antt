@@ -5,6 +5,7 @@ use Rattle.std.proofs.lemmas.Bool.{eqb-true, leb-true, or_cases}
 use Rattle.std.proofs.lemmas.List.{map-append}
 use Rattle.std.specs.List.{flat_map}
 use Rattle.sopl_base.specs.declared.fault.Refusal.{Refusal}
+use Rattle.sopl_base.specs.declared.codes.TheConstants as codes
 use Rattle.sopl_ast.specs.Tree.{place_of}
 use Rattle.sopl_ast.specs.Whole.{InitTree, InitTrees, One, Many, no_init, init, inits_list}
 use Rattle.sopl_ast.specs.Known.{Known}
@@ -41,8 +42,8 @@ not_fewer depth dims deep is = let h = leb-true (depth + 1) dims is in omega (ar
 -- an initial value that stands in more brackets than there are dimensions is a mistake
 too_deep : (x : InitTree) (dims depth : ℕ) → dims < depth → wrong_depths dims depth x ≡ [] → ⊥
 too_deep (One e) dims depth deep right =
-    not_depth depth dims deep (or_cases (nat_eq depth 0) (nat_eq depth dims) (no_mistake (nat_eq depth 0 || nat_eq depth dims) 108 (place_of e) right))
-too_deep (Many at no_init) dims depth deep right = not_fewer depth dims (omega (arith, deep)) (no_mistake (nat_le (depth + 1) dims) 108 at right)
+    not_depth depth dims deep (or_cases (nat_eq depth 0) (nat_eq depth dims) (no_mistake (nat_eq depth 0 || nat_eq depth dims) codes.DIMENSIONS (place_of e) right))
+too_deep (Many at no_init) dims depth deep right = not_fewer depth dims (omega (arith, deep)) (no_mistake (nat_le (depth + 1) dims) codes.DIMENSIONS at right)
 too_deep (Many at (init x xs)) dims depth deep right =
     too_deep x dims (depth + 1) (omega (arith, deep)) (none_both (wrong_depths dims (depth + 1) x) (wrong_parts dims (depth + 1) xs) right).0
 
@@ -62,24 +63,24 @@ behind_full number [] = refl
 behind_full number (entry ∷ entries) = ap (λ later. (number ∷ entry.0) ∷ later) (behind_full number entries)
 
 -- the parts of a bracket are as many as its index set has numbers
-as_many : (at : ℕ) (parts : InitTrees) (numbers : List ℤ) → NothingFails (refused_unless (nat_eq (length (inits_list parts)) (length numbers)) 112 at)
+as_many : (at : ℕ) (parts : InitTrees) (numbers : List ℤ) → NothingFails (refused_unless (nat_eq (length (inits_list parts)) (length numbers)) codes.BRACKET_LENGTH at)
     → length (inits_list parts) ≡ length numbers
 as_many at parts numbers passes =
-    eqb-true (length (inits_list parts)) (length numbers) (test_holds (nat_eq (length (inits_list parts)) (length numbers)) 112 at passes)
+    eqb-true (length (inits_list parts)) (length numbers) (test_holds (nat_eq (length (inits_list parts)) (length numbers)) codes.BRACKET_LENGTH at passes)
 
 mutual
   pub values_full : (x : InitTree) (known : Known) (ds : List Dimension) (dims depth : ℕ) → depth + length ds ≡ dims → wrong_depths dims depth x ≡ []
       → NothingFails (init_events known ds x) → map index_of (values_from known ds x) ≡ indices ds
   values_full (One e) known ds dims depth same right passes = one_full (λ index. value_or_zero (with_index ds index known) e) (indices ds)
   values_full (Many at no_init) known [] dims depth same right passes =
-      absurd (not_fewer depth dims (omega (arith, same)) (no_mistake (nat_le (depth + 1) dims) 108 at right))
+      absurd (not_fewer depth dims (omega (arith, same)) (no_mistake (nat_le (depth + 1) dims) codes.DIMENSIONS at right))
   values_full (Many at (init x xs)) known [] dims depth same right passes =
       absurd (too_deep x dims (depth + 1) (omega (arith, same)) (none_both (wrong_depths dims (depth + 1) x) (wrong_parts dims (depth + 1) xs) right).0)
   values_full (Many at no_init) known (d ∷ ds) dims depth same right passes =
-      let both = parts_pass (refused_unless (nat_eq (length (inits_list no_init)) (length d.numbers)) 112 at) (inits_events known d.name ds d.numbers no_init) passes in
+      let both = parts_pass (refused_unless (nat_eq (length (inits_list no_init)) (length d.numbers)) codes.BRACKET_LENGTH at) (inits_events known d.name ds d.numbers no_init) passes in
       parts_full no_init known d.name ds d.numbers dims (depth + 1) (omega (arith, same)) refl (as_many at no_init d.numbers both.0) both.1
   values_full (Many at (init x xs)) known (d ∷ ds) dims depth same right passes =
-      let both = parts_pass (refused_unless (nat_eq (length (inits_list (init x xs))) (length d.numbers)) 112 at) (inits_events known d.name ds d.numbers (init x xs)) passes in
+      let both = parts_pass (refused_unless (nat_eq (length (inits_list (init x xs))) (length d.numbers)) codes.BRACKET_LENGTH at) (inits_events known d.name ds d.numbers (init x xs)) passes in
       parts_full (init x xs) known d.name ds d.numbers dims (depth + 1) (omega (arith, same)) right (as_many at (init x xs) d.numbers both.0) both.1
 
   parts_full : (xs : InitTrees) (known : Known) (name : Option (List ℕ)) (ds : List Dimension) (numbers : List ℤ) (dims depth : ℕ) → depth + length ds ≡ dims

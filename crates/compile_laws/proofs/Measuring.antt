@@ -8,6 +8,7 @@ use Rattle.std.specs.List.{AllByRecursion}
 use Rattle.sopl_base.specs.declared.fault.Excess.{Excess}
 use Rattle.sopl_base.specs.declared.fault.Fault.{Fault}
 use Rattle.sopl_base.specs.declared.fault.Fault.TheVariants.{Limit}
+use Rattle.sopl_base.specs.declared.codes.TheConstants as codes
 use Rattle.sopl_ast.specs.Limits.{first_above}
 use Rattle.sopl_ast.specs.Numbers.{or_else}
 use Rattle.sopl_ast.specs.UnfoldEvents.{excess}
@@ -147,11 +148,11 @@ goal_is_allowed root terms = by_goal terms.goal
     by_goal None = (λ is. tt, λ all. refl)
     by_goal (Some goal) = by_worst goal.worst
       where
-        by_worst : (worst : Bool) → ((if worst then None else first_above 207 (2 ^ 126) (goal_number root terms goal ∷ [])) ≡ None)
+        by_worst : (worst : Bool) → ((if worst then None else first_above codes.TERM_SIZE (2 ^ 126) (goal_number root terms goal ∷ [])) ≡ None)
             ↔ (worst ≡ false → goal_number root terms goal ≤ℤ pos (2 ^ 126))
         by_worst true = (λ is same. absurd (cc), λ most. refl)
         by_worst false =
-            within (goal_number root terms goal) (pos (2 ^ 126)) (excess 207 (int_min (goal_number root terms goal) (pos (2 ^ 127 - 1))) (pos (2 ^ 126)))
+            within (goal_number root terms goal) (pos (2 ^ 126)) (excess codes.TERM_SIZE (int_min (goal_number root terms goal) (pos (2 ^ 127 - 1))) (pos (2 ^ 126)))
 
 -- a number that is above the limit, with what is told of it
 above : (n limit : ℤ) (e told : Excess) → (if int_le n limit then None else Some told) ≡ Some e → (limit <ℤ n) × (e ≡ told)
@@ -164,13 +165,13 @@ told_above n limit told large =
     by_bool (λ c. int_le n limit ≡ c → (if c then None else Some told) ≡ Some told) (int_le n limit) (λ c test. absurd (grind (arith, ints))) (λ c test. refl) refl
 
 abbrev goal_told : Box → ProblemTerms → GoalTerms → Excess
-goal_told root terms goal = excess 207 (int_min (goal_number root terms goal) (pos (2 ^ 127 - 1))) (pos (2 ^ 126))
+goal_told root terms goal = excess codes.TERM_SIZE (int_min (goal_number root terms goal) (pos (2 ^ 127 - 1))) (pos (2 ^ 126))
 
 -- an expected objective that is too large
 large_goal : (root : Box) (terms : ProblemTerms) (e : Excess) (goal : GoalTerms) → terms.goal ≡ Some goal → goal_excess_of root terms goal ≡ Some e
     → IsLargeGoal root terms e
 large_goal root terms e goal stands is =
-    by_bool (λ worst. goal.worst ≡ worst → (if worst then None else first_above 207 (2 ^ 126) (goal_number root terms goal ∷ [])) ≡ Some e → IsLargeGoal root terms e)
+    by_bool (λ worst. goal.worst ≡ worst → (if worst then None else first_above codes.TERM_SIZE (2 ^ 126) (goal_number root terms goal ∷ [])) ≡ Some e → IsLargeGoal root terms e)
     goal.worst (λ w worst none. absurd (no_excess e (sym none))) (λ w expected some. made expected (above (goal_number root terms goal) (pos (2 ^ 126)) e (goal_told root terms goal) some)) refl is
   where
     made : goal.worst ≡ false → (pos (2 ^ 126) <ℤ goal_number root terms goal) × (e ≡ goal_told root terms goal) → IsLargeGoal root terms e
@@ -186,7 +187,7 @@ goal_is_refused root terms e = (λ is. by_goal terms.goal refl is, refused)
     refused : IsLargeGoal root terms e → goal_excess root terms ≡ Some e
     refused f =
         ap (option_and_then (goal_excess_of root terms)) f.stands
-        ∙ (ap (λ worst. if worst then None else first_above 207 (2 ^ 126) (goal_number root terms f.objective ∷ [])) f.expected
+        ∙ (ap (λ worst. if worst then None else first_above codes.TERM_SIZE (2 ^ 126) (goal_number root terms f.objective ∷ [])) f.expected
         ∙ (told_above (goal_number root terms f.objective) (pos (2 ^ 126)) (goal_told root terms f.objective) f.large ∙ ap Some (sym f.told)))
 
 -- faults where the same is too large

@@ -5,6 +5,8 @@ use Rattle.std.specs.Option.{option_map_or}
 use Rattle.sopl_base.specs.declared.fault.Excess.{Excess}
 use Rattle.sopl_base.specs.declared.fault.Fault.{Fault}
 use Rattle.sopl_base.specs.declared.fault.Fault.TheVariants.{Limit, NoMemory}
+use Rattle.sopl_base.specs.declared.codes.TheConstants as codes
+use Rattle.sopl_base.specs.declared.limits.TheConstants as largest
 use Rattle.sopl_ast.specs.Limits.{first_above}
 use Rattle.sopl_ast.specs.Numbers.{or_else}
 use Rattle.sopl_ast.specs.UnfoldEvents.{excess}
@@ -32,7 +34,7 @@ measured_terms terms =
 
 -- the greatest size that a term may have
 abbrev pub most_size : ℕ
-most_size = 2 ^ 40
+most_size = largest.TERM_SIZE
 
 -- the size of the first term that is too large
 abbrev pub first_large : Box → List Term → Option ℕ
@@ -41,7 +43,7 @@ first_large root (t ∷ later) = if nat_le (size root t) most_size then first_la
 
 -- 207: a term of this size is too large
 abbrev pub large_excess : ℕ → Excess
-large_excess n = excess 207 (pos n) (pos most_size)
+large_excess n = excess codes.TERM_SIZE (pos n) (pos most_size)
 
 -- 207: the first term that is too large
 abbrev pub term_excess : Box → ProblemTerms → Option Excess
@@ -53,7 +55,7 @@ goal_number root terms goal = terms.whole *ℤ pos (greatest_size root goal.term
 
 -- 207: this number passes 2^126; a worst objective is not measured
 abbrev pub goal_excess_of : Box → ProblemTerms → GoalTerms → Option Excess
-goal_excess_of root terms goal = if goal.worst then None else first_above 207 (2 ^ 126) (goal_number root terms goal ∷ [])
+goal_excess_of root terms goal = if goal.worst then None else first_above codes.TERM_SIZE (2 ^ 126) (goal_number root terms goal ∷ [])
 
 -- 207: the objective, where there is one
 abbrev pub goal_excess : Box → ProblemTerms → Option Excess

@@ -4,6 +4,8 @@ use Rattle.std.specs.List.{AllByRecursion}
 use Rattle.std.specs.Int.{int_min}
 use Rattle.sopl_base.specs.declared.fault.Excess.{Excess}
 use Rattle.sopl_base.specs.declared.fault.Fault.{Fault}
+use Rattle.sopl_base.specs.declared.codes.TheConstants as codes
+use Rattle.sopl_base.specs.declared.limits.TheConstants as largest
 use Rattle.sopl_ast.specs.Numbers.{or_else}
 use Rattle.box_problem.specs.Box.{Box}
 use Rattle.term_language.specs.Sizes.{size}
@@ -52,8 +54,8 @@ pub record IsLargeGoal (root : Box) (terms : ProblemTerms) (e : Excess) : Type 0
   pub objective : GoalTerms
   pub stands : terms.goal ≡ Some objective
   pub expected : objective.worst ≡ false
-  pub large : pos (2 ^ 126) <ℤ goal_number root terms objective
-  pub told : e ≡ record { code = 207; counted = int_min (goal_number root terms objective) (pos (2 ^ 127 - 1)); limit = pos (2 ^ 126) }
+  pub large : largest.GOAL_SIZE <ℤ goal_number root terms objective
+  pub told : e ≡ record { code = codes.TERM_SIZE; counted = int_min (goal_number root terms objective) (pos (2 ^ 127 - 1)); limit = largest.GOAL_SIZE }
 
 -- and so it is refused
 abbrev pub GoalIsRefused : Type 0

@@ -5,6 +5,7 @@ use Rattle.std.proofs.lemmas.Simd.{map-map}
 use Rattle.std.specs.Int.{int_min}
 use Rattle.sopl_base.specs.declared.fault.Excess.{Excess}
 use Rattle.sopl_base.proofs.Tests.{le_tested}
+use Rattle.sopl_base.specs.declared.codes.TheConstants as codes
 use Rattle.sopl_ast.specs.Instances.{Problem, Stochastic}
 use Rattle.sopl_ast.specs.Limits.{first_above, prefixes, size_excess, usual_limits, weight_excess}
 use Rattle.sopl_ast.specs.Scenarios.{total_weight}
@@ -26,6 +27,6 @@ whole_within {A} code limit f x (y ∷ ys) none =
 pub light_within : (problem : Problem) → size_excess usual_limits problem ≡ None → total_weight problem.stochastics ≤ℤ pos (2 ^ 100)
 light_within problem within = by problem.stochastics (first_none (weight_excess usual_limits problem) _ within)
   where
-    by : (ss : List Stochastic) → first_above 201 (2 ^ 100) (map total_weight (prefixes ss)) ≡ None → total_weight ss ≤ℤ pos (2 ^ 100)
+    by : (ss : List Stochastic) → first_above codes.WEIGHT usual_limits.weight (map total_weight (prefixes ss)) ≡ None → total_weight ss ≤ℤ pos (2 ^ 100)
     by [] none = omega (arith, ints)
-    by (s ∷ ss) none = whole_within 201 (2 ^ 100) total_weight s ss none
+    by (s ∷ ss) none = whole_within codes.WEIGHT usual_limits.weight total_weight s ss none

@@ -4,6 +4,7 @@ use Rattle.sopl_base.specs.declared.reason.Side.{Side}
 use Rattle.sopl_base.specs.declared.reason.Side.TheVariants.{Le, Ge}
 use Rattle.sopl_base.specs.declared.reason.Reason.TheVariants.{Bound}
 use Rattle.sopl_base.specs.Better.{IsBetter}
+use Rattle.sopl_base.specs.declared.limits.TheConstants as largest
 use Rattle.log_rows.specs.declared.rows.Cut.{Cut}
 use Rattle.log_rows.specs.declared.rows.Row.{Row}
 use Rattle.log_rows.specs.declared.rows.EndLine.{EndLine}
@@ -112,7 +113,7 @@ RightFooter problem rows (Bounded None bound) = BoundsNone problem rows bound
 
 -- no node of an accepted log lies deeper
 abbrev pub greatest_depth : ℕ
-greatest_depth = 2048
+greatest_depth = largest.NODE_DEPTH
 
 -- a log is accepted where its rows are in order, none too deep, and every line is right, the footer included
 pub record Accepted (problem : BoxProblem) (rows : List Row) (footer : Footer) : Type 0 where

@@ -3,6 +3,7 @@ use Rattle.std.proofs.Common.{◌≡◌, ◌+◌, ℕ, List, [], ◌∷◌, ◌+
 use Rattle.sopl_base.specs.declared.fault.Fault.{Fault}
 use Rattle.sopl_base.specs.declared.fault.Fault.TheVariants.{Text, Limit, NoMemory}
 use Rattle.sopl_base.specs.declared.reason.Step.{Step}
+use Rattle.sopl_base.specs.declared.codes.TheConstants as codes
 use Rattle.log_rows.specs.declared.rows.EndLine.{EndLine}
 use Rattle.log_rows.specs.Lines.{step_line, end_line}
 use Rattle.log_rows.specs.Ranges.{StepFits, EndFits}
@@ -18,11 +19,11 @@ pub body_ended : (steps : List Step) (n : ℕ) (line : List ℕ) (lines : List (
     → IsRowBody steps n (line ∷ lines) steps end (n + 1) lines
 body_ended steps n line lines end is = record { leads = λ rows parent out reads. ended rows (row_with_steps parent steps) n line lines end out is.0 is.1 reads }
 
-pub body_stuck : (steps : List Step) (n : ℕ) (line : List ℕ) (lines : List (List ℕ)) → IsNoStep line → IsNoEnd line → RefusesBody steps n (line ∷ lines) (bad 301 n)
+pub body_stuck : (steps : List Step) (n : ℕ) (line : List ℕ) (lines : List (List ℕ)) → IsNoStep line → IsNoEnd line → RefusesBody steps n (line ∷ lines) (bad codes.LOG_LINE n)
 body_stuck steps n line lines stepless endless = record { refuses = λ rows parent. no_line rows (row_with_steps parent steps) n line lines stepless endless }
 
-pub body_missing : (steps : List Step) (n : ℕ) (lines : List (List ℕ)) → lines ≡ [] → RefusesBody steps n lines (bad 301 n)
-body_missing steps n lines is = record { refuses = λ rows parent. subst (λ ls. ReadsFrom rows (Some (row_with_steps parent steps)) n ls (refused 301 n)) (sym is) (missing rows (Some (row_with_steps parent steps)) n) }
+pub body_missing : (steps : List Step) (n : ℕ) (lines : List (List ℕ)) → lines ≡ [] → RefusesBody steps n lines (bad codes.LOG_LINE n)
+body_missing steps n lines is = record { refuses = λ rows parent. subst (λ ls. ReadsFrom rows (Some (row_with_steps parent steps)) n ls (refused codes.LOG_LINE n)) (sym is) (missing rows (Some (row_with_steps parent steps)) n) }
 
 -- a step more
 pub body_step : (before : List Step) (n : ℕ) (line : List ℕ) (lines : List (List ℕ)) (new : Step) (steps : List Step) (end : EndLine) (m : ℕ) (left : List (List ℕ))

@@ -1,5 +1,6 @@
 -- The last line.
 use Rattle.std.proofs.Common.{◌≡◌, ◌<◌, ◌+◌, ℕ, List, [], ◌∷◌, length, Some, None, sym, subst, arith}
+use Rattle.sopl_base.specs.declared.codes.TheConstants as codes
 use Rattle.log_rows.specs.declared.rows.Row.{Row}
 use Rattle.log_rows.specs.declared.rows.Footer.{Footer}
 use Rattle.log_rows.specs.Lines.{footer_line}
@@ -21,17 +22,17 @@ some_lines bytes some P all = by_lines bytes (lines_in bytes) some (are_lines by
     by_lines _ _ some (last line) = all line []
     by_lines _ _ some (one_more line ending lines rest is more) = all line lines
 
-pub claim_early : (rows : List Row) (n : ℕ) (line : List ℕ) (lines : List (List ℕ)) → IsNoNode line → length rows ≡ 0 → RefusesRows rows n (line ∷ lines) (bad 301 n)
+pub claim_early : (rows : List Row) (n : ℕ) (line : List ℕ) (lines : List (List ℕ)) → IsNoNode line → length rows ≡ 0 → RefusesRows rows n (line ∷ lines) (bad codes.LOG_LINE n)
 claim_early rows n line lines isnt empty = record { refuses = no_node rows n line lines isnt (λ some. absurd (omega (arith, some, empty))) }
 
-pub claim_none : (rows : List Row) (n : ℕ) (line : List ℕ) (lines : List (List ℕ)) → IsNoNode line → IsLineOf FooterFits footer_line line None → RefusesRows rows n (line ∷ lines) (bad 301 n)
+pub claim_none : (rows : List Row) (n : ℕ) (line : List ℕ) (lines : List (List ℕ)) → IsNoNode line → IsLineOf FooterFits footer_line line None → RefusesRows rows n (line ∷ lines) (bad codes.LOG_LINE n)
 claim_none rows n line lines isnt other = record { refuses = no_node rows n line lines isnt (λ some. other) }
 
 pub claim_long : (rows : List Row) (n : ℕ) (line : List ℕ) (left : List ℕ) (footer : Footer) → ¬ (length rows ≡ 0) → IsLineOf FooterFits footer_line line (Some footer) → ¬ (length left ≡ 0)
-    → RefusesRows rows n (line ∷ lines_in left) (bad 301 (n + 1))
+    → RefusesRows rows n (line ∷ lines_in left) (bad codes.LOG_LINE (n + 1))
 claim_long rows n line left footer some is more =
     record {
-      refuses = some_lines left (omega (arith, more)) (λ lines. ReadsFrom rows None n (line ∷ lines) (refused 301 (n + 1))) (λ next lines. too_long rows n line next lines footer (omega (arith, some)) is.0 is.1);
+      refuses = some_lines left (omega (arith, more)) (λ lines. ReadsFrom rows None n (line ∷ lines) (refused codes.LOG_LINE (n + 1))) (λ next lines. too_long rows n line next lines footer (omega (arith, some)) is.0 is.1);
     }
 
 pub claim_read : (rows : List Row) (n : ℕ) (line : List ℕ) (left : List ℕ) (footer : Footer) → ¬ (length rows ≡ 0) → IsLineOf FooterFits footer_line line (Some footer) → length left ≡ 0

@@ -2,6 +2,7 @@
 use Rattle.std.proofs.Common.{◌≡◌, ◌∙◌, ◌<◌, ◌≤◌, ℕ, List, [], ◌∷◌, ◌++◌, length, Option, None, Bool, true, false, sym, ap, subst}
 use Rattle.sopl_base.specs.declared.fault.Fault.{Fault}
 use Rattle.sopl_base.specs.declared.reason.Step.{Step}
+use Rattle.sopl_base.specs.declared.codes.TheConstants as codes
 use Rattle.log_rows.specs.declared.rows.Parent.{Parent}
 use Rattle.log_rows.specs.declared.rows.Row.{Row}
 use Rattle.log_rows.specs.declared.rows.EndLine.{EndLine}
@@ -16,13 +17,13 @@ use Rattle.log_tree.proofs.Bodies.{bad}
 use Rattle.log_tree.proofs.Keeping.{next_tells, next_told, depth_is, keeps_more}
 
 module _ (rows : List Row) (slots : List Slots) (keeps : SlotsFit rows slots) (n : ℕ) (heading : Heading) (fault : Fault) (next : Bool) (tested : next ≡ is_next slots heading) where
-  pub bad_place : next ≡ false → fault ≡ bad 302 n → RefusesNode rows n heading fault
+  pub bad_place : next ≡ false → fault ≡ bad codes.NODE_PLACE n → RefusesNode rows n heading fault
   bad_place isnt is = record {
     refuses = λ line lines fits of. subst (RefusedAs (ReadsFrom rows None n (line ∷ lines))) (sym is)
         (misplaced rows n line lines heading fits of (λ there. let clash : true ≡ false = sym (next_told rows slots keeps heading there) ∙ sym tested ∙ isnt in absurd (cc)));
   }
 
-  pub bad_depth : (depth : ℕ) → next ≡ true → depth ≡ depth_in slots heading.parent → greatest_depth < depth → fault ≡ bad 303 n → RefusesNode rows n heading fault
+  pub bad_depth : (depth : ℕ) → next ≡ true → depth ≡ depth_in slots heading.parent → greatest_depth < depth → fault ≡ bad codes.NODE_DEPTH n → RefusesNode rows n heading fault
   bad_depth depth there deep above is =
       let follows : IsNextNode rows heading = next_tells rows slots keeps heading (sym tested ∙ there) in
       let depth_there : depth ≡ depth_at rows heading.parent = deep ∙ depth_is rows slots keeps heading.parent follows.hangs in

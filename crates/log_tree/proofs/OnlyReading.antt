@@ -1,6 +1,7 @@
 -- Bytes are read in one way.
 use Rattle.std.proofs.Common.{◌≡◌, ◌∙◌, ◌<◌, ◌≤◌, ◌+◌, ℕ, List, [], ◌∷◌, ◌++◌, length, Option, Some, None, refl, sym, ap, subst, arith}
 use Rattle.sopl_base.specs.declared.reason.Step.{Step}
+use Rattle.sopl_base.specs.declared.codes.TheConstants as codes
 use Rattle.log_rows.specs.declared.rows.Row.{Row}
 use Rattle.log_rows.specs.declared.rows.EndLine.{EndLine}
 use Rattle.log_rows.specs.declared.rows.EndLine.TheVariants.{Refuted, Split, Point, Unfinished}
@@ -45,12 +46,12 @@ not_step_and_end s e line first second = end_letter e (ap letter_of (second ∙ 
 
 -- what a derivation at a node's place says
 data Placed (rows : List Row) (n : ℕ) (line : List ℕ) (lines : List (List ℕ)) (out : LogOutcome) : Type 0 where
-  neither : IsNoNode line → (0 < length rows → IsNoClaim line) → out ≡ refused 301 n → Placed rows n line lines out
-  away : (h : Heading) → HeadingFits h → heading_line h ≡ line → ¬ IsNextNode rows h → out ≡ refused 302 n → Placed rows n line lines out
-  deep : (h : Heading) → HeadingFits h → heading_line h ≡ line → IsNextNode rows h → greatest_depth < depth_at rows h.parent → out ≡ refused 303 n → Placed rows n line lines out
+  neither : IsNoNode line → (0 < length rows → IsNoClaim line) → out ≡ refused codes.LOG_LINE n → Placed rows n line lines out
+  away : (h : Heading) → HeadingFits h → heading_line h ≡ line → ¬ IsNextNode rows h → out ≡ refused codes.NODE_PLACE n → Placed rows n line lines out
+  deep : (h : Heading) → HeadingFits h → heading_line h ≡ line → IsNextNode rows h → greatest_depth < depth_at rows h.parent → out ≡ refused codes.NODE_DEPTH n → Placed rows n line lines out
   there : (h : Heading) → HeadingFits h → heading_line h ≡ line → IsNextNode rows h → depth_at rows h.parent ≤ greatest_depth → ReadsFrom rows (Some (begun h.parent)) (n + 1) lines out → Placed rows n line lines out
   last : (f : Footer) → 0 < length rows → FooterFits f → footer_line f ≡ line → lines ≡ [] → out ≡ read rows f → Placed rows n line lines out
-  longer : (f : Footer) → 0 < length rows → FooterFits f → footer_line f ≡ line → ¬ lines ≡ [] → out ≡ refused 301 (n + 1) → Placed rows n line lines out
+  longer : (f : Footer) → 0 < length rows → FooterFits f → footer_line f ≡ line → ¬ lines ≡ [] → out ≡ refused codes.LOG_LINE (n + 1) → Placed rows n line lines out
 
 placed_of : (rows : List Row) (n : ℕ) (line : List ℕ) (lines : List (List ℕ)) (out : LogOutcome) → ReadsFrom rows None n (line ∷ lines) out → Placed rows n line lines out
 placed_of _ _ _ _ _ (no_node rows n line lines isnt other) = neither isnt other refl
@@ -61,7 +62,7 @@ placed_of _ _ _ _ _ (claim rows n line f some fits of) = last f some fits of ref
 placed_of _ _ _ _ _ (too_long rows n line next lines f some fits of) = longer f some fits of (λ is. absurd (cc)) refl
 
 data Inner (rows : List Row) (part : BegunRow) (n : ℕ) (line : List ℕ) (lines : List (List ℕ)) (out : LogOutcome) : Type 0 where
-  neither_one : IsNoStep line → IsNoEnd line → out ≡ refused 301 n → Inner rows part n line lines out
+  neither_one : IsNoStep line → IsNoEnd line → out ≡ refused codes.LOG_LINE n → Inner rows part n line lines out
   one_step : (s : Step) → StepFits s → step_line s ≡ line → ReadsFrom rows (Some (with_step part s)) (n + 1) lines out → Inner rows part n line lines out
   one_end : (e : EndLine) → EndFits e → end_line e ≡ line → ReadsFrom (rows ++ ended_row part e ∷ []) None (n + 1) lines out → Inner rows part n line lines out
 
@@ -70,7 +71,7 @@ inner_of _ _ _ _ _ _ (step rows part n line lines s out fits of more) = one_step
 inner_of _ _ _ _ _ _ (ended rows part n line lines e out fits of more) = one_end e fits of more
 inner_of _ _ _ _ _ _ (no_line rows part n line lines stepless endless) = neither_one stepless endless refl
 
-missing_of : (rows : List Row) (part : Option BegunRow) (n : ℕ) (out : LogOutcome) → ReadsFrom rows part n [] out → refused 301 n ≡ out
+missing_of : (rows : List Row) (part : Option BegunRow) (n : ℕ) (out : LogOutcome) → ReadsFrom rows part n [] out → refused codes.LOG_LINE n ≡ out
 missing_of _ _ _ _ (missing rows part n) = refl
 
 same_heading : (line : List ℕ) (x y : Heading) → HeadingFits x → HeadingFits y → heading_line x ≡ line → heading_line y ≡ line → x ≡ y
@@ -80,7 +81,7 @@ same_footer : (line : List ℕ) (x y : Footer) → FooterFits x → FooterFits y
 same_footer line x y fits_x fits_y of_x of_y = once FooterFits footer_line footer_read footer_is line x y fits_x fits_y of_x of_y
 
 module _ (rows : List Row) (n : ℕ) (line : List ℕ) (lines : List (List ℕ)) (b : LogOutcome) where
-  by_no_node : IsNoNode line → (0 < length rows → IsNoClaim line) → Placed rows n line lines b → refused 301 n ≡ b
+  by_no_node : IsNoNode line → (0 < length rows → IsNoClaim line) → Placed rows n line lines b → refused codes.LOG_LINE n ≡ b
   by_no_node isnt other (neither isnt' other' is) = sym is
   by_no_node isnt other (away h fits of off is) = absurd (isnt h fits of)
   by_no_node isnt other (deep h fits of next below is) = absurd (isnt h fits of)
@@ -88,7 +89,7 @@ module _ (rows : List Row) (n : ℕ) (line : List ℕ) (lines : List (List ℕ))
   by_no_node isnt other (last f some fits of none is) = absurd (other some f fits of)
   by_no_node isnt other (longer f some fits of more is) = absurd (other some f fits of)
 
-  by_away : (h : Heading) → HeadingFits h → heading_line h ≡ line → ¬ IsNextNode rows h → Placed rows n line lines b → refused 302 n ≡ b
+  by_away : (h : Heading) → HeadingFits h → heading_line h ≡ line → ¬ IsNextNode rows h → Placed rows n line lines b → refused codes.NODE_PLACE n ≡ b
   by_away h fits of off (neither isnt other is) = absurd (isnt h fits of)
   by_away h fits of off (away k fits_k of_k off_k is) = sym is
   by_away h fits of off (deep k fits_k of_k next below is) = absurd (off (subst (IsNextNode rows) (same_heading line k h fits_k fits of_k of) next))
@@ -96,7 +97,7 @@ module _ (rows : List Row) (n : ℕ) (line : List ℕ) (lines : List (List ℕ))
   by_away h fits of off (last f some fits_f of_f none is) = absurd (not_both h f line of of_f)
   by_away h fits of off (longer f some fits_f of_f more is) = absurd (not_both h f line of of_f)
 
-  by_deep : (h : Heading) → HeadingFits h → heading_line h ≡ line → IsNextNode rows h → greatest_depth < depth_at rows h.parent → Placed rows n line lines b → refused 303 n ≡ b
+  by_deep : (h : Heading) → HeadingFits h → heading_line h ≡ line → IsNextNode rows h → greatest_depth < depth_at rows h.parent → Placed rows n line lines b → refused codes.NODE_DEPTH n ≡ b
   by_deep h fits of next below (neither isnt other is) = absurd (isnt h fits of)
   by_deep h fits of next below (away k fits_k of_k off is) = absurd (off (subst (IsNextNode rows) (same_heading line h k fits fits_k of of_k) next))
   by_deep h fits of next below (deep k fits_k of_k next_k below_k is) = sym is
@@ -124,7 +125,7 @@ module _ (rows : List Row) (n : ℕ) (line : List ℕ) (lines : List (List ℕ))
   by_claim f some fits of none (last g some_g fits_g of_g none_g is) = ap (read rows) (same_footer line f g fits fits_g of of_g) ∙ sym is
   by_claim f some fits of none (longer g some_g fits_g of_g more is) = absurd (more none)
 
-  by_long : (f : Footer) → 0 < length rows → FooterFits f → footer_line f ≡ line → ¬ lines ≡ [] → Placed rows n line lines b → refused 301 (n + 1) ≡ b
+  by_long : (f : Footer) → 0 < length rows → FooterFits f → footer_line f ≡ line → ¬ lines ≡ [] → Placed rows n line lines b → refused codes.LOG_LINE (n + 1) ≡ b
   by_long f some fits of more (neither isnt other is) = absurd (other some f fits of)
   by_long f some fits of more (away k fits_k of_k off is) = absurd (not_both k f line of_k of)
   by_long f some fits of more (deep k fits_k of_k next below is) = absurd (not_both k f line of_k of)
@@ -145,7 +146,7 @@ module _ (rows : List Row) (part : BegunRow) (n : ℕ) (line : List ℕ) (lines 
   by_end e a fits of again (one_end d fits_d of_d more) =
       again (subst (λ x. ReadsFrom (rows ++ ended_row part x ∷ []) None (n + 1) lines b) (once EndFits end_line end_read end_is line d e fits_d fits of_d of) more)
 
-  by_neither : IsNoStep line → IsNoEnd line → Inner rows part n line lines b → refused 301 n ≡ b
+  by_neither : IsNoStep line → IsNoEnd line → Inner rows part n line lines b → refused codes.LOG_LINE n ≡ b
   by_neither stepless endless (neither_one s e is) = sym is
   by_neither stepless endless (one_step s fits of more) = absurd (stepless s fits of)
   by_neither stepless endless (one_end e fits of more) = absurd (endless e fits of)
@@ -165,7 +166,7 @@ only_one _ _ _ _ _ b (no_line rows part n line lines stepless endless) other = b
 only_one _ _ _ _ _ b (claim rows n line f some fits of) other = by_claim rows n line [] b f some fits of refl (placed_of rows n line [] b other)
 only_one _ _ _ _ _ b (too_long rows n line next lines f some fits of) other = by_long rows n line (next ∷ lines) b f some fits of (λ is. absurd (cc)) (placed_of rows n line (next ∷ lines) b other)
 
-no_other : (line : List ℕ) (lines : List (List ℕ)) (b : LogOutcome) → ¬ (line ≡ head_line) → ReadsLines (line ∷ lines) b → refused 301 1 ≡ b
+no_other : (line : List ℕ) (lines : List (List ℕ)) (b : LogOutcome) → ¬ (line ≡ head_line) → ReadsLines (line ∷ lines) b → refused codes.LOG_LINE 1 ≡ b
 no_other _ _ _ isnt (no_head line lines isnt_b) = refl
 no_other _ _ _ isnt (headed lines out reads) = absurd (isnt refl)
 
@@ -173,7 +174,7 @@ with_head : (line : List ℕ) (lines : List (List ℕ)) (a b : LogOutcome) → l
 with_head _ _ a _ is reads (no_head line lines isnt) = absurd (isnt is)
 with_head _ _ a _ is reads (headed lines out reads_b) = only_one [] None 2 lines a out reads reads_b
 
-empty_of : (b : LogOutcome) → ReadsLines [] b → refused 301 1 ≡ b
+empty_of : (b : LogOutcome) → ReadsLines [] b → refused codes.LOG_LINE 1 ≡ b
 empty_of _ empty = refl
 
 only_lines_read : (ls : List (List ℕ)) (a b : LogOutcome) → ReadsLines ls a → ReadsLines ls b → a ≡ b

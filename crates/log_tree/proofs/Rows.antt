@@ -14,6 +14,7 @@ use Rattle.log_tree.specs.declared.reading.Heading.{Heading}
 use Rattle.log_tree.specs.declared.reader.Log.{Log}
 use Rattle.std.specs.Str.{bytes_eq}
 use Rattle.std.proofs.lemmas.Slice.Eq.{bytes_eq-Decides}
+use Rattle.sopl_base.specs.declared.codes.TheConstants as codes
 use Rattle.log_tree.specs.Reads.{LogOutcome, read, refused, ReadsFrom, missing, node, RefusedAs, row_with_steps, ended_row, ReadsLines, empty, no_head, headed, IsReading}
 use Rattle.log_tree.specs.Progress.{RefusesRows, RefusesNode, IsRowBody, RefusesBody, IsPlacedNode}
 use Rattle.log_tree.proofs.Bodies.{bad, no_lines}
@@ -53,8 +54,8 @@ rows_more rows after n m lines left all line rest heading depth steps end leads 
       (body.leads rows heading.parent out (subst (λ rs. ReadsFrom rs None m left out) added reads))));
 }
 
-pub rows_missing : (rows : List Row) (n : ℕ) (left : List ℕ) (all : List (List ℕ)) → LeadsRows rows n (lines_in left) all → length left ≡ 0 → RefusesRows [] 2 all (bad 301 n)
-rows_missing rows n left all leads none = record { refuses = leads.leads (refused 301 n) (subst (λ ls. ReadsFrom rows None n ls (refused 301 n)) (sym (no_lines left none)) (missing rows None n)) }
+pub rows_missing : (rows : List Row) (n : ℕ) (left : List ℕ) (all : List (List ℕ)) → LeadsRows rows n (lines_in left) all → length left ≡ 0 → RefusesRows [] 2 all (bad codes.LOG_LINE n)
+rows_missing rows n left all leads none = record { refuses = leads.leads (refused codes.LOG_LINE n) (subst (λ ls. ReadsFrom rows None n ls (refused codes.LOG_LINE n)) (sym (no_lines left none)) (missing rows None n)) }
 
 -- a whole text
 pub text_read : (text line behind : List ℕ) (rows : List Row) (footer : Footer) → lines_in text ≡ line ∷ lines_in behind → line ≡ head_line → ReadsFrom [] None 2 (lines_in behind) (read rows footer) → IsReading text (read rows footer)
@@ -66,11 +67,11 @@ text_refused text line behind (Text refusal) cut is wrong =
 text_refused text line behind (Limit excess) cut is wrong = wrong.refuses
 text_refused text line behind NoMemory cut is wrong = tt
 
-pub text_empty : (text : List ℕ) → length text ≡ 0 → IsReading text (refused 301 1)
-text_empty text none = subst (λ ls. ReadsLines ls (refused 301 1)) (sym (no_lines text none)) empty
+pub text_empty : (text : List ℕ) → length text ≡ 0 → IsReading text (refused codes.LOG_LINE 1)
+text_empty text none = subst (λ ls. ReadsLines ls (refused codes.LOG_LINE 1)) (sym (no_lines text none)) empty
 
-pub text_headless : (text line behind : List ℕ) → lines_in text ≡ line ∷ lines_in behind → ¬ (line ≡ head_line) → IsReading text (refused 301 1)
-text_headless text line behind cut isnt = subst (λ ls. ReadsLines ls (refused 301 1)) (sym cut) (no_head line (lines_in behind) isnt)
+pub text_headless : (text line behind : List ℕ) → lines_in text ≡ line ∷ lines_in behind → ¬ (line ≡ head_line) → IsReading text (refused codes.LOG_LINE 1)
+text_headless text line behind cut isnt = subst (λ ls. ReadsLines ls (refused codes.LOG_LINE 1)) (sym cut) (no_head line (lines_in behind) isnt)
 
 -- whether the first line is the one of a log
 pub differs : (line : List ℕ) (r : Bool) → r ≡ not (bytes_eq line head_line) → r ≡ true → ¬ (line ≡ head_line)

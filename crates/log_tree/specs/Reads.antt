@@ -3,6 +3,7 @@ use Rattle.std.specs.Prelude.{◌≡◌, ℕ, ◌+◌, ◌<◌, ◌≤◌, List,
 use Rattle.sopl_base.specs.declared.reason.Step.{Step}
 use Rattle.sopl_base.specs.declared.fault.Fault.{Fault}
 use Rattle.sopl_base.specs.declared.fault.Fault.TheVariants.{Text, Limit, NoMemory}
+use Rattle.sopl_base.specs.declared.codes.TheConstants as codes
 use Rattle.log_rows.specs.declared.rows.Parent.{Parent}
 use Rattle.log_rows.specs.declared.rows.Row.{Row}
 use Rattle.log_rows.specs.declared.rows.EndLine.{EndLine}
@@ -55,29 +56,29 @@ IsNoClaim line = (footer : Footer) → FooterFits footer → ¬ (footer_line foo
 -- behind these rows, and a row of which the end is not read yet if there is one, these lines, of which the first has this
 -- number, are read so
 pub data ReadsFrom : List Row → Option BegunRow → ℕ → List (List ℕ) → LogOutcome → Type 0 where
-  missing : (rows : List Row) (part : Option BegunRow) (n : ℕ) → ReadsFrom rows part n [] (refused 301 n)
+  missing : (rows : List Row) (part : Option BegunRow) (n : ℕ) → ReadsFrom rows part n [] (refused codes.LOG_LINE n)
   no_node : (rows : List Row) (n : ℕ) (line : List ℕ) (lines : List (List ℕ)) → IsNoNode line → (0 < length rows → IsNoClaim line)
-      → ReadsFrom rows None n (line ∷ lines) (refused 301 n)
+      → ReadsFrom rows None n (line ∷ lines) (refused codes.LOG_LINE n)
   misplaced : (rows : List Row) (n : ℕ) (line : List ℕ) (lines : List (List ℕ)) (heading : Heading) → HeadingFits heading → heading_line heading ≡ line
-      → ¬ IsNextNode rows heading → ReadsFrom rows None n (line ∷ lines) (refused 302 n)
+      → ¬ IsNextNode rows heading → ReadsFrom rows None n (line ∷ lines) (refused codes.NODE_PLACE n)
   too_deep : (rows : List Row) (n : ℕ) (line : List ℕ) (lines : List (List ℕ)) (heading : Heading) → HeadingFits heading → heading_line heading ≡ line
-      → IsNextNode rows heading → greatest_depth < depth_at rows heading.parent → ReadsFrom rows None n (line ∷ lines) (refused 303 n)
+      → IsNextNode rows heading → greatest_depth < depth_at rows heading.parent → ReadsFrom rows None n (line ∷ lines) (refused codes.NODE_DEPTH n)
   node : (rows : List Row) (n : ℕ) (line : List ℕ) (lines : List (List ℕ)) (heading : Heading) (out : LogOutcome) → HeadingFits heading → heading_line heading ≡ line
       → IsNextNode rows heading → depth_at rows heading.parent ≤ greatest_depth → ReadsFrom rows (Some (begun heading.parent)) (n + 1) lines out → ReadsFrom rows None n (line ∷ lines) out
   step : (rows : List Row) (part : BegunRow) (n : ℕ) (line : List ℕ) (lines : List (List ℕ)) (step : Step) (out : LogOutcome) → StepFits step → step_line step ≡ line
       → ReadsFrom rows (Some (with_step part step)) (n + 1) lines out → ReadsFrom rows (Some part) n (line ∷ lines) out
   ended : (rows : List Row) (part : BegunRow) (n : ℕ) (line : List ℕ) (lines : List (List ℕ)) (end : EndLine) (out : LogOutcome) → EndFits end → end_line end ≡ line
       → ReadsFrom (rows ++ ended_row part end ∷ []) None (n + 1) lines out → ReadsFrom rows (Some part) n (line ∷ lines) out
-  no_line : (rows : List Row) (part : BegunRow) (n : ℕ) (line : List ℕ) (lines : List (List ℕ)) → IsNoStep line → IsNoEnd line → ReadsFrom rows (Some part) n (line ∷ lines) (refused 301 n)
+  no_line : (rows : List Row) (part : BegunRow) (n : ℕ) (line : List ℕ) (lines : List (List ℕ)) → IsNoStep line → IsNoEnd line → ReadsFrom rows (Some part) n (line ∷ lines) (refused codes.LOG_LINE n)
   claim : (rows : List Row) (n : ℕ) (line : List ℕ) (footer : Footer) → 0 < length rows → FooterFits footer → footer_line footer ≡ line
       → ReadsFrom rows None n (line ∷ []) (read rows footer)
   too_long : (rows : List Row) (n : ℕ) (line next : List ℕ) (lines : List (List ℕ)) (footer : Footer) → 0 < length rows → FooterFits footer → footer_line footer ≡ line
-      → ReadsFrom rows None n (line ∷ next ∷ lines) (refused 301 (n + 1))
+      → ReadsFrom rows None n (line ∷ next ∷ lines) (refused codes.LOG_LINE (n + 1))
 
 -- all lines of a text are read so
 pub data ReadsLines : List (List ℕ) → LogOutcome → Type 0 where
-  empty : ReadsLines [] (refused 301 1)
-  no_head : (line : List ℕ) (lines : List (List ℕ)) → ¬ (line ≡ head_line) → ReadsLines (line ∷ lines) (refused 301 1)
+  empty : ReadsLines [] (refused codes.LOG_LINE 1)
+  no_head : (line : List ℕ) (lines : List (List ℕ)) → ¬ (line ≡ head_line) → ReadsLines (line ∷ lines) (refused codes.LOG_LINE 1)
   headed : (lines : List (List ℕ)) (out : LogOutcome) → ReadsFrom [] None 2 lines out → ReadsLines (head_line ∷ lines) out
 
 abbrev pub IsReading : List ℕ → LogOutcome → Type 0

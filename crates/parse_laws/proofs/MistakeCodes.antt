@@ -3,6 +3,7 @@ use Rattle.std.proofs.Common.{ℕ, ◌+◌, ◌<◌, nat_eq, nat_le, Bool, true,
 use Rattle.std.specs.List.{AllByRecursion}
 use Rattle.sopl_base.specs.declared.fault.Refusal.{Refusal}
 use Rattle.sopl_base.proofs.Lists.{all_append, each_of}
+use Rattle.sopl_base.specs.declared.codes.TheConstants as codes
 use Rattle.sopl_ast.specs.Tree as t
 use Rattle.sopl_ast.specs.Tree.{Tree, Trees, Terms, Factors, Binders, Range, Node, no_tree, tree, no_term, term, no_factor, factor, no_binder, binder, Named, Ends, place_of}
 use Rattle.sopl_ast.specs.Whole.{DimTree, InitTree, InitTrees, One, Many, no_init, init, Declaration, IntDecl, RangeDecl, SetDecl, DvarDecl, StochDecl, ConsTree, ConsTrees}
@@ -14,7 +15,7 @@ use Rattle.sopl_ast.specs.Mistakes.{first_of, of_stage, of_outcomes, of_declarat
 
 -- the code is above 104, the last one of spelling
 abbrev pub IsAboveSpelling : Refusal → Type 0
-IsAboveSpelling refusal = 104 < refusal.code
+IsAboveSpelling refusal = codes.SYNTAX < refusal.code
 
 -- so is that of each of these
 record AreAboveSpelling (refusals : List Refusal) : Type 0 where
@@ -23,49 +24,49 @@ record AreAboveSpelling (refusals : List Refusal) : Type 0 where
 no_mistake : AreAboveSpelling []
 no_mistake = record { each = tt }
 
-one_above : (code at : ℕ) → 104 < code → AreAboveSpelling (one_mistake code at)
+one_above : (code at : ℕ) → codes.SYNTAX < code → AreAboveSpelling (one_mistake code at)
 one_above code at above = record { each = (above, tt) }
 
 both : (xs ys : List Refusal) → AreAboveSpelling xs → AreAboveSpelling ys → AreAboveSpelling (xs ++ ys)
 both xs ys one two = record { each = all_append IsAboveSpelling xs ys one.each two.each }
 
-unless_above : (b : Bool) (code at : ℕ) → 104 < code → AreAboveSpelling (mistake_unless b code at)
+unless_above : (b : Bool) (code at : ℕ) → codes.SYNTAX < code → AreAboveSpelling (mistake_unless b code at)
 unless_above true code at above = no_mistake
 unless_above false code at above = one_above code at above
 
 -- Names.
 
 unknown_above : (entity : Option Entity) (at : ℕ) → AreAboveSpelling (unknown_name entity at)
-unknown_above None at = one_above 105 at (omega arith)
+unknown_above None at = one_above codes.UNKNOWN at (omega arith)
 unknown_above (Some entity) at = no_mistake
 
 known_above : (entity : Option Entity) (at : ℕ) → AreAboveSpelling (known_name entity at)
 known_above None at = no_mistake
-known_above (Some entity) at = one_above 106 at (omega arith)
+known_above (Some entity) at = one_above codes.TWICE at (omega arith)
 
 no_number_above : (entity : Option Entity) (at : ℕ) → AreAboveSpelling (no_number entity at)
 no_number_above None at = no_mistake
-no_number_above (Some RangeName) at = one_above 107 at (omega arith)
-no_number_above (Some SetName) at = one_above 107 at (omega arith)
+no_number_above (Some RangeName) at = one_above codes.KIND at (omega arith)
+no_number_above (Some SetName) at = one_above codes.KIND at (omega arith)
 no_number_above (Some (Constant dims)) at = no_mistake
 no_number_above (Some (Variable dims)) at = no_mistake
 
 no_range_above : (sets : Bool) (entity : Option Entity) (at : ℕ) → AreAboveSpelling (no_range sets entity at)
 no_range_above sets None at = no_mistake
 no_range_above sets (Some RangeName) at = no_mistake
-no_range_above sets (Some SetName) at = unless_above sets 107 at (omega arith)
-no_range_above sets (Some (Constant dims)) at = one_above 107 at (omega arith)
-no_range_above sets (Some (Variable dims)) at = one_above 107 at (omega arith)
+no_range_above sets (Some SetName) at = unless_above sets codes.KIND at (omega arith)
+no_range_above sets (Some (Constant dims)) at = one_above codes.KIND at (omega arith)
+no_range_above sets (Some (Variable dims)) at = one_above codes.KIND at (omega arith)
 
 no_condition_above : (e : Tree) → AreAboveSpelling (no_condition e)
-no_condition_above (Node at shape) = unless_above (is_condition shape) 107 at (omega arith)
+no_condition_above (Node at shape) = unless_above (is_condition shape) codes.KIND at (omega arith)
 
 indices_above : (entity : Option Entity) (indices at : ℕ) → AreAboveSpelling (wrong_indices entity indices at)
 indices_above None indices at = no_mistake
 indices_above (Some RangeName) indices at = no_mistake
 indices_above (Some SetName) indices at = no_mistake
-indices_above (Some (Constant dims)) indices at = unless_above (nat_eq dims indices) 108 at (omega arith)
-indices_above (Some (Variable dims)) indices at = unless_above (nat_eq dims indices) 108 at (omega arith)
+indices_above (Some (Constant dims)) indices at = unless_above (nat_eq dims indices) codes.DIMENSIONS at (omega arith)
+indices_above (Some (Variable dims)) indices at = unless_above (nat_eq dims indices) codes.DIMENSIONS at (omega arith)
 
 no_constant_above : (constant : Bool) (entity : Option Entity) (at : ℕ) → AreAboveSpelling (no_constant constant entity at)
 no_constant_above false entity at = no_mistake
@@ -73,7 +74,7 @@ no_constant_above true None at = no_mistake
 no_constant_above true (Some RangeName) at = no_mistake
 no_constant_above true (Some SetName) at = no_mistake
 no_constant_above true (Some (Constant dims)) at = no_mistake
-no_constant_above true (Some (Variable dims)) at = one_above 109 at (omega arith)
+no_constant_above true (Some (Variable dims)) at = one_above codes.NOT_CONSTANT at (omega arith)
 
 use_above : (constant : Bool) (entity : Option Entity) (indices at : ℕ) → AreAboveSpelling (of_use constant entity indices at)
 use_above constant entity indices at =
@@ -154,8 +155,8 @@ mutual
 
 mutual
   depths_above : (dims depth : ℕ) (x : InitTree) → AreAboveSpelling (wrong_depths dims depth x)
-  depths_above dims depth (One e) = unless_above (nat_eq depth 0 || nat_eq depth dims) 108 (place_of e) (omega arith)
-  depths_above dims depth (Many at no_init) = unless_above (nat_le (depth + 1) dims) 108 at (omega arith)
+  depths_above dims depth (One e) = unless_above (nat_eq depth 0 || nat_eq depth dims) codes.DIMENSIONS (place_of e) (omega arith)
+  depths_above dims depth (Many at no_init) = unless_above (nat_le (depth + 1) dims) codes.DIMENSIONS at (omega arith)
   depths_above dims depth (Many at (init x xs)) = both _ _ (depths_above dims (depth + 1) x) (parts_above dims (depth + 1) xs)
 
   parts_above : (dims depth : ℕ) (parts : InitTrees) → AreAboveSpelling (wrong_parts dims depth parts)

@@ -1,6 +1,7 @@
 -- A text that is refused by 104 leaves all models at the place of the refusal, and at no other.
 use Rattle.std.proofs.Common.{◌≡◌, ◌∙◌, sym, ap, subst, ℕ, List, ◌∷◌, ◌++◌, length, append_assoc, Ok, arith}
 use Rattle.sopl_base.specs.declared.fault.Refusal.{Refusal}
+use Rattle.sopl_base.specs.declared.codes.TheConstants as codes
 use Rattle.sopl_ast.specs.declared.token.Token.{Token}
 use Rattle.sopl_ast.specs.Tokens.{Lexes, Refuses, too_long, no_piece, too_large}
 use Rattle.sopl_ast.specs.Grammar.{Spells, max_nesting}
@@ -15,16 +16,16 @@ use Rattle.parse_laws.proofs.RefusalOnce.{same_tokens}
 use Rattle.parse_laws.proofs.TwoCuts.{TwoCuts, at_one, sooner, later, two_cuts}
 use Rattle.parse_laws.proofs.UnfoldCodes.{stop_above}
 
-not_both : (refusal : Refusal) → IsAboveSpelling refusal → refusal.code ≡ 104 → ⊥
+not_both : (refusal : Refusal) → IsAboveSpelling refusal → refusal.code ≡ codes.SYNTAX → ⊥
 not_both refusal above code = absurd (omega (arith, above, code))
 
 -- a text without tokens is refused by another code
-has_tokens : (text : List ℕ) (refusal : Refusal) → Refuses text refusal → refusal.code ≡ 104 → ⊥
+has_tokens : (text : List ℕ) (refusal : Refusal) → Refuses text refusal → refusal.code ≡ codes.SYNTAX → ⊥
 has_tokens text refusal (too_long is at long) code = absurd (omega (arith, is, code))
 has_tokens text refusal (no_piece rest is short there stuck) code = absurd (omega (arith, is, code))
 has_tokens text refusal (too_large rest is short there large) code = absurd (omega (arith, is, code))
 
-left_at : (text : List ℕ) (tokens : List Token) (refusal : Refusal) → Lexes text (Ok tokens) → IsMisspelled (length text) tokens refusal → refusal.code ≡ 104
+left_at : (text : List ℕ) (tokens : List Token) (refusal : Refusal) → Lexes text (Ok tokens) → IsMisspelled (length text) tokens refusal → refusal.code ≡ codes.SYNTAX
     → LeavesAllModels text refusal.at
 left_at text tokens refusal read (misplaced code is) wanted =
     record {
@@ -37,7 +38,7 @@ left_at text tokens refusal read (misplaced code is) wanted =
     }
 left_at text tokens refusal read (too_deep code is) wanted = absurd (omega (arith, code, wanted))
 
-refused_left : (text : List ℕ) (refusal : Refusal) → IsRefusedFor text refusal → refusal.code ≡ 104 → LeavesAllModels text refusal.at
+refused_left : (text : List ℕ) (refusal : Refusal) → IsRefusedFor text refusal → refusal.code ≡ codes.SYNTAX → LeavesAllModels text refusal.at
 refused_left text refusal (no_tokens refuses) code = absurd (has_tokens text refusal refuses code)
 refused_left text refusal (misspelled tokens read wrong) code = left_at text tokens refusal read wrong code
 refused_left text refusal (mistaken model is first) code = absurd (not_both refusal (mistake_above model refusal first.among) code)

@@ -8,6 +8,8 @@ use Rattle.sopl_base.specs.declared.fault.Fault.{Fault}
 use Rattle.sopl_base.specs.declared.fault.Fault.TheVariants.{Text, Limit}
 use Rattle.sopl_base.specs.declared.fault.Refusal.{Refusal}
 use Rattle.sopl_base.proofs.Lists.{all_append}
+use Rattle.sopl_base.specs.declared.codes.TheConstants as codes
+use Rattle.sopl_base.specs.declared.limits.TheConstants as largest
 use Rattle.sopl_ast.specs.declared.operators.MulOp.TheVariants.{Times, Div, Mod}
 use Rattle.sopl_ast.specs.Tree as t
 use Rattle.sopl_ast.specs.Tree.{Tree, Shape, Trees, Terms, Factors, Binders, Range, Node, no_tree, tree, no_term, term, no_factor, factor, no_binder, binder, Named, Ends, place_of}
@@ -47,7 +49,7 @@ each_above : {A : Type 0} (f : A → List UnfoldEvent) (xs : List A) → ((x : A
 each_above f [] all = no_event
 each_above f (x ∷ xs) all = both (f x) (flat_map f xs) (all x) (each_above f xs all)
 
-unless_above : (b : Bool) (code at : ℕ) → 104 < code → AllRefuseAbove (refused_unless b code at)
+unless_above : (b : Bool) (code at : ℕ) → codes.SYNTAX < code → AllRefuseAbove (refused_unless b code at)
 unless_above true code at above = no_event
 unless_above false code at above = record { each = (above, tt) }
 
@@ -62,8 +64,8 @@ too_many_above code count = on (nat_le count most_numbers)
     on true = no_event
     on false = record { each = (tt, tt) }
 
-zero_above : (known : Known) (e : Tree) → AllRefuseAbove (refused_unless (not (is_zero (value known e))) 110 (place_of e))
-zero_above known e = unless_above (not (is_zero (value known e))) 110 (place_of e) (omega arith)
+zero_above : (known : Known) (e : Tree) → AllRefuseAbove (refused_unless (not (is_zero (value known e))) codes.UNDEFINED (place_of e))
+zero_above known e = unless_above (not (is_zero (value known e))) codes.UNDEFINED (place_of e) (omega arith)
 
 -- Expressions.
 
@@ -122,7 +124,7 @@ mutual
   range_above known whole (Named name at) = no_event
   range_above known whole (Ends lo hi) =
       both _ _ (events_above (Some (unwrap_or whole (place_of lo))) known lo)
-      (both _ _ (events_above (Some (unwrap_or whole (place_of hi))) known hi) (too_many_above 208 (count_between (value_or_zero known lo) (value_or_zero known hi))))
+      (both _ _ (events_above (Some (unwrap_or whole (place_of hi))) known hi) (too_many_above codes.NUMBERS (count_between (value_or_zero known lo) (value_or_zero known hi))))
 
 place_above : (known : Known) (e : Tree) → AllRefuseAbove (constant_place known e)
 place_above known e = events_above (Some (place_of e)) known e
@@ -147,7 +149,7 @@ mutual
       each_above (λ index. Counted ∷ constant_place (with_index ds index known) e) (indices ds) (λ index. counted_above _ (place_above (with_index ds index known) e))
   init_above known [] (Many at parts) = no_event
   init_above known (d ∷ ds) (Many at parts) =
-      both _ _ (unless_above (nat_eq (length (inits_list parts)) (length d.numbers)) 112 at (omega arith)) (inits_above known d.name ds d.numbers parts)
+      both _ _ (unless_above (nat_eq (length (inits_list parts)) (length d.numbers)) codes.BRACKET_LENGTH at (omega arith)) (inits_above known d.name ds d.numbers parts)
 
   inits_above : (known : Known) (name : Option (List ℕ)) (ds : List Dimension) (numbers : List ℤ) (parts : InitTrees) → AllRefuseAbove (inits_events known name ds numbers parts)
   inits_above known name ds numbers no_init = no_event
@@ -161,29 +163,29 @@ places_above known (tree e es) = both _ _ (place_above known e) (places_above kn
 stage_above : (known : Known) (stage : Option Tree) → AllRefuseAbove (stage_events known stage)
 stage_above known None = no_event
 stage_above known (Some e) =
-    both _ _ (place_above known e) (unless_above (int_le (pos 1) (value_or_zero known e) && int_le (value_or_zero known e) (pos 24)) 114 (place_of e) (omega arith))
+    both _ _ (place_above known e) (unless_above (int_le (pos 1) (value_or_zero known e) && int_le (value_or_zero known e) (pos largest.STAGE)) codes.STAGE (place_of e) (omega arith))
 
 domain_above : (known : Known) (range : Range) → AllRefuseAbove (domain_events known range)
-domain_above known (Named name at) = unless_above (int_le (domain_of known (Named name at)).0 (domain_of known (Named name at)).1) 111 at (omega arith)
+domain_above known (Named name at) = unless_above (int_le (domain_of known (Named name at)).0 (domain_of known (Named name at)).1) codes.EMPTY_DOMAIN at (omega arith)
 domain_above known (Ends lo hi) =
     both _ _ (place_above known lo)
     (both _ _ (place_above known hi)
-    (both _ _ (unless_above (int_le (value_or_zero known lo) (value_or_zero known hi)) 111 (place_of lo) (omega arith))
-    (too_many_above 203 (count_between (value_or_zero known lo) (value_or_zero known hi)))))
+    (both _ _ (unless_above (int_le (value_or_zero known lo) (value_or_zero known hi)) codes.EMPTY_DOMAIN (place_of lo) (omega arith))
+    (too_many_above codes.DOMAIN (count_between (value_or_zero known lo) (value_or_zero known hi)))))
 
 outcomes_above : (known : Known) (earlier : List ℤ) (dist : List (Tree × Tree)) → AllRefuseAbove (outcome_events known earlier dist)
 outcomes_above known earlier [] = no_event
 outcomes_above known earlier (pair ∷ later) =
     both _ _ (place_above known pair.0)
-    (both _ _ (unless_above (not (list_any (int_eq (value_or_zero known pair.0)) earlier)) 113 (place_of pair.0) (omega arith))
+    (both _ _ (unless_above (not (list_any (int_eq (value_or_zero known pair.0)) earlier)) codes.OUTCOME (place_of pair.0) (omega arith))
     (both _ _ (place_above known pair.1)
-    (both _ _ (unless_above (int_le (pos 1) (value_or_zero known pair.1)) 113 (place_of pair.1) (omega arith))
+    (both _ _ (unless_above (int_le (pos 1) (value_or_zero known pair.1)) codes.OUTCOME (place_of pair.1) (omega arith))
     (outcomes_above known (earlier ++ value_or_zero known pair.0 ∷ []) later))))
 
 declaration_above : (found : Declared) (d : Declaration) → AllRefuseAbove (declaration_events found d)
 declaration_above found (IntDecl name at dims x) = both _ _ (dimension_above found.known dims) (init_above found.known (dimensions_of found.known dims) x)
 declaration_above found (RangeDecl name at lo hi) = range_above found.known None (Ends lo hi)
-declaration_above found (SetDecl name at elements) = both _ _ (places_above found.known elements) (too_many_above 208 (length (set_of found.known elements)))
+declaration_above found (SetDecl name at elements) = both _ _ (places_above found.known elements) (too_many_above codes.NUMBERS (length (set_of found.known elements)))
 declaration_above found (DvarDecl name at dims range stage) =
     array_above found.known dims (λ here. domain_events here range ++ stage_events here stage) (λ here. both _ _ (domain_above here range) (stage_above here stage))
 declaration_above found (StochDecl name at dims dist stage) =
@@ -198,7 +200,7 @@ declarations_above found (d ∷ ds) = both _ _ (declaration_above found d) (decl
 threshold_above : (known : Known) (p q : Tree) → AllRefuseAbove (threshold_events known p q)
 threshold_above known p q =
     both _ _ (place_above known p)
-    (both _ _ (place_above known q) (unless_above (is_threshold (value_or_zero known p) (value_or_zero known q)) 115 (place_of p) (omega arith)))
+    (both _ _ (place_above known q) (unless_above (is_threshold (value_or_zero known p) (value_or_zero known q)) codes.THRESHOLD (place_of p) (omega arith)))
 
 mutual
   constraint_above : (known : Known) (c : ConsTree) → AllRefuseAbove (constraint_events known c)
@@ -249,7 +251,7 @@ first_above : (count : ℕ) (events : List UnfoldEvent) (refusal : Refusal) → 
     → IsAboveSpelling refusal
 first_above count [] refusal all is = absurd (never_passes count (Text refusal) is)
 first_above count (Counted ∷ later) refusal all is =
-    behind_counted (nat_lt count most_counted) (first_failure (count + 1) later) (excess 205 (pos (most_counted + 1)) (pos most_counted)) refusal
+    behind_counted (nat_lt count most_counted) (first_failure (count + 1) later) (excess codes.UNFOLDING (pos (most_counted + 1)) (pos most_counted)) refusal
     (first_above (count + 1) later refusal all.1) is
 first_above count (Refused other ∷ later) refusal all is = subst IsAboveSpelling (same_text other refusal is) all.0
 first_above count (Passed passed ∷ later) refusal all is = absurd (never_limited passed refusal is)

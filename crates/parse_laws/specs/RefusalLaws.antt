@@ -1,6 +1,7 @@
 -- The refusals of texts that are not read.
 use Rattle.std.specs.Prelude.{◌≡◌, ℕ, List, ◌++◌, length, Ok, Err}
 use Rattle.sopl_base.specs.declared.fault.Refusal.{Refusal}
+use Rattle.sopl_base.specs.declared.codes.TheConstants as codes
 use Rattle.sopl_ast.specs.declared.token.Token.{Token}
 use Rattle.sopl_ast.specs.Tokens.{Lexes}
 use Rattle.sopl_ast.specs.Misspelled.{place_in, NoneGoesOn, IsMisspelled}
@@ -28,6 +29,6 @@ pub record LeavesAllModels (text : List ℕ) (at : ℕ) : Type 0 where
 
 -- a text that is refused by 104 leaves all models at the place of the refusal; each text leaves them at one place at most
 pub record SomeModelGoesOn : Type 0 where
-  pub refused : (text : List ℕ) (refusal : Refusal) → IsRefusedFor text refusal → refusal.code ≡ 104
+  pub refused : (text : List ℕ) (refusal : Refusal) → IsRefusedFor text refusal → refusal.code ≡ codes.SYNTAX
       → LeavesAllModels text refusal.at
   pub one_place : (text : List ℕ) (at spot : ℕ) → LeavesAllModels text at → LeavesAllModels text spot → at ≡ spot

@@ -5,6 +5,7 @@ use Rattle.std.specs.List.{AllByRecursion, range_with_len}
 use Rattle.std.specs.Option.{option_map_or}
 use Rattle.std.specs.declared.alloc.Global.{Global}
 use Rattle.std.specs.declared.vec.Vec.{Vec}
+use Rattle.sopl_base.specs.declared.limits.TheConstants as largest
 use Rattle.sopl_ast.specs.Cells.{cells, policy_at}
 use Rattle.sopl_ast.specs.Instances.{Binding, Chance, Hard, Problem}
 use Rattle.sopl_ast.specs.Known.{Known}
@@ -112,7 +113,7 @@ pub record IsTrial (trial : Trial) : Type 0 where
   pub goal : IfSome trial.goal.now (IsGoalTried trial)
   pub weights : AllByRecursion (λ w. pos 1 ≤ℤ w) trial.tree.now.weights
   pub whole : total trial.tree.now.weights ≡ trial.tree.now.total
-  pub most : trial.tree.now.total ≤ℤ pos (2 ^ 100)
+  pub most : trial.tree.now.total ≤ℤ largest.WEIGHT
   pub some : 0 < scenario_count trial
   pub few_hards : length trial.hards.now ≤ 2 ^ 32
   pub few_chances : length trial.chances.now ≤ 2 ^ 32

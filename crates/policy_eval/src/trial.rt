@@ -2,6 +2,7 @@
 
 ghost use Rattle.std.specs.Prelude.{◌≡◌, ◌<◌, ◌^◌, ◌∷◌, ◌++◌, ◌*ℤ◌, ◌≤ℤ◌, [], ℕ, All, IfOk, OnOk, Some, false, get_or, int_le, length, map, pos};
 ghost use Rattle.std.specs.List.{range_with_len};
+ghost use Rattle.sopl_base.specs.declared.limits.TheConstants as largest;
 ghost use Rattle.sopl_ast.specs.Numbers.{one_or_zero};
 ghost use Rattle.sopl_scen.specs.Layout.{weight_in};
 ghost use Rattle.unfold_constants.specs.Here.{known_in};
@@ -297,7 +298,7 @@ fn level_of(chance: &ChanceItem) -> ChanceLevel
 fn is_enough(sum: Wide, whole: Wide, level: &ChanceLevel) -> bool
     requires low { pos 0 ≤ℤ sum.value }
     requires high { sum.value ≤ℤ whole.value }
-    requires light { whole.value ≤ℤ pos (2 ^ 100) }
+    requires light { whole.value ≤ℤ largest.WEIGHT }
     requires from_zero { pos 0 ≤ℤ level.now.p }
     requires to_whole { level.now.p ≤ℤ level.now.q }
     requires positive { pos 1 ≤ℤ level.now.q }

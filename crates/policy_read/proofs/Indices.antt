@@ -11,6 +11,7 @@ use Rattle.std.specs.List.{AllByRecursion, enumerate_from, flat_map, fold}
 use Rattle.std.specs.Ordering.{int_cmp}
 use Rattle.std.specs.Str.{bytes_eq}
 use Rattle.sopl_base.proofs.Lists.{all_append, all_joined}
+use Rattle.sopl_base.specs.declared.codes.TheConstants as codes
 use Rattle.sopl_ast.specs.Arrays.{Dimension, array_of, array_events, dimension_events, dimensions_of, indices, with_index}
 use Rattle.sopl_ast.specs.Cells.{Cell, IsPoint, cells, cells_of}
 use Rattle.sopl_ast.specs.Constants.{numbers_in, value_or_zero}
@@ -103,8 +104,8 @@ set_readable known es is =
 numbers_readable : (known : Known) (range : Range) → AreReadableSets known.sets → NothingFails (range_events known None range) → AreIndices (numbers_in known range)
 numbers_readable known (Named name at) sets is = named_readable name known.sets sets
 numbers_readable known (Ends lo hi) sets is =
-    let first = parts_pass (constant_place known lo) (constant_place known hi ++ too_many 208 (count_between (value_or_zero known lo) (value_or_zero known hi))) is in
-    let second = parts_pass (constant_place known hi) (too_many 208 (count_between (value_or_zero known lo) (value_or_zero known hi))) first.1 in
+    let first = parts_pass (constant_place known lo) (constant_place known hi ++ too_many codes.NUMBERS (count_between (value_or_zero known lo) (value_or_zero known hi))) is in
+    let second = parts_pass (constant_place known hi) (too_many codes.NUMBERS (count_between (value_or_zero known lo) (value_or_zero known hi))) first.1 in
     let least = value_given known (place_of lo) lo first.0 in
     let greatest = value_given known (place_of hi) hi second.0 in
     subst (λ o. AreIndices (unwrap_or o [])) (sym (ap₂ (both_of up_to) least.1 greatest.1)) (range_readable least.0 greatest.0 (constant_readable greatest.0 greatest.2))
@@ -154,8 +155,8 @@ pub record AreFoundReadable (found : Declared) : Type 0 where
 readable_behind : (d : Declaration) (found : Declared) → AreFoundReadable found → NothingFails (declaration_events found d) → AreFoundReadable (behind d found)
 readable_behind (IntDecl name at dims x) found all is = record { sets = all.sets; decisions = all.decisions; stochastics = all.stochastics }
 readable_behind (RangeDecl name at lo hi) found all is =
-    let first = parts_pass (constant_place found.known lo) (constant_place found.known hi ++ too_many 208 (count_between (value_or_zero found.known lo) (value_or_zero found.known hi))) is in
-    let second = parts_pass (constant_place found.known hi) (too_many 208 (count_between (value_or_zero found.known lo) (value_or_zero found.known hi))) first.1 in
+    let first = parts_pass (constant_place found.known lo) (constant_place found.known hi ++ too_many codes.NUMBERS (count_between (value_or_zero found.known lo) (value_or_zero found.known hi))) is in
+    let second = parts_pass (constant_place found.known hi) (too_many codes.NUMBERS (count_between (value_or_zero found.known lo) (value_or_zero found.known hi))) first.1 in
     record {
       sets = all_append (λ (s : NamedSet). IsReadableSet s.numbers) found.known.sets _ all.sets
           (constant_readable (value_or_zero found.known hi) (worth_small found.known hi second.0), tt);
@@ -163,7 +164,7 @@ readable_behind (RangeDecl name at lo hi) found all is =
       stochastics = all.stochastics;
     }
 readable_behind (SetDecl name at elements) found all is =
-    let both = parts_pass (constant_places found.known elements) (too_many 208 _) is in
+    let both = parts_pass (constant_places found.known elements) (too_many codes.NUMBERS _) is in
     record {
       sets = all_append (λ (s : NamedSet). IsReadableSet s.numbers) found.known.sets _ all.sets (set_readable found.known elements both.0, tt);
       decisions = all.decisions;

@@ -3,6 +3,7 @@
 ghost use Rattle.std.specs.Prelude.{◌≡◌, ◌≤ℤ◌, ◌<◌, ◌^◌, ◌*ℤ◌, ◌+ℤ◌, int_lt, length, pos, false, true, slice_get, option_map, None, Some};
 ghost use Rattle.std.specs.Option.{option_map_or};
 ghost use Rattle.sopl_base.specs.declared.reason.Reason.TheVariants.{Chance};
+ghost use Rattle.sopl_base.specs.declared.limits.TheConstants as largest;
 ghost use Rattle.box_problem.specs.Box.{Box};
 ghost use Rattle.term_problem.specs.Refuted.{is_false, refutes};
 ghost use Rattle.term_program.specs.Programs.{IsMade, kept, problem_in, root_in};
@@ -78,7 +79,7 @@ fn whole_of(program: &Program) -> Wide
 fn is_less(left: Wide, whole: Wide, threshold: &Threshold) -> bool
     requires low { pos 0 ≤ℤ left.value }
     requires high { left.value ≤ℤ whole.value }
-    requires light { whole.value ≤ℤ pos (2 ^ 100) }
+    requires light { whole.value ≤ℤ largest.WEIGHT }
     requires from_zero { pos 0 ≤ℤ threshold.now.p }
     requires to_whole { threshold.now.p ≤ℤ threshold.now.q }
     requires positive { pos 1 ≤ℤ threshold.now.q }

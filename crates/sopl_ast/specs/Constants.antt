@@ -1,10 +1,11 @@
 -- What an expression in a constant place is worth: a whole number, or nothing. Every operand counts: a condition spares none of its parts.
-use Rattle.std.specs.Prelude.{◌^◌, nat_le, ℤ, pos, neg_ℤ, ◌+ℤ◌, Bool, not, ◌||◌, List, [], ◌∷◌, Option, Some, None, option_map, option_and_then, if◌then◌else◌}
+use Rattle.std.specs.Prelude.{nat_le, ℤ, pos, neg_ℤ, ◌+ℤ◌, Bool, not, ◌||◌, List, [], ◌∷◌, Option, Some, None, option_map, option_and_then, if◌then◌else◌}
 use Rattle.std.specs.List.{list_all, list_any}
 use Rattle.std.specs.Int.RustNames.{unsigned_abs}
 use Rattle.std.specs.Option.{unwrap_or}
 use Rattle.std.specs.Ordering.{int_eq}
 use Rattle.sopl_base.specs.Extremes.{chosen_by}
+use Rattle.sopl_base.specs.declared.limits.TheConstants as largest
 use Rattle.sopl_ast.specs.declared.operators.MulOp.{MulOp}
 use Rattle.sopl_ast.specs.Tree as t
 use Rattle.sopl_ast.specs.Tree.{Tree, Shape, Trees, Terms, Factors, Binders, Range, Node, no_tree, tree, no_term, term, no_factor, factor, no_binder, binder, Named, Ends}
@@ -13,7 +14,7 @@ use Rattle.sopl_ast.specs.Known.{Known, with_bound, known_value, set_named, asce
 
 -- a constant's size is at most 2^40
 abbrev pub within : ℤ → Option ℤ
-within z = if nat_le (unsigned_abs z) (2 ^ 40) then Some z else None
+within z = if nat_le (unsigned_abs z) largest.CONSTANT_SIZE then Some z else None
 
 -- whether a number that a condition is worth says that it is true
 abbrev pub is_true : ℤ → Bool

@@ -3,6 +3,8 @@ use Rattle.std.specs.Prelude.{ℕ, nat_eq, ℤ, pos, int_le, not, ◌&&◌, List
 use Rattle.std.specs.BTreeSet.{insert_key}
 use Rattle.std.specs.List.{flat_map, fold, list_any}
 use Rattle.std.specs.Ordering.{int_cmp, int_eq}
+use Rattle.sopl_base.specs.declared.codes.TheConstants as codes
+use Rattle.sopl_base.specs.declared.limits.TheConstants as largest
 use Rattle.sopl_ast.specs.Tree.{Tree, Trees, no_tree, tree, Range, Named, Ends, place_of}
 use Rattle.sopl_ast.specs.Lists.{trees_list}
 use Rattle.sopl_ast.specs.Whole.{DimTree, InitTree, InitTrees, One, Many, no_init, init, inits_list, Declaration, IntDecl, RangeDecl, SetDecl, DvarDecl, StochDecl}
@@ -50,7 +52,7 @@ abbrev mutual
   init_events known ds (One e) = flat_map (λ index. Counted ∷ constant_place (with_index ds index known) e) (indices ds)
   init_events known [] (Many at parts) = []
   init_events known (d ∷ ds) (Many at parts) =
-      refused_unless (nat_eq (length (inits_list parts)) (length d.numbers)) 112 at ++ inits_events known d.name ds d.numbers parts
+      refused_unless (nat_eq (length (inits_list parts)) (length d.numbers)) codes.BRACKET_LENGTH at ++ inits_events known d.name ds d.numbers parts
 
   -- the parts of a bracket
   pub inits_events : Known → Option (List ℕ) → List Dimension → List ℤ → InitTrees → List UnfoldEvent
@@ -75,7 +77,7 @@ constant_places known (tree e es) = constant_place known e ++ constant_places kn
 
 -- the declaration of a set, which has 65536 elements at most (208)
 abbrev pub set_events : Known → Trees → List UnfoldEvent
-set_events known elements = constant_places known elements ++ too_many 208 (length (set_of known elements))
+set_events known elements = constant_places known elements ++ too_many codes.NUMBERS (length (set_of known elements))
 
 -- Decisions and stochastic variables.
 
@@ -88,7 +90,7 @@ stage_of known (Some e) = natural (value_or_zero known e)
 abbrev pub stage_events : Known → Option Tree → List UnfoldEvent
 stage_events known None = []
 stage_events known (Some e) =
-    constant_place known e ++ refused_unless (int_le (pos 1) (value_or_zero known e) && int_le (value_or_zero known e) (pos 24)) 114 (place_of e)
+    constant_place known e ++ refused_unless (int_le (pos 1) (value_or_zero known e) && int_le (value_or_zero known e) (pos largest.STAGE)) codes.STAGE (place_of e)
 
 -- the ends of a domain
 abbrev pub domain_of : Known → Range → ℤ × ℤ
@@ -98,12 +100,12 @@ domain_of known (Ends lo hi) = (value_or_zero known lo, value_or_zero known hi)
 -- 111: a domain is empty; 203: it has too many values; a range that is named was looked at where it was declared
 abbrev pub domain_events : Known → Range → List UnfoldEvent
 domain_events known (Named name at) =
-    refused_unless (int_le (domain_of known (Named name at)).0 (domain_of known (Named name at)).1) 111 at
+    refused_unless (int_le (domain_of known (Named name at)).0 (domain_of known (Named name at)).1) codes.EMPTY_DOMAIN at
 domain_events known (Ends lo hi) =
     constant_place known lo
     ++ (constant_place known hi
-    ++ (refused_unless (int_le (value_or_zero known lo) (value_or_zero known hi)) 111 (place_of lo)
-    ++ too_many 203 (count_between (value_or_zero known lo) (value_or_zero known hi))))
+    ++ (refused_unless (int_le (value_or_zero known lo) (value_or_zero known hi)) codes.EMPTY_DOMAIN (place_of lo)
+    ++ too_many codes.DOMAIN (count_between (value_or_zero known lo) (value_or_zero known hi))))
 
 -- a value and its weight
 abbrev pub outcome_of : Known → Tree × Tree → Outcome
@@ -114,9 +116,9 @@ abbrev pub outcome_events : Known → List ℤ → List (Tree × Tree) → List 
 outcome_events known earlier [] = []
 outcome_events known earlier (pair ∷ later) =
     constant_place known pair.0
-    ++ (refused_unless (not (list_any (int_eq (value_or_zero known pair.0)) earlier)) 113 (place_of pair.0)
+    ++ (refused_unless (not (list_any (int_eq (value_or_zero known pair.0)) earlier)) codes.OUTCOME (place_of pair.0)
     ++ (constant_place known pair.1
-    ++ (refused_unless (int_le (pos 1) (value_or_zero known pair.1)) 113 (place_of pair.1)
+    ++ (refused_unless (int_le (pos 1) (value_or_zero known pair.1)) codes.OUTCOME (place_of pair.1)
     ++ outcome_events known (earlier ++ value_or_zero known pair.0 ∷ []) later)))
 
 -- the decisions of a declaration, in the order of their indices

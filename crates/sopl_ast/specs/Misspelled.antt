@@ -1,6 +1,7 @@
 -- Where tokens that spell no model are refused.
 use Rattle.std.specs.Prelude.{◌≡◌, ℕ, ◌+◌, List, [], ◌∷◌, ◌++◌}
 use Rattle.sopl_base.specs.declared.fault.Refusal.{Refusal}
+use Rattle.sopl_base.specs.declared.codes.TheConstants as codes
 use Rattle.sopl_ast.specs.declared.token.Token.{Token}
 use Rattle.sopl_ast.specs.Whole.{ModelTree}
 use Rattle.sopl_ast.specs.Grammar.{Spells, SpellsWithin, IsPrefix, max_nesting}
@@ -38,5 +39,5 @@ pub record IsTooDeep (tokens : List Token) (at : ℕ) : Type 0 where
 
 -- tokens that spell no model within the greatest nesting, refused by 104 where no model goes on, and by 103 where one nests too deep
 pub data IsMisspelled (length : ℕ) (tokens : List Token) (refusal : Refusal) : Type 0 where
-  misplaced : refusal.code ≡ 104 → IsMisplaced length tokens refusal.at → IsMisspelled length tokens refusal
-  too_deep : refusal.code ≡ 103 → IsTooDeep tokens refusal.at → IsMisspelled length tokens refusal
+  misplaced : refusal.code ≡ codes.SYNTAX → IsMisplaced length tokens refusal.at → IsMisspelled length tokens refusal
+  too_deep : refusal.code ≡ codes.DEPTH → IsTooDeep tokens refusal.at → IsMisspelled length tokens refusal

@@ -4,6 +4,7 @@ use Rattle.std.specs.Prelude.{◌≡◌, ℕ, ◌+◌, ◌<◌, ◌≤◌, nat_e
 use Rattle.std.specs.List.{Contains}
 use Rattle.std.specs.Str.{bytes_eq}
 use Rattle.sopl_base.specs.declared.fault.Refusal.{Refusal}
+use Rattle.sopl_base.specs.declared.codes.TheConstants as codes
 use Rattle.sopl_ast.specs.declared.operators.MulOp.{MulOp}
 use Rattle.sopl_ast.specs.declared.operators.MulOp.TheVariants.{Times, Div, Mod}
 use Rattle.sopl_ast.specs.Tree as t
@@ -45,25 +46,25 @@ mistake_unless false code at = one_mistake code at
 
 -- 105: a name that is used and not known
 abbrev pub unknown_name : Option Entity → ℕ → List Refusal
-unknown_name None at = one_mistake 105 at
+unknown_name None at = one_mistake codes.UNKNOWN at
 unknown_name (Some entity) at = []
 
 -- 106: a name that is declared or bound and known already
 abbrev pub known_name : Option Entity → ℕ → List Refusal
 known_name None at = []
-known_name (Some entity) at = one_mistake 106 at
+known_name (Some entity) at = one_mistake codes.TWICE at
 
 -- 107: the name of a range or a set, where a number is asked for
 abbrev pub no_number : Option Entity → ℕ → List Refusal
-no_number (Some RangeName) at = one_mistake 107 at
-no_number (Some SetName) at = one_mistake 107 at
+no_number (Some RangeName) at = one_mistake codes.KIND at
+no_number (Some SetName) at = one_mistake codes.KIND at
 no_number entity at = []
 
 -- 107: another name, where a range is asked for; the name of a set too, where only a range will do
 abbrev pub no_range : Bool → Option Entity → ℕ → List Refusal
-no_range sets (Some (Constant dims)) at = one_mistake 107 at
-no_range sets (Some (Variable dims)) at = one_mistake 107 at
-no_range sets (Some SetName) at = mistake_unless sets 107 at
+no_range sets (Some (Constant dims)) at = one_mistake codes.KIND at
+no_range sets (Some (Variable dims)) at = one_mistake codes.KIND at
+no_range sets (Some SetName) at = mistake_unless sets codes.KIND at
 no_range sets entity at = []
 
 -- whether an expression is a condition
@@ -79,17 +80,17 @@ is_condition shape = false
 
 -- 107: a number, where a condition is asked for
 abbrev pub no_condition : Tree → List Refusal
-no_condition (Node at shape) = mistake_unless (is_condition shape) 107 at
+no_condition (Node at shape) = mistake_unless (is_condition shape) codes.KIND at
 
 -- 108: a name with another number of indices than it has dimensions
 abbrev pub wrong_indices : Option Entity → ℕ → ℕ → List Refusal
-wrong_indices (Some (Constant dims)) indices at = mistake_unless (nat_eq dims indices) 108 at
-wrong_indices (Some (Variable dims)) indices at = mistake_unless (nat_eq dims indices) 108 at
+wrong_indices (Some (Constant dims)) indices at = mistake_unless (nat_eq dims indices) codes.DIMENSIONS at
+wrong_indices (Some (Variable dims)) indices at = mistake_unless (nat_eq dims indices) codes.DIMENSIONS at
 wrong_indices entity indices at = []
 
 -- 109: a variable, where a constant is asked for
 abbrev pub no_constant : Bool → Option Entity → ℕ → List Refusal
-no_constant true (Some (Variable dims)) at = one_mistake 109 at
+no_constant true (Some (Variable dims)) at = one_mistake codes.NOT_CONSTANT at
 no_constant constant entity at = []
 
 -- a name with so many indices, used as a number, where `constant` asks for a constant
@@ -205,8 +206,8 @@ abbrev mutual
   -- 108: expressions and empty brackets that stand in another number of brackets than there are dimensions; an expression in no bracket is right, and so
   -- is an empty bracket that stands in fewer
   pub wrong_depths : ℕ → ℕ → InitTree → List Refusal
-  wrong_depths dims depth (One e) = mistake_unless (nat_eq depth 0 || nat_eq depth dims) 108 (place_of e)
-  wrong_depths dims depth (Many at no_init) = mistake_unless (nat_le (depth + 1) dims) 108 at
+  wrong_depths dims depth (One e) = mistake_unless (nat_eq depth 0 || nat_eq depth dims) codes.DIMENSIONS (place_of e)
+  wrong_depths dims depth (Many at no_init) = mistake_unless (nat_le (depth + 1) dims) codes.DIMENSIONS at
   wrong_depths dims depth (Many at (init x xs)) = wrong_depths dims (depth + 1) x ++ wrong_parts dims (depth + 1) xs
 
   pub wrong_parts : ℕ → ℕ → InitTrees → List Refusal

@@ -1,7 +1,9 @@
 -- The tokens of a model text, and the refusal of a text that has none.
-use Rattle.std.specs.Prelude.{◌≡◌, ◌≢◌, ℕ, ℤ, ◌+◌, ◌^◌, ◌<◌, ◌≤◌, ◌<ℤ◌, ◌≤ℤ◌, pos, List, [], ◌∷◌, ◌++◌, length, Result, Ok, Err}
+use Rattle.std.specs.Prelude.{◌≡◌, ◌≢◌, ℕ, ℤ, ◌+◌, ◌<◌, ◌≤◌, ◌<ℤ◌, ◌≤ℤ◌, pos, List, [], ◌∷◌, ◌++◌, length, Result, Ok, Err}
 use Rattle.std.specs.List.{AllByRecursion}
 use Rattle.sopl_base.specs.declared.fault.Refusal.{Refusal}
+use Rattle.sopl_base.specs.declared.codes.TheConstants as codes
+use Rattle.sopl_base.specs.declared.limits.TheConstants as largest
 use Rattle.sopl_ast.specs.Pieces.{Piece, Blank, Word, Begins}
 use Rattle.sopl_ast.specs.declared.token.Token.{Token}
 use Rattle.sopl_ast.specs.declared.token.TokenKind.{TokenKind}
@@ -24,11 +26,11 @@ Tokens text tokens = Cuts text (length text) tokens []
 
 -- the greatest length of a text
 abbrev pub max_length : ℕ
-max_length = 1048576
+max_length = largest.TEXT_BYTES
 
 -- the greatest literal
 abbrev pub max_literal : ℤ
-max_literal = pos (2 ^ 40)
+max_literal = pos largest.LITERAL
 
 -- no literal above the greatest
 abbrev pub IsSmall : TokenKind → Type 0
@@ -61,11 +63,11 @@ pub record IsTooLarge (rest : List ℕ) : Type 0 where
 -- a text that is too long, else the first place where no piece begins or a literal is too large
 pub data Refuses (text : List ℕ) (refusal : Refusal) : Type 0 where
   -- a text that is too long is refused at the greatest length, whatever is in it
-  too_long : refusal.code ≡ 101 → refusal.at ≡ max_length → max_length < length text → Refuses text refusal
+  too_long : refusal.code ≡ codes.TEXT_LENGTH → refusal.at ≡ max_length → max_length < length text → Refuses text refusal
   -- a byte with which no piece begins, or the `/*` of a comment that does not end
-  no_piece : (rest : List ℕ) → refusal.code ≡ 102 → length text ≤ max_length → Reaches text refusal.at rest → IsStuck rest → Refuses text refusal
+  no_piece : (rest : List ℕ) → refusal.code ≡ codes.TOKEN → length text ≤ max_length → Reaches text refusal.at rest → IsStuck rest → Refuses text refusal
   -- the first byte of a literal above the greatest
-  too_large : (rest : List ℕ) → refusal.code ≡ 116 → length text ≤ max_length → Reaches text refusal.at rest → IsTooLarge rest → Refuses text refusal
+  too_large : (rest : List ℕ) → refusal.code ≡ codes.LITERAL → length text ≤ max_length → Reaches text refusal.at rest → IsTooLarge rest → Refuses text refusal
 
 -- the outcome of a text: its tokens, where it is not too long and has no literal above the greatest, or its refusal
 abbrev pub Lexes : List ℕ → Result (List Token) Refusal → Type 0

@@ -7,10 +7,12 @@ use Rattle.sopl_base.specs.declared.fault.Refusal.{Refusal}
 use Rattle.sopl_base.specs.declared.fault.Excess.{Excess}
 use Rattle.sopl_base.specs.declared.fault.Fault.{Fault}
 use Rattle.sopl_base.specs.declared.fault.Fault.TheVariants.{Text, Limit}
+use Rattle.sopl_base.specs.declared.codes.TheConstants as codes
+use Rattle.sopl_base.specs.declared.limits.TheConstants as largest
 use Rattle.sopl_ast.specs.declared.operators.MulOp.TheVariants.{Times, Div, Mod}
 use Rattle.sopl_ast.specs.Tree as t
 use Rattle.sopl_ast.specs.Tree.{Tree, Shape, Trees, Terms, Factors, Binders, Range, Node, no_tree, tree, no_term, term, no_factor, factor, no_binder, binder, Named, Ends, place_of}
-use Rattle.sopl_ast.specs.Numbers.{count_between}
+use Rattle.sopl_ast.specs.Numbers.{count_between, natural}
 use Rattle.sopl_ast.specs.Known.{Known, with_bound}
 use Rattle.sopl_ast.specs.Constants.{applied_within, value, value_or_zero, numbers_in}
 
@@ -28,13 +30,13 @@ excess code counted limit = record { code = code; counted = counted; limit = lim
 abbrev pub met_within : ℕ → ℕ → List UnfoldEvent → Result ℕ Fault
 met_within most count [] = Ok count
 met_within most count (Counted ∷ later) =
-    if nat_lt count most then met_within most (count + 1) later else Err (Limit (excess 205 (pos (most + 1)) (pos most)))
+    if nat_lt count most then met_within most (count + 1) later else Err (Limit (excess codes.UNFOLDING (pos (most + 1)) (pos most)))
 met_within most count (Refused refusal ∷ later) = Err (Text refusal)
 met_within most count (Passed passed ∷ later) = Err (Limit passed)
 
 -- the greatest number of things that are counted
 abbrev pub most_counted : ℕ
-most_counted = 262144
+most_counted = largest.UNFOLDED
 
 -- the first failure under the greatest number that is allowed
 abbrev pub first_failure : ℕ → List UnfoldEvent → Result ℕ Fault
@@ -51,12 +53,12 @@ refused_unless false code at = refused code at
 
 -- 110: an expression in a constant place has no value
 abbrev pub no_value : {A : Type 0} → Option A → ℕ → List UnfoldEvent
-no_value None at = refused 110 at
+no_value None at = refused codes.UNDEFINED at
 no_value (Some x) at = []
 
 -- the greatest number of numbers in a domain, a range or a set
 abbrev pub most_numbers : ℕ
-most_numbers = 65536
+most_numbers = natural largest.NUMBERS
 
 -- 203 and 208: there are more numbers
 abbrev pub too_many : ℕ → ℕ → List UnfoldEvent
@@ -112,9 +114,9 @@ abbrev mutual
       ++ (no_value (applied_within op before (value known e)) whole ++ factors_events (Some whole) known (applied_within op before (value known e)) more)
   factors_events None known before (factor Times e more) = events_in None known e ++ factors_events None known before more
   factors_events None known before (factor Div e more) =
-      (events_in (Some (place_of e)) known e ++ refused_unless (not (is_zero (value known e))) 110 (place_of e)) ++ factors_events None known before more
+      (events_in (Some (place_of e)) known e ++ refused_unless (not (is_zero (value known e))) codes.UNDEFINED (place_of e)) ++ factors_events None known before more
   factors_events None known before (factor Mod e more) =
-      (events_in (Some (place_of e)) known e ++ refused_unless (not (is_zero (value known e))) 110 (place_of e)) ++ factors_events None known before more
+      (events_in (Some (place_of e)) known e ++ refused_unless (not (is_zero (value known e))) codes.UNDEFINED (place_of e)) ++ factors_events None known before more
 
   -- binders, and what is met for each way in which they take their values, which are counted; their ranges are constant places, which belong to the
   -- expression that begins at `whole`, if there is one
@@ -129,7 +131,7 @@ abbrev mutual
   range_events known whole (Named name at) = []
   range_events known whole (Ends lo hi) =
       events_in (Some (unwrap_or whole (place_of lo))) known lo
-      ++ (events_in (Some (unwrap_or whole (place_of hi))) known hi ++ too_many 208 (count_between (value_or_zero known lo) (value_or_zero known hi)))
+      ++ (events_in (Some (unwrap_or whole (place_of hi))) known hi ++ too_many codes.NUMBERS (count_between (value_or_zero known lo) (value_or_zero known hi)))
 
 -- an expression inside the constant expression that begins at `whole`, one that is a constant place of its own, and one of a constraint or an
 -- objective
@@ -144,4 +146,4 @@ expression_events known e = events_in None known e
 
 -- 110: a divisor has no value, or is 0
 abbrev pub divisor_events : Known → Tree → List UnfoldEvent
-divisor_events known e = constant_place known e ++ refused_unless (not (is_zero (value known e))) 110 (place_of e)
+divisor_events known e = constant_place known e ++ refused_unless (not (is_zero (value known e))) codes.UNDEFINED (place_of e)

@@ -1,6 +1,8 @@
 -- How a text is unfolded: its declarations, then its objective, then its constraints; the problem that it states, and what is met on the way.
 use Rattle.std.specs.Prelude.{ℕ, ◌+◌, ℤ, pos, int_le, Bool, ◌&&◌, List, [], ◌∷◌, ◌++◌, length, filter, nat_eq, Option, Some, None, option_map}
 use Rattle.std.specs.List.{flat_map, range_with_len}
+use Rattle.sopl_base.specs.declared.codes.TheConstants as codes
+use Rattle.sopl_base.specs.declared.limits.TheConstants as largest
 use Rattle.sopl_ast.specs.Tree.{Tree, place_of}
 use Rattle.sopl_ast.specs.Whole.{ConsTree, ConsTrees, ForallTree, BlockTree, HardTree, ChanceTree, no_cons, cons, conses, GoalTree, ModelTree}
 use Rattle.sopl_ast.specs.Known.{Known}
@@ -85,12 +87,12 @@ problem_of model = problem_with (behind_all model.decls nothing_declared) model
 
 -- 115: a threshold is no fraction from 0 to 1, or its denominator is too great
 abbrev pub is_threshold : ℤ → ℤ → Bool
-is_threshold p q = int_le (pos 0) p && (int_le p q && (int_le (pos 1) q && int_le q (pos 1048576)))
+is_threshold p q = int_le (pos 0) p && (int_le p q && (int_le (pos 1) q && int_le q largest.DENOMINATOR))
 
 -- the parts of a threshold, and then the threshold
 abbrev pub threshold_events : Known → Tree → Tree → List UnfoldEvent
 threshold_events known p q =
-    constant_place known p ++ (constant_place known q ++ refused_unless (is_threshold (value_or_zero known p) (value_or_zero known q)) 115 (place_of p))
+    constant_place known p ++ (constant_place known q ++ refused_unless (is_threshold (value_or_zero known p) (value_or_zero known q)) codes.THRESHOLD (place_of p))
 
 abbrev mutual
   -- a constraint, of which each instance is counted before what is met in it

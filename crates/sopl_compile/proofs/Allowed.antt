@@ -20,6 +20,7 @@ use Rattle.sopl_ast.specs.UnfoldEvents.{excess}
 use Rattle.sopl_base.specs.declared.fault.Excess.{Excess}
 use Rattle.sopl_base.specs.declared.interval.Interval.{Interval}
 use Rattle.sopl_base.proofs.Tests.{le_tested}
+use Rattle.sopl_base.specs.declared.codes.TheConstants as codes
 use Rattle.lang_laws.proofs.Limits.{light_within, whole_within}
 use Rattle.lang_laws.proofs.Shared.{first_none, passed, then_none}
 use Rattle.sopl_compile.specs.Posed.{IsSettingOf}
@@ -63,24 +64,24 @@ module _ (problem : Problem) (within : size_excess usual_limits problem ≡ None
   pub light : total_weight problem.stochastics ≤ℤ pos (2 ^ 100)
   light = light_within problem within
 
-  pub few_scenarios : length (scenarios problem.stochastics) ≤ 16384
+  pub few_scenarios : length (scenarios problem.stochastics) ≤ usual_limits.scenarios
   few_scenarios = by problem.stochastics (first_none (scenario_excess usual_limits problem) behind_scenarios (then_none (weight_excess usual_limits problem) behind_weight within))
     where
-      by : (ss : List Stochastic) → first_above 202 16384 (map (λ (prefix : List Stochastic). pos (length (scenarios prefix))) (prefixes ss)) ≡ None → length (scenarios ss) ≤ 16384
+      by : (ss : List Stochastic) → first_above codes.SCENARIOS usual_limits.scenarios (map (λ (prefix : List Stochastic). pos (length (scenarios prefix))) (prefixes ss)) ≡ None → length (scenarios ss) ≤ usual_limits.scenarios
       by [] none = omega arith
       by (s ∷ ss) none =
-          let most : pos (length (scenarios (s ∷ ss))) ≤ℤ pos 16384 = whole_within 202 16384 (λ (prefix : List Stochastic). pos (length (scenarios prefix))) s ss none in
+          let most : pos (length (scenarios (s ∷ ss))) ≤ℤ pos usual_limits.scenarios = whole_within codes.SCENARIOS usual_limits.scenarios (λ (prefix : List Stochastic). pos (length (scenarios prefix))) s ss none in
           omega (arith, ints, most)
 
-  few_cells : length (cells problem) ≤ 1048576
+  few_cells : length (cells problem) ≤ usual_limits.copies
   few_cells =
       let copies : ℕ = instance_count problem * length (scenarios problem.stochastics) in
       let behind_copies : Option Excess = bit_excess usual_limits problem in
       let none : copy_excess usual_limits problem ≡ None =
       first_none (copy_excess usual_limits problem) behind_copies
       (then_none (scenario_excess usual_limits problem) behind_scenarios (then_none (weight_excess usual_limits problem) behind_weight within)) in
-      let told : Excess = excess 209 (int_min (pos copies) (pos (2 ^ 127 - 1))) (pos 1048576) in
-      let most : pos copies ≤ℤ pos 1048576 = le_tested (pos copies) (pos 1048576) (passed (int_le (pos copies) (pos 1048576)) told None none) in
+      let told : Excess = excess codes.COPIES (int_min (pos copies) (pos (2 ^ 127 - 1))) (pos usual_limits.copies) in
+      let most : pos copies ≤ℤ pos usual_limits.copies = le_tested (pos copies) (pos usual_limits.copies) (passed (int_le (pos copies) (pos usual_limits.copies)) told None none) in
       let all = cells_few problem.stochastics 0 problem.decisions (length problem.stochastics + (length problem.hards + length problem.chances)) in
       omega (arith, ints, most, all)
 

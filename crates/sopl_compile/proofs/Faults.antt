@@ -19,6 +19,7 @@ use Rattle.sopl_ast.specs.UnfoldEvents.{excess}
 use Rattle.sopl_base.specs.declared.fault.Excess.{Excess}
 use Rattle.sopl_base.specs.declared.fault.Fault.{Fault}
 use Rattle.sopl_base.specs.declared.fault.Fault.TheVariants.{Limit, NoMemory}
+use Rattle.sopl_base.specs.declared.codes.TheConstants as codes
 use Rattle.scen_laws.proofs.Splits.{times_one}
 use Rattle.sopl_compile.specs.Begun.{worst_of}
 use Rattle.sopl_compile.specs.Posed.{terms_asked}
@@ -86,13 +87,13 @@ module _ (root : Box) (problem : Problem) where
 
   -- one of a greater number is refused, and there is one
   pub goal_refused : (problem_terms problem).whole ≤ℤ pos (2 ^ 100) → worst_of problem ≡ false → pos (2 ^ 126) <ℤ asked_number
-      → goal_excess root (problem_terms problem) ≡ Some (excess 207 (saturate_signed w128 asked_number) (pos (2 ^ 126)))
-  goal_refused light expected large = (goal_is_refused root (problem_terms problem) (excess 207 (saturate_signed w128 asked_number) (pos (2 ^ 126)))).1 (by problem.objective refl)
+      → goal_excess root (problem_terms problem) ≡ Some (excess codes.TERM_SIZE (saturate_signed w128 asked_number) (pos (2 ^ 126)))
+  goal_refused light expected large = (goal_is_refused root (problem_terms problem) (excess codes.TERM_SIZE (saturate_signed w128 asked_number) (pos (2 ^ 126)))).1 (by problem.objective refl)
     where
-      told : excess 207 (saturate_signed w128 asked_number) (pos (2 ^ 126)) ≡ excess 207 (int_min asked_number (pos (2 ^ 127 - 1))) (pos (2 ^ 126))
-      told = ap (λ (n : ℤ). excess 207 n (pos (2 ^ 126))) (nearest asked_number (above_zero asked_number large))
+      told : excess codes.TERM_SIZE (saturate_signed w128 asked_number) (pos (2 ^ 126)) ≡ excess codes.TERM_SIZE (int_min asked_number (pos (2 ^ 127 - 1))) (pos (2 ^ 126))
+      told = ap (λ (n : ℤ). excess codes.TERM_SIZE n (pos (2 ^ 126))) (nearest asked_number (above_zero asked_number large))
 
-      by : (x : Option Objective) → problem.objective ≡ x → IsLargeGoal root (problem_terms problem) (excess 207 (saturate_signed w128 asked_number) (pos (2 ^ 126)))
+      by : (x : Option Objective) → problem.objective ≡ x → IsLargeGoal root (problem_terms problem) (excess codes.TERM_SIZE (saturate_signed w128 asked_number) (pos (2 ^ 126)))
       by None none =
           let is : asked_number ≡ (problem_terms problem).whole *ℤ pos 1 =
           ap (λ (x : Option Objective). (problem_terms problem).whole *ℤ pos (greatest_size root (option_map_or (λ (o : Objective). (goal_terms problem o).terms) x []) + 1)) none in
@@ -104,6 +105,6 @@ module _ (root : Box) (problem : Problem) where
         large = subst (λ (x : Option Objective). pos (2 ^ 126)
             <ℤ ((problem_terms problem).whole *ℤ pos (greatest_size root (option_map_or (λ (o : Objective). (goal_terms problem o).terms) x []) + 1))) some large;
         told = told
-            ∙ ap (λ (x : Option Objective). excess 207
+            ∙ ap (λ (x : Option Objective). excess codes.TERM_SIZE
             (int_min ((problem_terms problem).whole *ℤ pos (greatest_size root (option_map_or (λ (o : Objective). (goal_terms problem o).terms) x []) + 1)) (pos (2 ^ 127 - 1))) (pos (2 ^ 126))) some;
       }

@@ -1,6 +1,7 @@
 -- The weights of scenarios.
 use Rattle.std.proofs.Common.{arith, ◌≡◌, ◌∙◌, refl, sym, ap, subst, ℕ, suc, ◌<◌, ◌≤◌, ◌^◌, ℤ, pos, ◌≤ℤ◌, List, [], ◌∷◌, length, map, get_or, Some, None, slice_get}
 use Rattle.std.proofs.lemmas.List.{length-map}
+use Rattle.sopl_ast.specs.Limits.{usual_limits}
 use Rattle.term_language.specs.Globals.{total}
 use Rattle.compile_laws.specs.Whole.{problem_terms}
 use Rattle.compile_names.specs.declared.setting.Scenarios.{Scenarios}
@@ -31,7 +32,7 @@ module _ (problem : Problem) (setting : Scenarios) (laid : IsLaid setting) (of :
   weights_own =
       is ∙ (weights_are setting.decisions.now setting.stochs.now setting.tree.now laid ∙ ap (λ (ss : List Stochastic). map weight_of (scenarios ss)) of.stochastics)
 
-  pub weights_few : length (scenarios problem.stochastics) ≤ 16384 → length ws < 2 ^ 32
+  pub weights_few : length (scenarios problem.stochastics) ≤ usual_limits.scenarios → length ws < 2 ^ 32
   weights_few few = omega (arith, ap (length {A = ℤ}) weights_own, length-map (scenarios problem.stochastics) weight_of, few)
 
   pub weights_light : (problem_terms problem).whole ≡ total (problem_terms problem).weights → total_weight problem.stochastics ≤ℤ pos (2 ^ 100) → total ws ≤ℤ pos (2 ^ 100)

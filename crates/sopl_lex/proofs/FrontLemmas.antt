@@ -8,6 +8,7 @@ use Rattle.std.specs.Char.{is_ascii_digit}
 use Rattle.std.specs.List.{list_all, prefix_len}
 use Rattle.std.specs.Option.{option_map}
 use Rattle.sopl_base.specs.declared.fault.Refusal.{Refusal}
+use Rattle.sopl_base.specs.declared.codes.TheConstants as codes
 use Rattle.sopl_ast.specs.Pieces.{Piece, Blank, Word, Begins, before_close, begins_with, decimal, is_block_comment, is_letter, is_line_comment, is_literal, is_name_byte}
 use Rattle.sopl_ast.specs.Pieces.{is_one_space, is_space, is_word, kind_in, piece_of, symbols}
 use Rattle.sopl_ast.specs.Tokens.{IsSmall, IsStuck, IsTooLarge}
@@ -39,7 +40,7 @@ pub record Stands (text : List ℕ) (piece : Piece) (len : ℕ) : Type 0 where
 -- the text has no piece at its front, or a literal that is too large
 pub record Fails (at : ℕ) (text : List ℕ) (refusal : Refusal) : Type 0 where
   pub place : refusal.at ≡ at
-  pub cause : ((refusal.code ≡ 102) × IsStuck text) ⊎ ((refusal.code ≡ 116) × IsTooLarge text)
+  pub cause : ((refusal.code ≡ codes.TOKEN) × IsStuck text) ⊎ ((refusal.code ≡ codes.LITERAL) × IsTooLarge text)
 
 abbrev pub Holds : ℕ → List ℕ → Result (Piece × ℕ) Refusal → Type 0
 Holds at text (Ok answer) = Stands text answer.0 answer.1

@@ -3,6 +3,7 @@ use Rattle.std.proofs.Common.{◌≡◌, ℕ, zero, suc, ◌+◌, ◌≤◌, ◌
 use Rattle.std.proofs.lemmas.Bool.{cases_lt}
 use Rattle.std.proofs.lemmas.List.{drop_all}
 use Rattle.sopl_base.specs.declared.fault.Refusal.{Refusal}
+use Rattle.sopl_base.specs.declared.codes.TheConstants as codes
 use Rattle.sopl_ast.specs.Pieces.{Piece}
 use Rattle.sopl_ast.specs.Tokens.{Cuts, Lexes, too_long, max_length}
 use Rattle.sopl_ast.specs.declared.token.Token.{Token}
@@ -39,5 +40,5 @@ pub lexes_some : (text : List ℕ) → (outcome : Result (List Token) Refusal) �
 lexes_some text = by_length (cases_lt max_length (length text))
   where
     by_length : (max_length < length text) ⊎ (length text ≤ max_length) → Outcome text
-    by_length (inl long) = (Err (record { code = 101; at = max_length }), too_long refl refl long)
+    by_length (inl long) = (Err (record { code = codes.TEXT_LENGTH; at = max_length }), too_long refl refl long)
     by_length (inr fits) = goes_on (length text) text 0 [] (reads_start text fits) (omega arith)

@@ -1,8 +1,10 @@
 -- The piece at the front of a text and its length, by the text's first bytes.
-use Rattle.std.specs.Prelude.{ℕ, ◌+◌, ◌^◌, Bool, not, ◌==◌, nat_lt, nat_le, if◌then◌else◌, List, [], ◌∷◌, length, take, drop, slice_index, Option, None, Some, unwrap_or, Result, Ok, Err, pos}
+use Rattle.std.specs.Prelude.{ℕ, ◌+◌, Bool, not, ◌==◌, nat_lt, nat_le, if◌then◌else◌, List, [], ◌∷◌, length, take, drop, slice_index, Option, None, Some, unwrap_or, Result, Ok, Err, pos}
 use Rattle.std.specs.Char.{is_ascii_digit}
 use Rattle.std.specs.List.{prefix_len}
 use Rattle.sopl_base.specs.declared.fault.Refusal.{Refusal}
+use Rattle.sopl_base.specs.declared.codes.TheConstants as codes
+use Rattle.sopl_base.specs.declared.limits.TheConstants as largest
 use Rattle.sopl_ast.specs.Pieces.{Piece, Blank, Word, begins_with, before_close, decimal, is_letter, is_name_byte, is_space, keywords, kind_in, symbols}
 use Rattle.sopl_ast.specs.declared.token.TokenKind.{TokenKind}
 use Rattle.sopl_ast.specs.declared.token.TokenKind.TheVariants as k
@@ -26,7 +28,7 @@ word_kind bytes = unwrap_or (kind_in bytes keywords) (k.Name bytes)
 
 -- a literal of `len` digits, if it is small
 abbrev pub literal_of : ℕ → ℕ → ℕ → Result (Piece × ℕ) Refusal
-literal_of at value len = if nat_le value (2 ^ 40) then Ok (Word (k.Lit (pos value)), len) else refused 116 at
+literal_of at value len = if nat_le value largest.LITERAL then Ok (Word (k.Lit (pos value)), len) else refused codes.LITERAL at
 
 -- the literal at the front
 unfoldable pub literal : ℕ → List ℕ → Result (Piece × ℕ) Refusal
@@ -42,7 +44,7 @@ line_comment text = Ok (Blank, prefix_len is_line_byte text)
 
 -- the comment of `len` bytes, if it ends
 abbrev pub block_of : ℕ → ℕ → ℕ → Result (Piece × ℕ) Refusal
-block_of at len total = if nat_le len total then Ok (Blank, len) else refused 102 at
+block_of at len total = if nat_le len total then Ok (Blank, len) else refused codes.TOKEN at
 
 -- the block comment at the front
 unfoldable pub block_comment : ℕ → List ℕ → Result (Piece × ℕ) Refusal
@@ -52,7 +54,7 @@ block_comment at text = block_of at (before_close (drop 2 text) + 4) (length tex
 abbrev pub symbol_of : ℕ → Option TokenKind → Option TokenKind → Result (Piece × ℕ) Refusal
 symbol_of at (Some kind) single = Ok (Word kind, 2)
 symbol_of at None (Some kind) = Ok (Word kind, 1)
-symbol_of at None None = refused 102 at
+symbol_of at None None = refused codes.TOKEN at
 
 -- the symbol of the first two bytes
 unfoldable pub double : List ℕ → Option TokenKind

@@ -1,8 +1,9 @@
 //! How far runs of bytes reach.
 
-ghost use Rattle.std.specs.Prelude.{◌≡◌, ◌+◌, ◌^◌, ◌≤◌, length, take, drop, min};
+ghost use Rattle.std.specs.Prelude.{◌≡◌, ◌+◌, ◌≤◌, length, take, drop, min};
 ghost use Rattle.std.specs.Char.{is_ascii_digit};
 ghost use Rattle.std.specs.List.{prefix_len};
+ghost use Rattle.sopl_base.specs.declared.limits.TheConstants as largest;
 ghost use Rattle.sopl_ast.specs.Pieces.{before_close, begins_with, decimal, is_letter, is_name_byte, is_space};
 ghost use Rattle.sopl_lex.specs.Front.{is_line_byte};
 
@@ -67,7 +68,7 @@ pub struct Number {
 #[tactic(auto, using(crate::proofs::RunLemmas::run_more, crate::proofs::RunLemmas::run_stops, crate::proofs::RunLemmas::run_end))]
 pub fn digits(text: &[u8]) -> Number
     ensures len { result.len ≡ prefix_len is_ascii_digit text.now }
-    ensures value { result.value ≡ min (decimal (take result.len text.now)) (2 ^ 40 + 1) }
+    ensures value { result.value ≡ min (decimal (take result.len text.now)) (largest.LITERAL + 1) }
 {
     let mut value = 0;
     'digits: for (i, byte) in text.iter().enumerate() {

@@ -19,7 +19,7 @@ use Rattle.sopl_ast.specs.Instances.{Decision, Stochastic}
 use Rattle.sopl_ast.specs.Scenarios.{Scenario, scenarios, total_weight}
 use Rattle.sopl_ast.specs.Histories.{history, histories, number_of}
 use Rattle.sopl_ast.specs.Cells.{Cell, cells_of}
-use Rattle.sopl_ast.specs.Limits.{bits_of}
+use Rattle.sopl_ast.specs.Limits.{bits_of, usual_limits}
 use Rattle.unfold_laws.specs.Bounds.{IsBoundedDecision, IsBoundedStochastic, IsStage}
 use Rattle.scen_laws.specs.Laws.{HasOutcome, IsByStage, seen_before, rows, values_of}
 use Rattle.scen_laws.proofs.Counts.{prefixes_are_fewer, first_part}
@@ -50,7 +50,7 @@ light_nodes most few (n ∷ ns) (p ∷ ps) same all =
     (few_in_size n.weight p.weight most same.0 all.0.0 all.0.1 few, light_nodes most few ns ps same.1 all.1)
 
 pub small_levels : (ss : List Stochastic) → AllByRecursion HasOutcome ss → AllByRecursion IsBoundedStochastic ss → total_weight ss ≤ℤ pos (2 ^ 100)
-    → length (scenarios ss) ≤ 16384 → AreSmall ss
+    → length (scenarios ss) ≤ usual_limits.scenarios → AreSmall ss
 small_levels ss some all light few =
     record {
       light = λ j within. light_nodes (total_weight ss) light (level_at ss j) (scenarios (take j ss)) (level_same ss j within) (scenarios_are_light j ss some all);

@@ -5,6 +5,7 @@ use Rattle.std.proofs.lemmas.Int.{ints}
 use Rattle.std.proofs.lemmas.List.Sums.{sum_by-cons}
 use Rattle.std.specs.List.{AllByRecursion, sum_by}
 use Rattle.sopl_base.proofs.Lists.{drop_next}
+use Rattle.sopl_ast.specs.Limits.{usual_limits}
 use Rattle.sopl_ast.specs.Instances.{Decision}
 use Rattle.unfold_laws.specs.Bounds.{IsBoundedDecision}
 use Rattle.sopl_scen.specs.declared.stages.Stage.{Stage}
@@ -43,7 +44,7 @@ placed_next stages most ds places now total next i d within is one by up p =
 
 -- one more decision's cells are few
 pub cells_few : (stages : List Stage) (most : ℕ) (ds : List Decision) (places : List Place) (total i : ℕ) (d : Decision) → i < length ds
-    → cell_count stages d ≤ most → length ds * most ≤ 1048576 → IsPlaced stages most ds places total i (drop i ds)
+    → cell_count stages d ≤ most → length ds * most ≤ usual_limits.copies → IsPlaced stages most ds places total i (drop i ds)
     → total + cell_count stages d < 2 ^ 32
 cells_few stages most ds places total i d within one few p =
     let more : total + cell_count stages d ≤ (i + 1) * most = next_few total i most (cell_count stages d) p.few one in

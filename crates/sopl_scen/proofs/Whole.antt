@@ -11,6 +11,7 @@ use Rattle.sopl_ast.specs.Numbers.{or_else}
 use Rattle.sopl_ast.specs.Instances.{Decision, Stochastic, Problem}
 use Rattle.sopl_ast.specs.Scenarios.{Scenario, scenarios, total_weight}
 use Rattle.std.proofs.Math.Nat.{mul-le-mul_right}
+use Rattle.sopl_base.specs.declared.codes.TheConstants as codes
 use Rattle.sopl_ast.specs.Histories.{history}
 use Rattle.sopl_ast.specs.Limits.{first_above, prefixes, bits_of, size_excess, usual_limits}
 use Rattle.unfold_laws.specs.Bounds.{IsBoundedDecision, IsStage}
@@ -35,19 +36,19 @@ joined None None None b = refl
 
 -- the bits that are asked for
 abbrev bits_asked : List Decision → List Stochastic → Option Excess
-bits_asked ds ss = first_above 204 1024 (pos (sum_by (bits_of ss) ds) ∷ [])
+bits_asked ds ss = first_above codes.BITS usual_limits.bits (pos (sum_by (bits_of ss) ds) ∷ [])
 
 size_is : (ds : List Decision) (ss : List Stochastic) (k : ℕ) (problem : Problem) → IsProblemOf ds ss k problem
     → size_excess usual_limits problem ≡ or_else (early_excess (length ds + (length ss + k)) ss) (bits_asked ds ss)
 unfolding early_excess
 size_is ds ss k problem is =
     (λ i.
-    or_else (first_above 201 (2 ^ 100) (map total_weight (prefixes (is.drawn i))))
-    (or_else (first_above 202 16384 (map (λ prefix. pos (length (scenarios prefix))) (prefixes (is.drawn i))))
-    (or_else (first_above 209 1048576 (pos ((length (is.decided i) + (length (is.drawn i) + is.beside i)) * length (scenarios (is.drawn i))) ∷ []))
+    or_else (first_above codes.WEIGHT usual_limits.weight (map total_weight (prefixes (is.drawn i))))
+    (or_else (first_above codes.SCENARIOS usual_limits.scenarios (map (λ prefix. pos (length (scenarios prefix))) (prefixes (is.drawn i))))
+    (or_else (first_above codes.COPIES usual_limits.copies (pos ((length (is.decided i) + (length (is.drawn i) + is.beside i)) * length (scenarios (is.drawn i))) ∷ []))
     (bits_asked (is.decided i) (is.drawn i)))))
-    ∙ joined (first_above 201 (2 ^ 100) (map total_weight (prefixes ss))) (first_above 202 16384 (map (λ prefix. pos (length (scenarios prefix))) (prefixes ss)))
-    (first_above 209 1048576 (pos ((length ds + (length ss + k)) * length (scenarios ss)) ∷ [])) (bits_asked ds ss)
+    ∙ joined (first_above codes.WEIGHT usual_limits.weight (map total_weight (prefixes ss))) (first_above codes.SCENARIOS usual_limits.scenarios (map (λ prefix. pos (length (scenarios prefix))) (prefixes ss)))
+    (first_above codes.COPIES usual_limits.copies (pos ((length ds + (length ss + k)) * length (scenarios ss)) ∷ [])) (bits_asked ds ss)
 
 pub limit_early : (ds : List Decision) (ss : List Stochastic) (k n : ℕ) (e : Excess) → n ≡ length ds + (length ss + k) → early_excess n ss ≡ Some e
     → (problem : Problem) → IsProblemOf ds ss k problem → size_excess usual_limits problem ≡ Some e
@@ -58,12 +59,12 @@ sound : (ds : List Decision) (ss : List Stochastic) (k : ℕ) → AreStated ds s
 sound ds ss k stated = record { outcomes = stated.outcomes; bounded = stated.stochastics; ordered = stated.ordered }
 
 pub limit_bits : (ds : List Decision) (ss : List Stochastic) (k n : ℕ) (o : Option Excess) (stages : List Stage) → AreStated ds ss k → n ≡ length ds + (length ss + k)
-    → early_excess n ss ≡ None → stages ≡ all_stages ss → first_above 204 1024 (pos (sum_by (bit_count stages) ds) ∷ []) ≡ o
+    → early_excess n ss ≡ None → stages ≡ all_stages ss → first_above codes.BITS usual_limits.bits (pos (sum_by (bit_count stages) ds) ∷ []) ≡ o
     → (problem : Problem) → IsProblemOf ds ss k problem → size_excess usual_limits problem ≡ o
 limit_bits ds ss k n o stages stated many at staged bits problem is =
     size_is ds ss k problem is
     ∙ (ap (λ p. or_else p (bits_asked ds ss)) (ap (λ m. early_excess m ss) (sym many) ∙ at)
-    ∙ (ap (λ b. first_above 204 1024 (pos b ∷ []))
+    ∙ (ap (λ b. first_above codes.BITS usual_limits.bits (pos b ∷ []))
     (sym (ap (λ list. sum_by (bit_count list) ds) staged ∙ bits_sum ss (sound ds ss k stated) ds stated.decisions)) ∙ bits))
 
 -- The tree.
@@ -122,7 +123,7 @@ bounded_at ds all j within = All-from_recursion IsBoundedDecision ds all j no_de
 many : (ss : List Stochastic) → length (map (λ (s : Scenario). s.weight) (scenarios ss)) ≡ length (scenarios ss)
 many ss = length-map (scenarios ss) (λ (s : Scenario). s.weight)
 
-cell_small : (ds : List Decision) (ss : List Stochastic) (k : ℕ) → AreStated ds ss k → length ds * length (scenarios ss) ≤ 1048576
+cell_small : (ds : List Decision) (ss : List Stochastic) (k : ℕ) → AreStated ds ss k → length ds * length (scenarios ss) ≤ usual_limits.copies
     → (j i : ℕ) → j < length ds → i < length (scenarios ss) → cell_number ds ss j i < 2 ^ 32
 cell_small ds ss k stated copies j i within below =
     let s : AreSound ss = sound ds ss k stated in
@@ -137,11 +138,11 @@ cell_small ds ss k stated copies j i within below =
     sum_few (cell_count (all_stages ss)) (length (scenarios ss)) ds (cells_few ss s ds stated.decisions) in
     below_all (cell_number ds ss j i) (length (cells_for ds ss)) (sum_by (cell_count (all_stages ss)) ds) (length ds * length (scenarios ss)) inside total few copies
   where
-    below_all : (a b c e : ℕ) → a < b → b ≡ c → c ≤ e → e ≤ 1048576 → a < 2 ^ 32
+    below_all : (a b c e : ℕ) → a < b → b ≡ c → c ≤ e → e ≤ usual_limits.copies → a < 2 ^ 32
     below_all a b c e one two three four = omega (arith, one, two, three, four)
 
-canonical_filled : (ds : List Decision) (ss : List Stochastic) (k : ℕ) → AreStated ds ss k → length (scenarios ss) ≤ 16384
-    → length ds * length (scenarios ss) ≤ 1048576 → IsFilled (canonical ds ss)
+canonical_filled : (ds : List Decision) (ss : List Stochastic) (k : ℕ) → AreStated ds ss k → length (scenarios ss) ≤ usual_limits.scenarios
+    → length ds * length (scenarios ss) ≤ usual_limits.copies → IsFilled (canonical ds ss)
 canonical_filled ds ss k stated few copies =
     record {
       few = omega (arith, many ss, few);
@@ -193,18 +194,18 @@ made_is ds ss tree made =
 pub tree_is : (ds : List Decision) (ss : List Stochastic) (k : ℕ) (tree : Layout) → AreStated ds ss k → AreMade ds ss tree → IsTreeOf ds ss tree
 tree_is ds ss k tree stated made = subst (IsTreeOf ds ss) (made_is ds ss tree made) (canonical_is ds ss k stated)
 
-fewer : (n m k count : ℕ) → k ≡ n + m → k * count ≤ 1048576 → n * count ≤ 1048576
+fewer : (n m k count : ℕ) → k ≡ n + m → k * count ≤ usual_limits.copies → n * count ≤ usual_limits.copies
 fewer n m k count is few =
     let below : n ≤ k = omega (arith, is) in
     let all : n * count ≤ k * count = mul-le-mul_right count below in
     omega (arith, all, few)
 
-pub copies_of : (ds : List Decision) (ss : List Stochastic) (k n : ℕ) → n ≡ length ds + (length ss + k) → n * length (scenarios ss) ≤ 1048576
-    → length ds * length (scenarios ss) ≤ 1048576
+pub copies_of : (ds : List Decision) (ss : List Stochastic) (k n : ℕ) → n ≡ length ds + (length ss + k) → n * length (scenarios ss) ≤ usual_limits.copies
+    → length ds * length (scenarios ss) ≤ usual_limits.copies
 copies_of ds ss k n is few = fewer (length ds) (length ss + k) n (length (scenarios ss)) is few
 
-pub tree_filled : (ds : List Decision) (ss : List Stochastic) (k n : ℕ) (tree : Layout) → AreStated ds ss k → length (scenarios ss) ≤ 16384
-    → n ≡ length ds + (length ss + k) → n * length (scenarios ss) ≤ 1048576 → AreMade ds ss tree → IsFilled tree
+pub tree_filled : (ds : List Decision) (ss : List Stochastic) (k n : ℕ) (tree : Layout) → AreStated ds ss k → length (scenarios ss) ≤ usual_limits.scenarios
+    → n ≡ length ds + (length ss + k) → n * length (scenarios ss) ≤ usual_limits.copies → AreMade ds ss tree → IsFilled tree
 tree_filled ds ss k n tree stated few is copies made =
     subst IsFilled (made_is ds ss tree made) (canonical_filled ds ss k stated few (copies_of ds ss k n is copies))
 
@@ -221,5 +222,5 @@ stages_24 ss stages is = ap length is ∙ stages_long ss
 pub weights_many : (ss : List Stochastic) (weights : List ℤ) → weights ≡ map weight_in (level_at ss (length ss)) → length weights ≡ length (scenarios ss)
 weights_many ss weights is = ap length is ∙ (length-map (level_at ss (length ss)) weight_in ∙ last_long ss)
 
-pub few_below : (n count : ℕ) → n ≤ count → count ≤ 16384 → n < 2 ^ 32
+pub few_below : (n count : ℕ) → n ≤ count → count ≤ usual_limits.scenarios → n < 2 ^ 32
 few_below n count one two = omega (arith, one, two)

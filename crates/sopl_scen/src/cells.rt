@@ -3,7 +3,8 @@
 ghost use Rattle.std.specs.Prelude.{◌≡◌, ◌≤◌, ◌<◌, ◌+◌, ◌-◌, ◌*◌, ◌^◌, ◌≤ℤ◌, ◌<ℤ◌, pos, length, get_or, ℕ, [], ◌∷◌, ◌++◌, Some, None, IfOk, IfErr, OnOk};
 ghost use Rattle.std.specs.Int.{int_gap};
 ghost use Rattle.std.specs.List.{AllByRecursion, sum_by};
-ghost use Rattle.sopl_ast.specs.Limits.{first_above};
+ghost use Rattle.sopl_base.specs.declared.codes.TheConstants as codes;
+ghost use Rattle.sopl_ast.specs.Limits.{first_above, usual_limits};
 ghost use Rattle.sopl_ast.specs.Numbers.{binary_digits};
 ghost use Rattle.unfold_laws.specs.Bounds.{IsBoundedDecision, IsStage};
 ghost use Rattle.sopl_scen.specs.Stages.{bit_count, cell_count, count_at, places_from};
@@ -39,7 +40,7 @@ impl Cells {
         requires staged { length stages.now ≡ 24 }
         requires bounded { AllByRecursion IsBoundedDecision decisions.now }
         requires fewer { (stage : ℕ) → IsStage stage → count_at stages.now stage ≤ most }
-        requires few { length decisions.now * most ≤ 1048576 }
+        requires few { length decisions.now * most ≤ usual_limits.copies }
         ensures places { IfOk result (λ cells. cells.places.items ≡ places_from 0 stages.now decisions.now) }
         ensures total { IfOk result (λ cells. cells.total ≡ sum_by (cell_count stages.now) decisions.now) }
     {
@@ -77,8 +78,8 @@ pub(crate) fn bits_of_all(decisions: &[DecisionItem], stages: &[Stage]) -> Resul
     requires bounded { AllByRecursion IsBoundedDecision decisions.now }
     requires fewer { (stage : ℕ) → IsStage stage → count_at stages.now stage < 2 ^ 32 }
     requires few { length decisions.now < 2 ^ 32 }
-    ensures ok { IfOk result (λ n. first_above 204 1024 (pos (sum_by (bit_count stages.now) decisions.now) ∷ []) ≡ None) }
-    ensures err { IfErr result (λ e. first_above 204 1024 (pos (sum_by (bit_count stages.now) decisions.now) ∷ []) ≡ Some e) }
+    ensures ok { IfOk result (λ n. first_above codes.BITS usual_limits.bits (pos (sum_by (bit_count stages.now) decisions.now) ∷ []) ≡ None) }
+    ensures err { IfErr result (λ e. first_above codes.BITS usual_limits.bits (pos (sum_by (bit_count stages.now) decisions.now) ∷ []) ≡ Some e) }
 {
     let mut total = Wide::of(0);
     'decisions: for decision in decisions {

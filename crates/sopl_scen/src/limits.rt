@@ -1,8 +1,10 @@
 //! The limits on the scenarios of stochastic variables, before anything is built.
 
-ghost use Rattle.std.specs.Prelude.{◌≡◌, ◌≤◌, ◌*◌, ◌+◌, ◌^◌, ◌≤ℤ◌, pos, ◌*ℤ◌, length, [], ◌∷◌, Some, None, IfOk, IfErr};
+ghost use Rattle.std.specs.Prelude.{◌≡◌, ◌≤◌, ◌*◌, ◌+◌, ◌≤ℤ◌, pos, ◌*ℤ◌, length, [], ◌∷◌, Some, None, IfOk, IfErr};
 ghost use Rattle.std.specs.List.{AllByRecursion};
-ghost use Rattle.sopl_ast.specs.Limits.{first_above};
+ghost use Rattle.sopl_base.specs.declared.codes.TheConstants as codes;
+ghost use Rattle.sopl_base.specs.declared.limits.TheConstants as largest;
+ghost use Rattle.sopl_ast.specs.Limits.{first_above, usual_limits};
 ghost use Rattle.sopl_ast.specs.Scenarios.{scenarios, total_weight};
 ghost use Rattle.scen_laws.specs.Laws.{HasOutcome, count_factor, first_passed, product_of, weight_factor};
 ghost use Rattle.unfold_laws.specs.Bounds.{IsBoundedStochastic};
@@ -35,10 +37,10 @@ fn count_of(stoch: &StochItem) -> Wide
 pub(crate) fn weight_of_all(stochs: &[StochItem]) -> Result<Wide, Excess>
     requires has_outcomes { AllByRecursion HasOutcome stochs.now }
     requires bounded { AllByRecursion IsBoundedStochastic stochs.now }
-    ensures ok { IfOk result (λ total. first_passed 201 (2 ^ 100) weight_factor (pos 1) stochs.now ≡ None) }
+    ensures ok { IfOk result (λ total. first_passed codes.WEIGHT usual_limits.weight weight_factor (pos 1) stochs.now ≡ None) }
     ensures total { IfOk result (λ total. total.value ≡ product_of weight_factor stochs.now) }
-    ensures few { IfOk result (λ total. total.value ≤ℤ pos (2 ^ 100)) }
-    ensures err { IfErr result (λ e. first_passed 201 (2 ^ 100) weight_factor (pos 1) stochs.now ≡ Some e) }
+    ensures few { IfOk result (λ total. total.value ≤ℤ largest.WEIGHT) }
+    ensures err { IfErr result (λ e. first_passed codes.WEIGHT usual_limits.weight weight_factor (pos 1) stochs.now ≡ Some e) }
 {
     let mut product = Wide::of(1);
     'stochs: for stoch in stochs {
@@ -51,10 +53,10 @@ pub(crate) fn weight_of_all(stochs: &[StochItem]) -> Result<Wide, Excess>
 /// How many scenarios there are, or the first running product of numbers of outcomes that passes its limit.
 pub(crate) fn count_of_all(stochs: &[StochItem]) -> Result<Wide, Excess>
     requires has_outcomes { AllByRecursion HasOutcome stochs.now }
-    ensures ok { IfOk result (λ count. first_passed 202 16384 count_factor (pos 1) stochs.now ≡ None) }
+    ensures ok { IfOk result (λ count. first_passed codes.SCENARIOS usual_limits.scenarios count_factor (pos 1) stochs.now ≡ None) }
     ensures count { IfOk result (λ count. count.value ≡ product_of count_factor stochs.now) }
-    ensures few { IfOk result (λ count. count.value ≤ℤ pos 16384) }
-    ensures err { IfErr result (λ e. first_passed 202 16384 count_factor (pos 1) stochs.now ≡ Some e) }
+    ensures few { IfOk result (λ count. count.value ≤ℤ pos usual_limits.scenarios) }
+    ensures err { IfErr result (λ e. first_passed codes.SCENARIOS usual_limits.scenarios count_factor (pos 1) stochs.now ≡ Some e) }
 {
     let mut product = Wide::of(1);
     'stochs: for stoch in stochs {
@@ -67,9 +69,9 @@ pub(crate) fn count_of_all(stochs: &[StochItem]) -> Result<Wide, Excess>
 /// Instances times scenarios, or the limit that they pass.
 pub(crate) fn copies(instances: usize, scenarios: Wide) -> Result<Wide, Excess>
     requires some { pos 0 ≤ℤ scenarios.value }
-    ensures ok { IfOk result (λ n. first_above 209 1048576 ((pos instances *ℤ scenarios.value) ∷ []) ≡ None) }
-    ensures few { IfOk result (λ n. (pos instances *ℤ scenarios.value) ≤ℤ pos 1048576) }
-    ensures err { IfErr result (λ e. first_above 209 1048576 ((pos instances *ℤ scenarios.value) ∷ []) ≡ Some e) }
+    ensures ok { IfOk result (λ n. first_above codes.COPIES usual_limits.copies ((pos instances *ℤ scenarios.value) ∷ []) ≡ None) }
+    ensures few { IfOk result (λ n. (pos instances *ℤ scenarios.value) ≤ℤ pos usual_limits.copies) }
+    ensures err { IfErr result (λ e. first_above codes.COPIES usual_limits.copies ((pos instances *ℤ scenarios.value) ∷ []) ≡ Some e) }
 {
     let instances = Wide {
         value: instances as i128,
@@ -91,10 +93,10 @@ impl Sizes {
         requires bounded { AllByRecursion IsBoundedStochastic stochs.now }
         ensures ok { IfOk result (λ sizes. early_excess instances stochs.now ≡ None) }
         ensures total { IfOk result (λ sizes. sizes.total.value ≡ total_weight stochs.now) }
-        ensures light { IfOk result (λ sizes. sizes.total.value ≤ℤ pos (2 ^ 100)) }
+        ensures light { IfOk result (λ sizes. sizes.total.value ≤ℤ largest.WEIGHT) }
         ensures count { IfOk result (λ sizes. sizes.count.value ≡ pos (length (scenarios stochs.now))) }
-        ensures few { IfOk result (λ sizes. length (scenarios stochs.now) ≤ 16384) }
-        ensures copies { IfOk result (λ sizes. instances * length (scenarios stochs.now) ≤ 1048576) }
+        ensures few { IfOk result (λ sizes. length (scenarios stochs.now) ≤ usual_limits.scenarios) }
+        ensures copies { IfOk result (λ sizes. instances * length (scenarios stochs.now) ≤ usual_limits.copies) }
         ensures err { IfErr result (λ e. early_excess instances stochs.now ≡ Some e) }
     {
         let total = weight_of_all(stochs)?;

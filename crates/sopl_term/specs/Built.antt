@@ -1,5 +1,5 @@
 -- What the calls of a builder do.
-use Rattle.std.specs.Prelude.{◌≡◌, ◌≤◌, ◌-◌, ◌^◌, ◌≤ℤ◌, ℕ, ℤ, pos, negsuc, Bool, List, [], ◌∷◌, ◌++◌, length, map, Option, None, Some, Result}
+use Rattle.std.specs.Prelude.{◌≡◌, ◌≤◌, ◌-◌, ◌≤ℤ◌, ℕ, ℤ, pos, negsuc, Bool, List, [], ◌∷◌, ◌++◌, length, map, Option, None, Some, Result}
 use Rattle.std.specs.List.{range_with_len}
 use Rattle.term_language.specs.Terms as rule
 use Rattle.sopl_base.specs.declared.interval.Interval.{Interval}
@@ -17,6 +17,7 @@ use Rattle.box_problem.specs.Box.{Box}
 use Rattle.term_program.specs.Drafts.{IsDraft, draft_problem, draft_root, draft_things}
 use Rattle.std.specs.declared.alloc.AllocError.{AllocError}
 use Rattle.sopl_base.specs.declared.fault.Fault.{Fault}
+use Rattle.sopl_base.specs.declared.limits.TheConstants as largest
 use Rattle.term_store.specs.Additions.{AddsCond, AddsTable, AddsTerm, MayAddCond, MayAddTerm, new_cond, new_term}
 use Rattle.term_store.specs.declared.additions.NewCond.{NewCond}
 use Rattle.term_store.specs.declared.additions.NewTerm.{NewTerm}
@@ -45,8 +46,8 @@ IsBuilding b = IsDraft b.draft
 
 -- the ends of a cell's interval lie within 2^40
 pub record IsNear (i : Interval) : Type 0 where
-  pub low : negsuc (2 ^ 40 - 1) ≤ℤ i.lo
-  pub high : i.hi ≤ℤ pos (2 ^ 40)
+  pub low : negsuc (largest.TERM_SIZE - 1) ≤ℤ i.lo
+  pub high : i.hi ≤ℤ pos largest.TERM_SIZE
 
 -- so many cells as terms
 abbrev pub cell_terms : ℕ → List Thing

@@ -2,6 +2,7 @@
 
 ghost use Rattle.std.specs.Prelude.{◌≡◌, ◌<◌, ◌≤◌, ◌≤ℤ◌, ◌^◌, [], None, pos, length, IfOk};
 ghost use Rattle.std.specs.List.{AllByRecursion};
+ghost use Rattle.sopl_base.specs.declared.limits.TheConstants as largest;
 ghost use Rattle.box_problem.specs.Box.{box_of};
 ghost use Rattle.term_language.specs.Globals.{total};
 ghost use Rattle.sopl_term.specs.Built.{IsBuilding, IsNear, asked_direction, asked_worst, built, cell_terms, problem_built, root_built};
@@ -36,7 +37,7 @@ impl Builder {
         requires first { 1 ≤ length weights.now }
         requires few_scenarios { length weights.now < 2 ^ 32 }
         requires weighs { AllByRecursion (λ weight. pos 1 ≤ℤ weight) weights.now }
-        requires light { total weights.now ≤ℤ pos (2 ^ 100) }
+        requires light { total weights.now ≤ℤ largest.WEIGHT }
         ensures building { IfOk result (λ builder. IsBuilding builder) }
         ensures root { IfOk result (λ builder. root_built builder ≡ box_of roots.now) }
         ensures things { IfOk result (λ builder. built builder ≡ cell_terms (length roots.now)) }

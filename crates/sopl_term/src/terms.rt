@@ -1,9 +1,10 @@
 //! Terms are added.
 
-ghost use Rattle.std.specs.Prelude.{◌≡◌, ◌<◌, ◌≤◌, ◌^◌, length};
+ghost use Rattle.std.specs.Prelude.{◌≡◌, ◌<◌, ◌≤◌, length};
 ghost use Rattle.term_language.specs.Terms as term;
 ghost use Rattle.term_language.specs.Sizes as sizes;
 ghost use Rattle.sopl_base.specs.declared.extreme.Extreme.TheVariants as which;
+ghost use Rattle.sopl_base.specs.declared.limits.TheConstants as largest;
 ghost use Rattle.term_language.specs.declared.made.Operation.TheVariants as made;
 ghost use Rattle.term_nodes.specs.Things.{a_term, thing_at};
 ghost use Rattle.term_store.specs.declared.additions.NewTerm.TheVariants as new;
@@ -47,7 +48,7 @@ impl Builder {
         requires exists { cell < length (root_built self.now).lows }
         ensures exists { result.0 < length (built self.now) }
         ensures is { thing_at (built self.now) result.0 ≡ a_term (term.Cell cell) }
-        ensures small { sizes.size (root_built self.now) (term.Cell cell) ≤ 2 ^ 40 }
+        ensures small { sizes.size (root_built self.now) (term.Cell cell) ≤ largest.TERM_SIZE }
     {
         TermId(self.draft.nodes[cell as usize])
     }

@@ -4,6 +4,7 @@ use Rattle.std.proofs.Common.{Option, None, Some, rules, arith}
 use Rattle.std.proofs.lemmas.Grind.{common_steps}
 use Rattle.std.proofs.lemmas.List.{at_drop_more, at_drop_all}
 use Rattle.sopl_base.specs.declared.fault.Refusal.{Refusal}
+use Rattle.sopl_base.specs.declared.codes.TheConstants as codes
 use Rattle.sopl_ast.specs.declared.inits.Init.{Init}
 use Rattle.sopl_ast.specs.Inits.{init_tree}
 use Rattle.sopl_ast.specs.Tree.{place_of}
@@ -32,11 +33,11 @@ less_right dims depth (Some (suc left)) h = omega arith
 
 mutual
   left_right : (dims depth : ℕ) (left : Option ℕ) → 0 < depth → IsLeft dims depth left → (x : InitTree) → wrong_left left x ≡ wrong_depths dims depth x
-  left_right dims depth left inside h (One e) = ap (λ b. mistake_unless b 108 (place_of e)) (full_right dims depth left inside h)
+  left_right dims depth left inside h (One e) = ap (λ b. mistake_unless b codes.DIMENSIONS (place_of e)) (full_right dims depth left inside h)
   left_right dims depth left inside h (Many at xs) = many_right dims depth left h at xs
 
   many_right : (dims depth : ℕ) (left : Option ℕ) → IsLeft dims depth left → (at : ℕ) (xs : InitTrees) → wrong_left left (Many at xs) ≡ wrong_depths dims depth (Many at xs)
-  many_right dims depth left h at no_init = ap (λ b. mistake_unless b 108 at) (room_right dims depth left h)
+  many_right dims depth left h at no_init = ap (λ b. mistake_unless b codes.DIMENSIONS at) (room_right dims depth left h)
   many_right dims depth left h at (init x xs) =
       let less = less_right dims depth left h in
       (λ i. left_right dims (depth + 1) (one_less left) (omega arith) less x i ++ parts_right dims (depth + 1) (one_less left) (omega arith) less xs i)
@@ -55,7 +56,7 @@ less_one zero h = absurd (omega arith)
 less_one (suc left) h = ap Some (omega arith)
 
 -- a bracket with nothing in it
-pub empty_many : (left : Option ℕ) (at : ℕ) (xs : List InitTree) → length xs ≡ 0 → wrong_left left (Many at (inits xs)) ≡ mistake_unless (has_room left) 108 at
+pub empty_many : (left : Option ℕ) (at : ℕ) (xs : List InitTree) → length xs ≡ 0 → wrong_left left (Many at (inits xs)) ≡ mistake_unless (has_room left) codes.DIMENSIONS at
 empty_many left at [] h = refl
 empty_many left at (x ∷ xs) h = absurd (omega arith)
 

@@ -1,6 +1,7 @@
 -- Initial values whose expressions stand in a wrong number of brackets, told by how many brackets may follow.
 use Rattle.std.specs.Prelude.{ℕ, zero, suc, Bool, false, nat_eq, nat_lt, List, [], ◌++◌, Option, None, Some}
 use Rattle.sopl_base.specs.declared.fault.Refusal.{Refusal}
+use Rattle.sopl_base.specs.declared.codes.TheConstants as codes
 use Rattle.sopl_ast.specs.Tree.{place_of}
 use Rattle.sopl_ast.specs.Whole.{InitTree, InitTrees, One, Many, no_init, init}
 use Rattle.sopl_ast.specs.Mistakes.{mistake_unless}
@@ -24,8 +25,8 @@ one_less (Some (suc left)) = Some left
 abbrev mutual
   -- what stands in a wrong number of brackets
   pub wrong_left : Option ℕ → InitTree → List Refusal
-  wrong_left left (One e) = mistake_unless (is_full left) 108 (place_of e)
-  wrong_left left (Many at no_init) = mistake_unless (has_room left) 108 at
+  wrong_left left (One e) = mistake_unless (is_full left) codes.DIMENSIONS (place_of e)
+  wrong_left left (Many at no_init) = mistake_unless (has_room left) codes.DIMENSIONS at
   wrong_left left (Many at (init x xs)) = wrong_left (one_less left) x ++ wrong_left_parts (one_less left) xs
 
   pub wrong_left_parts : Option ℕ → InitTrees → List Refusal

@@ -6,6 +6,8 @@ use Rattle.std.specs.List.{AllByRecursion}
 use Rattle.std.specs.Option.{option_map_or}
 use Rattle.sopl_base.specs.declared.fault.Fault.{Fault}
 use Rattle.sopl_base.specs.declared.fault.Fault.TheVariants.{Limit, NoMemory}
+use Rattle.sopl_base.specs.declared.codes.TheConstants as codes
+use Rattle.sopl_base.specs.declared.limits.TheConstants as largest
 use Rattle.box_problem.specs.Box.{Box, Inside}
 use Rattle.term_language.specs.Ends.{Ends, exactly, plus, scaled}
 use Rattle.term_language.specs.Globals.{total}
@@ -112,7 +114,7 @@ pub record IsWeighted (root : Box) (all : List Thing) (weights : List ℤ) (g : 
 -- weights of scenarios: each is at least 1, and together they are at most 2^100
 pub record AreWeights (weights : List ℤ) : Type 0 where
   pub each : AllByRecursion (λ weight. pos 1 ≤ℤ weight) weights
-  pub most : total weights ≤ℤ pos (2 ^ 100)
+  pub most : total weights ≤ℤ largest.WEIGHT
 
 -- the size of an expected objective: the weight of all scenarios, times one more than the greatest size of its terms
 abbrev pub goal_size : Box → List ℤ → List Term → ℤ
@@ -120,10 +122,10 @@ goal_size root weights terms = total weights *ℤ pos (greatest_size root terms 
 
 -- the refusal of an objective of this size, which is given as the number of 128 bits that is nearest to it
 abbrev pub too_large : ℤ → Fault
-too_large size = Limit (record { code = 207; counted = saturate_signed w128 size; limit = pos (2 ^ 126) })
+too_large size = Limit (record { code = codes.TERM_SIZE; counted = saturate_signed w128 size; limit = largest.GOAL_SIZE })
 
 -- an expected objective is there only with a size of at most 2^126; it is refused for a greater one, or memory runs out
 abbrev pub IsMeasured : {A : Type 0} → Bool → ℤ → Result A Fault → Type 0
-IsMeasured worst size (Ok x) = worst ≡ false → size ≤ℤ pos (2 ^ 126)
+IsMeasured worst size (Ok x) = worst ≡ false → size ≤ℤ largest.GOAL_SIZE
 IsMeasured worst size (Err fault) =
-    (fault ≡ NoMemory) ⊎ ((worst ≡ false) × (fault ≡ too_large size) × (pos (2 ^ 126) <ℤ size))
+    (fault ≡ NoMemory) ⊎ ((worst ≡ false) × (fault ≡ too_large size) × (largest.GOAL_SIZE <ℤ size))

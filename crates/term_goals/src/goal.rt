@@ -1,6 +1,7 @@
 //! Objectives as they are kept.
 
-ghost use Rattle.std.specs.Prelude.{◌≡◌, ◌≤◌, ◌^◌, ◌≤ℤ◌, false, pos, length, List, ℤ, IfOk, IfSome};
+ghost use Rattle.std.specs.Prelude.{◌≡◌, ◌≤◌, ◌≤ℤ◌, false, pos, length, List, ℤ, IfOk, IfSome};
+ghost use Rattle.sopl_base.specs.declared.limits.TheConstants as largest;
 ghost use Rattle.term_language.specs.Ends as ends;
 ghost use Rattle.box_problem.specs.Box.{Box, Inside};
 ghost use Rattle.term_problem.specs.Objective.{expected_ends, expected_form, goal_ends_of, worse_ends, worst_ends};
@@ -47,7 +48,7 @@ impl<'a> Objective<'a> {
         requires exist { AllBelow (length here.now.items.now) self.now.terms.now }
         requires each { length self.now.terms.now ≡ length self.now.weights.now }
         requires weights { AreWeights self.now.weights.now }
-        requires small { goal_size (box_in here.now.root) self.now.weights.now (terms_of (things here.now.items.now) self.now.terms.now) ≤ℤ pos (2 ^ 126) }
+        requires small { goal_size (box_in here.now.root) self.now.weights.now (terms_of (things here.now.items.now) self.now.terms.now) ≤ℤ largest.GOAL_SIZE }
         ensures { IfOk result (λ sum. combination_of sum ≡ expected_form (box_in here.now.root) self.now.weights.now (terms_of (things here.now.items.now) self.now.terms.now)) }
     {
         let mut sum = Combination::new(alloc);
@@ -84,7 +85,7 @@ impl<'a> Objective<'a> {
         requires exist { AllBelow (length here.now.items.now) self.now.terms.now }
         requires each { length self.now.terms.now ≡ length self.now.weights.now }
         requires weights { AreWeights self.now.weights.now }
-        requires small { goal_size (box_in here.now.root) self.now.weights.now (terms_of (things here.now.items.now) self.now.terms.now) ≤ℤ pos (2 ^ 126) }
+        requires small { goal_size (box_in here.now.root) self.now.weights.now (terms_of (things here.now.items.now) self.now.terms.now) ≤ℤ largest.GOAL_SIZE }
         ensures { IfOk result (λ summed. IsSummed (box_in here.now.root) (things here.now.items.now) self.now.weights.now self.now.terms.now summed) }
     {
         let sum = self.form(alloc, here)?;

@@ -1,5 +1,6 @@
 -- What is known of each node, and that it is right.
-use Rattle.std.specs.Prelude.{◌≡◌, ℕ, ◌<◌, ◌≤◌, ◌^◌, pos, negsuc, List, [], ◌∷◌, length, get_or}
+use Rattle.std.specs.Prelude.{◌≡◌, ℕ, ◌<◌, ◌≤◌, pos, negsuc, List, [], ◌∷◌, length, get_or}
+use Rattle.sopl_base.specs.declared.limits.TheConstants as largest
 use Rattle.box_problem.specs.Box.{Box}
 use Rattle.term_language.specs.Ends as ends
 use Rattle.term_language.specs.Forms as forms
@@ -76,7 +77,7 @@ kept f = record {
 -- a term with a size of at most 2^40
 pub record IsSoundTerm (root : Box) (t : Term) : Type 0 where
   pub proper : IsProper t
-  pub small : size root t ≤ 2 ^ 40
+  pub small : size root t ≤ largest.TERM_SIZE
 
 pub record IsSound (root : Box) (thing : Thing) : Type 0 where
   pub term : IsSoundTerm root (term_in thing)

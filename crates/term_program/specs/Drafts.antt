@@ -1,6 +1,7 @@
 -- Which problem in terms is being made, before its objective is known.
 use Rattle.std.specs.Prelude.{◌≡◌, ◌<◌, ◌^◌, ℕ, pos, ◌≤ℤ◌, List, length, map, None, false}
 use Rattle.std.specs.List.{AllByRecursion}
+use Rattle.sopl_base.specs.declared.limits.TheConstants as largest
 use Rattle.box_problem.specs.Box.{Box, Inside}
 use Rattle.box_problem.specs.Near.{IsNearBox}
 use Rattle.term_language.specs.Ends.{exactly, plus}
@@ -60,7 +61,7 @@ pub record IsDraft (d : Draft) : Type 0 where
   pub near : IsNearBox (draft_root d)
   pub nodes : AreCells (draft_root d) (draft_things d) d.nodes.items
   pub problem : IsProblem (draft_problem d)
-  pub light : d.whole ≤ℤ pos (2 ^ 100)
+  pub light : d.whole ≤ℤ largest.WEIGHT
   pub few_scenarios : length d.weights.items < 2 ^ 32
   pub few_hards : length d.hards.items < 2 ^ 32
   pub few_chances : length d.chances.items < 2 ^ 32

@@ -2,6 +2,8 @@
 use Rattle.std.specs.Prelude.{◌≡◌, ◌⊎◌, ◌<◌, ◌≤◌, ◌^◌, pos, ℕ, Result, Ok, Err, List, [], ◌∷◌, ◌++◌, length}
 use Rattle.sopl_base.specs.declared.fault.Fault.{Fault}
 use Rattle.sopl_base.specs.declared.fault.Fault.TheVariants.{Limit, NoMemory}
+use Rattle.sopl_base.specs.declared.codes.TheConstants as codes
+use Rattle.sopl_base.specs.declared.limits.TheConstants as largest
 use Rattle.box_problem.specs.Box.{Box, IsBox}
 use Rattle.term_store.specs.declared.store.TermStore.{TermStore}
 use Rattle.term_nodes.specs.Things.{Thing, things}
@@ -27,9 +29,9 @@ pub record IsAdded (before after : List Thing) (id : ℕ) (thing : Thing) : Type
 
 -- the refusal of a term of this size
 abbrev pub too_large : ℕ → Fault
-too_large size = Limit (record { code = 207; counted = pos size; limit = pos (2 ^ 40) })
+too_large size = Limit (record { code = codes.TERM_SIZE; counted = pos size; limit = pos largest.TERM_SIZE })
 
 -- a term is there only with a size of at most 2^40; it is refused for a greater one, or memory runs out
 abbrev pub IsMeasured : {A : Type 0} → ℕ → Result A Fault → Type 0
-IsMeasured size (Ok x) = size ≤ 2 ^ 40
+IsMeasured size (Ok x) = size ≤ largest.TERM_SIZE
 IsMeasured size (Err fault) = (fault ≡ NoMemory) ⊎ ((fault ≡ too_large size) × (2 ^ 40 < size))

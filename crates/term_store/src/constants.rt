@@ -1,6 +1,7 @@
 //! Constants that were added before: equal ones are one node.
 
-ghost use Rattle.std.specs.Prelude.{◌≡◌, ◌≤◌, ◌^◌, true, IfSome};
+ghost use Rattle.std.specs.Prelude.{◌≡◌, ◌≤◌, true, IfSome};
+ghost use Rattle.sopl_base.specs.declared.limits.TheConstants as largest;
 ghost use Rattle.term_language.specs.Sizes.{size};
 ghost use Rattle.term_language.specs.Terms.{Constant};
 ghost use Rattle.term_nodes.specs.Things.{a_term};
@@ -29,7 +30,7 @@ impl TermStore {
     fn constant_known(&self, value: &i64) -> Option<TermId>
         requires sound { IsSoundStore self.now }
         ensures stands { IfSome result (λ id. Stands (all self.now) id.0 (a_term (Constant value.now))) }
-        ensures small { IfSome result (λ id. size (root_of self.now) (Constant value.now) ≤ 2 ^ 40) }
+        ensures small { IfSome result (λ id. size (root_of self.now) (Constant value.now) ≤ largest.TERM_SIZE) }
     {
         let id = *self.constants.get(value)?;
         let item = item_at(self.items.as_slice(), id)?;
@@ -43,7 +44,7 @@ impl TermStore {
     pub(crate) fn standing(&self, new: &NewTerm<'_>) -> Option<TermId>
         requires sound { IsSoundStore self.now }
         ensures stands { IfSome result (λ id. Stands (all self.now) id.0 (a_term (new_term (all self.now) new.now))) }
-        ensures small { IfSome result (λ id. size (root_of self.now) (new_term (all self.now) new.now) ≤ 2 ^ 40) }
+        ensures small { IfSome result (λ id. size (root_of self.now) (new_term (all self.now) new.now) ≤ largest.TERM_SIZE) }
     {
         match new {
             NewTerm::Constant(value) => self.constant_known(value),

@@ -1,6 +1,7 @@
 //! What is known of products.
 
-ghost use Rattle.std.specs.Prelude.{◌≡◌, ◌<◌, ◌≤◌, ◌^◌, length, IfOk};
+ghost use Rattle.std.specs.Prelude.{◌≡◌, ◌<◌, ◌≤◌, length, IfOk};
+ghost use Rattle.sopl_base.specs.declared.limits.TheConstants as largest;
 ghost use Rattle.term_language.specs.Forms as forms;
 ghost use Rattle.term_language.specs.Rules as rule;
 ghost use Rattle.term_language.specs.Sizes as sizes;
@@ -85,7 +86,7 @@ impl TermStore {
         requires left { a < length self.now.items.items }
         requires right { b < length self.now.items.items }
         requires form { form_of form ≡ forms.product_form (rule.form (root_of self.now) (term_at (all self.now) a)) (rule.form (root_of self.now) (term_at (all self.now) b)) }
-        requires small { sizes.size (root_of self.now) (term.Product (term_at (all self.now) a) (term_at (all self.now) b)) ≤ 2 ^ 40 }
+        requires small { sizes.size (root_of self.now) (term.Product (term_at (all self.now) a) (term_at (all self.now) b)) ≤ largest.TERM_SIZE }
         ensures { kept result ≡ facts_of (root_of self.now) (a_term (term.Product (term_at (all self.now) a) (term_at (all self.now) b))) }
     {
         let left = self.wide_known(a);

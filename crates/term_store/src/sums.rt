@@ -1,6 +1,7 @@
 //! What is known of sums.
 
-ghost use Rattle.std.specs.Prelude.{◌≡◌, ◌<◌, ◌≤◌, ◌^◌, length, IfOk};
+ghost use Rattle.std.specs.Prelude.{◌≡◌, ◌<◌, ◌≤◌, length, IfOk};
+ghost use Rattle.sopl_base.specs.declared.limits.TheConstants as largest;
 ghost use Rattle.term_language.specs.Rules as rule;
 ghost use Rattle.term_language.specs.Sizes as sizes;
 ghost use Rattle.term_language.specs.Terms as term;
@@ -110,7 +111,7 @@ impl TermStore {
         requires sound { IsSoundStore self.now }
         requires exist { PartsBelow (length self.now.items.items) parts.now }
         requires form { form_of form ≡ rule.sum_form (root_of self.now) (parts_at (all self.now) parts.now) }
-        requires small { sizes.size (root_of self.now) (term.Sum (parts_at (all self.now) parts.now)) ≤ 2 ^ 40 }
+        requires small { sizes.size (root_of self.now) (term.Sum (parts_at (all self.now) parts.now)) ≤ largest.TERM_SIZE }
         ensures { kept result ≡ facts_of (root_of self.now) (a_term (term.Sum (parts_at (all self.now) parts.now))) }
     {
         let wide = self.sum_wide(parts);

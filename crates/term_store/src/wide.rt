@@ -1,6 +1,7 @@
 //! What terms and conditions are over the root box by the wide reading.
 
-ghost use Rattle.std.specs.Prelude.{◌≡◌, ◌<◌, ◌≤◌, ◌^◌, length};
+ghost use Rattle.std.specs.Prelude.{◌≡◌, ◌<◌, ◌≤◌, length};
+ghost use Rattle.sopl_base.specs.declared.limits.TheConstants as largest;
 ghost use Rattle.term_language.specs.Marks as marks;
 ghost use Rattle.term_language.specs.Rules as rule;
 ghost use Rattle.term_language.specs.Sizes.{size};
@@ -79,7 +80,7 @@ impl TermStore {
     pub(crate) fn sum_wide(&self, parts: &[Signed]) -> AbstractValue
         requires sound { IsSoundStore self.now }
         requires exist { PartsBelow (length self.now.items.items) parts.now }
-        requires small { size (root_of self.now) (term.Sum (parts_at (all self.now) parts.now)) ≤ 2 ^ 40 }
+        requires small { size (root_of self.now) (term.Sum (parts_at (all self.now) parts.now)) ≤ largest.TERM_SIZE }
         ensures { sight_of result ≡ sum_sight rule.Wide (root_of self.now) (root_of self.now) (parts_at (all self.now) parts.now) }
     {
         self.wide().sum(self.nodes(), parts)

@@ -5,6 +5,7 @@ use Rattle.std.specs.Option.{unwrap_or}
 use Rattle.sopl_base.specs.declared.fault.Fault.{Fault}
 use Rattle.sopl_base.specs.declared.fault.Fault.TheVariants as variant
 use Rattle.sopl_base.specs.declared.fault.Fault.TheVariants.{NoMemory}
+use Rattle.sopl_base.specs.declared.codes.TheConstants as codes
 use Rattle.sopl_ast.specs.Known.{Known}
 use Rattle.sopl_ast.specs.UnfoldEvents.{Counted, excess, first_failure, most_counted}
 use Rattle.unfold_constants.specs.Choosing.{OpenChoice, Among, advanced, left, remaining, entered, give_name, leave_name}
@@ -35,8 +36,8 @@ fails_on variant.NoMemory r next is = tt
 counted_one : (count behind : ℕ) → first_failure count (Counted ∷ []) ≡ Ok behind → ◌≡◌ {A = Result (Unit {0} × ℕ) Fault} (count_one count) (Ok (tt, behind))
 counted_one count behind is = on (nat_lt count most_counted) is
   where
-    on : (b : Bool) → cond b (Ok (count + 1)) (Err (variant.Limit (excess 205 (pos (most_counted + 1)) (pos most_counted)))) ≡ Ok behind
-        → ◌≡◌ {A = Result (Unit {0} × ℕ) Fault} (cond b (Ok (tt, count + 1)) (Err (variant.Limit (excess 205 (pos (most_counted + 1)) (pos most_counted))))) (Ok (tt, behind))
+    on : (b : Bool) → cond b (Ok (count + 1)) (Err (variant.Limit (excess codes.UNFOLDING (pos (most_counted + 1)) (pos most_counted)))) ≡ Ok behind
+        → ◌≡◌ {A = Result (Unit {0} × ℕ) Fault} (cond b (Ok (tt, count + 1)) (Err (variant.Limit (excess codes.UNFOLDING (pos (most_counted + 1)) (pos most_counted))))) (Ok (tt, behind))
     on true so = ap (λ (r : Result ℕ Fault). Ok (tt, unwrap_count count r)) so
     on false so = absurd (subst (λ r. T (is_err r)) so tt)
 
@@ -45,10 +46,10 @@ count_fails : (count : ℕ) (fault : Fault) → (fault ≡ NoMemory) ⊎ (first_
 count_fails count fault (inl is) = subst (λ f. Fails {B = Unit {0} × ℕ} f (count_one count)) (sym is) tt
 count_fails count fault (inr is) = on (nat_lt count most_counted) is
   where
-    on : (b : Bool) → cond b (Ok (count + 1)) (Err (variant.Limit (excess 205 (pos (most_counted + 1)) (pos most_counted)))) ≡ Err fault
-        → Fails {B = Unit {0} × ℕ} fault (cond b (Ok (tt, count + 1)) (Err (variant.Limit (excess 205 (pos (most_counted + 1)) (pos most_counted)))))
+    on : (b : Bool) → cond b (Ok (count + 1)) (Err (variant.Limit (excess codes.UNFOLDING (pos (most_counted + 1)) (pos most_counted)))) ≡ Err fault
+        → Fails {B = Unit {0} × ℕ} fault (cond b (Ok (tt, count + 1)) (Err (variant.Limit (excess codes.UNFOLDING (pos (most_counted + 1)) (pos most_counted)))))
     on true so = absurd (subst (λ r. T (is_ok r)) so tt)
-    on false so = subst (λ f. Fails {B = Unit {0} × ℕ} f (Err (variant.Limit (excess 205 (pos (most_counted + 1)) (pos most_counted))))) (ap fault_in so) refl
+    on false so = subst (λ f. Fails {B = Unit {0} × ℕ} f (Err (variant.Limit (excess codes.UNFOLDING (pos (most_counted + 1)) (pos most_counted))))) (ap fault_in so) refl
 
 -- a function answers the fault that it was given
 pub refused : {A B : Type 0} (view : A → B) (count : ℕ) (result : Result A Fault) (fault : Fault) (outcome : Result (B × ℕ) Fault) → result ≡ Err fault → Fails fault outcome

@@ -6,6 +6,7 @@ use Rattle.std.specs.Option.{unwrap_or}
 use Rattle.std.specs.List.{flat_map, list_all, list_any}
 use Rattle.sopl_base.specs.Extremes.{chosen_by}
 use Rattle.sopl_base.proofs.Options.{zero_before}
+use Rattle.sopl_base.specs.declared.codes.TheConstants as codes
 use Rattle.sopl_ast.specs.Tree as t
 use Rattle.sopl_ast.specs.Tree.{Tree, Shape, Trees, Terms, Factors, Binders, Range, Node, no_tree, tree, no_term, term, no_factor, factor, no_binder, binder, Named, Ends, place_of}
 use Rattle.sopl_ast.specs.Constants as c
@@ -84,7 +85,7 @@ ends_agree : (known : Known) (whole : Option ℕ) (lo hi : Tree)
 ends_agree known whole lo hi lower upper =
     agree_bind lower (λ a p.
     agree_bind upper (λ b q.
-    subst (λ (v : Option ℤ × Option ℤ). Agrees (checked_between a b) (too_many 208 (count_between (unwrap_or v.0 (pos 0)) (unwrap_or v.1 (pos 0)))) (both_of (λ x y. (x, y)) v.0 v.1))
+    subst (λ (v : Option ℤ × Option ℤ). Agrees (checked_between a b) (too_many codes.NUMBERS (count_between (unwrap_or v.0 (pos 0)) (unwrap_or v.1 (pos 0)))) (both_of (λ x y. (x, y)) v.0 v.1))
     (λ i. (sym p i, sym q i)) (agree_checked a b)))
 
 mutual

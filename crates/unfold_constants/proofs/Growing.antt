@@ -2,6 +2,7 @@
 use Rattle.std.proofs.Common.{◌≡◌, refl, sym, ap, subst, ◌∙◌, ℕ, ◌+◌, ◌≤◌, nat_lt, ℤ, pos, Bool, true, false, cond, List, [], ◌∷◌, Option, Result, Ok, Err, T, is_err, arith}
 use Rattle.sopl_base.specs.declared.fault.Fault.{Fault}
 use Rattle.sopl_base.specs.declared.fault.Fault.TheVariants.{Limit}
+use Rattle.sopl_base.specs.declared.codes.TheConstants as codes
 use Rattle.sopl_ast.specs.Known.{Known}
 use Rattle.sopl_ast.specs.UnfoldEvents.{UnfoldEvent, Counted, Refused, Passed, excess, first_failure, most_counted}
 use Rattle.sopl_ast.specs.Tree.{Trees, Range}
@@ -24,7 +25,7 @@ met_grows : (events : List UnfoldEvent) (count behind : ℕ) → first_failure c
 met_grows [] count behind is = omega (arith, ap (number_or count) is)
 met_grows (Counted ∷ later) count behind is = on (nat_lt count most_counted) is (met_grows later (count + 1) behind)
   where
-    on : (b : Bool) → cond b (first_failure (count + 1) later) (Err (Limit (excess 205 (pos (most_counted + 1)) (pos most_counted)))) ≡ Ok behind
+    on : (b : Bool) → cond b (first_failure (count + 1) later) (Err (Limit (excess codes.UNFOLDING (pos (most_counted + 1)) (pos most_counted)))) ≡ Ok behind
         → (first_failure (count + 1) later ≡ Ok behind → count + 1 ≤ behind) → count ≤ behind
     on true so next = omega (arith, next so)
     on false so next = absurd (subst (λ r. T (is_err r)) so tt)

@@ -3,6 +3,7 @@ use Rattle.std.proofs.Common.{◌≡◌, refl, sym, ap, subst, ℕ, ◌+◌, nat
 use Rattle.std.proofs.lemmas.List.{append_assoc}
 use Rattle.sopl_base.specs.declared.fault.Fault.{Fault}
 use Rattle.sopl_base.specs.declared.fault.Fault.TheVariants.{Limit, NoMemory}
+use Rattle.sopl_base.specs.declared.codes.TheConstants as codes
 use Rattle.sopl_ast.specs.Numbers.{count_between}
 use Rattle.sopl_ast.specs.UnfoldEvents.{UnfoldEvent, Counted, Passed, excess, first_failure, most_counted, most_numbers, no_value, too_many}
 use Rattle.unfold_laws.proofs.Passing.{behind, met_append}
@@ -73,21 +74,21 @@ counted = Some tt
 pub agree_count : Agrees count_one (Counted ∷ []) counted
 agree_count = record { at = λ count. on count (nat_lt count most_counted) }
   where
-    on : (count : ℕ) (b : Bool) → At (cond b (Ok (count + 1)) (Err (Limit (excess 205 (pos (most_counted + 1)) (pos most_counted)))))
-        (cond b (Ok (tt, count + 1)) (Err (Limit (excess 205 (pos (most_counted + 1)) (pos most_counted))))) counted
+    on : (count : ℕ) (b : Bool) → At (cond b (Ok (count + 1)) (Err (Limit (excess codes.UNFOLDING (pos (most_counted + 1)) (pos most_counted)))))
+        (cond b (Ok (tt, count + 1)) (Err (Limit (excess codes.UNFOLDING (pos (most_counted + 1)) (pos most_counted))))) counted
     on count true = (tt, refl, refl)
     on count false = refl
 
 -- 208
 abbrev too_long : ℤ → ℤ → UnfoldEvent
-too_long lo hi = Passed (excess 208 (pos (count_between lo hi)) (pos most_numbers))
+too_long lo hi = Passed (excess codes.NUMBERS (pos (count_between lo hi)) (pos most_numbers))
 
-pub agree_checked : (lo hi : ℤ) → Agrees (checked_between lo hi) (too_many 208 (count_between lo hi)) (Some (lo, hi))
+pub agree_checked : (lo hi : ℤ) → Agrees (checked_between lo hi) (too_many codes.NUMBERS (count_between lo hi)) (Some (lo, hi))
 agree_checked lo hi = record { at = λ count. on count (nat_le (count_between lo hi) most_numbers) }
   where
     on : (count : ℕ) (b : Bool)
         → At {A = ℤ × ℤ} (first_failure count (cond b [] (too_long lo hi ∷ [])))
-        (cond b (Ok ((lo, hi), count)) (Err (Limit (excess 208 (pos (count_between lo hi)) (pos most_numbers))))) (Some (lo, hi))
+        (cond b (Ok ((lo, hi), count)) (Err (Limit (excess codes.NUMBERS (pos (count_between lo hi)) (pos most_numbers))))) (Some (lo, hi))
     on count true = ((lo, hi), refl, refl)
     on count false = refl
 
@@ -97,22 +98,22 @@ fault_in other (Ok x) = other
 fault_in other (Err f) = f
 
 -- there are few numbers
-pub checked_met : (lo hi : ℤ) (count : ℕ) → first_failure count (too_many 208 (count_between lo hi)) ≡ Ok count
+pub checked_met : (lo hi : ℤ) (count : ℕ) → first_failure count (too_many codes.NUMBERS (count_between lo hi)) ≡ Ok count
     → ◌≡◌ {A = Result ((ℤ × ℤ) × ℕ) Fault} (checked_between lo hi count) (Ok ((lo, hi), count))
 checked_met lo hi count = on (nat_le (count_between lo hi) most_numbers)
   where
     on : (b : Bool) → first_failure count (cond b [] (too_long lo hi ∷ [])) ≡ Ok count
-        → ◌≡◌ {A = Result ((ℤ × ℤ) × ℕ) Fault} (cond b (Ok ((lo, hi), count)) (Err (Limit (excess 208 (pos (count_between lo hi)) (pos most_numbers))))) (Ok ((lo, hi), count))
+        → ◌≡◌ {A = Result ((ℤ × ℤ) × ℕ) Fault} (cond b (Ok ((lo, hi), count)) (Err (Limit (excess codes.NUMBERS (pos (count_between lo hi)) (pos most_numbers))))) (Ok ((lo, hi), count))
     on true is = refl
     on false is = absurd (subst (λ r. T (is_ok r)) (sym is) tt)
 
 -- there are too many
-pub checked_failed : (lo hi : ℤ) (count : ℕ) (fault : Fault) → (fault ≡ NoMemory) ⊎ (first_failure count (too_many 208 (count_between lo hi)) ≡ Err fault)
+pub checked_failed : (lo hi : ℤ) (count : ℕ) (fault : Fault) → (fault ≡ NoMemory) ⊎ (first_failure count (too_many codes.NUMBERS (count_between lo hi)) ≡ Err fault)
     → Fails {B = (ℤ × ℤ) × ℕ} fault (checked_between lo hi count)
 checked_failed lo hi count fault (inl is) = subst (λ f. Fails {B = (ℤ × ℤ) × ℕ} f (checked_between lo hi count)) (sym is) tt
 checked_failed lo hi count fault (inr is) = on (nat_le (count_between lo hi) most_numbers) is
   where
     on : (b : Bool) → first_failure count (cond b [] (too_long lo hi ∷ [])) ≡ Err fault
-        → Fails {B = (ℤ × ℤ) × ℕ} fault (cond b (Ok ((lo, hi), count)) (Err (Limit (excess 208 (pos (count_between lo hi)) (pos most_numbers)))))
+        → Fails {B = (ℤ × ℤ) × ℕ} fault (cond b (Ok ((lo, hi), count)) (Err (Limit (excess codes.NUMBERS (pos (count_between lo hi)) (pos most_numbers)))))
     on true is = absurd (subst (λ r. T (is_ok r)) is tt)
-    on false is = subst (λ f. Fails {B = (ℤ × ℤ) × ℕ} f (Err (Limit (excess 208 (pos (count_between lo hi)) (pos most_numbers))))) (ap (fault_in fault) is) refl
+    on false is = subst (λ f. Fails {B = (ℤ × ℤ) × ℕ} f (Err (Limit (excess codes.NUMBERS (pos (count_between lo hi)) (pos most_numbers))))) (ap (fault_in fault) is) refl

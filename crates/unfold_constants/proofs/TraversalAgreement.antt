@@ -2,6 +2,7 @@
 use Rattle.std.proofs.Common.{refl, sym, subst, ℕ, ℤ, pos, Bool, true, false, not, List, [], ◌∷◌, ◌++◌, Option, None, int_eq}
 use Rattle.std.specs.List.{flat_map}
 use Rattle.std.specs.Option.{unwrap_or}
+use Rattle.sopl_base.specs.declared.codes.TheConstants as codes
 use Rattle.sopl_ast.specs.declared.operators.MulOp.TheVariants.{Times, Div, Mod}
 use Rattle.sopl_ast.specs.Tree as t
 use Rattle.sopl_ast.specs.Tree.{Tree, Shape, Trees, Terms, Factors, Binders, Node, no_tree, tree, no_term, term, no_factor, factor, no_binder, binder, place_of}
@@ -34,8 +35,8 @@ meets_unless false code at = record { at = λ count. refl }
 pub meets_divisor : (known : Known) (e : Tree) → Meets (k.divisor known e) (m.divisor_events known e)
 meets_divisor known e =
     agree_bind (agree_number e known (place_of e)) (λ x is.
-    subst (λ v. Meets (k.unless (not (int_eq x (pos 0))) 110 (place_of e)) (refused_unless (not (is_zero v)) 110 (place_of e))) (sym is)
-    (meets_unless (not (int_eq x (pos 0))) 110 (place_of e)))
+    subst (λ v. Meets (k.unless (not (int_eq x (pos 0))) codes.UNDEFINED (place_of e)) (refused_unless (not (is_zero v)) codes.UNDEFINED (place_of e))) (sym is)
+    (meets_unless (not (int_eq x (pos 0))) codes.UNDEFINED (place_of e)))
 
 -- a step for each of some numbers
 pub meets_all : (next : ℤ → Step (Unit {0})) (events : ℤ → List UnfoldEvent) → ((n : ℤ) → Meets (next n) (events n))

@@ -6,6 +6,7 @@ use Rattle.std.specs.List.{list_all, list_any}
 use Rattle.sopl_base.specs.Extremes.{chosen_by}
 use Rattle.sopl_base.specs.declared.fault.Fault.{Fault}
 use Rattle.sopl_base.specs.declared.fault.Fault.TheVariants.{Text, Limit}
+use Rattle.sopl_base.specs.declared.codes.TheConstants as codes
 use Rattle.sopl_ast.specs.declared.operators.MulOp.{MulOp}
 use Rattle.sopl_ast.specs.Tree as t
 use Rattle.sopl_ast.specs.Tree.{Tree, Shape, Trees, Terms, Factors, Binders, Range, Node, no_tree, tree, no_term, term, no_factor, factor, no_binder, binder, Named, Ends, place_of}
@@ -35,19 +36,19 @@ done x count = Ok (x, count)
 
 -- 110: what is not there is refused
 abbrev pub given : ℕ → Option ℤ → Step ℤ
-given whole None count = Err (Text (record { code = 110; at = whole }))
+given whole None count = Err (Text (record { code = codes.UNDEFINED; at = whole }))
 given whole (Some x) count = Ok (x, count)
 
 -- one thing more is counted
 abbrev pub count_one : Step (Unit {0})
-count_one count = if nat_lt count most_counted then Ok (tt, count + 1) else Err (Limit (excess 205 (pos (most_counted + 1)) (pos most_counted)))
+count_one count = if nat_lt count most_counted then Ok (tt, count + 1) else Err (Limit (excess codes.UNFOLDING (pos (most_counted + 1)) (pos most_counted)))
 
 -- 208: more numbers than a range may have
 abbrev pub checked_between : ℤ → ℤ → Step (ℤ × ℤ)
 checked_between lo hi count =
     if nat_le (count_between lo hi) most_numbers
     then Ok ((lo, hi), count)
-    else Err (Limit (excess 208 (pos (count_between lo hi)) (pos most_numbers)))
+    else Err (Limit (excess codes.NUMBERS (pos (count_between lo hi)) (pos most_numbers)))
 
 -- what is found for each of some numbers, which are counted, behind what was found
 abbrev pub for_each : {A : Type 0} → (ℤ → A → Step A) → List ℤ → A → Step A

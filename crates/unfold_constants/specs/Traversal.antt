@@ -3,6 +3,7 @@
 use Rattle.std.specs.Prelude.{ℕ, pos, Bool, true, false, not, List, drop, None, Ok, Err}
 use Rattle.std.specs.Ordering.{int_eq}
 use Rattle.sopl_base.specs.declared.fault.Fault.TheVariants.{Text}
+use Rattle.sopl_base.specs.declared.codes.TheConstants as codes
 use Rattle.sopl_ast.specs.declared.operators.MulOp.{MulOp}
 use Rattle.sopl_ast.specs.declared.operators.MulOp.TheVariants.{Times, Div, Mod}
 use Rattle.sopl_ast.specs.Tree as t
@@ -18,7 +19,7 @@ unless false code at count = Err (Text (record { code = code; at = at }))
 
 -- a divisor has a value, which is not 0
 abbrev pub divisor : Known → Tree → Step (Unit {0})
-divisor known e = number known (place_of e) e >>= (λ x. unless (not (int_eq x (pos 0))) 110 (place_of e))
+divisor known e = number known (place_of e) e >>= (λ x. unless (not (int_eq x (pos 0))) codes.UNDEFINED (place_of e))
 
 abbrev mutual
   pub walk : Known → Tree → Step (Unit {0})

@@ -1,7 +1,8 @@
 //! What is asked at the places of a text: the value of a constant expression, the numbers of a range, and a walk through an expression of a constraint.
 
-ghost use Rattle.std.specs.Prelude.{◌≡◌, ◌≤◌, ◌^◌, IfOk, Some, None};
+ghost use Rattle.std.specs.Prelude.{◌≡◌, ◌≤◌, IfOk, Some, None};
 ghost use Rattle.std.specs.Int.RustNames.{unsigned_abs};
+ghost use Rattle.sopl_base.specs.declared.limits.TheConstants as largest;
 ghost use Rattle.sopl_ast.specs.Constants.{value, numbers_of};
 ghost use Rattle.sopl_ast.specs.UnfoldEvents.{constant_place, range_events, expression_events};
 ghost use Rattle.sopl_ast.specs.Ranges.{range_of};
@@ -20,7 +21,7 @@ impl<'a> ConstantScope<'a> {
     pub fn constant(&self, count: &mut Count, e: &'a Expr) -> Result<i64, Fault>
         ensures met { Walks count.old.counted count.new.counted (constant_place (known_in self.now) e.now) result }
         ensures value { IfOk result (λ x. value (known_in self.now) e.now ≡ Some x) }
-        ensures small { IfOk result (λ x. unsigned_abs x ≤ 2 ^ 40) }
+        ensures small { IfOk result (λ x. unsigned_abs x ≤ largest.CONSTANT_SIZE) }
     {
         self.own(count, e)
     }

@@ -1,7 +1,8 @@
 //! The value of an expression in a constant place.
 
-ghost use Rattle.std.specs.Prelude.{◌≡◌, ◌≤◌, ◌^◌, [], map, IfOk, IfSome, OnOk, Some, pos, ℕ, option_and_then};
+ghost use Rattle.std.specs.Prelude.{◌≡◌, ◌≤◌, [], map, IfOk, IfSome, OnOk, Some, pos, ℕ, option_and_then};
 ghost use Rattle.std.specs.Int.RustNames.{unsigned_abs};
+ghost use Rattle.sopl_base.specs.declared.limits.TheConstants as largest;
 ghost use Rattle.sopl_ast.specs.Lists.{trees, terms, factors, binders};
 ghost use Rattle.sopl_ast.specs.Ranges.{range_of};
 ghost use Rattle.sopl_ast.specs.Sight.{shape_of_kind};
@@ -73,7 +74,7 @@ fn condition(holds: bool) -> Option<i128>
 /// What an expression is worth, if its size is that of a constant.
 fn sized(worth: Option<i128>) -> Option<i64>
     ensures sized { result ≡ option_and_then within worth }
-    ensures small { IfSome result (λ x. unsigned_abs x ≤ 2 ^ 40) }
+    ensures small { IfSome result (λ x. unsigned_abs x ≤ largest.CONSTANT_SIZE) }
 {
     match worth {
         None => None,
@@ -87,7 +88,7 @@ impl<'a> ConstantScope<'a> {
     #[cycle(evaluate)]
     pub(crate) fn number(&self, count: &mut Count, whole: usize, e: &'a Expr) -> Result<i64, Fault>
         ensures value { Answers (λ x. x) count.new.counted result (spec.number (known_in self.now) whole e.now count.old.counted) }
-        ensures small { IfOk result (λ x. unsigned_abs x ≤ 2 ^ 40) }
+        ensures small { IfOk result (λ x. unsigned_abs x ≤ largest.CONSTANT_SIZE) }
     {
         let untested = self.untested(count, whole, &e.kind)?;
         given(whole, sized(untested))
@@ -96,7 +97,7 @@ impl<'a> ConstantScope<'a> {
     /// The value of an expression that is a constant place of its own.
     pub(crate) fn own(&self, count: &mut Count, e: &'a Expr) -> Result<i64, Fault>
         ensures value { Answers (λ x. x) count.new.counted result (spec.number (known_in self.now) (place_of e.now) e.now count.old.counted) }
-        ensures small { IfOk result (λ x. unsigned_abs x ≤ 2 ^ 40) }
+        ensures small { IfOk result (λ x. unsigned_abs x ≤ largest.CONSTANT_SIZE) }
     {
         self.number(count, e.at, e)
     }

@@ -5,6 +5,7 @@ use Rattle.std.specs.List.{flat_map}
 use Rattle.std.specs.Option.{unwrap_or}
 use Rattle.std.proofs.lemmas.Grind.{flat_map-append}
 use Rattle.sopl_base.specs.declared.fault.Fault.{Fault}
+use Rattle.sopl_base.specs.declared.codes.TheConstants as codes
 use Rattle.sopl_ast.specs.Constants as c
 use Rattle.sopl_ast.specs.Constants.{value_or_zero}
 use Rattle.sopl_ast.specs.Known.{Known, with_bound}
@@ -116,11 +117,11 @@ agree_threshold known p q =
     agree_bind (agree_number p known (place_of p)) (λ x is.
     agree_bind (agree_number q known (place_of q)) (λ y so.
     subst (λ (v : Option ℤ × Option ℤ).
-    Agrees {A = ℤ × ℤ} (k.unless (is_threshold x y) 115 (place_of p) >>= (λ t. done (x, y)))
-    (refused_unless (is_threshold (unwrap_or v.0 (pos 0)) (unwrap_or v.1 (pos 0))) 115 (place_of p))
+    Agrees {A = ℤ × ℤ} (k.unless (is_threshold x y) codes.THRESHOLD (place_of p) >>= (λ t. done (x, y)))
+    (refused_unless (is_threshold (unwrap_or v.0 (pos 0)) (unwrap_or v.1 (pos 0))) codes.THRESHOLD (place_of p))
     (Some (unwrap_or v.0 (pos 0), unwrap_or v.1 (pos 0))))
     (λ i. (sym is i, sym so i))
-    (agree_then (λ t. (x, y)) (meets_unless (is_threshold x y) 115 (place_of p)) (λ t at. refl))))
+    (agree_then (λ t. (x, y)) (meets_unless (is_threshold x y) codes.THRESHOLD (place_of p)) (λ t at. refl))))
 
 -- a hard constraint
 agree_hard : (known : Known) (text : ℕ) (e : Tree) (found : Found)

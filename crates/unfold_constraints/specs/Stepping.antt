@@ -1,5 +1,6 @@
 -- What walking through constraints answers, step by step, with how many things were counted. These steps are the code's own: no public clause cites them.
 use Rattle.std.specs.Prelude.{ℕ, ◌+◌, ℤ, List, [], ◌∷◌, ◌++◌, drop, length, None}
+use Rattle.sopl_base.specs.declared.codes.TheConstants as codes
 use Rattle.sopl_ast.specs.Instances.{Hard, Chance}
 use Rattle.sopl_ast.specs.Known.{Binding, Known, with_bound}
 use Rattle.sopl_ast.specs.Lists.{BinderTree, binders}
@@ -33,7 +34,7 @@ condition known e = count_one >>= (λ u. walk known e)
 -- the parts of a threshold, and then the threshold
 abbrev pub threshold : Known → Tree → Tree → Step (ℤ × ℤ)
 threshold known part whole =
-    number known (place_of part) part >>= (λ p. number known (place_of whole) whole >>= (λ q. unless (is_threshold p q) 115 (place_of part) >>= (λ u. done (p, q))))
+    number known (place_of part) part >>= (λ p. number known (place_of whole) whole >>= (λ q. unless (is_threshold p q) codes.THRESHOLD (place_of part) >>= (λ u. done (p, q))))
 
 -- a hard constraint, of which the condition has this number
 abbrev pub hard : Known → ℕ → Tree → Found → Step Found

@@ -7,6 +7,7 @@ use Rattle.std.specs.Option.{unwrap_or}
 use Rattle.std.specs.Ordering.{int_cmp}
 use Rattle.sopl_base.specs.declared.fault.Fault.{Fault}
 use Rattle.sopl_base.proofs.Lists.{map-map, map_same}
+use Rattle.sopl_base.specs.declared.codes.TheConstants as codes
 use Rattle.sopl_ast.specs.Tree.{Tree, Trees, no_tree, tree}
 use Rattle.sopl_ast.specs.Lists.{trees_list}
 use Rattle.sopl_ast.specs.Whole.{DimTree, InitTree, InitTrees, One, Many, no_init, init, inits_list}
@@ -102,7 +103,7 @@ mutual
       (agree_fill ds known e index found)
   agree_part (Many at parts) known [] index found = agree_done found (Some (found ++ [])) (ap Some (append-nil found))
   agree_part (Many at parts) known (d ∷ ds) index found =
-      agree_bind (meets_unless (nat_eq (length (inits_list parts)) (length d.numbers)) 112 at) (λ u is.
+      agree_bind (meets_unless (nat_eq (length (inits_list parts)) (length d.numbers)) codes.BRACKET_LENGTH at) (λ u is.
       agree_parts parts known d.name ds d.numbers index found)
 
   agree_parts : (xs : InitTrees) (known : Known) (name : Option (List ℕ)) (ds : List Dimension) (ns index : List ℤ) (found : List Entry)
@@ -142,7 +143,7 @@ agree_elements (tree e es) known found =
 
 -- a set
 pub agree_set : (known : Known) (es : Trees)
-    → Agrees (s.set_numbers known es) (constant_places known es ++ too_many 208 (length (set_of known es))) (Some (set_of known es))
+    → Agrees (s.set_numbers known es) (constant_places known es ++ too_many codes.NUMBERS (length (set_of known es))) (Some (set_of known es))
 agree_set known es =
     agree_bind (agree_elements es known []) (λ ns is.
-    subst (λ v. Agrees (s.reached (too_many 208 (length ns)) ns) (too_many 208 (length (unwrap_or v []))) v) (sym is) (agree_reached (too_many 208 (length ns)) ns))
+    subst (λ v. Agrees (s.reached (too_many codes.NUMBERS (length ns)) ns) (too_many codes.NUMBERS (length (unwrap_or v []))) v) (sym is) (agree_reached (too_many codes.NUMBERS (length ns)) ns))

@@ -3,6 +3,7 @@ use Rattle.std.proofs.Common.{◌≡◌, refl, sym, ap, subst, ◌∙◌, ◌⊎
 use Rattle.std.specs.Option.{unwrap_or}
 use Rattle.sopl_base.specs.declared.fault.Fault.{Fault}
 use Rattle.sopl_base.specs.declared.fault.Fault.TheVariants as fault
+use Rattle.sopl_base.specs.declared.codes.TheConstants as codes
 use Rattle.sopl_ast.specs.UnfoldEvents.{UnfoldEvent, first_failure, too_many}
 use Rattle.unfold_constants.specs.CountedAnswers.{Answers, Fails}
 use Rattle.unfold_tables.specs.Walks.{Walks}
@@ -47,17 +48,17 @@ counted_so (Ok u) = refl
 counted_so (Err f) = tt
 
 -- there are few numbers
-pub few_found : (numbers : List ℤ) (n count : ℕ) → n ≡ length numbers → first_failure count (too_many 208 n) ≡ Ok count
-    → ◌≡◌ {A = Result (List ℤ × ℕ) Fault} (reached (too_many 208 (length numbers)) numbers count) (Ok (numbers, count))
-few_found numbers n count is h = ap (behind numbers) ((λ i. first_failure count (too_many 208 (sym is i))) ∙ h)
+pub few_found : (numbers : List ℤ) (n count : ℕ) → n ≡ length numbers → first_failure count (too_many codes.NUMBERS n) ≡ Ok count
+    → ◌≡◌ {A = Result (List ℤ × ℕ) Fault} (reached (too_many codes.NUMBERS (length numbers)) numbers count) (Ok (numbers, count))
+few_found numbers n count is h = ap (behind numbers) ((λ i. first_failure count (too_many codes.NUMBERS (sym is i))) ∙ h)
 
 -- there are too many
-pub few_fails : (numbers : List ℤ) (n count : ℕ) (f : Fault) → n ≡ length numbers → (f ≡ fault.NoMemory) ⊎ (first_failure count (too_many 208 n) ≡ Err f)
-    → Fails {B = List ℤ × ℕ} f (reached (too_many 208 (length numbers)) numbers count)
-few_fails numbers n count f is (inl memory) = subst (λ g. Fails {B = List ℤ × ℕ} g (reached (too_many 208 (length numbers)) numbers count)) (sym memory) tt
-few_fails numbers n count f is (inr h) = of_fault f ((λ i. first_failure count (too_many 208 (sym is i))) ∙ h)
+pub few_fails : (numbers : List ℤ) (n count : ℕ) (f : Fault) → n ≡ length numbers → (f ≡ fault.NoMemory) ⊎ (first_failure count (too_many codes.NUMBERS n) ≡ Err f)
+    → Fails {B = List ℤ × ℕ} f (reached (too_many codes.NUMBERS (length numbers)) numbers count)
+few_fails numbers n count f is (inl memory) = subst (λ g. Fails {B = List ℤ × ℕ} g (reached (too_many codes.NUMBERS (length numbers)) numbers count)) (sym memory) tt
+few_fails numbers n count f is (inr h) = of_fault f ((λ i. first_failure count (too_many codes.NUMBERS (sym is i))) ∙ h)
   where
-    of_fault : (g : Fault) → first_failure count (too_many 208 (length numbers)) ≡ Err g → Fails {B = List ℤ × ℕ} g (reached (too_many 208 (length numbers)) numbers count)
+    of_fault : (g : Fault) → first_failure count (too_many codes.NUMBERS (length numbers)) ≡ Err g → Fails {B = List ℤ × ℕ} g (reached (too_many codes.NUMBERS (length numbers)) numbers count)
     of_fault (fault.Text r) p = ap (behind numbers) p
     of_fault (fault.Limit e) p = ap (behind numbers) p
     of_fault fault.NoMemory p = tt

@@ -3,6 +3,7 @@ use Rattle.std.specs.Prelude.{ℕ, nat_eq, ℤ, List, [], ◌∷◌, ◌++◌, l
 use Rattle.std.specs.BTreeSet.{insert_key}
 use Rattle.std.specs.Ordering.{int_cmp}
 use Rattle.sopl_base.specs.declared.fault.Fault.{Fault}
+use Rattle.sopl_base.specs.declared.codes.TheConstants as codes
 use Rattle.sopl_ast.specs.Tree.{Tree, Trees, no_tree, tree}
 use Rattle.sopl_ast.specs.Whole.{DimTree, InitTree, InitTrees, One, Many, no_init, init, inits_list}
 use Rattle.sopl_ast.specs.Known.{Known}
@@ -55,7 +56,7 @@ abbrev mutual
   part known ds index (One e) found = fill known ds e index found
   part known [] index (Many at parts) found = done found
   part known (d ∷ ds) index (Many at parts) found =
-      unless (nat_eq (length (inits_list parts)) (length d.numbers)) 112 at >>= (λ u. parts_in known d.name ds d.numbers index parts found)
+      unless (nat_eq (length (inits_list parts)) (length d.numbers)) codes.BRACKET_LENGTH at >>= (λ u. parts_in known d.name ds d.numbers index parts found)
 
   pub parts_in : Known → Option (List ℕ) → List Dimension → List ℤ → List ℤ → InitTrees → List Entry → Step (List Entry)
   parts_in known name ds numbers index no_init found = done found
@@ -82,4 +83,4 @@ elements known found (tree e es) = constant known e >>= (λ x. elements known (i
 
 -- a set
 abbrev pub set_numbers : Known → Trees → Step (List ℤ)
-set_numbers known es = elements known [] es >>= (λ ns. reached (too_many 208 (length ns)) ns)
+set_numbers known es = elements known [] es >>= (λ ns. reached (too_many codes.NUMBERS (length ns)) ns)

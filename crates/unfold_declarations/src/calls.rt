@@ -1,6 +1,7 @@
 //! What is asked of constant places, as steps.
 
 ghost use Rattle.std.specs.Prelude.{◌≡◌, ℕ, None, length};
+ghost use Rattle.sopl_base.specs.declared.codes.TheConstants as codes;
 ghost use Rattle.sopl_ast.specs.Constants.{numbers_in};
 ghost use Rattle.sopl_ast.specs.UnfoldEvents.{range_events, too_many};
 ghost use Rattle.sopl_ast.specs.Ranges.{range_of};
@@ -46,7 +47,7 @@ pub fn numbers_at<'a>(
 
 /// Gives these numbers back, unless they are more than a set may have.
 pub fn checked_numbers(numbers: Vec<i64>) -> Result<Vec<i64>, Fault>
-    ensures { (count : ℕ) → Answers items count result (spec.reached (too_many 208 (length numbers.items)) numbers.items count) }
+    ensures { (count : ℕ) → Answers items count result (spec.reached (too_many codes.NUMBERS (length numbers.items)) numbers.items count) }
 {
     match checked_count(codes::NUMBERS, numbers.len()) {
         Ok(()) => Ok(numbers),

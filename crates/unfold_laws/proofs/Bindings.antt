@@ -3,6 +3,7 @@ use Rattle.std.proofs.Common.{◌≡◌, refl, sym, subst, ◌∙◌, ℕ, ℤ, 
 use Rattle.std.specs.List.{flat_map, AllByRecursion}
 use Rattle.std.specs.Option.{unwrap_or}
 use Rattle.sopl_base.proofs.Lists.{all_append}
+use Rattle.sopl_base.specs.declared.codes.TheConstants as codes
 use Rattle.sopl_ast.specs.Tree.{Range, Named, Ends, Binders, no_binder, binder, place_of}
 use Rattle.sopl_ast.specs.Numbers.{both_of, all_of, joined, up_to, count_between}
 use Rattle.sopl_ast.specs.Known.{Known, with_bound, set_named, ascending}
@@ -15,8 +16,8 @@ use Rattle.unfold_laws.proofs.Passing.{parts_pass, passes_counted, value_given}
 range_there : (known : Known) (range : Range) → NothingFails (range_events known None range) → (ns : List ℤ) × (numbers_of known range ≡ Some ns)
 range_there known (Named name at) is = (ascending (set_named name known.sets), refl)
 range_there known (Ends lo hi) is =
-    let first = parts_pass (constant_place known lo) (constant_place known hi ++ too_many 208 (count_between (value_or_zero known lo) (value_or_zero known hi))) is in
-    let second = parts_pass (constant_place known hi) (too_many 208 (count_between (value_or_zero known lo) (value_or_zero known hi))) first.1 in
+    let first = parts_pass (constant_place known lo) (constant_place known hi ++ too_many codes.NUMBERS (count_between (value_or_zero known lo) (value_or_zero known hi))) is in
+    let second = parts_pass (constant_place known hi) (too_many codes.NUMBERS (count_between (value_or_zero known lo) (value_or_zero known hi))) first.1 in
     let a = value_given known (place_of lo) lo first.0 in
     let b = value_given known (place_of hi) hi second.0 in
     (up_to a.0 b.0, λ i. both_of up_to (a.1 i) (b.1 i))

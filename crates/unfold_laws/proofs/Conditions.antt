@@ -5,6 +5,8 @@ use Rattle.std.specs.List.{AllByRecursion}
 use Rattle.std.proofs.lemmas.Bool.{and_parts}
 use Rattle.sopl_base.proofs.Tests.{le_tested}
 use Rattle.sopl_base.proofs.Lists.{all_append, all_joined}
+use Rattle.sopl_base.specs.declared.codes.TheConstants as codes
+use Rattle.sopl_base.specs.declared.limits.TheConstants as largest
 use Rattle.sopl_ast.specs.Tree.{Tree, place_of}
 use Rattle.sopl_ast.specs.Whole.{ConsTree, ConsTrees, ForallTree, BlockTree, HardTree, ChanceTree, no_cons, cons, conses, GoalTree, ModelTree}
 use Rattle.sopl_ast.specs.Known.{Known, with_bound}
@@ -39,10 +41,10 @@ placed_further known name n here is = λ i. placed (is i) (with_bound name n her
 
 threshold_there : (p q : ℤ) → is_threshold p q ≡ true → IsThreshold p q
 threshold_there p q is =
-    let first = and_parts (int_le (pos 0) p) (int_le p q && (int_le (pos 1) q && int_le q (pos 1048576))) is in
-    let second = and_parts (int_le p q) (int_le (pos 1) q && int_le q (pos 1048576)) first.1 in
-    let third = and_parts (int_le (pos 1) q) (int_le q (pos 1048576)) second.1 in
-    record { least = le_tested (pos 0) p first.0; most = le_tested p q second.0; positive = le_tested (pos 1) q third.0; small = le_tested q (pos 1048576) third.1 }
+    let first = and_parts (int_le (pos 0) p) (int_le p q && (int_le (pos 1) q && int_le q largest.DENOMINATOR)) is in
+    let second = and_parts (int_le p q) (int_le (pos 1) q && int_le q largest.DENOMINATOR) first.1 in
+    let third = and_parts (int_le (pos 1) q) (int_le q largest.DENOMINATOR) second.1 in
+    record { least = le_tested (pos 0) p first.0; most = le_tested p q second.0; positive = le_tested (pos 1) q third.0; small = le_tested q largest.DENOMINATOR third.1 }
 
 mutual
   met_instances : (c : ConsTree) (before after : List Tree) (known here : Known) → IsPlaced known here → NothingFails (constraint_events here c)
@@ -58,11 +60,11 @@ mutual
       (record { condition = e; stands = stands_at before after e; passes = subst (λ k. NothingFails (expression_events k e)) is (passes_counted (expression_events here e) passes) }, tt)
   met_instances (ChanceTree e p q) before after known here is passes =
       let both = parts_pass (expression_events here e) (threshold_events here p q) (passes_counted (expression_events here e ++ threshold_events here p q) passes) in
-      let first = parts_pass (constant_place here p) (constant_place here q ++ refused_unless (is_threshold (value_or_zero here p) (value_or_zero here q)) 115 (place_of p)) both.1 in
-      let second = parts_pass (constant_place here q) (refused_unless (is_threshold (value_or_zero here p) (value_or_zero here q)) 115 (place_of p)) first.1 in (
+      let first = parts_pass (constant_place here p) (constant_place here q ++ refused_unless (is_threshold (value_or_zero here p) (value_or_zero here q)) codes.THRESHOLD (place_of p)) both.1 in
+      let second = parts_pass (constant_place here q) (refused_unless (is_threshold (value_or_zero here p) (value_or_zero here q)) codes.THRESHOLD (place_of p)) first.1 in (
         (
           record { condition = e; stands = stands_at before after e; passes = subst (λ k. NothingFails (expression_events k e)) is both.0 },
-          threshold_there (value_or_zero here p) (value_or_zero here q) (test_holds _ 115 (place_of p) second.1),
+          threshold_there (value_or_zero here p) (value_or_zero here q) (test_holds _ codes.THRESHOLD (place_of p) second.1),
         ),
         tt,
       )

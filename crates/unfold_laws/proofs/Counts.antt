@@ -7,6 +7,7 @@ use Rattle.std.proofs.lemmas.List.{length-map, length-append}
 use Rattle.std.specs.List.{flat_map, filter, range_with_len}
 use Rattle.std.specs.Option.{unwrap_or}
 use Rattle.sopl_base.specs.declared.fault.Fault.TheVariants.{Limit}
+use Rattle.sopl_base.specs.declared.codes.TheConstants as codes
 use Rattle.sopl_ast.specs.Tree.{Binders, no_binder, binder}
 use Rattle.sopl_ast.specs.Whole.{DimTree, Declaration, IntDecl, RangeDecl, SetDecl, DvarDecl, StochDecl, ConsTree, ConsTrees, ForallTree, BlockTree, HardTree, ChanceTree, no_cons}
 use Rattle.sopl_ast.specs.Whole.{cons, conses}
@@ -37,13 +38,13 @@ counted_append (Refused r ∷ xs) ys = counted_append xs ys
 counted_append (Passed e ∷ xs) ys = counted_append xs ys
 
 -- not more are counted than may be
-few_counted : (events : List UnfoldEvent) (n : ℕ) → n ≤ 262144 → IsOk (first_failure n events) → n + counted events ≤ 262144
+few_counted : (events : List UnfoldEvent) (n : ℕ) → n ≤ most_counted → IsOk (first_failure n events) → n + counted events ≤ most_counted
 few_counted [] n few is = omega (arith, few)
 few_counted (Counted ∷ later) n few is = on (nat_lt n most_counted) refl (few_counted later (n + 1)) is
   where
-    on : (b : Bool) → nat_lt n most_counted ≡ b → (n + 1 ≤ 262144 → IsOk (first_failure (n + 1) later) → (n + 1) + counted later ≤ 262144)
-        → IsOk (cond b (first_failure (n + 1) later) (Err (Limit (excess 205 (pos (most_counted + 1)) (pos most_counted))))) → n + suc (counted later) ≤ 262144
-    on true less again ok = let h : n < 262144 = ltb-true n 262144 less in let all = again (omega (arith, h)) ok in omega (arith, all)
+    on : (b : Bool) → nat_lt n most_counted ≡ b → (n + 1 ≤ most_counted → IsOk (first_failure (n + 1) later) → (n + 1) + counted later ≤ most_counted)
+        → IsOk (cond b (first_failure (n + 1) later) (Err (Limit (excess codes.UNFOLDING (pos (most_counted + 1)) (pos most_counted))))) → n + suc (counted later) ≤ most_counted
+    on true less again ok = let h : n < most_counted = ltb-true n most_counted less in let all = again (omega (arith, h)) ok in omega (arith, all)
     on false less again ok = absurd (true≢false (sym ok))
 few_counted (Refused r ∷ later) n few is = absurd (true≢false (sym is))
 few_counted (Passed e ∷ later) n few is = absurd (true≢false (sym is))

@@ -9,12 +9,14 @@ use Rattle.std.specs.Str.{bytes_eq}
 use Rattle.std.proofs.lemmas.Bool.{and_parts}
 use Rattle.sopl_base.proofs.Tests.{equal_turned, le_tested}
 use Rattle.sopl_base.proofs.Lists.{all_append}
+use Rattle.sopl_base.specs.declared.codes.TheConstants as codes
+use Rattle.sopl_base.specs.declared.limits.TheConstants as largest
 use Rattle.sopl_ast.specs.Tree.{Tree, Range, Named, Ends, place_of}
 use Rattle.sopl_ast.specs.Whole.{DimTree, Declaration, IntDecl, RangeDecl, SetDecl, DvarDecl, StochDecl}
 use Rattle.sopl_ast.specs.Numbers.{natural, count_between, all_distinct}
 use Rattle.sopl_ast.specs.Known.{Known, NumberSet, Between, Listed, NamedSet, set_named, ends_of}
 use Rattle.sopl_ast.specs.Constants.{value_or_zero}
-use Rattle.sopl_ast.specs.UnfoldEvents.{UnfoldEvent, Counted, refused_unless, too_many, constant_place}
+use Rattle.sopl_ast.specs.UnfoldEvents.{UnfoldEvent, Counted, refused_unless, too_many, constant_place, most_numbers}
 use Rattle.sopl_ast.specs.Instances.{Outcome}
 use Rattle.sopl_ast.specs.Arrays.{Dimension, dimensions_of, indices, taking, with_index, array_of, dimension_events, array_events}
 use Rattle.sopl_ast.specs.Declarations.{Declared, nothing_declared, stage_of, stage_events, domain_of, domain_events, outcome_of, outcome_events, decisions_of}
@@ -44,7 +46,7 @@ worth_small known e is =
 
 -- a range that is kept has ends of such a size, and 65536 numbers at most
 abbrev pub IsBoundedSet : NumberSet → Type 0
-IsBoundedSet (Between lo hi) = IsConstant lo × IsConstant hi × (count_between lo hi ≤ 65536)
+IsBoundedSet (Between lo hi) = IsConstant lo × IsConstant hi × (count_between lo hi ≤ most_numbers)
 IsBoundedSet (Listed numbers) = Unit {0}
 
 abbrev pub AreBoundedSets : List NamedSet → Type 0
@@ -65,38 +67,38 @@ named_bounded name (first ∷ later) all = on (bytes_eq name first.name) (named_
 -- Domains and stages.
 
 abbrev AreEnds : ℤ → ℤ → Type 0
-AreEnds lo hi = IsConstant lo × IsConstant hi × (lo ≤ℤ hi) × (count_between lo hi ≤ 65536)
+AreEnds lo hi = IsConstant lo × IsConstant hi × (lo ≤ℤ hi) × (count_between lo hi ≤ most_numbers)
 
-ends_bounded : (found : Option NumberSet) (at : ℕ) → IsBoundedIfThere found → NothingFails (refused_unless (int_le (ends_of found).0 (ends_of found).1) 111 at)
+ends_bounded : (found : Option NumberSet) (at : ℕ) → IsBoundedIfThere found → NothingFails (refused_unless (int_le (ends_of found).0 (ends_of found).1) codes.EMPTY_DOMAIN at)
     → AreEnds (ends_of found).0 (ends_of found).1
-ends_bounded None at all is = absurd (true≢false (sym (test_holds false 111 at is)))
-ends_bounded (Some (Between lo hi)) at all is = (all.0, all.1, le_tested lo hi (test_holds (int_le lo hi) 111 at is), all.2)
-ends_bounded (Some (Listed numbers)) at all is = absurd (true≢false (sym (test_holds false 111 at is)))
+ends_bounded None at all is = absurd (true≢false (sym (test_holds false codes.EMPTY_DOMAIN at is)))
+ends_bounded (Some (Between lo hi)) at all is = (all.0, all.1, le_tested lo hi (test_holds (int_le lo hi) codes.EMPTY_DOMAIN at is), all.2)
+ends_bounded (Some (Listed numbers)) at all is = absurd (true≢false (sym (test_holds false codes.EMPTY_DOMAIN at is)))
 
 domain_bounded : (known : Known) (range : Range) → AreBoundedSets known.sets → NothingFails (domain_events known range) → AreEnds (domain_of known range).0 (domain_of known range).1
 domain_bounded known (Named name at) all is = ends_bounded (set_named name known.sets) at (named_bounded name known.sets all) is
 domain_bounded known (Ends lo hi) all is =
     let first = parts_pass (constant_place known lo) (constant_place known hi
-    ++ (refused_unless (int_le (value_or_zero known lo) (value_or_zero known hi)) 111 (place_of lo) ++ too_many 203 (count_between (value_or_zero known lo) (value_or_zero known hi)))) is in
-    let second = parts_pass (constant_place known hi) (refused_unless (int_le (value_or_zero known lo) (value_or_zero known hi)) 111 (place_of lo)
-    ++ too_many 203 (count_between (value_or_zero known lo) (value_or_zero known hi))) first.1 in
-    let third = parts_pass (refused_unless (int_le (value_or_zero known lo) (value_or_zero known hi)) 111 (place_of lo))
-    (too_many 203 (count_between (value_or_zero known lo) (value_or_zero known hi))) second.1 in (
+    ++ (refused_unless (int_le (value_or_zero known lo) (value_or_zero known hi)) codes.EMPTY_DOMAIN (place_of lo) ++ too_many codes.DOMAIN (count_between (value_or_zero known lo) (value_or_zero known hi)))) is in
+    let second = parts_pass (constant_place known hi) (refused_unless (int_le (value_or_zero known lo) (value_or_zero known hi)) codes.EMPTY_DOMAIN (place_of lo)
+    ++ too_many codes.DOMAIN (count_between (value_or_zero known lo) (value_or_zero known hi))) first.1 in
+    let third = parts_pass (refused_unless (int_le (value_or_zero known lo) (value_or_zero known hi)) codes.EMPTY_DOMAIN (place_of lo))
+    (too_many codes.DOMAIN (count_between (value_or_zero known lo) (value_or_zero known hi))) second.1 in (
       worth_small known lo first.0,
       worth_small known hi second.0,
-      le_tested (value_or_zero known lo) (value_or_zero known hi) (test_holds _ 111 (place_of lo) third.0),
-      count_fits 203 (count_between (value_or_zero known lo) (value_or_zero known hi)) third.1,
+      le_tested (value_or_zero known lo) (value_or_zero known hi) (test_holds _ codes.EMPTY_DOMAIN (place_of lo) third.0),
+      count_fits codes.DOMAIN (count_between (value_or_zero known lo) (value_or_zero known hi)) third.1,
     )
 
-number_is_stage : (x : ℤ) → int_le (pos 1) x ≡ true → int_le x (pos 24) ≡ true → IsStage (natural x)
+number_is_stage : (x : ℤ) → int_le (pos 1) x ≡ true → int_le x (pos largest.STAGE) ≡ true → IsStage (natural x)
 number_is_stage (pos n) low high = (omega (arith, ints, low), omega (arith, ints, high))
 number_is_stage (negsuc n) low high = absurd (omega (arith, ints, low))
 
 stage_bounded : (known : Known) (stage : Option Tree) → NothingFails (stage_events known stage) → IsStage (stage_of known stage)
 stage_bounded known None is = (omega arith, omega arith)
 stage_bounded known (Some e) is =
-    let parts = parts_pass (constant_place known e) (refused_unless (int_le (pos 1) (value_or_zero known e) && int_le (value_or_zero known e) (pos 24)) 114 (place_of e)) is in
-    let tests = and_parts (int_le (pos 1) (value_or_zero known e)) (int_le (value_or_zero known e) (pos 24)) (test_holds _ 114 (place_of e) parts.1) in
+    let parts = parts_pass (constant_place known e) (refused_unless (int_le (pos 1) (value_or_zero known e) && int_le (value_or_zero known e) (pos largest.STAGE)) codes.STAGE (place_of e)) is in
+    let tests = and_parts (int_le (pos 1) (value_or_zero known e)) (int_le (value_or_zero known e) (pos largest.STAGE)) (test_holds _ codes.STAGE (place_of e) parts.1) in
     number_is_stage (value_or_zero known e) tests.0 tests.1
 
 -- Outcomes.
@@ -124,11 +126,11 @@ distinct_more (y ∷ ys) x all new =
 abbrev outcome_rest : Known → List ℤ → Tree × Tree → List (Tree × Tree) → List UnfoldEvent
 outcome_rest known earlier pair later =
     constant_place known pair.1
-    ++ (refused_unless (int_le (pos 1) (value_or_zero known pair.1)) 113 (place_of pair.1)
+    ++ (refused_unless (int_le (pos 1) (value_or_zero known pair.1)) codes.OUTCOME (place_of pair.1)
     ++ outcome_events known (earlier ++ value_or_zero known pair.0 ∷ []) later)
 
 abbrev test_new : Known → List ℤ → Tree × Tree → List UnfoldEvent
-test_new known earlier pair = refused_unless (not (list_any (int_eq (value_or_zero known pair.0)) earlier)) 113 (place_of pair.0)
+test_new known earlier pair = refused_unless (not (list_any (int_eq (value_or_zero known pair.0)) earlier)) codes.OUTCOME (place_of pair.0)
 
 abbrev drawn : Known → Tree × Tree → ℤ
 drawn known pair = value_or_zero known pair.0
@@ -139,17 +141,17 @@ outcomes_bounded [] known earlier distinct is = (tt, ap all_distinct (append-nil
 outcomes_bounded (pair ∷ later) known earlier distinct is =
     let first = parts_pass (constant_place known pair.0) (test_new known earlier pair ++ outcome_rest known earlier pair later) is in
     let second = parts_pass (test_new known earlier pair) (outcome_rest known earlier pair later) first.1 in
-    let third = parts_pass (constant_place known pair.1) (refused_unless (int_le (pos 1) (value_or_zero known pair.1)) 113 (place_of pair.1)
+    let third = parts_pass (constant_place known pair.1) (refused_unless (int_le (pos 1) (value_or_zero known pair.1)) codes.OUTCOME (place_of pair.1)
     ++ outcome_events known (earlier ++ value_or_zero known pair.0 ∷ []) later) second.1 in
-    let fourth = parts_pass (refused_unless (int_le (pos 1) (value_or_zero known pair.1)) 113 (place_of pair.1))
+    let fourth = parts_pass (refused_unless (int_le (pos 1) (value_or_zero known pair.1)) codes.OUTCOME (place_of pair.1))
     (outcome_events known (earlier ++ value_or_zero known pair.0 ∷ []) later) third.1 in
-    let more = outcomes_bounded later known (earlier ++ drawn known pair ∷ []) (distinct_more earlier (drawn known pair) distinct (test_holds _ 113 (place_of pair.0) second.0)) fourth.1 in (
+    let more = outcomes_bounded later known (earlier ++ drawn known pair ∷ []) (distinct_more earlier (drawn known pair) distinct (test_holds _ codes.OUTCOME (place_of pair.0) second.0)) fourth.1 in (
       (
         record {
           value = worth_small known pair.0 first.0;
           weight = worth_small known pair.1 third.0;
           least =
-              le_tested (pos 1) (value_or_zero known pair.1) (test_holds _ 113 (place_of pair.1) fourth.0);
+              le_tested (pos 1) (value_or_zero known pair.1) (test_holds _ codes.OUTCOME (place_of pair.1) fourth.0);
         },
         more.0,
       ),
@@ -213,11 +215,11 @@ nothing_bounded = record { sets = tt; decisions = tt; stochastics = tt }
 bounded_behind : (d : Declaration) (found : Declared) → AreBounded found → NothingFails (declaration_events found d) → AreBounded (behind d found)
 bounded_behind (IntDecl name at dims x) found all is = record { sets = all.sets; decisions = all.decisions; stochastics = all.stochastics }
 bounded_behind (RangeDecl name at lo hi) found all is =
-    let first = parts_pass (constant_place found.known lo) (constant_place found.known hi ++ too_many 208 (count_between (value_or_zero found.known lo) (value_or_zero found.known hi))) is in
-    let second = parts_pass (constant_place found.known hi) (too_many 208 (count_between (value_or_zero found.known lo) (value_or_zero found.known hi))) first.1 in
+    let first = parts_pass (constant_place found.known lo) (constant_place found.known hi ++ too_many codes.NUMBERS (count_between (value_or_zero found.known lo) (value_or_zero found.known hi))) is in
+    let second = parts_pass (constant_place found.known hi) (too_many codes.NUMBERS (count_between (value_or_zero found.known lo) (value_or_zero found.known hi))) first.1 in
     record {
       sets = all_append (λ (s : NamedSet). IsBoundedSet s.numbers) found.known.sets _ all.sets
-          ((worth_small found.known lo first.0, worth_small found.known hi second.0, count_fits 208 (count_between (value_or_zero found.known lo) (value_or_zero found.known hi)) second.1), tt);
+          ((worth_small found.known lo first.0, worth_small found.known hi second.0, count_fits codes.NUMBERS (count_between (value_or_zero found.known lo) (value_or_zero found.known hi)) second.1), tt);
       decisions = all.decisions;
       stochastics = all.stochastics;
     }

@@ -6,6 +6,7 @@ use Rattle.std.specs.Int.RustNames.{unsigned_abs}
 use Rattle.std.specs.List.{flat_map, AllByRecursion}
 use Rattle.sopl_base.specs.declared.fault.Fault.{Fault}
 use Rattle.sopl_base.specs.declared.fault.Fault.TheVariants.{Limit}
+use Rattle.sopl_base.specs.declared.codes.TheConstants as codes
 use Rattle.sopl_ast.specs.Tree.{Tree, Node}
 use Rattle.sopl_ast.specs.Known.{Known}
 use Rattle.sopl_ast.specs.Constants.{value, untested, within}
@@ -24,17 +25,17 @@ chosen false n f events more is = refl
 
 pub met_append : (count : ℕ) (events more : List UnfoldEvent) → first_failure count (events ++ more) ≡ behind (first_failure count events) more
 met_append count [] more = refl
-met_append count (Counted ∷ events) more = chosen (nat_lt count most_counted) (count + 1) (Limit (excess 205 (pos (most_counted + 1)) (pos most_counted))) events more
+met_append count (Counted ∷ events) more = chosen (nat_lt count most_counted) (count + 1) (Limit (excess codes.UNFOLDING (pos (most_counted + 1)) (pos most_counted))) events more
     (met_append (count + 1) events more)
 met_append count (Refused r ∷ events) more = refl
 met_append count (Passed e ∷ events) more = refl
 
 -- what passes where more was counted passes where less was
 fewer : (n m : ℕ) → m ≤ n → nat_lt n most_counted ≡ true → nat_lt m most_counted ≡ true
-fewer n m less is = let h : n < 262144 = ltb-true n 262144 is in lt-ltb m 262144 (omega (arith, h, less))
+fewer n m less is = let h : n < most_counted = ltb-true n most_counted is in lt-ltb m most_counted (omega (arith, h, less))
 
 abbrev counted_then : ℕ → List UnfoldEvent → Bool → Result ℕ Fault
-counted_then n events b = cond b (first_failure (n + 1) events) (Err (Limit (excess 205 (pos (most_counted + 1)) (pos most_counted))))
+counted_then n events b = cond b (first_failure (n + 1) events) (Err (Limit (excess codes.UNFOLDING (pos (most_counted + 1)) (pos most_counted))))
 
 counted_from : (n m : ℕ) (events : List UnfoldEvent) → (IsOk (first_failure (n + 1) events) → IsOk (first_failure (m + 1) events)) → (b : Bool) → (b ≡ true → nat_lt m most_counted ≡ true)
     → IsOk (counted_then n events b) → IsOk (counted_then m events (nat_lt m most_counted))

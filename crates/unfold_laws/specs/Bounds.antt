@@ -6,7 +6,7 @@ use Rattle.sopl_ast.specs.Instances.{Decision, Outcome, Stochastic}
 use Rattle.sopl_ast.specs.Whole.{ModelTree}
 use Rattle.sopl_ast.specs.Unfolding.{problem_of, text_events}
 use Rattle.sopl_ast.specs.Origin.{IsFromTokens}
-use Rattle.sopl_ast.specs.UnfoldEvents.{most_counted}
+use Rattle.sopl_ast.specs.UnfoldEvents.{most_counted, most_numbers}
 use Rattle.unfold_laws.specs.Passing.{NothingFails, IsConstant}
 
 -- a stage is 1 to 24
@@ -18,7 +18,7 @@ pub record IsBoundedDecision (d : Decision) : Type 0 where
   pub least : IsConstant d.lo
   pub greatest : IsConstant d.hi
   pub ordered : d.lo ≤ℤ d.hi
-  pub few : count_between d.lo d.hi ≤ 65536
+  pub few : count_between d.lo d.hi ≤ most_numbers
   pub stage : IsStage d.stage
 
 -- a value and a weight are of a size that constants have, and the weight is 1 at least

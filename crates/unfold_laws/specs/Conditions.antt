@@ -1,6 +1,7 @@
 -- What is met in the condition of each instance of a constraint, where nothing stops the unfolding of a text.
 use Rattle.std.specs.Prelude.{◌≡◌, ℕ, ℤ, pos, ◌≤ℤ◌, List, Some, IfSome, slice_get}
 use Rattle.std.specs.List.{AllByRecursion}
+use Rattle.sopl_base.specs.declared.limits.TheConstants as largest
 use Rattle.sopl_ast.specs.Tree.{Tree}
 use Rattle.sopl_ast.specs.Whole.{ModelTree, GoalTree}
 use Rattle.sopl_ast.specs.Known.{Binding, Known}
@@ -24,7 +25,7 @@ pub record IsThreshold (p q : ℤ) : Type 0 where
   pub least : pos 0 ≤ℤ p
   pub most : p ≤ℤ q
   pub positive : pos 1 ≤ℤ q
-  pub small : q ≤ℤ pos 1048576
+  pub small : q ≤ℤ largest.DENOMINATOR
 
 -- the instances of hard constraints of a text that passes
 abbrev pub HardsAreMet : Type 0

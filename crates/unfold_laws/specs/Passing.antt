@@ -1,6 +1,7 @@
 -- Occurrences that nothing stops, and what follows for parts of them.
-use Rattle.std.specs.Prelude.{◌≡◌, ℤ, ◌≤◌, ◌^◌, List, ◌++◌, Some, IsOk}
+use Rattle.std.specs.Prelude.{◌≡◌, ℤ, ◌≤◌, List, ◌++◌, Some, IsOk}
 use Rattle.std.specs.Int.RustNames.{unsigned_abs}
+use Rattle.sopl_base.specs.declared.limits.TheConstants as largest
 use Rattle.sopl_ast.specs.Tree.{Tree}
 use Rattle.sopl_ast.specs.Known.{Known}
 use Rattle.sopl_ast.specs.Constants.{value}
@@ -16,7 +17,7 @@ PartsPass = (xs ys : List UnfoldEvent) → NothingFails (xs ++ ys) → NothingFa
 
 -- a size that constants have
 abbrev pub IsConstant : ℤ → Type 0
-IsConstant z = unsigned_abs z ≤ 2 ^ 40
+IsConstant z = unsigned_abs z ≤ largest.CONSTANT_SIZE
 
 -- an expression in a constant place has a value of such a size, where what is met there passes
 abbrev pub ConstantsHaveValues : Type 0

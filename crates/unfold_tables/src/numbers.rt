@@ -2,6 +2,7 @@
 
 ghost use Rattle.std.specs.Prelude.{◌≡◌, ◌+◌, ◌^◌, ◌<◌, ◌≤◌, IfSome, ℤ, neg_ℤ, ◌+ℤ◌, option_and_then, if◌then◌else◌};
 ghost use Rattle.std.specs.Int.RustNames.{unsigned_abs};
+ghost use Rattle.sopl_base.specs.declared.limits.TheConstants as largest;
 ghost use Rattle.sopl_ast.specs.declared.operators.MulOp.TheVariants.{Div, Mod};
 ghost use Rattle.sopl_ast.specs.Constants as constants;
 ghost use Rattle.sopl_ast.specs.Numbers as spec;
@@ -12,7 +13,7 @@ use sopl_base::{CmpOp, Wide, limits};
 /// A number as a constant, if its size is at most 2^40.
 pub fn within(number: i128) -> Option<i64>
     ensures value { result ≡ constants.within number }
-    ensures small { IfSome result (λ x. unsigned_abs x ≤ 2 ^ 40) }
+    ensures small { IfSome result (λ x. unsigned_abs x ≤ largest.CONSTANT_SIZE) }
 {
     if number.unsigned_abs() <= limits::CONSTANT_SIZE {
         Some(number as i64)

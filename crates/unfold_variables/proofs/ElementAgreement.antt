@@ -5,6 +5,8 @@ use Rattle.std.specs.BTreeSet.{insert_key}
 use Rattle.std.specs.List.{list_any}
 use Rattle.std.specs.Option.{unwrap_or}
 use Rattle.std.specs.Ordering.{int_cmp, int_eq}
+use Rattle.sopl_base.specs.declared.codes.TheConstants as codes
+use Rattle.sopl_base.specs.declared.limits.TheConstants as largest
 use Rattle.sopl_ast.specs.Tree.{Tree, Range, Named, Ends, place_of}
 use Rattle.sopl_ast.specs.Instances.{Outcome}
 use Rattle.sopl_ast.specs.Known.{Known}
@@ -31,14 +33,14 @@ agree_last {A} {B} {step} {ms} {x} g a = agree_then g a (λ y is. ap (λ v. Some
 
 -- whether a number is a stage
 abbrev is_stage : ℤ → Bool
-is_stage x = int_le (pos 1) x && int_le x (pos 24)
+is_stage x = int_le (pos 1) x && int_le x (pos largest.STAGE)
 
 -- a stage
 agree_stage : (known : Known) (e : Option Tree) → Agrees (s.stage known e) (stage_events known e) (Some (stage_of known e))
 agree_stage known None = agree_done 1 _ refl
 agree_stage known (Some e) =
     agree_next _ (value_or_zero known e) (agree_reached (constant_place known e) (value_or_zero known e))
-    (agree_last (λ u. natural (value_or_zero known e)) (meets_unless (is_stage (value_or_zero known e)) 114 (place_of e)))
+    (agree_last (λ u. natural (value_or_zero known e)) (meets_unless (is_stage (value_or_zero known e)) codes.STAGE (place_of e)))
 
 -- the values of two ends
 agree_between : (known : Known) (lo hi : Tree)
@@ -48,35 +50,35 @@ agree_between known lo hi =
     (agree_last (λ b. (value_or_zero known lo, b)) (agree_reached (constant_place known hi) (value_or_zero known hi)))
 
 -- a domain that is not empty and not too large
-agree_checked : (at : ℕ) (a b : ℤ) → Agrees (s.checked_domain at (a, b)) (refused_unless (int_le a b) 111 at ++ too_many 203 (count_between a b)) (Some (a, b))
+agree_checked : (at : ℕ) (a b : ℤ) → Agrees (s.checked_domain at (a, b)) (refused_unless (int_le a b) codes.EMPTY_DOMAIN at ++ too_many codes.DOMAIN (count_between a b)) (Some (a, b))
 agree_checked at a b =
-    agree_next _ tt (meets_unless (int_le a b) 111 at) (agree_last (λ u. (a, b)) (agree_reached (too_many 203 (count_between a b)) tt))
+    agree_next _ tt (meets_unless (int_le a b) codes.EMPTY_DOMAIN at) (agree_last (λ u. (a, b)) (agree_reached (too_many codes.DOMAIN (count_between a b)) tt))
 
 -- a domain
 agree_domain : (known : Known) (range : Range) → Agrees (s.domain known range) (domain_events known range) (Some (domain_of known range))
 agree_domain known (Named name at) =
-    agree_last (λ u. domain_of known (Named name at)) (meets_unless (int_le (domain_of known (Named name at)).0 (domain_of known (Named name at)).1) 111 at)
+    agree_last (λ u. domain_of known (Named name at)) (meets_unless (int_le (domain_of known (Named name at)).0 (domain_of known (Named name at)).1) codes.EMPTY_DOMAIN at)
 agree_domain known (Ends lo hi) =
     agree_events (append_assoc (constant_place known lo) (constant_place known hi)
-    (refused_unless (int_le (value_or_zero known lo) (value_or_zero known hi)) 111 (place_of lo)
-    ++ too_many 203 (count_between (value_or_zero known lo) (value_or_zero known hi))))
+    (refused_unless (int_le (value_or_zero known lo) (value_or_zero known hi)) codes.EMPTY_DOMAIN (place_of lo)
+    ++ too_many codes.DOMAIN (count_between (value_or_zero known lo) (value_or_zero known hi))))
     (agree_next _ (value_or_zero known lo, value_or_zero known hi) (agree_between known lo hi) (agree_checked (place_of lo) (value_or_zero known lo) (value_or_zero known hi)))
 
 -- a value that is none of those before it
 agree_new : (known : Known) (keys earlier : List ℤ) → Same keys earlier → (e : Tree)
     → Agrees (s.new_value known keys e)
-    (constant_place known e ++ refused_unless (not (list_any (int_eq (value_or_zero known e)) earlier)) 113 (place_of e)) (Some (value_or_zero known e))
+    (constant_place known e ++ refused_unless (not (list_any (int_eq (value_or_zero known e)) earlier)) codes.OUTCOME (place_of e)) (Some (value_or_zero known e))
 agree_new known keys earlier same e =
     agree_next _ (value_or_zero known e) (agree_reached (constant_place known e) (value_or_zero known e))
-    (agree_events (ap (λ t. refused_unless (not t) 113 (place_of e)) (same (value_or_zero known e)))
-    (agree_last (λ u. value_or_zero known e) (meets_unless (not (list_any (int_eq (value_or_zero known e)) keys)) 113 (place_of e))))
+    (agree_events (ap (λ t. refused_unless (not t) codes.OUTCOME (place_of e)) (same (value_or_zero known e)))
+    (agree_last (λ u. value_or_zero known e) (meets_unless (not (list_any (int_eq (value_or_zero known e)) keys)) codes.OUTCOME (place_of e))))
 
 -- a weight
 agree_weight : (known : Known) (e : Tree)
-    → Agrees (s.weight known e) (constant_place known e ++ refused_unless (int_le (pos 1) (value_or_zero known e)) 113 (place_of e)) (Some (value_or_zero known e))
+    → Agrees (s.weight known e) (constant_place known e ++ refused_unless (int_le (pos 1) (value_or_zero known e)) codes.OUTCOME (place_of e)) (Some (value_or_zero known e))
 agree_weight known e =
     agree_next _ (value_or_zero known e) (agree_reached (constant_place known e) (value_or_zero known e))
-    (agree_last (λ u. value_or_zero known e) (meets_unless (int_le (pos 1) (value_or_zero known e)) 113 (place_of e)))
+    (agree_last (λ u. value_or_zero known e) (meets_unless (int_le (pos 1) (value_or_zero known e)) codes.OUTCOME (place_of e)))
 
 four : (a b c d e : List UnfoldEvent) → ((a ++ b) ++ (c ++ d)) ++ e ≡ a ++ (b ++ (c ++ (d ++ e)))
 four a b c d e =
@@ -89,8 +91,8 @@ agree_outcomes : (dist : List (Tree × Tree)) (known : Known) (keys earlier : Li
     → Agrees (s.outcomes known keys found dist) (outcome_events known earlier dist) (Some (found ++ map (outcome_of known) dist))
 agree_outcomes [] known keys earlier same found = agree_done found (Some (found ++ [])) (ap Some (append-nil found))
 agree_outcomes (pair ∷ later) known keys earlier same found =
-    agree_events (four (constant_place known pair.0) (refused_unless (not (list_any (int_eq (value_or_zero known pair.0)) earlier)) 113 (place_of pair.0))
-    (constant_place known pair.1) (refused_unless (int_le (pos 1) (value_or_zero known pair.1)) 113 (place_of pair.1))
+    agree_events (four (constant_place known pair.0) (refused_unless (not (list_any (int_eq (value_or_zero known pair.0)) earlier)) codes.OUTCOME (place_of pair.0))
+    (constant_place known pair.1) (refused_unless (int_le (pos 1) (value_or_zero known pair.1)) codes.OUTCOME (place_of pair.1))
     (outcome_events known (earlier ++ value_or_zero known pair.0 ∷ []) later))
     (agree_next _ (outcome_of known pair)
     (agree_next _ (value_or_zero known pair.0) (agree_new known keys earlier same pair.0)

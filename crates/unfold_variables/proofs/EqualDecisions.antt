@@ -5,6 +5,7 @@ use Rattle.std.specs.List.{list_any}
 use Rattle.std.specs.Option.{unwrap_or}
 use Rattle.sopl_base.specs.declared.fault.Fault.{Fault}
 use Rattle.sopl_base.specs.declared.fault.Fault.TheVariants.{Limit}
+use Rattle.sopl_base.specs.declared.codes.TheConstants as codes
 use Rattle.sopl_ast.specs.Arrays.{Dimension, dimensions_of, dimension_events, taking}
 use Rattle.sopl_ast.specs.Constants.{numbers_in}
 use Rattle.sopl_ast.specs.Declarations.{domain_events, domain_of, stage_events, stage_of}
@@ -32,7 +33,7 @@ quiet : (events : List UnfoldEvent) (count : ℕ) → first_failure count events
 quiet [] count is other = refl
 quiet (Counted ∷ later) count is other = on (nat_lt count most_counted) is
   where
-    on : (b : Bool) → cond b (first_failure (count + 1) later) (Err (Limit (excess 205 (pos (most_counted + 1)) (pos most_counted)))) ≡ Ok count
+    on : (b : Bool) → cond b (first_failure (count + 1) later) (Err (Limit (excess codes.UNFOLDING (pos (most_counted + 1)) (pos most_counted)))) ≡ Ok count
         → first_failure other (Counted ∷ later) ≡ Ok other
     on true so = absurd (omega (arith, step_grows (agree_reached {A = Unit {0}} later tt) (count + 1) tt count (ap (λ (m : Result ℕ Fault). behind {A = Unit {0}} tt m) so)))
     on false so = absurd (subst (λ r. T (is_err r)) so tt)

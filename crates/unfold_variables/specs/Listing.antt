@@ -4,6 +4,8 @@ use Rattle.std.specs.Prelude.{ℕ, ℤ, pos, int_le, ◌&&◌, not, List, [], �
 use Rattle.std.specs.BTreeSet.{insert_key}
 use Rattle.std.specs.List.{list_any}
 use Rattle.std.specs.Ordering.{int_cmp, int_eq}
+use Rattle.sopl_base.specs.declared.codes.TheConstants as codes
+use Rattle.sopl_base.specs.declared.limits.TheConstants as largest
 use Rattle.sopl_ast.specs.Tree.{Tree, Range, Named, Ends, place_of}
 use Rattle.sopl_ast.specs.Whole.{DimTree}
 use Rattle.sopl_ast.specs.Numbers.{natural, count_between}
@@ -19,7 +21,7 @@ use Rattle.unfold_declarations.specs.Places.{Place, each_number}
 
 -- a stage that stands at a place
 abbrev pub placed_stage : ℕ → ℤ → Step ℕ
-placed_stage at x = unless (int_le (pos 1) x && int_le x (pos 24)) 114 at >>= (λ u. done (natural x))
+placed_stage at x = unless (int_le (pos 1) x && int_le x (pos largest.STAGE)) codes.STAGE at >>= (λ u. done (natural x))
 
 -- a stage
 abbrev pub stage : Known → Option Tree → Step ℕ
@@ -28,15 +30,15 @@ stage known (Some e) = constant known e >>= (λ x. placed_stage (place_of e) x)
 
 -- a domain that stands at a place, which is not empty
 abbrev pub not_empty : ℕ → ℤ × ℤ → Step (ℤ × ℤ)
-not_empty at ends = unless (int_le ends.0 ends.1) 111 at >>= (λ u. done ends)
+not_empty at ends = unless (int_le ends.0 ends.1) codes.EMPTY_DOMAIN at >>= (λ u. done ends)
 
 -- 203: too many values
 abbrev pub checked_values : ℤ → ℤ → Step (Unit {0})
-checked_values lo hi = reached (too_many 203 (count_between lo hi)) tt
+checked_values lo hi = reached (too_many codes.DOMAIN (count_between lo hi)) tt
 
 -- a domain whose lower end stands at a place, which is not empty and not too large
 abbrev pub checked_domain : ℕ → ℤ × ℤ → Step (ℤ × ℤ)
-checked_domain at ends = unless (int_le ends.0 ends.1) 111 at >>= (λ u. checked_values ends.0 ends.1 >>= (λ v. done ends))
+checked_domain at ends = unless (int_le ends.0 ends.1) codes.EMPTY_DOMAIN at >>= (λ u. checked_values ends.0 ends.1 >>= (λ v. done ends))
 
 -- the values of two ends
 abbrev pub between : Known → Tree → Tree → Step (ℤ × ℤ)
@@ -49,11 +51,11 @@ domain known (Ends lo hi) = between known lo hi >>= (λ ends. checked_domain (pl
 
 -- a value that is none of those before it
 abbrev pub new_value : Known → List ℤ → Tree → Step ℤ
-new_value known earlier e = constant known e >>= (λ x. unless (not (list_any (int_eq x) earlier)) 113 (place_of e) >>= (λ u. done x))
+new_value known earlier e = constant known e >>= (λ x. unless (not (list_any (int_eq x) earlier)) codes.OUTCOME (place_of e) >>= (λ u. done x))
 
 -- a weight, which is 1 at least
 abbrev pub weight : Known → Tree → Step ℤ
-weight known e = constant known e >>= (λ x. unless (int_le (pos 1) x) 113 (place_of e) >>= (λ u. done x))
+weight known e = constant known e >>= (λ x. unless (int_le (pos 1) x) codes.OUTCOME (place_of e) >>= (λ u. done x))
 
 -- an outcome, whose value is none of those before it
 abbrev pub outcome : Known → List ℤ → Tree × Tree → Step Outcome

@@ -2,6 +2,7 @@ use Rattle.std.proofs.Common.{rules, arith, ◌≡◌, Some, Err, option_map, re
 use Rattle.sopl_io.specs.Causes.{Rose}
 use Rattle.sopl_io.specs.declared.transfer.ReadStop.TheVariants.{NoMemory}
 use Rattle.sopl_base.specs.declared.stop.SearchStop.TheVariants as search
+use Rattle.sopl_ast.specs.Tokens.{max_length}
 use Rattle.answer_texts.specs.Logs.{told}
 use Rattle.answer_run.specs.declared.commands.Job.TheVariants.{Text, Pair}
 use Rattle.answer_run.specs.Runs.{meant_status}
@@ -20,7 +21,7 @@ returns-in-Text-clause-reply g c =
     (g.S.Source.stock c.args.source.now) (g.S.Source.faults c.args.source.now) (g.S.Source.faults c.read_all.new.source)
     (told (g.K.Sink.taken c.args.log.now) (g.K.Sink.names c.args.log.now)) (told (g.K.Sink.taken c.reply_to.new.sink) (g.K.Sink.names c.reply_to.new.sink))
     c.in-Ok.text.items r
-    c.in-Text.command job 1048577 refl (omega arith) c.as_slice.result.now c.as_slice.ensures.value c.in-Ok.ensures.text
+    c.in-Text.command job (max_length + 1) refl (omega arith) c.as_slice.result.now c.as_slice.ensures.value c.in-Ok.ensures.text
     _ (same_plan r c.new.result.seats c.new.result.order c.new.ensures.seats c.new.ensures.order) c.reply_to.result c.reply_to.ensures.reply
 
 pub returns-in-Text-clause-stopped : goal.returns-in-Text-clause-stopped
@@ -31,7 +32,7 @@ returns-in-Text-clause-stopped g c =
     (g.S.Source.stock c.args.source.now) (g.S.Source.faults c.args.source.now) (g.S.Source.faults c.read_all.new.source)
     (told (g.K.Sink.taken c.args.log.now) (g.K.Sink.names c.args.log.now)) (told (g.K.Sink.taken c.reply_to.new.sink) (g.K.Sink.names c.reply_to.new.sink))
     c.in-Ok.text.items r
-    c.in-Text.command job 1048577 refl (omega arith) c.as_slice.result.now c.as_slice.ensures.value c.in-Ok.ensures.text
+    c.in-Text.command job (max_length + 1) refl (omega arith) c.as_slice.result.now c.as_slice.ensures.value c.in-Ok.ensures.text
     _ (same_plan r c.new.result.seats c.new.result.order c.new.ensures.seats c.new.ensures.order) c.reply_to.result c.reply_to.ensures.stopped
 
 pub returns-in-Text-clause-ended : goal.returns-in-Text-clause-ended
@@ -39,14 +40,14 @@ returns-in-Text-clause-ended g c =
     let r : Request = request_with (request_shown c.args.request.now) (option_map (λ b. (goal.Brancher-dyn g (b.vtable, b.value)).rule b.value) c.args.brancher) in
     ended_made c.as_slice.result.now _ c.in-Text.command r.log
     (told (g.K.Sink.taken c.args.log.now) (g.K.Sink.names c.args.log.now)) (told (g.K.Sink.taken c.reply_to.new.sink) (g.K.Sink.names c.reply_to.new.sink))
-    1048577 (vec_len c.in-Ok.text) (g.S.Source.left c.read_all.new.source) c.reply_to.result c.as_slice.ensures.len c.in-Ok.ensures.end (omega arith)
+    (max_length + 1) (vec_len c.in-Ok.text) (g.S.Source.left c.read_all.new.source) c.reply_to.result c.as_slice.ensures.len c.in-Ok.ensures.end (omega arith)
     c.reply_to.ensures.reply
 
 pub returns-in-Text-clause-taken_at_most : goal.returns-in-Text-clause-taken_at_most
 returns-in-Text-clause-taken_at_most g c =
     let r : Request = request_with (request_shown c.args.request.now) (option_map (λ b. (goal.Brancher-dyn g (b.vtable, b.value)).rule b.value) c.args.brancher) in
     model_taken (Some r)
-    (g.S.Source.stock c.args.source.now) 1048577 (g.S.Source.faults c.args.source.now) (g.S.Source.faults c.read_all.new.source)
+    (g.S.Source.stock c.args.source.now) (max_length + 1) (g.S.Source.faults c.args.source.now) (g.S.Source.faults c.read_all.new.source)
     (g.S.Source.left c.read_all.new.source)
     r refl c.requires.files c.read_all.ensures.rest
 
@@ -73,7 +74,7 @@ returns-in-Pair-clause-reply g c =
     (g.S.Source.faults c.args.source.now) (g.S.Source.faults c.read_all.new.source) (g.S.Source.faults c.pair_reply.new.source)
     c.read_all.ensures.faults_grow (told (g.K.Sink.taken c.args.log.now) (g.K.Sink.names c.args.log.now)) c.in-Ok.text.items
     r
-    c.in-Pair.command job 1048577 refl (omega arith) (g.S.Source.stock c.args.source.now) (g.S.Source.stock c.read_all.new.source) c.read_all.ensures.stock
+    c.in-Pair.command job (max_length + 1) refl (omega arith) (g.S.Source.stock c.args.source.now) (g.S.Source.stock c.read_all.new.source) c.read_all.ensures.stock
     c.as_slice-in-Pair.result.now c.as_slice-in-Pair.ensures.value c.in-Ok.ensures.text c.pair_reply.result c.pair_reply.ensures.reply
 
 pub returns-in-Pair-clause-taken_at_most : goal.returns-in-Pair-clause-taken_at_most
@@ -81,7 +82,7 @@ returns-in-Pair-clause-taken_at_most g c =
     let r : Request = request_with (request_shown c.args.request.now) (option_map (λ b. (goal.Brancher-dyn g (b.vtable, b.value)).rule b.value) c.args.brancher) in
     let job : c.args.request.now.job ≡ Pair c.in-Pair.command = search rules in
     second_taken (Some r)
-    (g.S.Source.stock c.args.source.now) (g.S.Source.stock c.read_all.new.source) 1048577 (g.S.Source.faults c.args.source.now)
+    (g.S.Source.stock c.args.source.now) (g.S.Source.stock c.read_all.new.source) (max_length + 1) (g.S.Source.faults c.args.source.now)
     (g.S.Source.faults c.read_all.new.source) (g.S.Source.faults c.pair_reply.new.source) (g.S.Source.left c.read_all.new.source)
     (g.S.Source.left c.pair_reply.new.source)
     r c.in-Pair.command refl job
@@ -102,7 +103,7 @@ returns-in-Pair-clause-names g c =
     (g.S.Source.stock c.args.source.now) (g.S.Source.names c.args.source.now) (g.S.Source.names c.read_all.new.source)
     (g.S.Source.names c.pair_reply.new.source)
     r c.in-Pair.command
-    c.in-Ok.text.items c.as_slice-in-Pair.result.now 1048577 refl job
+    c.in-Ok.text.items c.as_slice-in-Pair.result.now (max_length + 1) refl job
     (omega arith) c.as_slice-in-Pair.ensures.value c.in-Ok.ensures.text c.read_all.ensures.names (meant_status c.pair_reply.result) c.pair_reply.ensures.names
 
 pub returns-in-Err-Fault-clause-reply : goal.returns-in-Err-Fault-clause-reply
@@ -120,7 +121,7 @@ pub returns-in-Err-Fault-clause-taken_at_most : goal.returns-in-Err-Fault-clause
 returns-in-Err-Fault-clause-taken_at_most g c =
     let r : Request = request_with (request_shown c.args.request.now) (option_map (λ b. (goal.Brancher-dyn g (b.vtable, b.value)).rule b.value) c.args.brancher) in
     model_taken (Some r)
-    (g.S.Source.stock c.args.source.now) 1048577 (g.S.Source.faults c.args.source.now) (g.S.Source.faults c.read_all.new.source)
+    (g.S.Source.stock c.args.source.now) (max_length + 1) (g.S.Source.faults c.args.source.now) (g.S.Source.faults c.read_all.new.source)
     (g.S.Source.left c.read_all.new.source)
     r refl c.requires.files c.read_all.ensures.rest
 
@@ -137,7 +138,7 @@ pub returns-clause-taken_at_most : goal.returns-clause-taken_at_most
 returns-clause-taken_at_most g c =
     let r : Request = request_with (request_shown c.args.request.now) (option_map (λ b. (goal.Brancher-dyn g (b.vtable, b.value)).rule b.value) c.args.brancher) in
     model_taken (Some r)
-    (g.S.Source.stock c.args.source.now) 1048577 (g.S.Source.faults c.args.source.now) (g.S.Source.faults c.read_all.new.source)
+    (g.S.Source.stock c.args.source.now) (max_length + 1) (g.S.Source.faults c.args.source.now) (g.S.Source.faults c.read_all.new.source)
     (g.S.Source.left c.read_all.new.source)
     r refl c.requires.files c.read_all.ensures.rest
 

@@ -1,5 +1,6 @@
 use Rattle.std.proofs.Common.{rules, ◌≡◌, ◌∙◌, true, false, Option, Some, IfOk, IfErr, map, option_map, sym, subst}
 use Rattle.std.specs.Io.KnownBytes.{IsAtEnd}
+use Rattle.sopl_ast.specs.Tokens.{max_length}
 use Rattle.answer_texts.specs.Logs.{told}
 use Rattle.answer_texts.specs.declared.reply.Reply.{Reply}
 use Rattle.answer_run.specs.Reads.{TakesAtMost}
@@ -66,7 +67,7 @@ returns g c =
           c.request_reply.ensures.stopped;
       ended = subst (λ (w : Option Request). reads_files w ≡ true → IfOk c.request_reply.result (λ (reply : Reply). IsAnswered reply.status → IsAtEnd (g.S.Source.left c.request_reply.new.source))) (sym asked)
           c.request_reply.ensures.ended;
-      taken_at_most = subst (λ (w : Option Request). TakesAtMost 1048577 (asked_in (g.S.Source.stock c.args.source.now) w) (g.S.Source.faults c.args.source.now) (g.S.Source.faults c.request_reply.new.source)
+      taken_at_most = subst (λ (w : Option Request). TakesAtMost (max_length + 1) (asked_in (g.S.Source.stock c.args.source.now) w) (g.S.Source.faults c.args.source.now) (g.S.Source.faults c.request_reply.new.source)
           (g.S.Source.left c.request_reply.new.source)) (sym asked) c.request_reply.ensures.taken_at_most;
       faults_grow = c.request_reply.ensures.faults_grow;
       log_later = c.request_reply.ensures.log_later;

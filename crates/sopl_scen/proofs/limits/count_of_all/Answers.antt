@@ -1,4 +1,6 @@
 use Rattle.std.proofs.Common.{pos, ◌≤ℤ◌, subst}
+use Rattle.sopl_base.specs.declared.codes.TheConstants as codes
+use Rattle.sopl_ast.specs.Limits.{usual_limits}
 use Rattle.scen_laws.specs.Laws.{HasOutcome, count_factor}
 use Rattle.sopl_scen.proofs.Parts.{one_of}
 use Rattle.sopl_scen.proofs.Runs.{run_next}
@@ -9,7 +11,7 @@ count_of-outcomes-requires c = record { has_outcomes = one_of HasOutcome c.args.
 
 pub stochs-preserved : goal.stochs-preserved
 stochs-preserved c =
-    run_next 202 16384 count_factor c.args.stochs.now c.stochs.stoch-index c.stoch-item.result c.stochs.product.value c.count_of-outcomes.result.value
+    run_next codes.SCENARIOS usual_limits.scenarios count_factor c.args.stochs.now c.stochs.stoch-index c.stoch-item.result c.stochs.product.value c.count_of-outcomes.result.value
     c.in_ok-product.product.value c.stochs-test.true c.stoch-item.is c.count_of-outcomes.ensures.value
     (subst (λ z. pos 1 ≤ℤ z) c.count_of-outcomes.ensures.value c.count_of-outcomes.ensures.least)
     c.in_ok-product.ensures.ok.0 c.in_ok-product.ensures.ok.1 c.stochs.invariant

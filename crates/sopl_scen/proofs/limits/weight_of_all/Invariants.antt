@@ -1,7 +1,9 @@
-use Rattle.std.proofs.Common.{drop, ◌^◌}
+use Rattle.std.proofs.Common.{drop}
+use Rattle.sopl_base.specs.declared.codes.TheConstants as codes
+use Rattle.sopl_ast.specs.Limits.{usual_limits}
 use Rattle.scen_laws.specs.Laws.{weight_factor}
 use Rattle.sopl_scen.proofs.Runs.{IsRun}
 use Rattle.sopl_scen.proofs.limits.weight_of_all.Given as goal
 
 abbrev pub invariant-stochs : goal.invariant-stochs
-invariant-stochs l = IsRun 201 (2 ^ 100) weight_factor l.stochs l.product.value (drop l.stoch-index l.stochs)
+invariant-stochs l = IsRun codes.WEIGHT usual_limits.weight weight_factor l.stochs l.product.value (drop l.stoch-index l.stochs)

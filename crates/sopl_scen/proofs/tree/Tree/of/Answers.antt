@@ -1,5 +1,6 @@
 use Rattle.std.proofs.Common.{rules, ◌≡◌, inr, ◌∙◌, ◌+◌, ◌*◌, ◌≤◌, ◌<◌, ◌^◌, ◌≤ℤ◌, pos, length, Some, None, arith, refl, sym, ap, subst}
 use Rattle.std.specs.List.{sum_by}
+use Rattle.sopl_ast.specs.Limits.{usual_limits}
 use Rattle.sopl_ast.specs.Scenarios.{scenarios}
 use Rattle.sopl_scen.specs.Stages.{count_at, cell_count, places_from}
 use Rattle.sopl_scen.proofs.Assembled.{small_levels}
@@ -69,7 +70,7 @@ of-requires-3-clause-fewer c =
 pub of-requires-3-clause-few : goal.of-requires-3-clause-few
 of-requires-3-clause-few c =
     let same : c.len-count.result ≡ length c.in_ok-scenes.scenes.weights.items = search rules in
-    subst (λ n. (length c.args.decisions.now * n) ≤ 1048576)
+    subst (λ n. (length c.args.decisions.now * n) ≤ usual_limits.copies)
     (sym (same ∙ weights_many c.args.stochs.now c.in_ok-scenes.scenes.weights.items c.in_ok-scenes.ensures.weights))
     (copies_of c.args.decisions.now c.args.stochs.now c.args.constraints (length c.args.decisions.now + (length c.args.stochs.now + c.args.constraints)) refl
     c.in-Ok.ensures.copies)
