@@ -7,7 +7,7 @@ use Rattle.serde_json.specs.Find.{get}
 use Rattle.sopl_base.specs.declared.fault.Fault.{Fault}
 use Rattle.sopl_base.specs.declared.fault.Fault.TheVariants as fault
 use Rattle.sopl_base.specs.declared.fault.Refusal.{Refusal}
-use Rattle.sopl_base.specs.declared.codes.TheConstants as codes
+use Rattle.sopl_base.specs.declared.codes.TheConstants.{POLICY_JSON, POLICY_SHAPE, POLICY_VALUE}
 use Rattle.sopl_ast.specs.Cells.{Cell, IsPoint, policy_at}
 use Rattle.sopl_ast.specs.Instances.{Decision, Stochastic}
 use Rattle.sopl_scen.specs.Domains.{cell_ends}
@@ -39,9 +39,9 @@ policy_reading (declared.Outside cell) = Outside cell
 -- why a text holds no policy: the code, and the place of it
 abbrev pub policy_refusal : PolicyReading → Option Refusal
 policy_refusal (Point values) = None
-policy_refusal NoJson = Some (record { code = codes.POLICY_JSON; at = 0 })
-policy_refusal (Differs node) = Some (record { code = codes.POLICY_SHAPE; at = node })
-policy_refusal (Outside cell) = Some (record { code = codes.POLICY_VALUE; at = cell })
+policy_refusal NoJson = Some (record { code = POLICY_JSON; at = 0 })
+policy_refusal (Differs node) = Some (record { code = POLICY_SHAPE; at = node })
+policy_refusal (Outside cell) = Some (record { code = POLICY_VALUE; at = cell })
 
 -- a fault says so
 abbrev pub RefusesPolicy : PolicyReading → Fault → Type 0

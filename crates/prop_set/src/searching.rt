@@ -7,6 +7,8 @@ ghost use Rattle.box_problem.specs.Bits.{bits_in};
 ghost use Rattle.box_problem.specs.Box.{points};
 ghost use Rattle.box_problem.specs.Covers.{nodes_for};
 ghost use Rattle.sopl_base.specs.declared.stop.SearchStop.TheVariants.{Write};
+ghost use Rattle.sopl_base.specs.declared.limits.TheConstants as largest;
+ghost use Rattle.std.specs.Int.RustNames.{unsigned_abs};
 ghost use Rattle.sopl_search.specs.Logged.{IsPrefixLogged, IsLogged, plan_of};
 ghost use Rattle.sopl_search.specs.Outcomes.{HasCause, IsSettled, IsTrueOf};
 ghost use Rattle.term_program.specs.Stated.{box_problem_of};
@@ -33,7 +35,7 @@ pub fn search_program<K: Sink>(
     sink: &mut K,
 ) -> Result<Outcome, SearchStop>
     requires made { IsMade program.now }
-    requires bits { bits_in (box_problem_of program.now).root ≤ 1024 }
+    requires bits { bits_in (box_problem_of program.now).root ≤ unsigned_abs largest.BITS }
     requires budget { 1 ≤ budget }
     requires turn { schedule.turn ≡ 0 }
     ensures truth { IfOk result (IsTrueOf (box_problem_of program.now)) }

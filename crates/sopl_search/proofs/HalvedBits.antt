@@ -3,6 +3,8 @@ use Rattle.std.proofs.Common.{◌≡◌, inl, inr, ℕ, ◌+◌, ◌<◌, ◌≤
 use Rattle.std.proofs.lemmas.Bool.{cases_lt}
 use Rattle.std.proofs.lemmas.Int.{ints}
 use Rattle.sopl_base.specs.declared.reason.Side.TheVariants.{Le}
+use Rattle.sopl_base.specs.declared.limits.TheConstants as largest
+use Rattle.std.specs.Int.RustNames.{unsigned_abs}
 use Rattle.box_problem.specs.Bits.{bits_in}
 use Rattle.box_problem.specs.Box.{Box, Inside, high, low}
 use Rattle.box_problem.specs.BoxProblem.{BoxProblem}
@@ -34,7 +36,7 @@ halved_bits root start b cell k low_first near inside part first =
 
 -- and no more than the root
 few_bits : (problem : BoxProblem) (b : Box) (cell : ℕ) (k : ℤ) (asked : Option Rule) (depth : ℕ) (low_first : Bool) → IsPosed problem → Inside b problem.root
-    → IsPickedCut asked depth b cell k low_first → (bits_in (narrowed b cell Le k) ≤ 1024) × (bits_in (cut_away b cell Le k) ≤ 1024)
+    → IsPickedCut asked depth b cell k low_first → (bits_in (narrowed b cell Le k) ≤ unsigned_abs largest.BITS) × (bits_in (cut_away b cell Le k) ≤ unsigned_abs largest.BITS)
 few_bits problem b cell k asked depth low_first posed inside picked =
     let parts = cuts_make_parts b cell Le k inside.is_box (picked_cuts asked depth b cell k low_first picked) in
     let low_bits = parts_have_no_more_bits (narrowed b cell Le k) b inside.is_box parts.0 in

@@ -1,6 +1,8 @@
 -- How a node of a search ends.
 use Rattle.std.specs.Prelude.{◌≡◌, ℕ, ◌≤◌, ℤ, Bool, true, List, Option, Some, Contains}
 use Rattle.sopl_base.specs.declared.reason.Reason.{Reason}
+use Rattle.sopl_base.specs.declared.limits.TheConstants as largest
+use Rattle.std.specs.Int.RustNames.{unsigned_abs}
 use Rattle.brancher.specs.declared.choice.Choice.{Choice}
 use Rattle.brancher.specs.Picks.{IsPicked}
 use Rattle.brancher.specs.Rules.{Rule}
@@ -17,7 +19,7 @@ use Rattle.sopl_search.specs.declared.ending.NodeEnd.TheVariants.{Refuted, Split
 pub record IsPosed (problem : BoxProblem) : Type 0 where
   pub lawful : Lawful problem
   pub near : IsNearBox problem.root
-  pub few_bits : bits_in problem.root ≤ 1024
+  pub few_bits : bits_in problem.root ≤ unsigned_abs largest.BITS
 
 -- all reasons of a problem are among these
 pub record AreAll (problem : BoxProblem) (reasons : List Reason) : Type 0 where

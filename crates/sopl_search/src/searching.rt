@@ -4,6 +4,8 @@ ghost use Rattle.std.specs.Prelude.{◌≡◌, ◌≤◌, ◌<◌, ℕ, false, L
 ghost use Rattle.sopl_io.specs.Calls.{StopsWhere};
 ghost use Rattle.sopl_io.specs.Causes.{Rose};
 ghost use Rattle.sopl_base.specs.declared.stop.SearchStop.TheVariants.{Write};
+ghost use Rattle.sopl_base.specs.declared.limits.TheConstants as largest;
+ghost use Rattle.std.specs.Int.RustNames.{unsigned_abs};
 ghost use Rattle.box_problem.specs.Bits.{bits_in};
 ghost use Rattle.box_problem.specs.Box.{points};
 ghost use Rattle.box_problem.specs.BoxProblem.{Lawful};
@@ -121,7 +123,7 @@ pub fn search<P: SearchProblem + Drop, K: Sink>(
 ) -> Result<Outcome, SearchStop>
     requires lawful { Lawful (P.problem program.now) }
     requires near { IsNearBox (P.problem program.now).root }
-    requires bits { bits_in (P.problem program.now).root ≤ 1024 }
+    requires bits { bits_in (P.problem program.now).root ≤ unsigned_abs largest.BITS }
     requires valid { P.valid program.now }
     requires fits { AllFit P.fits program.now props.items }
     requires all { AreAll (P.problem program.now) (together (map P.reasons props.items)) }
