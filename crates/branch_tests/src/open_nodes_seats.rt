@@ -1,8 +1,9 @@
 //! Which nodes seats take, one after another.
 
-use open_nodes::{Halving, OpenNode, Seats, made};
+use open_nodes::{Halving, OpenNode, Seats, SplitNode, made};
 use sopl_base::{Side, Steps};
 use std::alloc::{AllocError, Global};
+use std::rc::Rc;
 use std::test::Fail;
 
 // A side of the split with this number.
@@ -111,5 +112,27 @@ fn seats_take(rt: HostRuntime) -> Result<(), Fail> {
         let told = taken(rt.alloc(), many, order, splits)?;
         assert_eq!(rt; told.as_slice(), wanted, "{word}");
     }
+    Ok(())
+}
+
+// The last of a chain of splits, each the low side of the one before.
+fn chain(alloc: Global, splits: u64) -> Result<Option<Rc<SplitNode>>, AllocError> {
+    let mut way = None;
+    'splits: for node in 0..splits {
+        let cut = Halving { cell: 0, k: 0 };
+        let split = made(alloc, way, Side::Le, node, node, Steps::new(alloc), cut)?;
+        way = Some(split);
+    }
+    Ok(way)
+}
+
+// A drop that called itself for each split above would need more stack than a process has.
+#[test]
+fn long_chains_are_dropped(rt: HostRuntime) -> Result<(), Fail> {
+    let depth = match chain(rt.alloc(), 400_000)? {
+        Some(last) => last.depth,
+        None => 0,
+    };
+    assert_eq!(rt; depth, 399_999);
     Ok(())
 }
