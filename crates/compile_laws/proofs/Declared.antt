@@ -10,7 +10,7 @@ use Rattle.sopl_ast.specs.Known.{Constant}
 use Rattle.sopl_ast.specs.Mistakes as mistake
 use Rattle.sopl_ast.specs.Mistakes.{Entity, Variable, RangeName, SetName, Scope, entity_of, known_name, wrong_depths, first_of, bind_dims, of_dims, of_init, of_declaration}
 use Rattle.sopl_ast.specs.Mistakes.{declare, no_names, of_declarations, declare_all}
-use Rattle.sopl_ast.specs.Instances.{Decision, Stochastic}
+use Rattle.sopl_ast.specs.Instances.{Decision, Stochastic, independent}
 use Rattle.sopl_ast.specs.Arrays as ast
 use Rattle.sopl_ast.specs.Arrays.{Dimension, dimensions_of, dimension_events, with_index}
 use Rattle.sopl_ast.specs.Declarations.{Declared, nothing_declared, values_from, init_events, constants_of, decisions_of, stochastics_of, domain_of, stage_of, outcome_of}
@@ -152,7 +152,7 @@ owned_behind (StochDecl own at dims dist stage) scope found name right passes ow
     longer : of_stochastics name (found.stochastics ++ stochastics_of found.known own dims dist stage) ≡ of_stochastics name found.stochastics ++ more
     longer =
         grown (λ (s : Stochastic). s.name) (λ (s : Stochastic). s.index) own name found.stochastics
-        (λ index. record { name = own; index = index; outcomes = map (outcome_of (with_index ds index found.known)) dist; stage = stage_of (with_index ds index found.known) stage })
+        (λ index. independent own index (map (outcome_of (with_index ds index found.known)) dist) (stage_of (with_index ds index found.known) stage))
         (λ index. refl) (ast.indices ds)
 
 owned_behind_all : (ds : List Declaration) (scope : Scope) (found : Declared) (name : List ℕ) → of_declarations scope ds ≡ [] → NothingFails (declarations_events found ds)

@@ -9,7 +9,7 @@ use Rattle.sopl_ast.specs.Whole.{conses}
 use Rattle.sopl_ast.specs.Known.{Constant}
 use Rattle.sopl_ast.specs.Mistakes.{Entity, entity_of, no_names, declare_all, of_declarations, of_goal, of_constraints}
 use Rattle.sopl_ast.specs.Instances.{Decision, Outcome, Stochastic}
-use Rattle.sopl_ast.specs.Scenarios.{Scenario, scenarios, preceded_by}
+use Rattle.sopl_ast.specs.Scenarios.{Scenario, scenarios, scenarios_after, outcomes_after, preceded_by}
 use Rattle.sopl_ast.specs.Declarations.{Declared, nothing_declared, behind_all}
 use Rattle.sopl_ast.specs.Unfolding.{by_stage, problem_of}
 use Rattle.unfold_laws.specs.Bounds.{IsStage, IsBoundedStochastic}
@@ -29,16 +29,18 @@ use Rattle.compile_laws.proofs.Declared.{of_constants, of_stochastics, of_decisi
 
 -- Scenarios.
 
-whole_scenario : (stochastics : List Stochastic) (s : Scenario) → In s (scenarios stochastics) → length s.values ≡ length stochastics
-whole_scenario [] s (inl e) = ap (λ (t : Scenario). length t.values) (sym e)
-whole_scenario [] s (inr h) = absurd h
-whole_scenario (first ∷ later) s h =
-    let of_outcome = from_flat_map (λ (outcome : Outcome). map (preceded_by outcome) (scenarios later)) first.outcomes s h in
-    let of_later = from_map (preceded_by of_outcome.0) (scenarios later) s of_outcome.2 in
-    ap (λ (t : Scenario). length t.values) (sym of_later.2) ∙ ap suc (whole_scenario later of_later.0 of_later.1)
+whole_scenario : (stochastics : List Stochastic) (places : List ℕ) (s : Scenario) → In s (scenarios_after places stochastics)
+    → length s.values ≡ length stochastics
+whole_scenario [] places s (inl e) = ap (λ (t : Scenario). length t.values) (sym e)
+whole_scenario [] places s (inr h) = absurd h
+whole_scenario (first ∷ later) places s h =
+    let of_outcome = from_flat_map (λ (drawn : ℕ × Outcome). map (preceded_by drawn.1) (scenarios_after (places ++ drawn.0 ∷ []) later)) (outcomes_after places first) s h in
+    let after : List ℕ = places ++ of_outcome.0.0 ∷ [] in
+    let of_later = from_map (preceded_by of_outcome.0.1) (scenarios_after after later) s of_outcome.2 in
+    ap (λ (t : Scenario). length t.values) (sym of_later.2) ∙ ap suc (whole_scenario later after of_later.0 of_later.1)
 
 pub scenarios_are_whole : ScenariosAreWhole
-scenarios_are_whole stochastics s h = whole_scenario stochastics s (In-Contains (scenarios stochastics) s h)
+scenarios_are_whole stochastics s h = whole_scenario stochastics [] s (In-Contains (scenarios stochastics) s h)
 
 -- Stochastic variables by stage.
 

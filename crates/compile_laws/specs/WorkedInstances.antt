@@ -6,7 +6,7 @@ use Rattle.sopl_ast.specs.declared.operators.MulOp.TheVariants.{Div}
 use Rattle.sopl_ast.specs.Tree as t
 use Rattle.sopl_ast.specs.Tree.{Tree, Node, no_tree, tree, no_factor, factor, no_binder, binder, Ends}
 use Rattle.sopl_ast.specs.Known.{Binding, Constant}
-use Rattle.sopl_ast.specs.Instances.{Decision, Stochastic, Problem}
+use Rattle.sopl_ast.specs.Instances.{Decision, Stochastic, Problem, independent}
 use Rattle.sopl_ast.specs.Scenarios.{Scenario}
 use Rattle.term_language.specs.Terms as c
 
@@ -21,7 +21,7 @@ x_element index = record { name = codes "x"; index = index ∷ []; lo = pos 0; h
 -- d is 1 or 3, which weigh 1 and 4, and is seen after stage 1
 abbrev pub d_stochastic : Stochastic
 d_stochastic =
-    record { name = codes "d"; index = []; outcomes = record { value = pos 1; weight = pos 1 } ∷ record { value = pos 3; weight = pos 4 } ∷ []; stage = 1 }
+    independent (codes "d") [] (record { value = pos 1; weight = pos 1 } ∷ record { value = pos 3; weight = pos 4 } ∷ []) 1
 
 -- a name, an element at one index, and a literal
 abbrev pub name : List ℕ → Tree

@@ -1,3 +1,4 @@
+pub mod Independence
 pub mod Integers
 pub mod ScenarioLaws
 pub mod Ascending

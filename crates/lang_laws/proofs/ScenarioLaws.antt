@@ -3,15 +3,16 @@ use Rattle.std.proofs.Common.{◌≡◌, subst, All, length-append, ◌<◌, suc
 use Rattle.std.proofs.Math.IntN.{zero-*ℤ, *ℤ-zero, +ℤ_assoc}
 use Rattle.std.proofs.lemmas.Int.{ints}
 use Rattle.std.proofs.lemmas.List.{map-append, length-map}
-use Rattle.std.specs.List.{flat_map, enumerate_from}
+use Rattle.std.specs.List.{flat_map}
 use Rattle.sopl_base.proofs.Lists.{flat_map-flat_map, map-flat_map, map-map, nothing_behind}
 use Rattle.sopl_base.proofs.Integers.{*ℤ-+ℤ, *ℤ_assoc, +ℤ-*ℤ}
 use Rattle.sopl_ast.specs.Numbers.{total}
-use Rattle.sopl_ast.specs.Instances.{Outcome, Stochastic}
+use Rattle.sopl_ast.specs.Instances.{Outcome, Stochastic, distribution}
 use Rattle.sopl_ast.specs.Scenarios as ast
-use Rattle.sopl_ast.specs.Scenarios.{total_of, total_weight}
+use Rattle.sopl_ast.specs.Scenarios.{outcomes_after, total_of, total_weight}
 use Rattle.sopl_ast.specs.PlacedScenarios.{Scenario, preceded_by, scenarios_after, without_places}
 use Rattle.lang_laws.specs.Laws.{WeightsSum, ScenariosAgree, followed_by, ScenariosSplit, HasOutcomes, ScenariosAlive}
+use Rattle.lang_laws.proofs.Independence.{outcome_of, outcomes_many, outcomes_written}
 use Rattle.lang_laws.proofs.Integers.{one-*ℤ}
 
 -- the weight of a scenario
@@ -29,23 +30,28 @@ total_after o [] = sym (*ℤ-zero o.1.weight)
 total_after o (x ∷ xs) =
     ap (λ z. (o.1.weight *ℤ x.weight) +ℤ z) (total_after o xs) ∙ sym (*ℤ-+ℤ o.1.weight x.weight (total (map weight_of xs)))
 
--- the weights of the scenarios after each outcome, where those of the later variables weigh the same after each
-total_each : (places : List ℕ) (later : List Stochastic) (w : ℤ) (n : ℕ) (os : List Outcome)
+-- the scenarios after each of some outcomes
+abbrev pub after_each : List ℕ → List Stochastic → List (ℕ × Outcome) → List Scenario
+after_each places later ds = flat_map (λ (drawn : ℕ × Outcome). map (preceded_by drawn) (scenarios_after (places ++ drawn.0 ∷ []) later)) ds
+
+-- their weights, where those of the later variables weigh the same after each
+total_each : (places : List ℕ) (later : List Stochastic) (w : ℤ) (ds : List (ℕ × Outcome))
     → ((ps : List ℕ) → total (map weight_of (scenarios_after ps later)) ≡ w)
-    → total (map weight_of (flat_map (λ (drawn : ℕ × Outcome). map (preceded_by drawn) (scenarios_after (places ++ drawn.0 ∷ []) later)) (enumerate_from n os)))
-    ≡ total_of os *ℤ w
-total_each places later w n [] same = sym (zero-*ℤ w)
-total_each places later w n (o ∷ os) same =
-    let rest : List Scenario = flat_map (λ (drawn : ℕ × Outcome). map (preceded_by drawn) (scenarios_after (places ++ drawn.0 ∷ []) later)) (enumerate_from (n + 1) os) in
-    let here : List Scenario = scenarios_after (places ++ n ∷ []) later in
-    ap total (map-append weight_of (map (preceded_by (n, o)) here) rest)
-    ∙ (total-append (map weight_of (map (preceded_by (n, o)) here)) (map weight_of rest)
-    ∙ (ap (λ z. z +ℤ total (map weight_of rest)) (total_after (n, o) here ∙ ap (λ z. o.weight *ℤ z) (same (places ++ n ∷ [])))
-    ∙ (ap (λ z. (o.weight *ℤ w) +ℤ z) (total_each places later w (n + 1) os same) ∙ sym (+ℤ-*ℤ o.weight (total_of os) w))))
+    → total (map weight_of (after_each places later ds)) ≡ total_of (map outcome_of ds) *ℤ w
+total_each places later w [] same = sym (zero-*ℤ w)
+total_each places later w (d ∷ ds) same =
+    let rest : List Scenario = after_each places later ds in
+    let here : List Scenario = scenarios_after (places ++ d.0 ∷ []) later in
+    ap total (map-append weight_of (map (preceded_by d) here) rest)
+    ∙ (total-append (map weight_of (map (preceded_by d) here)) (map weight_of rest)
+    ∙ (ap (λ z. z +ℤ total (map weight_of rest)) (total_after d here ∙ ap (λ z. d.1.weight *ℤ z) (same (places ++ d.0 ∷ [])))
+    ∙ (ap (λ z. (d.1.weight *ℤ w) +ℤ z) (total_each places later w ds same) ∙ sym (+ℤ-*ℤ d.1.weight (total_of (map outcome_of ds)) w))))
 
 weights_sum_after : (ss : List Stochastic) (places : List ℕ) → total (map weight_of (scenarios_after places ss)) ≡ total_weight ss
 weights_sum_after [] places = refl
-weights_sum_after (s ∷ ss) places = total_each places ss (total_weight ss) 0 s.outcomes (weights_sum_after ss)
+weights_sum_after (s ∷ ss) places =
+    total_each places ss (total_weight ss) (outcomes_after places s) (weights_sum_after ss)
+    ∙ ap (λ os. total_of os *ℤ total_weight ss) (outcomes_written places s)
 
 pub weights_sum : WeightsSum
 weights_sum ss = weights_sum_after ss []
@@ -66,23 +72,23 @@ flat_map-map f g (x ∷ xs) = ap (λ more. f (g x) ++ more) (flat_map-map f g xs
 
 -- Scenarios without their places.
 
-agree_each : (places : List ℕ) (later : List Stochastic) (n : ℕ) (os : List Outcome)
-    → ((ps : List ℕ) → map without_places (scenarios_after ps later) ≡ ast.scenarios later)
-    → map without_places (flat_map (λ (drawn : ℕ × Outcome). map (preceded_by drawn) (scenarios_after (places ++ drawn.0 ∷ []) later)) (enumerate_from n os))
-    ≡ flat_map (λ (o : Outcome). map (ast.preceded_by o) (ast.scenarios later)) os
-agree_each places later n [] same = refl
-agree_each places later n (o ∷ os) same =
-    let rest : List Scenario = flat_map (λ (drawn : ℕ × Outcome). map (preceded_by drawn) (scenarios_after (places ++ drawn.0 ∷ []) later)) (enumerate_from (n + 1) os) in
-    let here : List Scenario = scenarios_after (places ++ n ∷ []) later in
-    let first : map without_places (map (preceded_by (n, o)) here) ≡ map (ast.preceded_by o) (ast.scenarios later) =
-    map-map without_places (preceded_by (n, o)) here
-    ∙ (sym (map-map (ast.preceded_by o) without_places here) ∙ ap (map (ast.preceded_by o)) (same (places ++ n ∷ []))) in
-    map-append without_places (map (preceded_by (n, o)) here) rest
-    ∙ λ i. first i ++ agree_each places later (n + 1) os same i
+agree_each : (places : List ℕ) (later : List Stochastic) (ds : List (ℕ × Outcome))
+    → ((ps : List ℕ) → map without_places (scenarios_after ps later) ≡ ast.scenarios_after ps later)
+    → map without_places (after_each places later ds)
+    ≡ flat_map (λ (drawn : ℕ × Outcome). map (ast.preceded_by drawn.1) (ast.scenarios_after (places ++ drawn.0 ∷ []) later)) ds
+agree_each places later [] same = refl
+agree_each places later (d ∷ ds) same =
+    let rest : List Scenario = after_each places later ds in
+    let here : List Scenario = scenarios_after (places ++ d.0 ∷ []) later in
+    let first : map without_places (map (preceded_by d) here) ≡ map (ast.preceded_by d.1) (ast.scenarios_after (places ++ d.0 ∷ []) later) =
+    map-map without_places (preceded_by d) here
+    ∙ (sym (map-map (ast.preceded_by d.1) without_places here) ∙ ap (map (ast.preceded_by d.1)) (same (places ++ d.0 ∷ []))) in
+    map-append without_places (map (preceded_by d) here) rest
+    ∙ λ i. first i ++ agree_each places later ds same i
 
-agree_after : (ss : List Stochastic) (places : List ℕ) → map without_places (scenarios_after places ss) ≡ ast.scenarios ss
+agree_after : (ss : List Stochastic) (places : List ℕ) → map without_places (scenarios_after places ss) ≡ ast.scenarios_after places ss
 agree_after [] places = refl
-agree_after (s ∷ ss) places = agree_each places ss 0 s.outcomes (agree_after ss)
+agree_after (s ∷ ss) places = agree_each places ss (outcomes_after places s) (agree_after ss)
 
 pub scenarios_agree : ScenariosAgree
 scenarios_agree ss = agree_after ss []
@@ -123,7 +129,7 @@ split places [] ys =
     ∙ (nothing_behind (map (followed_by (record { places = []; values = []; weight = pos 1 })) (scenarios_after places ys))
     ∙ map-same (followed_by (record { places = []; values = []; weight = pos 1 })) followed (scenarios_after places ys)))
 split places (x ∷ xs) ys =
-    let each : List (ℕ × Outcome) = enumerate_from 0 x.outcomes in
+    let each : List (ℕ × Outcome) = outcomes_after places x in
     (λ i. flat_map (λ (drawn : ℕ × Outcome). map (preceded_by drawn) (split (places ++ drawn.0 ∷ []) xs ys i)) each)
     ∙ ((λ i. flat_map (λ (drawn : ℕ × Outcome). drawn_split places ys drawn (scenarios_after (places ++ drawn.0 ∷ []) xs) i) each)
     ∙ sym (flat_map-flat_map (behind places ys) (λ (drawn : ℕ × Outcome). map (preceded_by drawn) (scenarios_after (places ++ drawn.0 ∷ []) xs)) each))
@@ -134,19 +140,18 @@ scenarios_split places xs ys = split places xs ys
 
 -- Where outcomes are there, scenarios are there.
 
-alive_each : (places : List ℕ) (later : List Stochastic) (n : ℕ) (os : List Outcome) → 0 < length os
-    → ((ps : List ℕ) → 0 < length (scenarios_after ps later))
-    → 0 < length (flat_map (λ (drawn : ℕ × Outcome). map (preceded_by drawn) (scenarios_after (places ++ drawn.0 ∷ []) later)) (enumerate_from n os))
-alive_each places later n [] some each = absurd (omega arith)
-alive_each places later n (o ∷ os) some each =
-    let here : List Scenario = scenarios_after (places ++ n ∷ []) later in
-    let rest : List Scenario = flat_map (λ (drawn : ℕ × Outcome). map (preceded_by drawn) (scenarios_after (places ++ drawn.0 ∷ []) later)) (enumerate_from (n + 1) os) in
-    omega (arith, length-append (map (preceded_by (n, o)) here) rest, length-map here (preceded_by (n, o)), each (places ++ n ∷ []))
+alive_each : (places : List ℕ) (later : List Stochastic) (ds : List (ℕ × Outcome)) → 0 < length ds
+    → ((ps : List ℕ) → 0 < length (scenarios_after ps later)) → 0 < length (after_each places later ds)
+alive_each places later [] some each = absurd (omega arith)
+alive_each places later (d ∷ ds) some each =
+    let here : List Scenario = scenarios_after (places ++ d.0 ∷ []) later in
+    omega (arith, length-append (map (preceded_by d) here) (after_each places later ds), length-map here (preceded_by d), each (places ++ d.0 ∷ []))
 
 alive : (ss : List Stochastic) → All HasOutcomes ss → (places : List ℕ) → 0 < length (scenarios_after places ss)
 alive [] all places = omega arith
 alive (s ∷ ss) all places =
-    alive_each places ss 0 s.outcomes (all 0 s (omega arith)) (alive ss (λ k d below. all (suc k) d (omega arith)))
+    let some : 0 < length (distribution s) = all 0 s (omega arith) in
+    alive_each places ss (outcomes_after places s) (omega (arith, some, outcomes_many places s)) (alive ss (λ k d below. all (suc k) d (omega arith)))
 
 pub scenarios_alive : ScenariosAlive
 scenarios_alive places ss all = alive ss all places

@@ -7,7 +7,7 @@ use Rattle.sopl_ast.specs.Numbers.{up_to, total, all_distinct, Task, demanded, i
 use Rattle.sopl_ast.specs.Known.{Known, same_values}
 use Rattle.sopl_ast.specs.Constants.{value_or_zero}
 use Rattle.sopl_ast.specs.Declarations.{set_of}
-use Rattle.sopl_ast.specs.Instances.{Outcome, Stochastic, Problem}
+use Rattle.sopl_ast.specs.Instances.{Outcome, Stochastic, Problem, distribution}
 use Rattle.sopl_ast.specs.Scenarios as ast
 use Rattle.sopl_ast.specs.Scenarios.{total_weight}
 use Rattle.sopl_ast.specs.PlacedScenarios.{Scenario, scenarios, scenarios_after, without_places}
@@ -62,7 +62,7 @@ ScenariosSplit =
 
 -- a stochastic variable has outcomes
 abbrev pub HasOutcomes : Stochastic → Type 0
-HasOutcomes s = 0 < length s.outcomes
+HasOutcomes s = 0 < length (distribution s)
 
 -- there is a scenario, where each stochastic variable has outcomes
 abbrev pub ScenariosAlive : Type 0
@@ -70,7 +70,7 @@ ScenariosAlive = (places : List ℕ) (stochastics : List Stochastic) → All Has
 
 -- no two outcomes of a stochastic variable have the same value
 abbrev pub HasDistinctOutcomes : Stochastic → Type 0
-HasDistinctOutcomes s = IsTrue (all_distinct (map (λ (o : Outcome). o.value) s.outcomes))
+HasDistinctOutcomes s = IsTrue (all_distinct (map (λ (o : Outcome). o.value) (distribution s)))
 
 -- no two scenarios have the same values, where outcomes are distinct
 abbrev pub ScenariosDistinct : Type 0

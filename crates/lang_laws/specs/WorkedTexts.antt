@@ -15,7 +15,7 @@ use Rattle.sopl_ast.specs.Whole.{One, Many, no_init, init, Declaration, IntDecl,
 use Rattle.sopl_ast.specs.Known.{Binding, Constant, nothing_known}
 use Rattle.sopl_ast.specs.Constants.{value}
 use Rattle.sopl_ast.specs.UnfoldEvents.{excess}
-use Rattle.sopl_ast.specs.Instances.{Decision, Outcome, Stochastic, Hard, Chance, Problem}
+use Rattle.sopl_ast.specs.Instances.{Decision, Outcome, Stochastic, Hard, Chance, Problem, independent}
 use Rattle.sopl_ast.specs.Unfolding.{problem_of}
 use Rattle.sopl_ast.specs.Scenarios.{Scenario}
 use Rattle.sopl_ast.specs.Histories.{histories}
@@ -361,7 +361,7 @@ abbrev pub outcome : ℤ → ℤ → Outcome
 outcome value weight = record { value = value; weight = weight }
 
 abbrev pub stochastic : List ℕ → List ℤ → List Outcome → ℕ → Stochastic
-stochastic name index outcomes stage = record { name = name; index = index; outcomes = outcomes; stage = stage }
+stochastic name index outcomes stage = independent name index outcomes stage
 
 abbrev pub bound_to : List ℕ → ℤ → List Binding
 bound_to name value = (record { name = name; value = value }) ∷ []

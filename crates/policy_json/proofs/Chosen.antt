@@ -3,12 +3,13 @@ use Rattle.std.proofs.Common.{◌≡◌, ◌≤◌, ◌<◌, ◌+◌, ◌++◌, 
 use Rattle.std.proofs.lemmas.Bool.{cases_order}
 use Rattle.std.proofs.lemmas.List.Elements.{All-head, All-tail}
 use Rattle.sopl_base.proofs.Tests.{nat_test, nat_untest}
-use Rattle.sopl_ast.specs.Instances.{Outcome, Stochastic}
+use Rattle.sopl_ast.specs.Instances.{Outcome, Stochastic, distribution}
 use Rattle.sopl_ast.specs.Scenarios.{Scenario, preceded_by, scenarios}
 use Rattle.sopl_ast.specs.Histories.{history}
+use Rattle.lang_laws.proofs.Independence.{scenarios_begin}
 use Rattle.scen_laws.proofs.Prefixes.{differ, same}
 use Rattle.policy_tree.proofs.Members.{In, In-flat_map, In-map, from_flat_map, from_map}
-use Rattle.policy_json.specs.Nodes.{outcomes_after, seen_after}
+use Rattle.policy_json.specs.Nodes.{seen_after, stage_outcomes}
 use Rattle.policy_json.specs.Staged.{Ascend}
 
 -- the values of a scenario
@@ -20,15 +21,15 @@ abbrev pub AreChosen : List Stochastic → List ℤ → Type 0
 AreChosen [] [] = Unit {0}
 AreChosen [] (v ∷ vs) = ⊥
 AreChosen (s ∷ ss) [] = ⊥
-AreChosen (s ∷ ss) (v ∷ vs) = ((o : Outcome) × In o s.outcomes × (o.value ≡ v)) × AreChosen ss vs
+AreChosen (s ∷ ss) (v ∷ vs) = ((o : Outcome) × In o (distribution s) × (o.value ≡ v)) × AreChosen ss vs
 
 -- the values of a scenario are chosen
 pub chosen_in : (ss : List Stochastic) (x : Scenario) → In x (scenarios ss) → AreChosen ss x.values
 chosen_in [] x (inl e) = let C : Scenario → Type 0 = λ y. AreChosen [] y.values in subst C e tt
 chosen_in [] x (inr h) = absurd h
 chosen_in (s ∷ ss) x h =
-    let of_outcome : (o : Outcome) × In o s.outcomes × In x (map (preceded_by o) (scenarios ss)) =
-    from_flat_map (λ o. map (preceded_by o) (scenarios ss)) s.outcomes x h in
+    let of_outcome : (o : Outcome) × In o (distribution s) × In x (map (preceded_by o) (scenarios ss)) =
+    from_flat_map (λ o. map (preceded_by o) (scenarios ss)) (distribution s) x (subst (In x) (scenarios_begin s ss) h) in
     let of_later : (y : Scenario) × In y (scenarios ss) × (preceded_by of_outcome.0 y ≡ x) =
     from_map (preceded_by of_outcome.0) (scenarios ss) x of_outcome.2 in
     let C : Scenario → Type 0 = λ y. AreChosen (s ∷ ss) y.values in
@@ -44,23 +45,24 @@ scenario_of (s ∷ ss) (v ∷ vs) c =
     let o : Outcome = c.0.0 in
     let is : o.value ≡ v = c.0.2 in (
       preceded_by o later.0,
-      In-flat_map (λ o. map (preceded_by o) (scenarios ss)) s.outcomes o (preceded_by o later.0) c.0.1
-          (In-map (preceded_by o) (scenarios ss) later.0 later.1),
+      subst (In (preceded_by o later.0)) (sym (scenarios_begin s ss))
+          (In-flat_map (λ o. map (preceded_by o) (scenarios ss)) (distribution s) o (preceded_by o later.0) c.0.1
+          (In-map (preceded_by o) (scenarios ss) later.0 later.1)),
       λ i. is i ∷ later.2 i,
     )
 
 -- what can be seen after a stage is chosen for its variables
-pub outcome_chosen : (stage : ℕ) (ss : List Stochastic) (vs : List ℤ) → In vs (outcomes_after stage ss) → AreChosen (seen_after stage ss) vs
+pub outcome_chosen : (stage : ℕ) (ss : List Stochastic) (vs : List ℤ) → In vs (stage_outcomes stage ss) → AreChosen (seen_after stage ss) vs
 outcome_chosen stage ss vs h =
     let from : (x : Scenario) × In x (scenarios (seen_after stage ss)) × (x.values ≡ vs) = from_map values_in (scenarios (seen_after stage ss)) vs h in
     subst (AreChosen (seen_after stage ss)) from.2 (chosen_in (seen_after stage ss) from.0 from.1)
 
 -- where each variable has an outcome, values can be chosen
-pub any_chosen : (ss : List Stochastic) → All (λ (s : Stochastic). 1 ≤ length s.outcomes) ss → (vs : List ℤ) × AreChosen ss vs
+pub any_chosen : (ss : List Stochastic) → All (λ (s : Stochastic). 1 ≤ length (distribution s)) ss → (vs : List ℤ) × AreChosen ss vs
 any_chosen [] have = ([], tt)
 any_chosen (s ∷ ss) have =
-    let HasOutcome : Stochastic → Type 0 = λ s. 1 ≤ length s.outcomes in
-    let first : (o : Outcome) × In o s.outcomes = one_of s.outcomes (All-head HasOutcome s ss have) in
+    let HasOutcome : Stochastic → Type 0 = λ s. 1 ≤ length (distribution s) in
+    let first : (o : Outcome) × In o (distribution s) = one_of (distribution s) (All-head HasOutcome s ss have) in
     let later : (vs : List ℤ) × AreChosen ss vs = any_chosen ss (All-tail HasOutcome s ss have) in
     (first.0.value ∷ later.0, ((first.0, first.1, refl), later.1))
   where
@@ -179,7 +181,7 @@ now_chosen stage from (s ∷ ss) (v ∷ vs) a c =
     )
 
 -- what is chosen for the variables of a stage can be seen after it
-pub chosen_outcome : (stage : ℕ) (ss : List Stochastic) (ws : List ℤ) → AreChosen (seen_after stage ss) ws → In ws (outcomes_after stage ss)
+pub chosen_outcome : (stage : ℕ) (ss : List Stochastic) (ws : List ℤ) → AreChosen (seen_after stage ss) ws → In ws (stage_outcomes stage ss)
 chosen_outcome stage ss ws c =
     let from : (x : Scenario) × In x (scenarios (seen_after stage ss)) × (x.values ≡ ws) = scenario_of (seen_after stage ss) ws c in
-    subst (λ (vs : List ℤ). In vs (outcomes_after stage ss)) from.2 (In-map values_in (scenarios (seen_after stage ss)) from.0 from.1)
+    subst (λ (vs : List ℤ). In vs (stage_outcomes stage ss)) from.2 (In-map values_in (scenarios (seen_after stage ss)) from.0 from.1)

@@ -14,7 +14,7 @@ use Rattle.sopl_ast.specs.Numbers.{all_of, both_of}
 use Rattle.policy_tree.proofs.Members.{In, Contains-In, from_enumerate, from_filter}
 use Rattle.policy_json.specs.Entries.{entry_of}
 use Rattle.policy_json.specs.LastStage.{last_stage}
-use Rattle.policy_json.specs.Nodes.{branch_at, decide_of, decision_entry, node_at, node_of, numbered_in_stage, outcomes_after, outermost_node, policy_data}
+use Rattle.policy_json.specs.Nodes.{branch_at, decide_of, decision_entry, node_at, node_of, numbered_in_stage, outermost_node, policy_data, stage_outcomes}
 use Rattle.policy_json.specs.Held.{held_data, held_decide, held_entry, held_node_at, held_outermost}
 use Rattle.policy_json.specs.Staged.{IsStaged}
 use Rattle.policy_json.proofs.Chosen.{AreChosen, Next, any_chosen, next_chosen, none_seen, outcome_chosen, scenario_of}
@@ -53,9 +53,9 @@ node_same : (ds : List Decision) (ss : List Stochastic) (policy : Policy) (later
 node_same ds ss policy zero stage seen =
     map_same (λ decide. node_of decide []) (held_decide ds policy stage seen) (decide_of ds policy stage seen) (decide_same ds policy stage seen)
 node_same ds ss policy (suc later) stage seen =
-    both_same node_of (held_decide ds policy stage seen) (all_of (held_branch later) (outcomes_after stage ss))
-    (decide_of ds policy stage seen) (map (branch_after ds ss policy later stage seen) (outcomes_after stage ss)) (decide_same ds policy stage seen)
-    (all_same (held_branch later) (branch_after ds ss policy later stage seen) (outcomes_after stage ss)
+    both_same node_of (held_decide ds policy stage seen) (all_of (held_branch later) (stage_outcomes stage ss))
+    (decide_of ds policy stage seen) (map (branch_after ds ss policy later stage seen) (stage_outcomes stage ss)) (decide_same ds policy stage seen)
+    (all_same (held_branch later) (branch_after ds ss policy later stage seen) (stage_outcomes stage ss)
     (λ values. map_same (branch_at stage ss values) (held_node_at ds ss policy later (stage + 1) (seen ++ values)) (node_at ds ss policy later (stage + 1) (seen ++ values))
     (node_same ds ss policy later (stage + 1) (seen ++ values))))
   where
@@ -118,7 +118,7 @@ decide_there problem policy stage seen is possible =
         ((is.keys (number, seen)).1 (is_key problem number stage d seen decided (eqb-true d.stage stage kept.1) possible))
 
 -- what may be seen next, at such a history of a stage, makes one of the next stage
-pub next_seen : (problem : Problem) (stage : ℕ) (seen values : List ℤ) → IsStaged problem → IsSeen problem stage seen → In values (outcomes_after stage problem.stochastics)
+pub next_seen : (problem : Problem) (stage : ℕ) (seen values : List ℤ) → IsStaged problem → IsSeen problem stage seen → In values (stage_outcomes stage problem.stochastics)
     → IsSeen problem (stage + 1) (seen ++ values)
 next_seen problem stage seen values staged (vs, chosen, is) within =
     let next : Next stage problem.stochastics vs values =
@@ -133,7 +133,7 @@ node_there problem policy staged is zero stage seen possible =
 node_there problem policy staged is (suc later) stage seen possible =
     λ i. both_of node_of (decide_there problem policy stage seen is possible i)
     (all_there (λ values. option_map (branch_at stage problem.stochastics values) (held_node_at problem.decisions problem.stochastics policy later (stage + 1) (seen ++ values)))
-    (branch_after problem.decisions problem.stochastics policy later stage seen) (outcomes_after stage problem.stochastics)
+    (branch_after problem.decisions problem.stochastics policy later stage seen) (stage_outcomes stage problem.stochastics)
     (λ values within. ap (option_map (branch_at stage problem.stochastics values))
     (node_there problem policy staged is later (stage + 1) (seen ++ values) (next_seen problem stage seen values staged possible within))) i)
 

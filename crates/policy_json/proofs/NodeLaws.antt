@@ -27,7 +27,7 @@ use Rattle.scen_laws.proofs.Prefixes.{of_stage_at, seen_next, seen_within}
 use Rattle.scen_laws.proofs.Blocks.{block_history, block_values, block_within, blocks_divide, blocks_fill, history_long, history_next, next_within, rows_long, some_histories}
 use Rattle.scen_laws.proofs.Histories.{row_is}
 use Rattle.policy_json.specs.Entries.{entry_of, seen_entries}
-use Rattle.policy_json.specs.Nodes.{branch_of, decide_of, decided_at, decision_entry, node_at, node_of, numbered_in_stage, outcomes_after, seen_after}
+use Rattle.policy_json.specs.Nodes.{branch_of, decide_of, decided_at, decision_entry, node_at, node_of, numbered_in_stage, seen_after, stage_outcomes}
 use Rattle.policy_json.specs.Stages.{number_in, numbers_of}
 use Rattle.policy_json.specs.Steps.{Begins, Parts, IsReady, block_in, branch_in, branches_in, decide_in, decided_in, drawn_in, first_in, no_decision, no_variable, node_in, seen_in, shown_in}
 use Rattle.policy_json.proofs.LastStages.{last_stage_few}
@@ -219,7 +219,7 @@ node_step parts are later stage from to next scenario number b =
     let seen : List ℤ = get_or (histories stage ss) number [] in
     let decided : decide_in parts stage scenario ≡ decide_of parts.decisions (policy_of parts) stage seen = decide_same parts are stage scenario number b in
     let branches : map (branch_in parts later stage scenario) (range_with_len 0 (branches_in parts.tree stage))
-    ≡ map (branch_after parts.decisions ss (policy_of parts) later stage seen) (outcomes_after stage ss) =
+    ≡ map (branch_after parts.decisions ss (policy_of parts) later stage seen) (stage_outcomes stage ss) =
     ap (λ n. map (branch_in parts later stage scenario) (range_with_len 0 n)) (branches_same parts are stage from to)
     ∙ numbered_same (branch_in parts later stage scenario) (branch_after parts.decisions ss (policy_of parts) later stage seen) [] 0 (rows (of_stage stage ss))
     (λ k below. ap (branch_in parts later stage scenario) (from_none k) ∙ branch_same parts are later stage scenario number k from to b next below) in

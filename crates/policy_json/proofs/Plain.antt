@@ -10,7 +10,7 @@ use Rattle.sopl_ast.specs.Policies.{Policy}
 use Rattle.policy_json.proofs.EntryPlain.{entry_plain, map_plain}
 use Rattle.policy_json.specs.Entries.{entry_of, seen_entries}
 use Rattle.policy_json.specs.LastStage.{last_stage}
-use Rattle.policy_json.specs.Nodes.{decide_of, decided_at, decision_entry, node_at, node_of, numbered_in_stage, outcomes_after, outermost_node, seen_after}
+use Rattle.policy_json.specs.Nodes.{decide_of, decided_at, decision_entry, node_at, node_of, numbered_in_stage, outermost_node, seen_after, stage_outcomes}
 use Rattle.policy_json.proofs.Branches.{branch_after}
 
 -- the decisions of a node
@@ -32,9 +32,9 @@ pub node_plain : (ds : List Decision) (ss : List Stochastic) (policy : Policy) (
 node_plain ds ss policy zero stage seen =
     members_plain (decide_of ds policy stage seen) [] (decide_plain ds policy stage seen) refl
 node_plain ds ss policy (suc later) stage seen =
-    members_plain (decide_of ds policy stage seen) (map (branch_after ds ss policy later stage seen) (outcomes_after stage ss)) (decide_plain ds policy stage seen)
+    members_plain (decide_of ds policy stage seen) (map (branch_after ds ss policy later stage seen) (stage_outcomes stage ss)) (decide_plain ds policy stage seen)
     (map_plain (branch_after ds ss policy later stage seen) (λ values.
-    or_from _ _ (seen_plain (seen_after stage ss) values) (or_from _ _ (node_plain ds ss policy later (stage + 1) (seen ++ values)) refl)) (outcomes_after stage ss))
+    or_from _ _ (seen_plain (seen_after stage ss) values) (or_from _ _ (node_plain ds ss policy later (stage + 1) (seen ++ values)) refl)) (stage_outcomes stage ss))
 
 -- the outermost node
 pub outermost_plain : (ds : List Decision) (ss : List Stochastic) (policy : Policy) (shown : Data) → shown ≡ outermost_node ds ss policy → has_float shown ≡ false

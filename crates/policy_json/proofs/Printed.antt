@@ -21,7 +21,7 @@ use Rattle.unfold_laws.proofs.Whole.{decisions_are_bounded}
 use Rattle.scen_laws.proofs.Prefixes.{same}
 use Rattle.policy_json.specs.Entries.{entry_of, seen_entries}
 use Rattle.policy_json.specs.LastStage.{last_stage}
-use Rattle.policy_json.specs.Nodes.{branch_of, decide_of, decided_at, decision_entry, node_at, node_of, numbered_in_stage, outcomes_after, policy_data, seen_after}
+use Rattle.policy_json.specs.Nodes.{branch_of, decide_of, decided_at, decision_entry, node_at, node_of, numbered_in_stage, policy_data, seen_after, stage_outcomes}
 use Rattle.policy_json.specs.Staged.{Ascend}
 use Rattle.policy_json.proofs.Branches.{branch_after}
 use Rattle.policy_json.proofs.Chosen.{AreChosen, Now, chosen_in, chosen_outcome, none_seen, now_chosen}
@@ -120,13 +120,13 @@ module _ (ds : List Decision) (ss : List Stochastic) (p q : Policy) where
       (In-filter (λ (nd : ℕ × Decision). nat_eq nd.1.stage stage) (enumerate_from 0 ds) (place, d) within (same d.stage stage at)))
 
   -- the node that follows on what can be seen next
-  next_alike : (later stage : ℕ) (seen ws : List ℤ) → node_at ds ss p (suc later) stage seen ≡ node_at ds ss q (suc later) stage seen → In ws (outcomes_after stage ss)
+  next_alike : (later stage : ℕ) (seen ws : List ℤ) → node_at ds ss p (suc later) stage seen ≡ node_at ds ss q (suc later) stage seen → In ws (stage_outcomes stage ss)
       → node_at ds ss p later (stage + 1) (seen ++ ws) ≡ node_at ds ss q later (stage + 1) (seen ++ ws)
   next_alike later stage seen ws is within =
       branch_then (seen_entries (seen_after stage ss) ws) (seen_entries (seen_after stage ss) ws) (node_at ds ss p later (stage + 1) (seen ++ ws)) (node_at ds ss q later (stage + 1) (seen ++ ws))
-      (each_same (branch_after ds ss p later stage seen) (branch_after ds ss q later stage seen) (outcomes_after stage ss) ws
-      (node_next (decide_of ds p stage seen) (decide_of ds q stage seen) (map (branch_after ds ss p later stage seen) (outcomes_after stage ss))
-      (map (branch_after ds ss q later stage seen) (outcomes_after stage ss)) is) within)
+      (each_same (branch_after ds ss p later stage seen) (branch_after ds ss q later stage seen) (stage_outcomes stage ss) ws
+      (node_next (decide_of ds p stage seen) (decide_of ds q stage seen) (map (branch_after ds ss p later stage seen) (stage_outcomes stage ss))
+      (map (branch_after ds ss q later stage seen) (stage_outcomes stage ss)) is) within)
 
   -- the node of a stage and of what vs has shown, with so many stages behind it, has the value of each decision of these stages at what vs shows
   node_alike : (vs : List ℤ) → Ascend 1 ss → AreChosen ss vs → (later stage : ℕ) (seen : List ℤ) → seen ≡ history stage ss vs
@@ -143,8 +143,8 @@ module _ (ds : List Decision) (ss : List Stochastic) (p q : Policy) where
             let P : List ℤ → Type 0 = λ zs. decided_at p place zs ≡ decided_at q place zs in
             subst P (shown ∙ ap (λ n. history n ss vs) (sym at))
             (decided_alike stage seen place d
-            (node_decide (decide_of ds p stage seen) (decide_of ds q stage seen) (map (branch_after ds ss p later stage seen) (outcomes_after stage ss))
-            (map (branch_after ds ss q later stage seen) (outcomes_after stage ss)) is) within at)
+            (node_decide (decide_of ds p stage seen) (decide_of ds q stage seen) (map (branch_after ds ss p later stage seen) (stage_outcomes stage ss))
+            (map (branch_after ds ss q later stage seen) (stage_outcomes stage ss)) is) within at)
         | inr (inl earlier) ↦ absurd (omega (arith, from, earlier))
         | inr (inr behind) ↦
             let now : Now stage ss vs = now_chosen stage 1 ss vs ascend chosen in

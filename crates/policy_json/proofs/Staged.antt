@@ -2,7 +2,7 @@
 use Rattle.std.proofs.Common.{◌≤◌, ℕ, List, [], ◌∷◌, length, All}
 use Rattle.std.specs.List.{AllByRecursion}
 use Rattle.std.proofs.lemmas.List.Elements.{All-nil, All-cons}
-use Rattle.sopl_ast.specs.Instances.{Stochastic}
+use Rattle.sopl_ast.specs.Instances.{Stochastic, distribution}
 use Rattle.sopl_ast.specs.Unfolding.{problem_of, text_events}
 use Rattle.sopl_ast.specs.Whole.{ModelTree}
 use Rattle.unfold_laws.specs.Bounds.{IsBoundedStochastic}
@@ -23,9 +23,9 @@ from_one : (ss : List Stochastic) → AllByRecursion IsBoundedStochastic ss → 
 from_one [] all = tt
 from_one (s ∷ ss) all = (all.0.stage.0, from_one ss all.1)
 
-outcomes_there : (ss : List Stochastic) → AllByRecursion HasOutcome ss → All (λ (s : Stochastic). 1 ≤ length s.outcomes) ss
-outcomes_there [] all = All-nil (λ (s : Stochastic). 1 ≤ length s.outcomes)
-outcomes_there (s ∷ ss) all = All-cons (λ (s : Stochastic). 1 ≤ length s.outcomes) s ss all.0 (outcomes_there ss all.1)
+outcomes_there : (ss : List Stochastic) → AllByRecursion HasOutcome ss → All (λ (s : Stochastic). 1 ≤ length (distribution s)) ss
+outcomes_there [] all = All-nil (λ (s : Stochastic). 1 ≤ length (distribution s))
+outcomes_there (s ∷ ss) all = All-cons (λ (s : Stochastic). 1 ≤ length (distribution s)) s ss all.0 (outcomes_there ss all.1)
 
 -- the stages of the stochastic variables ascend from 1 on
 pub texts_ascend : (model : ModelTree) → NothingFails (text_events model) → Ascend 1 (problem_of model).stochastics

@@ -24,7 +24,7 @@ use Rattle.unfold_laws.specs.Passing.{IsConstant}
 use Rattle.unfold_laws.proofs.Whole.{decisions_are_bounded}
 use Rattle.policy_json.specs.Entries.{entry_of, list_of, seen_entries, whole_number}
 use Rattle.policy_json.specs.LastStage.{last_stage}
-use Rattle.policy_json.specs.Nodes.{branch_of, decide_of, decided_at, decision_entry, node_at, node_of, numbered_in_stage, outcomes_after, policy_data, seen_after}
+use Rattle.policy_json.specs.Nodes.{branch_of, decide_of, decided_at, decision_entry, node_at, node_of, numbered_in_stage, policy_data, seen_after, stage_outcomes}
 use Rattle.policy_json.proofs.Branches.{branch_after}
 use Rattle.policy_json.proofs.Printed.{accepted_json, first_of, later_of}
 
@@ -152,9 +152,9 @@ module _ (ds : List Decision) (ss : List Stochastic) (p q : Policy) (p_small : D
   pub told_nodes : (later stage : ℕ) (seen : List ℤ) → AreTold (node_at ds ss p later stage seen) (node_at ds ss q later stage seen)
   told_nodes zero stage seen = told_node (decide_of ds p stage seen) (decide_of ds q stage seen) [] [] (told_decide stage seen) (told_no_items false)
   told_nodes (suc later) stage seen =
-      told_node (decide_of ds p stage seen) (decide_of ds q stage seen) (map (branch_after ds ss p later stage seen) (outcomes_after stage ss))
-      (map (branch_after ds ss q later stage seen) (outcomes_after stage ss)) (told_decide stage seen)
-      (told_map (branch_after ds ss p later stage seen) (branch_after ds ss q later stage seen) (outcomes_after stage ss) false
+      told_node (decide_of ds p stage seen) (decide_of ds q stage seen) (map (branch_after ds ss p later stage seen) (stage_outcomes stage ss))
+      (map (branch_after ds ss q later stage seen) (stage_outcomes stage ss)) (told_decide stage seen)
+      (told_map (branch_after ds ss p later stage seen) (branch_after ds ss q later stage seen) (stage_outcomes stage ss) false
       (λ values within. told_branch (seen_entries (seen_after stage ss) values) (node_at ds ss p later (stage + 1) (seen ++ values)) (node_at ds ss q later (stage + 1) (seen ++ values))
       (told_nodes later (stage + 1) (seen ++ values))))
 

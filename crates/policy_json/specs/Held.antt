@@ -8,7 +8,7 @@ use Rattle.sopl_ast.specs.Policies.{Policy}
 use Rattle.sopl_ast.specs.Numbers.{all_of, both_of}
 use Rattle.policy_json.specs.Entries.{entry_of}
 use Rattle.policy_json.specs.LastStage.{last_stage}
-use Rattle.policy_json.specs.Nodes.{branch_at, node_of, numbered_in_stage, outcomes_after}
+use Rattle.policy_json.specs.Nodes.{branch_at, node_of, numbered_in_stage, stage_outcomes}
 
 -- the entry of a decision, with its number, at a history, where the policy holds a value for it
 abbrev pub held_entry : Policy → List ℤ → ℕ × Decision → Option Data
@@ -26,7 +26,7 @@ held_node_at decisions stochastics policy zero stage seen =
 held_node_at decisions stochastics policy (suc later) stage seen =
     both_of node_of (held_decide decisions policy stage seen)
     (all_of (λ values. option_map (branch_at stage stochastics values) (held_node_at decisions stochastics policy later (stage + 1) (seen ++ values)))
-    (outcomes_after stage stochastics))
+    (stage_outcomes stage stochastics))
 
 -- the outermost node, where the policy holds all values
 abbrev pub held_outermost : List Decision → List Stochastic → Policy → Option Data

@@ -32,8 +32,8 @@ abbrev pub seen_after : ℕ → List Stochastic → List Stochastic
 seen_after stage stochastics = filter (λ (s : Stochastic). nat_eq s.stage stage) stochastics
 
 -- the values that the stochastic variables which are seen after a stage can have together, in the order of their scenarios
-abbrev pub outcomes_after : ℕ → List Stochastic → List (List ℤ)
-outcomes_after stage stochastics = map (λ (s : Scenario). s.values) (scenarios (seen_after stage stochastics))
+abbrev pub stage_outcomes : ℕ → List Stochastic → List (List ℤ)
+stage_outcomes stage stochastics = map (λ (s : Scenario). s.values) (scenarios (seen_after stage stochastics))
 
 -- a node: what is decided, and what may be seen next
 abbrev pub node_of : List Data → List Data → Data
@@ -54,7 +54,7 @@ node_at decisions stochastics policy zero stage seen = node_of (decide_of decisi
 node_at decisions stochastics policy (suc later) stage seen =
     node_of (decide_of decisions policy stage seen)
     (map (λ values. branch_at stage stochastics values (node_at decisions stochastics policy later (stage + 1) (seen ++ values)))
-    (outcomes_after stage stochastics))
+    (stage_outcomes stage stochastics))
 
 -- the outermost node: stage 1, before anything is seen
 abbrev pub outermost_node : List Decision → List Stochastic → Policy → Data

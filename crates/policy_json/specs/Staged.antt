@@ -1,6 +1,6 @@
 -- Problems whose stochastic variables come stage by stage.
 use Rattle.std.specs.Prelude.{ℕ, ◌≤◌, List, [], ◌∷◌, All, length}
-use Rattle.sopl_ast.specs.Instances.{Stochastic, Problem}
+use Rattle.sopl_ast.specs.Instances.{Stochastic, Problem, distribution}
 use Rattle.sopl_ast.specs.Origin.{IsFromTokens}
 use Rattle.sopl_ast.specs.Unfolding.{problem_of, text_events}
 use Rattle.sopl_ast.specs.Whole.{ModelTree}
@@ -14,7 +14,7 @@ Ascend from (first ∷ later) = (from ≤ first.stage) × Ascend first.stage lat
 -- the stochastic variables come by stage, from stage 1 on, and each has an outcome
 pub record IsStaged (problem : Problem) : Type 0 where
   pub ascending : Ascend 1 problem.stochastics
-  pub outcomes : All (λ (s : Stochastic). 1 ≤ length s.outcomes) problem.stochastics
+  pub outcomes : All (λ (s : Stochastic). 1 ≤ length (distribution s)) problem.stochastics
 
 -- so comes the problem of a text that was read and is unfolded whole
 abbrev pub TextsAreStaged : Type 0

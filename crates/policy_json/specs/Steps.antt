@@ -2,7 +2,7 @@
 use Rattle.std.specs.Prelude.{◌≡◌, ℕ, zero, suc, ◌+◌, ◌-◌, ◌*◌, ◌/◌, ◌≤◌, ◌<◌, ℤ, pos, List, [], length, map, get_or, IsTrue}
 use Rattle.std.specs.List.{list_all, range_with_len}
 use Rattle.serde_json.specs.Data.{Data}
-use Rattle.sopl_ast.specs.Instances.{Decision, Stochastic, names_in}
+use Rattle.sopl_ast.specs.Instances.{Decision, Stochastic, names_in, independent}
 use Rattle.sopl_ast.specs.Cells.{policy_at}
 use Rattle.sopl_ast.specs.Histories.{histories}
 use Rattle.sopl_ast.specs.Pieces.{is_word}
@@ -49,7 +49,7 @@ abbrev pub no_decision : Decision
 no_decision = record { name = []; index = []; lo = pos 0; hi = pos 0; stage = 0 }
 
 abbrev pub no_variable : Stochastic
-no_variable = record { name = []; index = []; outcomes = []; stage = 0 }
+no_variable = independent [] [] [] 0
 
 -- the entry of the decision with this number in a scenario
 unfoldable pub decided_in : Parts → ℕ → ℕ → Data

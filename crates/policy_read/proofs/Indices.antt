@@ -18,7 +18,7 @@ use Rattle.sopl_ast.specs.Constants.{numbers_in, value_or_zero}
 use Rattle.sopl_ast.specs.Declarations.{Declared, behind, behind_all, constant_places, declaration_events, declarations_events, decisions_of, domain_events, domain_of}
 use Rattle.sopl_ast.specs.Declarations.{nothing_declared, outcome_events, outcome_of, set_of, stage_events, stage_of, stochastics_of}
 use Rattle.sopl_ast.specs.Histories.{histories}
-use Rattle.sopl_ast.specs.Instances.{Decision, Outcome, Stochastic}
+use Rattle.sopl_ast.specs.Instances.{Decision, Outcome, Stochastic, distribution, independent}
 use Rattle.sopl_ast.specs.Known.{Between, Known, Listed, NamedSet, NumberSet, ascending, set_named}
 use Rattle.sopl_ast.specs.Lists.{trees_list}
 use Rattle.sopl_ast.specs.Numbers.{both_of, count_between, counted_up, up_to}
@@ -185,7 +185,7 @@ readable_behind (StochDecl name at dims dist stage) found all is =
       decisions = all.decisions;
       stochastics = all_append IsIndexedReadable found.stochastics (stochastics_of found.known name dims dist stage) all.stochastics
           (array_readable (λ (s : Stochastic). s.index) found.known dims
-          (λ index here. record { name = name; index = index; outcomes = map (outcome_of here) dist; stage = stage_of here stage })
+          (λ index here. independent name index (map (outcome_of here) dist) (stage_of here stage))
           (λ here. outcome_events here [] dist ++ stage_events here stage) (λ index here. refl) all.sets is);
     }
 
@@ -214,9 +214,9 @@ outcomes_readable [] all = tt
 outcomes_readable (o ∷ os) all = (constant_readable o.value all.0.value, outcomes_readable os all.1)
 
 drawn_readable : (ss : List Stochastic) → AllByRecursion IsIndexedReadable ss → AllByRecursion IsBoundedStochastic ss
-    → AllByRecursion (λ (s : Stochastic). AllByRecursion IsReadable s.index × AllByRecursion (λ (o : Outcome). IsReadable o.value) s.outcomes) ss
+    → AllByRecursion (λ (s : Stochastic). AllByRecursion IsReadable s.index × AllByRecursion (λ (o : Outcome). IsReadable o.value) (distribution s)) ss
 drawn_readable [] indexed bounded = tt
-drawn_readable (s ∷ ss) indexed bounded = ((indexed.0, outcomes_readable s.outcomes bounded.0.outcomes), drawn_readable ss indexed.1 bounded.1)
+drawn_readable (s ∷ ss) indexed bounded = ((indexed.0, outcomes_readable (distribution s) bounded.0.outcomes), drawn_readable ss indexed.1 bounded.1)
 
 -- the cells of bounded decisions end at numbers that are read back
 abbrev pub IsCellReadable : Cell → Type 0

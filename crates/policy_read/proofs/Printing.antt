@@ -11,7 +11,7 @@ use Rattle.sopl_ast.specs.Instances.{Decision, Stochastic}
 use Rattle.sopl_ast.specs.Policies.{Policy}
 use Rattle.policy_tree.proofs.Members.{In, from_enumerate, from_filter}
 use Rattle.policy_json.specs.Entries.{entry_of, list_of, seen_entries, whole_number}
-use Rattle.policy_json.specs.Nodes.{branch_of, decide_of, decided_at, decision_entry, node_at, node_of, numbered_in_stage, outcomes_after, seen_after}
+use Rattle.policy_json.specs.Nodes.{branch_of, decide_of, decided_at, decision_entry, node_at, node_of, numbered_in_stage, seen_after, stage_outcomes}
 use Rattle.policy_json.proofs.Branches.{branch_after}
 use Rattle.policy_read.specs.Listed.{alike, int_is, list_in, list_under, pairwise, same_whole}
 use Rattle.policy_read.specs.Entries.{is_told, same_place, same_seen, told_at, told_in}
@@ -89,7 +89,7 @@ pub record AreReadBack (ds : List Decision) (ss : List Stochastic) (form policy 
   pub numbers : (place : ℕ) (seen : List ℤ) → (c : ℕ) × (decided_at form place seen ≡ pos c)
   pub values : (place : ℕ) (seen : List ℤ) → IsReadBack (decided_at policy place seen)
   pub decided : (i : ℕ) (d : Decision) → slice_get ds i ≡ Some d → AllByRecursion IsReadBack d.index
-  pub seen : (stage : ℕ) (values : List ℤ) → In values (outcomes_after stage ss)
+  pub seen : (stage : ℕ) (values : List ℤ) → In values (stage_outcomes stage ss)
       → AllByRecursion (λ (s : Stochastic × ℤ). AllByRecursion IsReadBack s.0.index × IsReadBack s.1) (zip (seen_after stage ss) values)
 
 each_seen : (xs : List (Stochastic × ℤ)) → AllByRecursion (λ (s : Stochastic × ℤ). AllByRecursion IsReadBack s.0.index × IsReadBack s.1) xs
@@ -114,7 +114,7 @@ module _ (ds : List Decision) (ss : List Stochastic) (q p : Policy) (are : AreRe
           let found = from_enumerate 0 ds place d kept.0 in
           entry_is_told seen (place, d) (are.decided found.0 d found.2)
 
-  branch_fits : (later stage : ℕ) (seen values : List ℤ) → In values (outcomes_after stage ss)
+  branch_fits : (later stage : ℕ) (seen values : List ℤ) → In values (stage_outcomes stage ss)
       → is_branch (branch_after ds ss q later stage seen values) (branch_after ds ss p later stage seen values) ≡ true
   branch_fits later stage seen values within =
       branch_same (seen_entries (seen_after stage ss) values) (node_at ds ss q later (stage + 1) (seen ++ values)) (node_at ds ss p later (stage + 1) (seen ++ values))
@@ -131,13 +131,13 @@ module _ (ds : List Decision) (ss : List Stochastic) (q p : Policy) (are : AreRe
   pub nodes_fit : (later stage : ℕ) (seen : List ℤ) → AreNodes (nodes_of later (facing (node_at ds ss q later stage seen) (node_at ds ss p later stage seen)))
   nodes_fit zero stage seen = (node_same (decide_of ds q stage seen) (decide_of ds p stage seen) [] [] (decide_told stage seen) refl, tt)
   nodes_fit (suc later) stage seen =
-      let ns : List Data = map (branch_after ds ss q later stage seen) (outcomes_after stage ss) in
-      let ms : List Data = map (branch_after ds ss p later stage seen) (outcomes_after stage ss) in (
+      let ns : List Data = map (branch_after ds ss q later stage seen) (stage_outcomes stage ss) in
+      let ms : List Data = map (branch_after ds ss p later stage seen) (stage_outcomes stage ss) in (
         node_same (decide_of ds q stage seen) (decide_of ds p stage seen) ns ms (decide_told stage seen)
-            (alike_each is_branch (branch_after ds ss q later stage seen) (branch_after ds ss p later stage seen) (outcomes_after stage ss) (branch_fits later stage seen)),
+            (alike_each is_branch (branch_after ds ss q later stage seen) (branch_after ds ss p later stage seen) (stage_outcomes stage ss) (branch_fits later stage seen)),
         subst AreNodes
             (sym (λ i. pairwise (nodes_behind (nodes_of later)) (unwrap_or (next_back (decide_of ds q stage seen) ns i) []) (unwrap_or (next_back (decide_of ds p stage seen) ms i) [])))
-            (nodes_each later stage seen (outcomes_after stage ss) (λ values. nodes_fit later (stage + 1) (seen ++ values))),
+            (nodes_each later stage seen (stage_outcomes stage ss) (λ values. nodes_fit later (stage + 1) (seen ++ values))),
       )
 
   -- no node of what is printed differs from the form's

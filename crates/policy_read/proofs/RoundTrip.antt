@@ -15,7 +15,7 @@ use Rattle.policy_tree.proofs.Members.{In}
 use Rattle.sopl_policy.proofs.Keeping.{point_long}
 use Rattle.policy_json.specs.Entries.{entry_of}
 use Rattle.policy_json.specs.LastStage.{last_stage}
-use Rattle.policy_json.specs.Nodes.{branch_at, decide_of, decided_at, decision_entry, node_at, node_of, numbered_in_stage, outcomes_after, policy_data}
+use Rattle.policy_json.specs.Nodes.{branch_at, decide_of, decided_at, decision_entry, node_at, node_of, numbered_in_stage, policy_data, stage_outcomes}
 use Rattle.policy_json.specs.Staged.{IsStaged}
 use Rattle.policy_json.proofs.Branches.{branch_after}
 use Rattle.policy_json.proofs.Chosen.{AreChosen, any_chosen, none_seen}
@@ -111,9 +111,9 @@ module _ (problem : Problem) (values : List ℤ) (point : IsPoint (cells problem
   node_agrees zero stage seen possible all = ap (λ ds. node_of ds []) (decide_agrees stage seen possible [] [] all.0)
   node_agrees (suc later) stage seen possible all =
       let split = subst AllAgree (behind problem values point staged small later stage seen) all in
-      let decide = decide_agrees stage seen possible (map (branch_after problem.decisions problem.stochastics (q problem values point staged small) later stage seen) (outcomes_after stage problem.stochastics))
-      (map (branch_after problem.decisions problem.stochastics (p problem values point staged small) later stage seen) (outcomes_after stage problem.stochastics)) split.0 in
-      let next = branches_agree later stage seen (outcomes_after stage problem.stochastics)
+      let decide = decide_agrees stage seen possible (map (branch_after problem.decisions problem.stochastics (q problem values point staged small) later stage seen) (stage_outcomes stage problem.stochastics))
+      (map (branch_after problem.decisions problem.stochastics (p problem values point staged small) later stage seen) (stage_outcomes stage problem.stochastics)) split.0 in
+      let next = branches_agree later stage seen (stage_outcomes stage problem.stochastics)
       (λ vs within. node_agrees later (stage + 1) (seen ++ vs) (next_seen problem stage seen vs staged possible within)) split.1 in
       λ i. node_of (decide i) (next i)
 

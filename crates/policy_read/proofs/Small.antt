@@ -7,7 +7,7 @@ use Rattle.std.specs.List.{AllByRecursion, range_with_len, zip}
 use Rattle.std.specs.FinMap.{find, get}
 use Rattle.sopl_base.proofs.Lists.{all_at, all_filter, each_of}
 use Rattle.sopl_ast.specs.Cells.{Cell, cells, policy_at}
-use Rattle.sopl_ast.specs.Instances.{Decision, Outcome, Problem, Stochastic}
+use Rattle.sopl_ast.specs.Instances.{Decision, Outcome, Problem, Stochastic, distribution}
 use Rattle.sopl_ast.specs.Policies.{Key, Policy, key_cmp}
 use Rattle.policy_tree.proofs.Bijection.{value_at}
 use Rattle.policy_tree.proofs.CellsOf.{keys_of}
@@ -87,14 +87,14 @@ in_of P (y ∷ ys) x all (inr within) = in_of P ys x all.1 within
 
 -- a stochastic variable whose indices and values are small
 abbrev pub IsDrawnSmall : Stochastic → Type 0
-IsDrawnSmall s = AllByRecursion IsReadable s.index × AllByRecursion (λ (o : Outcome). IsReadable o.value) s.outcomes
+IsDrawnSmall s = AllByRecursion IsReadable s.index × AllByRecursion (λ (o : Outcome). IsReadable o.value) (distribution s)
 
 chosen_back : (ss : List Stochastic) (vs : List ℤ) → AllByRecursion IsDrawnSmall ss → AreChosen ss vs
     → AllByRecursion (λ (s : Stochastic × ℤ). AllByRecursion IsReadBack s.0.index × IsReadBack s.1) (zip ss vs)
 chosen_back [] vs all chosen = tt
 chosen_back (s ∷ ss) [] all chosen = tt
 chosen_back (s ∷ ss) (v ∷ vs) all chosen =
-    let value : IsReadBack v = read_back v (subst IsReadable chosen.0.2 (in_of (λ (o : Outcome). IsReadable o.value) s.outcomes chosen.0.0 all.0.1 chosen.0.1)) in
+    let value : IsReadBack v = read_back v (subst IsReadable chosen.0.2 (in_of (λ (o : Outcome). IsReadable o.value) (distribution s) chosen.0.0 all.0.1 chosen.0.1)) in
     ((all_read_back s.index all.0.0, value), chosen_back ss vs all.1 chosen.1)
 
 pub are_read_back : (problem : Problem) (values : List ℤ) (long : length values ≡ length (cells problem)) → AreReadable problem values

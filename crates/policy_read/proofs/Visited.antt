@@ -15,7 +15,7 @@ use Rattle.policy_tree.proofs.Bijection.{points_are_policies}
 use Rattle.policy_tree.proofs.Members.{In, from_enumerate, from_filter}
 use Rattle.sopl_policy.proofs.Keeping.{point_long}
 use Rattle.policy_json.specs.Entries.{entry_of}
-use Rattle.policy_json.specs.Nodes.{decide_of, decided_at, decision_entry, node_at, node_of, numbered_in_stage, outcomes_after}
+use Rattle.policy_json.specs.Nodes.{decide_of, decided_at, decision_entry, node_at, node_of, numbered_in_stage, stage_outcomes}
 use Rattle.policy_json.specs.Staged.{IsStaged}
 use Rattle.policy_json.proofs.Held.{is_key, next_seen}
 use Rattle.policy_json.proofs.Branches.{branch_after}
@@ -128,11 +128,11 @@ module _ (problem : Problem) (values : List ℤ) (point : IsPoint (cells problem
   -- the nodes behind a node of what is printed
   pub behind : (later stage : ℕ) (seen : List ℤ)
       → nodes_of (suc later) (both_at (suc later) stage seen)
-      ≡ both_at (suc later) stage seen ∷ pairwise (nodes_behind (nodes_of later)) (map (branch_after problem.decisions problem.stochastics q later stage seen) (outcomes_after stage problem.stochastics))
-      (map (branch_after problem.decisions problem.stochastics p later stage seen) (outcomes_after stage problem.stochastics))
+      ≡ both_at (suc later) stage seen ∷ pairwise (nodes_behind (nodes_of later)) (map (branch_after problem.decisions problem.stochastics q later stage seen) (stage_outcomes stage problem.stochastics))
+      (map (branch_after problem.decisions problem.stochastics p later stage seen) (stage_outcomes stage problem.stochastics))
   behind later stage seen =
-      let ns : List Data = map (branch_after problem.decisions problem.stochastics q later stage seen) (outcomes_after stage problem.stochastics) in
-      let ms : List Data = map (branch_after problem.decisions problem.stochastics p later stage seen) (outcomes_after stage problem.stochastics) in
+      let ns : List Data = map (branch_after problem.decisions problem.stochastics q later stage seen) (stage_outcomes stage problem.stochastics) in
+      let ms : List Data = map (branch_after problem.decisions problem.stochastics p later stage seen) (stage_outcomes stage problem.stochastics) in
       λ i. both_at (suc later) stage seen ∷ pairwise (nodes_behind (nodes_of later)) (unwrap_or (next_back (decide_of problem.decisions q stage seen) ns i) [])
       (unwrap_or (next_back (decide_of problem.decisions p stage seen) ms i) [])
 
@@ -140,7 +140,7 @@ module _ (problem : Problem) (values : List ℤ) (point : IsPoint (cells problem
   nodes_told zero stage seen possible = (told_node stage seen possible [] [], tt)
   nodes_told (suc later) stage seen possible =
       subst AreTold (sym (behind later stage seen)) (
-        told_node stage seen possible (map (branch_after problem.decisions problem.stochastics q later stage seen) (outcomes_after stage problem.stochastics))
-            (map (branch_after problem.decisions problem.stochastics p later stage seen) (outcomes_after stage problem.stochastics)),
-        told_each later stage seen (outcomes_after stage problem.stochastics) (λ vs within. nodes_told later (stage + 1) (seen ++ vs) (next_seen problem stage seen vs staged possible within)),
+        told_node stage seen possible (map (branch_after problem.decisions problem.stochastics q later stage seen) (stage_outcomes stage problem.stochastics))
+            (map (branch_after problem.decisions problem.stochastics p later stage seen) (stage_outcomes stage problem.stochastics)),
+        told_each later stage seen (stage_outcomes stage problem.stochastics) (λ vs within. nodes_told later (stage + 1) (seen ++ vs) (next_seen problem stage seen vs staged possible within)),
       )

@@ -17,7 +17,7 @@ use Rattle.scen_laws.proofs.Rows.{rows_differ}
 use Rattle.policy_tree.proofs.Members.{In, from_enumerate, from_filter}
 use Rattle.policy_tree.proofs.Once.{Once, same_is}
 use Rattle.policy_json.specs.Entries.{entry_of, seen_entries}
-use Rattle.policy_json.specs.Nodes.{decide_of, decided_at, decision_entry, node_at, node_of, numbered_in_stage, outcomes_after, seen_after}
+use Rattle.policy_json.specs.Nodes.{decide_of, decided_at, decision_entry, node_at, node_of, numbered_in_stage, seen_after, stage_outcomes}
 use Rattle.policy_json.specs.Staged.{IsStaged}
 use Rattle.policy_json.proofs.Held.{is_key, next_seen}
 use Rattle.policy_json.proofs.Branches.{branch_after}
@@ -270,10 +270,10 @@ module _ (problem : Problem) (q p : Policy) (values : List ℤ) (are : AreReadBa
     pub told : all_told (last_nodes stage seen given) ≡ pairwise told_list (decide stage seen) of.entries ++ []
 
   pub record IsMore (later stage : ℕ) (seen : List ℤ) (given : Data) : Type 0 where
-    pub of : IsNodeOf (decide stage seen) (branches later stage seen (outcomes_after stage ss)) given
-    pub after : AreNodes (nodes_after later stage seen (outcomes_after stage ss) of.branches)
+    pub of : IsNodeOf (decide stage seen) (branches later stage seen (stage_outcomes stage ss)) given
+    pub after : AreNodes (nodes_after later stage seen (stage_outcomes stage ss) of.branches)
     pub told : all_told (more_nodes later stage seen given)
-        ≡ pairwise told_list (decide stage seen) of.entries ++ all_told (nodes_after later stage seen (outcomes_after stage ss) of.branches)
+        ≡ pairwise told_list (decide stage seen) of.entries ++ all_told (nodes_after later stage seen (stage_outcomes stage ss) of.branches)
 
   is_last : (stage : ℕ) (seen : List ℤ) (given : Data) → AreNodes (last_nodes stage seen given) → IsLast stage seen given
   is_last stage seen given nodes =
@@ -282,10 +282,10 @@ module _ (problem : Problem) (q p : Policy) (values : List ℤ) (are : AreReadBa
 
   is_more : (later stage : ℕ) (seen : List ℤ) (given : Data) → AreNodes (more_nodes later stage seen given) → IsMore later stage seen given
   is_more later stage seen given nodes =
-      let next : List Data = branches later stage seen (outcomes_after stage ss) in
+      let next : List Data = branches later stage seen (stage_outcomes stage ss) in
       let here : Facing = facing (node_at ds ss q (suc later) stage seen) given in
       let of : IsNodeOf (decide stage seen) next given = node_there (decide stage seen) next given nodes.0 in
-      let after : List Facing = nodes_after later stage seen (outcomes_after stage ss) of.branches in
+      let after : List Facing = nodes_after later stage seen (stage_outcomes stage ss) of.branches in
       let same : more_nodes later stage seen given ≡ here ∷ after =
       λ i. here ∷ pairwise (nodes_behind (nodes_of later)) (unwrap_or (next_back (decide stage seen) next i) []) (unwrap_or (of.branched i) []) in
       let moved : AreNodes (here ∷ after) = subst AreNodes same nodes in
@@ -363,7 +363,7 @@ module _ (problem : Problem) (q p : Policy) (values : List ℤ) (are : AreReadBa
       subst (IsWalked stage seen) (sym is.told) (own_walked stage seen possible is.of.entries [] is.of.told tt tt)
   walked (suc later) stage seen given possible nodes =
       let is : IsMore later stage seen given = is_more later stage seen given nodes in
-      let outcomes : List (List ℤ) = outcomes_after stage ss in
+      let outcomes : List (List ℤ) = stage_outcomes stage ss in
       let once : Once outcomes = once_of outcomes (rows_differ (seen_after stage ss) (all_filter IsBoundedStochastic (λ (s : Stochastic). nat_eq s.stage stage) ss bounded)) in
       let rest = branches_apart later stage seen outcomes is.of.branches once (λ vs within. chosen_long (seen_after stage ss) vs (outcome_chosen stage ss vs within))
       (λ vs within node. walked later (stage + 1) (seen ++ vs) node (next_seen problem stage seen vs staged possible within)) is.of.seen is.after in
@@ -396,7 +396,7 @@ module _ (problem : Problem) (q p : Policy) (values : List ℤ) (are : AreReadBa
       → AllByRecursion Agrees (pairwise told_list (decide stage seen) es) → HasItems (items_of (decide_of ds p stage seen)) es
   decide_has stage seen possible es told agree = entries_have stage seen (numbered_in_stage stage (enumerate_from 0 ds)) es (decision_there stage seen possible) told agree
 
-  branches_have : (later stage : ℕ) (seen : List ℤ) (outcomes : List (List ℤ)) (es : List Data) → ((vs : List ℤ) → In vs outcomes → In vs (outcomes_after stage ss))
+  branches_have : (later stage : ℕ) (seen : List ℤ) (outcomes : List (List ℤ)) (es : List Data) → ((vs : List ℤ) → In vs outcomes → In vs (stage_outcomes stage ss))
       → ((vs : List ℤ) → In vs outcomes → (given : Data) → AreNodes (nodes_of later (facing (node_at ds ss q later (stage + 1) (seen ++ vs)) given))
       → AllByRecursion Agrees (all_told (nodes_of later (facing (node_at ds ss q later (stage + 1) (seen ++ vs)) given))) → Has (node_at ds ss p later (stage + 1) (seen ++ vs)) given)
       → alike is_branch (branches later stage seen outcomes) es ≡ true → AreNodes (nodes_after later stage seen outcomes es)
@@ -433,7 +433,7 @@ module _ (problem : Problem) (q p : Policy) (values : List ℤ) (are : AreReadBa
       (decide_has stage seen possible is.of.entries is.of.told (first_all Agrees mine [] told)) (none_there is.of.branches is.of.seen)
   has_node (suc later) stage seen given possible nodes agree =
       let is : IsMore later stage seen given = is_more later stage seen given nodes in
-      let outcomes : List (List ℤ) = outcomes_after stage ss in
+      let outcomes : List (List ℤ) = stage_outcomes stage ss in
       let mine : List Told = pairwise told_list (decide stage seen) is.of.entries in
       let behind : List Told = all_told (nodes_after later stage seen outcomes is.of.branches) in
       let told : AllByRecursion Agrees (mine ++ behind) = subst (AllByRecursion Agrees) is.told agree in

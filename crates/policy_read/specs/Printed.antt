@@ -4,7 +4,7 @@ use Rattle.std.specs.List.{AllByRecursion}
 use Rattle.serde_json.specs.Data.{Data}
 use Rattle.serde_json.specs.Find.{get}
 use Rattle.sopl_ast.specs.Cells.{IsPoint, cells, policy_at}
-use Rattle.sopl_ast.specs.Instances.{Decision, Outcome, Problem, Stochastic}
+use Rattle.sopl_ast.specs.Instances.{Decision, Outcome, Problem, Stochastic, distribution}
 use Rattle.sopl_ast.specs.Origin.{IsFromTokens}
 use Rattle.sopl_ast.specs.Unfolding.{problem_of, text_events}
 use Rattle.sopl_ast.specs.Whole.{ModelTree}
@@ -25,7 +25,7 @@ IsReadable z = z <ℤ pos (2 ^ 63)
 -- all indices of a problem, all values of its stochastic variables and those of a point are so
 pub record AreReadable (problem : Problem) (values : List ℤ) : Type 0 where
   pub decided : AllByRecursion (λ (d : Decision). AllByRecursion IsReadable d.index) problem.decisions
-  pub drawn : AllByRecursion (λ (s : Stochastic). AllByRecursion IsReadable s.index × AllByRecursion (λ (o : Outcome). IsReadable o.value) s.outcomes) problem.stochastics
+  pub drawn : AllByRecursion (λ (s : Stochastic). AllByRecursion IsReadable s.index × AllByRecursion (λ (o : Outcome). IsReadable o.value) (distribution s)) problem.stochastics
   pub valued : AllByRecursion IsReadable values
 
 -- no node of what is printed of a point's policy differs from the form's

@@ -6,7 +6,7 @@ use Rattle.sopl_ast.specs.declared.operators.MulOp.TheVariants.{Times}
 use Rattle.sopl_ast.specs.Tree as t
 use Rattle.sopl_ast.specs.Tree.{Tree, Node, no_term, term, no_factor, factor}
 use Rattle.sopl_ast.specs.Known.{nothing_known}
-use Rattle.sopl_ast.specs.Instances.{Decision, Stochastic, Hard, Problem}
+use Rattle.sopl_ast.specs.Instances.{Decision, Stochastic, Hard, Problem, independent}
 use Rattle.sopl_ast.specs.Policies.{Key}
 use Rattle.sopl_ast.specs.Cells.{cells, policy_at}
 use Rattle.sopl_ast.specs.Optimal.{numerator}
@@ -21,12 +21,7 @@ y_decision = record { name = codes "y"; index = []; lo = pos 0; hi = pos 3; stag
 
 -- d is 1 or 3, which weigh the same, and is seen after stage 1
 abbrev pub d_stochastic : Stochastic
-d_stochastic = record {
-  name = codes "d";
-  index = [];
-  outcomes = record { value = pos 1; weight = pos 1 } ∷ record { value = pos 3; weight = pos 1 } ∷ [];
-  stage = 1;
-}
+d_stochastic = independent (codes "d") [] (record { value = pos 1; weight = pos 1 } ∷ record { value = pos 3; weight = pos 1 } ∷ []) 1
 
 -- x, y and d, as expressions
 abbrev pub x_tree : Tree

@@ -7,7 +7,7 @@ use Rattle.std.proofs.lemmas.List.Folds.{flat_map-map}
 use Rattle.std.specs.List.{AllByRecursion, flat_map}
 use Rattle.sopl_base.proofs.Lists.{all_append, map-flat_map, map-map}
 use Rattle.sopl_ast.specs.Instances.{Outcome, Stochastic}
-use Rattle.sopl_ast.specs.Scenarios.{Scenario, preceded_by, scenarios}
+use Rattle.sopl_ast.specs.Scenarios.{Scenario, preceded_by, outcomes_after, scenarios_after, scenarios}
 use Rattle.scen_laws.specs.Laws.{followed, rows, values_of}
 use Rattle.scen_laws.proofs.Splits.{scenarios_split}
 use Rattle.scen_laws.specs.BlockLaws.{RowsSplit, rows_behind}
@@ -57,15 +57,18 @@ long_after : (n : ℕ) (o : Outcome) (ps : List Scenario) → Long n ps → Long
 long_after n o [] all = tt
 long_after n o (p ∷ ps) all = (ap suc all.0, long_after n o ps all.1)
 
-long_each : (n : ℕ) (ps : List Scenario) → Long n ps → (os : List Outcome) → Long (suc n) (flat_map (λ o. map (preceded_by o) ps) os)
-long_each n ps all [] = tt
-long_each n ps all (o ∷ os) =
-    all_append (λ (p : Scenario). length p.values ≡ suc n) (map (preceded_by o) ps) (flat_map (λ e. map (preceded_by e) ps) os)
-    (long_after n o ps all) (long_each n ps all os)
+long_each : (n : ℕ) (places : List ℕ) (later : List Stochastic) → ((ps : List ℕ) → Long n (scenarios_after ps later)) → (ds : List (ℕ × Outcome))
+    → Long (suc n) (flat_map (λ (drawn : ℕ × Outcome). map (preceded_by drawn.1) (scenarios_after (places ++ drawn.0 ∷ []) later)) ds)
+long_each n places later all [] = tt
+long_each n places later all (d ∷ ds) =
+    let here : List Scenario = scenarios_after (places ++ d.0 ∷ []) later in
+    all_append (λ (p : Scenario). length p.values ≡ suc n) (map (preceded_by d.1) here)
+    (flat_map (λ (drawn : ℕ × Outcome). map (preceded_by drawn.1) (scenarios_after (places ++ drawn.0 ∷ []) later)) ds)
+    (long_after n d.1 here (all (places ++ d.0 ∷ []))) (long_each n places later all ds)
 
-scenarios_long : (ss : List Stochastic) → Long (length ss) (scenarios ss)
-scenarios_long [] = (refl, tt)
-scenarios_long (s ∷ ss) = long_each (length ss) (scenarios ss) (scenarios_long ss) s.outcomes
+scenarios_long : (ss : List Stochastic) (places : List ℕ) → Long (length ss) (scenarios_after places ss)
+scenarios_long [] places = (refl, tt)
+scenarios_long (s ∷ ss) places = long_each (length ss) places ss (scenarios_long ss) (outcomes_after places s)
 
 -- no scenario, in place of one that is not there
 abbrev nothing : Scenario
@@ -75,4 +78,4 @@ pub row_long : (ss : List Stochastic) (i : ℕ) → i < length (rows ss) → len
 row_long ss i within =
     let inside : i < length (scenarios ss) = subst (λ k. i < k) (length-map (scenarios ss) values_of) within in
     ap length (get_or-map values_of (scenarios ss) i nothing [] inside)
-    ∙ All-from_recursion (λ (p : Scenario). length p.values ≡ length ss) (scenarios ss) (scenarios_long ss) i nothing inside
+    ∙ All-from_recursion (λ (p : Scenario). length p.values ≡ length ss) (scenarios ss) (scenarios_long ss []) i nothing inside

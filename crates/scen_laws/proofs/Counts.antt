@@ -5,8 +5,9 @@ use Rattle.std.proofs.Math.Nat.{mul-le-mul}
 use Rattle.std.proofs.lemmas.List.{length-map, take-append-drop}
 use Rattle.std.proofs.lemmas.List.Elements.{All-from_recursion}
 use Rattle.std.specs.List.{AllByRecursion, flat_map}
-use Rattle.sopl_ast.specs.Instances.{Outcome, Stochastic}
+use Rattle.sopl_ast.specs.Instances.{Outcome, Stochastic, distribution}
 use Rattle.sopl_ast.specs.Scenarios.{Scenario, preceded_by, scenarios}
+use Rattle.lang_laws.proofs.Independence.{scenarios_begin}
 use Rattle.lang_laws.proofs.ScenarioLaws as laws
 use Rattle.scen_laws.specs.Laws.{HasOutcome, followed, ScenariosAreCounted, PrefixesAreFewer, CountsMultiply}
 use Rattle.scen_laws.proofs.Splits.{behind, split}
@@ -20,8 +21,8 @@ length_each xs (o ∷ os) =
 pub counts_multiply : CountsMultiply
 counts_multiply [] = refl
 counts_multiply (s ∷ ss) =
-    ap pos (length_each (scenarios ss) s.outcomes)
-    ∙ (sym (pos-*ℤ-pos (length s.outcomes) (length (scenarios ss))) ∙ ap (λ z. pos (length s.outcomes) *ℤ z) (counts_multiply ss))
+    ap pos (ap length (scenarios_begin s ss) ∙ length_each (scenarios ss) (distribution s))
+    ∙ (sym (pos-*ℤ-pos (length (distribution s)) (length (scenarios ss))) ∙ ap (λ z. pos (length (distribution s)) *ℤ z) (counts_multiply ss))
 
 -- each scenario comes before as many
 length_behind : (ys : List Stochastic) (ps : List Scenario) → length (flat_map (behind ys) ps) ≡ length ps * length (scenarios ys)

@@ -8,9 +8,10 @@ use Rattle.std.proofs.lemmas.List.Folds.{flat_map-map}
 use Rattle.std.specs.List.{AllByRecursion, IsDistinct, flat_map}
 use Rattle.sopl_base.proofs.Lists.{all_append, flat_map-flat_map, map-flat_map, map-map}
 use Rattle.sopl_ast.specs.Known.{same_values}
-use Rattle.sopl_ast.specs.Instances.{Outcome, Stochastic}
+use Rattle.sopl_ast.specs.Instances.{Outcome, Stochastic, distribution}
 use Rattle.sopl_ast.specs.Scenarios.{Scenario, preceded_by, scenarios}
 use Rattle.sopl_ast.specs.Histories.{history, distinct}
+use Rattle.lang_laws.proofs.Independence.{scenarios_begin}
 use Rattle.unfold_laws.specs.Bounds.{IsBoundedStochastic}
 use Rattle.scen_laws.specs.Laws.{HasOutcome, IsByStage, seen_before, rows, values_of, HistoriesArePrefixes, HistoriesAreRows}
 use Rattle.scen_laws.proofs.Counts.{some_scenario, first_part, last_part}
@@ -66,20 +67,22 @@ copied_headed v m rs =
     ∙ ((λ i. flat_map (λ r. map-replicate (headed v) m r i) rs) ∙ sym (flat_map-map (replicate m) (headed v) rs))
 
 -- the rows of one more variable in front
-rows_headed : (s : Stochastic) (ss : List Stochastic) → rows (s ∷ ss) ≡ flat_map (λ (o : Outcome). map (headed o.value) (rows ss)) s.outcomes
+rows_headed : (s : Stochastic) (ss : List Stochastic) → rows (s ∷ ss) ≡ flat_map (λ (o : Outcome). map (headed o.value) (rows ss)) (distribution s)
 rows_headed s ss =
-    map-flat_map values_of (λ (o : Outcome). map (preceded_by o) (scenarios ss)) s.outcomes
-    ∙ (λ i. flat_map (λ (o : Outcome). each o i) s.outcomes)
+    ap (map values_of) (scenarios_begin s ss)
+    ∙ (map-flat_map values_of (λ (o : Outcome). map (preceded_by o) (scenarios ss)) (distribution s)
+    ∙ (λ i. flat_map (λ (o : Outcome). each o i) (distribution s)))
   where
     each : (o : Outcome) → map values_of (map (preceded_by o) (scenarios ss)) ≡ map (headed o.value) (rows ss)
     each o = map-map values_of (preceded_by o) (scenarios ss) ∙ sym (map-map (headed o.value) values_of (scenarios ss))
 
 -- what is seen, where the first variable's value is
 seen_headed : (stage : ℕ) (s : Stochastic) (ss : List Stochastic) → nat_lt s.stage stage ≡ true
-    → map (seen_in stage (s ∷ ss)) (scenarios (s ∷ ss)) ≡ flat_map (λ (o : Outcome). map (headed o.value) (map (seen_in stage ss) (scenarios ss))) s.outcomes
+    → map (seen_in stage (s ∷ ss)) (scenarios (s ∷ ss)) ≡ flat_map (λ (o : Outcome). map (headed o.value) (map (seen_in stage ss) (scenarios ss))) (distribution s)
 seen_headed stage s ss is =
-    map-flat_map (seen_in stage (s ∷ ss)) (λ (o : Outcome). map (preceded_by o) (scenarios ss)) s.outcomes
-    ∙ (λ i. flat_map (λ (o : Outcome). each o i) s.outcomes)
+    ap (map (seen_in stage (s ∷ ss))) (scenarios_begin s ss)
+    ∙ (map-flat_map (seen_in stage (s ∷ ss)) (λ (o : Outcome). map (preceded_by o) (scenarios ss)) (distribution s)
+    ∙ (λ i. flat_map (λ (o : Outcome). each o i) (distribution s)))
   where
     each : (o : Outcome) → map (seen_in stage (s ∷ ss)) (map (preceded_by o) (scenarios ss)) ≡ map (headed o.value) (map (seen_in stage ss) (scenarios ss))
     each o =
@@ -105,9 +108,9 @@ seen_rows stage (s ∷ ss) ascend = on (nat_lt s.stage stage) refl (seen_rows st
         let m : ℕ = behind_count (seen_before stage ss) ss in
         let prefix : List Stochastic = take (seen_before stage ss) ss in
         seen_headed stage s ss is
-        ∙ ((λ i. flat_map (λ (o : Outcome). map (headed o.value) (later i)) s.outcomes)
-        ∙ ((λ i. flat_map (λ (o : Outcome). copied_headed o.value m (rows prefix) i) s.outcomes)
-        ∙ (sym (flat_map-flat_map (replicate m) (λ (o : Outcome). map (headed o.value) (rows prefix)) s.outcomes)
+        ∙ ((λ i. flat_map (λ (o : Outcome). map (headed o.value) (later i)) (distribution s))
+        ∙ ((λ i. flat_map (λ (o : Outcome). copied_headed o.value m (rows prefix) i) (distribution s))
+        ∙ (sym (flat_map-flat_map (replicate m) (λ (o : Outcome). map (headed o.value) (rows prefix)) (distribution s))
         ∙ ap (copied m) (sym (rows_headed s prefix)))))
     on false is later =
         constant (seen_in stage (s ∷ ss)) []

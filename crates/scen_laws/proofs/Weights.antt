@@ -6,8 +6,9 @@ use Rattle.std.proofs.lemmas.Int.{ints}
 use Rattle.std.proofs.lemmas.List.{take-append-drop}
 use Rattle.std.specs.List.{AllByRecursion, flat_map}
 use Rattle.sopl_base.proofs.Lists.{all_append}
-use Rattle.sopl_ast.specs.Instances.{Outcome, Stochastic}
-use Rattle.sopl_ast.specs.Scenarios.{Scenario, preceded_by, scenarios, total_of, total_weight}
+use Rattle.sopl_ast.specs.Instances.{Outcome, Stochastic, distribution}
+use Rattle.sopl_ast.specs.Scenarios.{Scenario, preceded_by, outcomes_after, scenarios_after, scenarios, total_of, total_weight}
+use Rattle.lang_laws.proofs.Independence.{outcome_of, outcomes_written}
 use Rattle.unfold_laws.specs.Bounds.{IsBoundedOutcome, IsBoundedStochastic}
 use Rattle.scen_laws.specs.Laws.{HasOutcome, weight_factor, WeightsMultiply, ScenariosAreLight}
 use Rattle.scen_laws.proofs.Splits.{times_one}
@@ -16,7 +17,7 @@ use Rattle.scen_laws.proofs.Counts.{first_part, last_part}
 
 pub weights_multiply : WeightsMultiply
 weights_multiply [] = refl
-weights_multiply (s ∷ ss) = ap (λ z. total_of s.outcomes *ℤ z) (weights_multiply ss)
+weights_multiply (s ∷ ss) = ap (λ z. total_of (distribution s) *ℤ z) (weights_multiply ss)
 
 -- a number from 1 to another
 abbrev pub Within : ℤ → ℤ → Type 0
@@ -81,8 +82,8 @@ weights_within (o ∷ os) all =
     ((least, omega (arith, ints)), all_wider (total_of os) (o.weight +ℤ total_of os) (omega (arith, ints)) os (weights_within os all.1))
 
 -- a total is 1 at least
-pub total_positive : (s : Stochastic) → HasOutcome s → IsBoundedStochastic s → pos 1 ≤ℤ total_of s.outcomes
-total_positive s some bounded = first s.outcomes some bounded.outcomes
+pub total_positive : (s : Stochastic) → HasOutcome s → IsBoundedStochastic s → pos 1 ≤ℤ total_of (distribution s)
+total_positive s some bounded = first (distribution s) some bounded.outcomes
   where
     first : (os : List Outcome) → 1 ≤ length os → AllByRecursion IsBoundedOutcome os → pos 1 ≤ℤ total_of os
     first [] some all = absurd (omega (arith, some))
@@ -96,7 +97,7 @@ one_within z least = (omega (arith, ints), least)
 pub weight_positive : (ss : List Stochastic) → AllByRecursion HasOutcome ss → AllByRecursion IsBoundedStochastic ss → pos 1 ≤ℤ total_weight ss
 weight_positive [] some all = omega (arith, ints)
 weight_positive (s ∷ ss) some all =
-    (products_within (total_of s.outcomes) (total_of s.outcomes) (total_weight ss) (total_weight ss)
+    (products_within (total_of (distribution s)) (total_of (distribution s)) (total_weight ss) (total_weight ss)
     (total_positive s some.0 all.0, omega (arith, ints)) (weight_positive ss some.1 all.1, omega (arith, ints))).0
 
 -- scenarios that weigh 1 at least, and so much at most
@@ -109,17 +110,32 @@ light_after most other o here [] all = tt
 light_after most other o here (s ∷ list) all =
     (products_within o.weight most s.weight other here all.0, light_after most other o here list all.1)
 
-light_each : (most other : ℤ) (list : List Scenario) → Light other list → (os : List Outcome) → AllByRecursion (λ (o : Outcome). Within most o.weight) os
-    → Light (most *ℤ other) (flat_map (λ (o : Outcome). map (preceded_by o) list) os)
-light_each most other list light [] all = tt
-light_each most other list light (o ∷ os) all =
-    all_append (λ (s : Scenario). Within (most *ℤ other) s.weight) (map (preceded_by o) list) (flat_map (λ (e : Outcome). map (preceded_by e) list) os)
-    (light_after most other o all.0 list light) (light_each most other list light os all.1)
+light_each : (most other : ℤ) (places : List ℕ) (later : List Stochastic) → ((ps : List ℕ) → Light other (scenarios_after ps later))
+    → (ds : List (ℕ × Outcome)) → AllByRecursion (λ (drawn : ℕ × Outcome). Within most drawn.1.weight) ds
+    → Light (most *ℤ other) (flat_map (λ (drawn : ℕ × Outcome). map (preceded_by drawn.1) (scenarios_after (places ++ drawn.0 ∷ []) later)) ds)
+light_each most other places later light [] all = tt
+light_each most other places later light (d ∷ ds) all =
+    let here : List Scenario = scenarios_after (places ++ d.0 ∷ []) later in
+    all_append (λ (s : Scenario). Within (most *ℤ other) s.weight) (map (preceded_by d.1) here)
+    (flat_map (λ (drawn : ℕ × Outcome). map (preceded_by drawn.1) (scenarios_after (places ++ drawn.0 ∷ []) later)) ds)
+    (light_after most other d.1 all.0 here (light (places ++ d.0 ∷ []))) (light_each most other places later light ds all.1)
 
-light : (ss : List Stochastic) → AllByRecursion IsBoundedStochastic ss → Light (total_weight ss) (scenarios ss)
-light [] all = (one_within (pos 1) (omega (arith, ints)), tt)
-light (s ∷ ss) all =
-    light_each (total_of s.outcomes) (total_weight ss) (scenarios ss) (light ss all.1) s.outcomes (weights_within s.outcomes all.0.outcomes)
+-- each outcome after some places is at most the total
+drawn_within : (places : List ℕ) (s : Stochastic) → IsBoundedStochastic s
+    → AllByRecursion (λ (drawn : ℕ × Outcome). Within (total_of (distribution s)) drawn.1.weight) (outcomes_after places s)
+drawn_within places s bounded =
+    each (outcomes_after places s)
+    (subst (AllByRecursion (λ (o : Outcome). Within (total_of (distribution s)) o.weight)) (sym (outcomes_written places s)) (weights_within (distribution s) bounded.outcomes))
+  where
+    each : (ds : List (ℕ × Outcome)) → AllByRecursion (λ (o : Outcome). Within (total_of (distribution s)) o.weight) (map outcome_of ds)
+        → AllByRecursion (λ (drawn : ℕ × Outcome). Within (total_of (distribution s)) drawn.1.weight) ds
+    each [] all = tt
+    each (d ∷ ds) all = (all.0, each ds all.1)
+
+light : (ss : List Stochastic) → AllByRecursion IsBoundedStochastic ss → (places : List ℕ) → Light (total_weight ss) (scenarios_after places ss)
+light [] all places = (one_within (pos 1) (omega (arith, ints)), tt)
+light (s ∷ ss) all places =
+    light_each (total_of (distribution s)) (total_weight ss) places ss (light ss all.1) (outcomes_after places s) (drawn_within places s all.0)
 
 light_wider : (a b : ℤ) → a ≤ℤ b → (list : List Scenario) → Light a list → Light b list
 light_wider a b order [] all = tt
@@ -145,4 +161,4 @@ prefix_lighter n ss some all =
 pub scenarios_are_light : ScenariosAreLight
 scenarios_are_light n ss some all =
     light_wider (total_weight (take n ss)) (total_weight ss) (prefix_lighter n ss some all) (scenarios (take n ss))
-    (light (take n ss) (first_part IsBoundedStochastic n ss all))
+    (light (take n ss) (first_part IsBoundedStochastic n ss all) [])

@@ -6,7 +6,7 @@ use Rattle.sopl_base.specs.declared.fault.Excess.{Excess}
 use Rattle.sopl_ast.specs.Whole.{ModelTree}
 use Rattle.sopl_ast.specs.Known.{same_values}
 use Rattle.sopl_ast.specs.UnfoldEvents.{excess}
-use Rattle.sopl_ast.specs.Instances.{Outcome, Stochastic}
+use Rattle.sopl_ast.specs.Instances.{Outcome, Stochastic, distribution}
 use Rattle.sopl_ast.specs.Scenarios.{Scenario, scenarios, total_of, total_weight}
 use Rattle.sopl_ast.specs.Histories.{history, histories}
 use Rattle.sopl_ast.specs.Limits.{first_above, prefixes}
@@ -31,7 +31,7 @@ rows stochastics = map values_of (scenarios stochastics)
 
 -- a stochastic variable has outcomes
 abbrev pub HasOutcome : Stochastic → Type 0
-HasOutcome s = 1 ≤ length s.outcomes
+HasOutcome s = 1 ≤ length (distribution s)
 
 -- each variable's stage is at most those behind it
 abbrev pub IsByStage : List Stochastic → Type 0
@@ -56,7 +56,7 @@ ScenariosSplit =
 abbrev pub ScenariosExtend : Type 0
 ScenariosExtend =
     (xs : List Stochastic) (s : Stochastic)
-    → scenarios (xs ++ s ∷ []) ≡ flat_map (λ (p : Scenario). map (extended p) s.outcomes) (scenarios xs)
+    → scenarios (xs ++ s ∷ []) ≡ flat_map (λ (p : Scenario). map (extended p) (distribution s)) (scenarios xs)
 
 -- how many scenarios variables in two parts have
 abbrev pub ScenariosAreCounted : Type 0
@@ -111,10 +111,10 @@ first_passed code limit f so_far (s ∷ later) =
 
 -- the total of a variable's weights, and how many outcomes it has
 abbrev pub weight_factor : Stochastic → ℤ
-weight_factor s = total_of s.outcomes
+weight_factor s = total_of (distribution s)
 
 abbrev pub count_factor : Stochastic → ℤ
-count_factor s = pos (length s.outcomes)
+count_factor s = pos (length (distribution s))
 
 -- the total weight and the number of scenarios, as products
 abbrev pub WeightsMultiply : Type 0

@@ -12,7 +12,7 @@ use Rattle.sopl_ast.specs.Numbers.{natural, count_between}
 use Rattle.sopl_ast.specs.Known.{Constant, Between, Listed, Known, nothing_known, set_named, ends_of}
 use Rattle.sopl_ast.specs.Constants.{value_or_zero}
 use Rattle.sopl_ast.specs.UnfoldEvents.{UnfoldEvent, Counted, refused_unless, too_many, constant_place, range_events}
-use Rattle.sopl_ast.specs.Instances.{Decision, Outcome, Stochastic}
+use Rattle.sopl_ast.specs.Instances.{Decision, Outcome, Stochastic, independent}
 use Rattle.sopl_ast.specs.Arrays.{Dimension, dimensions_of, indices, taking, with_index, array_of, dimension_events, array_events}
 
 -- what was found in the declarations so far: what is known, the decisions, and the stochastic variables, each in text order
@@ -130,8 +130,7 @@ decisions_of known name dims range stage =
 -- the stochastic variables of a declaration, in the order of their indices
 abbrev pub stochastics_of : Known → List ℕ → List DimTree → List (Tree × Tree) → Option Tree → List Stochastic
 stochastics_of known name dims dist stage =
-    array_of known dims (λ index here.
-    record { name = name; index = index; outcomes = map (outcome_of here) dist; stage = stage_of here stage })
+    array_of known dims (λ index here. independent name index (map (outcome_of here) dist) (stage_of here stage))
 
 -- Declarations in order.
 

@@ -25,6 +25,14 @@ pub record Stochastic : Type 0 where
   pub outcomes : List Outcome
   pub stage : ℕ
 
+-- a stochastic variable that depends on no other one
+abbrev pub independent : List ℕ → List ℤ → List Outcome → ℕ → Stochastic
+independent name index outcomes stage = record { name = name; index = index; outcomes = outcomes; stage = stage }
+
+-- the outcomes of a stochastic variable as they are written
+abbrev pub distribution : Stochastic → List Outcome
+distribution s = s.outcomes
+
 -- the names of decisions and of stochastic variables
 abbrev pub names_in : List Decision → List Stochastic → List (List ℕ)
 names_in decisions stochastics = map (λ (d : Decision). d.name) decisions ++ map (λ (s : Stochastic). s.name) stochastics

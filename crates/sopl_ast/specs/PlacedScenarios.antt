@@ -1,8 +1,9 @@
 -- The scenarios of an unfolded text with the places of their outcomes, by which a later variable's outcomes may depend on those of the earlier ones.
 use Rattle.std.specs.Prelude.{ℕ, ℤ, pos, ◌*ℤ◌, List, [], ◌∷◌, ◌++◌, map}
-use Rattle.std.specs.List.{flat_map, enumerate_from}
+use Rattle.std.specs.List.{flat_map}
 use Rattle.sopl_ast.specs.Instances.{Outcome, Stochastic}
 use Rattle.sopl_ast.specs.Scenarios as ast
+use Rattle.sopl_ast.specs.Scenarios.{outcomes_after}
 
 -- a scenario: one outcome of each stochastic variable, in their order, by its place in the written distribution and by its value; and the product of
 -- these outcomes' weights
@@ -16,16 +17,11 @@ abbrev pub preceded_by : ℕ × Outcome → Scenario → Scenario
 preceded_by drawn later =
     record { places = drawn.0 ∷ later.places; values = drawn.1.value ∷ later.values; weight = drawn.1.weight *ℤ later.weight }
 
--- the outcomes of a variable where the variables before it took these places; the places are not looked at yet, since variables are independent
-abbrev pub outcomes_after : List ℕ → Stochastic → List Outcome
-outcomes_after places s = s.outcomes
-
 -- the scenarios of variables where those before them took these places, in lexicographic order of places
 abbrev pub scenarios_after : List ℕ → List Stochastic → List Scenario
 scenarios_after places [] = (record { places = []; values = []; weight = pos 1 }) ∷ []
 scenarios_after places (first ∷ later) =
-    flat_map (λ (drawn : ℕ × Outcome). map (preceded_by drawn) (scenarios_after (places ++ drawn.0 ∷ []) later))
-    (enumerate_from 0 (outcomes_after places first))
+    flat_map (λ (drawn : ℕ × Outcome). map (preceded_by drawn) (scenarios_after (places ++ drawn.0 ∷ []) later)) (outcomes_after places first)
 
 -- all scenarios
 abbrev pub scenarios : List Stochastic → List Scenario

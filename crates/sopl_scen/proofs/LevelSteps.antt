@@ -3,7 +3,7 @@ use Rattle.std.proofs.Common.{◌≡◌, ◌+◌, ◌<◌, ◌^◌, ◌++◌, �
 use Rattle.std.proofs.lemmas.List.FromFn.{get_or-map-range_with_len, map-range_with_len_more, length-map-range_with_len}
 use Rattle.std.specs.List.{AllByRecursion, range_with_len}
 use Rattle.std.proofs.lemmas.List.{get_or_default}
-use Rattle.sopl_ast.specs.Instances.{Outcome, Stochastic}
+use Rattle.sopl_ast.specs.Instances.{Outcome, Stochastic, distribution}
 use Rattle.sopl_scen.specs.declared.nodes.Node.{Node}
 use Rattle.sopl_scen.specs.Levels.{IsLight, AreSmall, children, level_at, outcomes_at, no_variable}
 
@@ -19,9 +19,9 @@ pub level_is : (ss : List Stochastic) (n i : ℕ) (found : List (List Node)) (le
 level_is ss n i found level d within made is =
     is ∙ (ap (λ list. get_or list i d) made ∙ get_or-map-range_with_len (level_at ss) 0 n i i d within (omega arith))
 
-pub outcomes_are : (ss : List Stochastic) (i : ℕ) (s : Stochastic) (os : List Outcome) → i < length ss → s ≡ get_or ss i s → os ≡ s.outcomes → os ≡ outcomes_at ss i
+pub outcomes_are : (ss : List Stochastic) (i : ℕ) (s : Stochastic) (os : List Outcome) → i < length ss → s ≡ get_or ss i s → os ≡ distribution s → os ≡ outcomes_at ss i
 outcomes_are ss i s os within is by =
-    by ∙ ap (λ (t : Stochastic). t.outcomes) (is ∙ get_or_default ss i s no_variable within)
+    by ∙ ap distribution (is ∙ get_or_default ss i s no_variable within)
 
 pub level_few : (ss : List Stochastic) (i : ℕ) (above : List Node) → AreSmall ss → i < length ss → above ≡ level_at ss i → length above < 2 ^ 32
 level_few ss i above small within is = subst (λ list. length list < 2 ^ 32) (sym is) (small.few i (omega arith))

@@ -1,7 +1,7 @@
 -- The levels of a tree of scenarios, as the program builds them. These steps are the code's own: no public clause cites them.
 use Rattle.std.specs.Prelude.{ℕ, zero, suc, ◌+◌, ◌<◌, ◌≤◌, ◌^◌, ℤ, pos, ◌*ℤ◌, unsigned_abs, List, [], ◌∷◌, ◌++◌, length, map, get_or}
 use Rattle.std.specs.List.{AllByRecursion, range_with_len}
-use Rattle.sopl_ast.specs.Instances.{Outcome, Stochastic}
+use Rattle.sopl_ast.specs.Instances.{Outcome, Stochastic, distribution, independent}
 use Rattle.sopl_scen.specs.declared.nodes.Node.{Node}
 
 -- the scenario of no variable
@@ -19,11 +19,11 @@ children first (node ∷ later) outcomes = map (child_of first node) outcomes ++
 
 -- no variable, in place of one that is not there
 abbrev pub no_variable : Stochastic
-no_variable = record { name = []; index = []; outcomes = []; stage = 0 }
+no_variable = independent [] [] [] 0
 
 -- the outcomes of a variable
 abbrev pub outcomes_at : List Stochastic → ℕ → List Outcome
-outcomes_at stochastics j = (get_or stochastics j no_variable).outcomes
+outcomes_at stochastics j = distribution (get_or stochastics j no_variable)
 
 -- the level of so many variables
 abbrev pub level_at : List Stochastic → ℕ → List Node

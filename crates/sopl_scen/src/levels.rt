@@ -17,7 +17,7 @@ pub(crate) fn levels(alloc: Global, stochs: &[StochItem]) -> Result<Vec<Level>, 
     let mut found = Vec::new(alloc);
     found.push(first_level(alloc)?)?;
     'stochs: for (i, stoch) in stochs.iter().enumerate() {
-        let level = next_level(alloc, found[i].as_slice(), stoch.values.as_slice())?;
+        let level = next_level(alloc, found[i].as_slice(), stoch.distribution())?;
         found.push(level)?;
     }
     Ok(found)

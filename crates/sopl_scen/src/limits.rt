@@ -21,7 +21,7 @@ fn weight_of(stoch: &StochItem) -> Wide
     ensures value { result.value ≡ weight_factor stoch.now }
     ensures least { pos 1 ≤ℤ result.value }
 {
-    total_of_outcomes(stoch.values.as_slice())
+    total_of_outcomes(stoch.distribution())
 }
 
 /// How many outcomes a variable has.
@@ -30,7 +30,7 @@ fn count_of(stoch: &StochItem) -> Wide
     ensures value { result.value ≡ count_factor stoch.now }
     ensures least { pos 1 ≤ℤ result.value }
 {
-    number_of_outcomes(stoch.values.as_slice())
+    number_of_outcomes(stoch.distribution())
 }
 
 /// The weight of all scenarios, or the first running product of totals that passes its limit.

@@ -9,7 +9,7 @@ use Rattle.std.specs.List.{flat_map, filter, range_with_len, All, AllByRecursion
 use Rattle.std.specs.List.Sorted.{IsPermutation, IsNonDecreasingBy, IsStableByKey}
 use Rattle.std.specs.Ordering.{is_lt, nat_cmp}
 use Rattle.sopl_base.proofs.Booleans.{tests_agree}
-use Rattle.sopl_ast.specs.Instances.{Stochastic}
+use Rattle.sopl_ast.specs.Instances.{Stochastic, independent}
 use Rattle.sopl_ast.specs.Unfolding.{by_stage}
 use Rattle.unfold_laws.specs.Bounds.{IsStage}
 
@@ -111,7 +111,7 @@ taken (suc n) a ss up below = inner (taken n (a + 1)) ss up below
 -- Those of one stage are the same, since a stable sort keeps the order of those that tie.
 
 abbrev of_stage : ℕ → Stochastic
-of_stage k = record { name = []; index = []; outcomes = []; stage = k }
+of_stage k = independent [] [] [] k
 
 abbrev tie : ℕ → ℕ → Bool
 tie k m = not (is_lt (nat_cmp k m)) && not (is_lt (nat_cmp m k))

@@ -15,7 +15,7 @@ use Rattle.sopl_ast.specs.Numbers.{both_of, all_of, joined}
 use Rattle.sopl_ast.specs.Known.{Known, with_bound}
 use Rattle.sopl_ast.specs.Constants.{bindings, all_bindings, numbers_of}
 use Rattle.sopl_ast.specs.UnfoldEvents.{UnfoldEvent, Counted, Refused, Passed, excess, first_failure, most_counted, range_events, binding_events}
-use Rattle.sopl_ast.specs.Instances.{Stochastic}
+use Rattle.sopl_ast.specs.Instances.{Stochastic, independent}
 use Rattle.sopl_ast.specs.Arrays.{dimensions_of, indices, with_index, array_of, dimension_events, array_events}
 use Rattle.sopl_ast.specs.Declarations.{Declared, nothing_declared, domain_of, stage_of, outcome_of, domain_events, stage_events, outcome_events, decisions_of}
 use Rattle.sopl_ast.specs.Declarations.{stochastics_of, behind, behind_all, declaration_events, declarations_events}
@@ -83,7 +83,7 @@ variables_behind (DvarDecl name at dims range stage) found =
 variables_behind (StochDecl name at dims dist stage) found =
     let more = length-append found.stochastics (stochastics_of found.known name dims dist stage) in
     let all : length (stochastics_of found.known name dims dist stage) ≤ counted (declaration_events found (StochDecl name at dims dist stage)) =
-    array_counted found.known dims (λ index here. record { name = name; index = index; outcomes = map (outcome_of here) dist; stage = stage_of here stage })
+    array_counted found.known dims (λ index here. independent name index (map (outcome_of here) dist) (stage_of here stage))
     (λ here. outcome_events here [] dist ++ stage_events here stage) in
     omega (arith, more, all)
 

@@ -17,7 +17,7 @@ use Rattle.sopl_ast.specs.Numbers.{natural, count_between, all_distinct}
 use Rattle.sopl_ast.specs.Known.{Known, NumberSet, Between, Listed, NamedSet, set_named, ends_of}
 use Rattle.sopl_ast.specs.Constants.{value_or_zero}
 use Rattle.sopl_ast.specs.UnfoldEvents.{UnfoldEvent, Counted, refused_unless, too_many, constant_place, most_numbers}
-use Rattle.sopl_ast.specs.Instances.{Outcome}
+use Rattle.sopl_ast.specs.Instances.{Outcome, independent}
 use Rattle.sopl_ast.specs.Arrays.{Dimension, dimensions_of, indices, taking, with_index, array_of, dimension_events, array_events}
 use Rattle.sopl_ast.specs.Declarations.{Declared, nothing_declared, stage_of, stage_events, domain_of, domain_events, outcome_of, outcome_events, decisions_of}
 use Rattle.sopl_ast.specs.Declarations.{stochastics_of, behind, declaration_events, behind_all, declarations_events}
@@ -195,7 +195,7 @@ decision_bounded name range stage index here sets is =
 
 stochastic_bounded : (name : List ℕ) (dist : List (Tree × Tree)) (stage : Option Tree) (index : List ℤ) (here : Known)
     → NothingFails (outcome_events here [] dist ++ stage_events here stage)
-    → IsBoundedStochastic (record { name = name; index = index; outcomes = map (outcome_of here) dist; stage = stage_of here stage })
+    → IsBoundedStochastic (independent name index (map (outcome_of here) dist) (stage_of here stage))
 stochastic_bounded name dist stage index here is =
     let both = parts_pass (outcome_events here [] dist) (stage_events here stage) is in
     let all = outcomes_bounded dist here [] refl both.0 in

@@ -16,7 +16,7 @@ use Rattle.sopl_ast.specs.Nonterminals.{Model}
 use Rattle.sopl_ast.specs.PhraseLanguage.{Phrase, terminal, place_of_mark, ◌then◌, ◌before◌, ◌closed_by◌}
 use Rattle.sopl_ast.specs.RowSpelling.{IsTerminal, stands, lacking, AreRepeated, none_more, one_more, IsSpelled, SpelledInside, IsSpelledAt}
 use Rattle.sopl_ast.specs.Terminals.{a_name, name_bytes}
-use Rattle.sopl_ast.specs.Instances.{Decision, Stochastic, names_in}
+use Rattle.sopl_ast.specs.Instances.{Decision, Stochastic, names_in, independent}
 use Rattle.sopl_ast.specs.Arrays.{dimensions_of, indices, with_index}
 use Rattle.sopl_ast.specs.Declarations.{Declared, nothing_declared, domain_of, outcome_of, stage_of, decisions_of, stochastics_of, behind, behind_all}
 use Rattle.sopl_ast.specs.Unfolding.{problem_of}
@@ -101,13 +101,9 @@ decisions_made known name dims over stage word (index ∷ is) = (word, decisions
 
 stochastics_made : (known : Known) (name : List ℕ) (dims : List DimTree) (dist : List (Tree × Tree)) (stage : Option Tree) → IsWord name → (is : List (List ℤ))
     → AllByRecursion HasWord
-    (map (λ index. record {
-      name = name;
-      index = index;
-      outcomes = map (outcome_of (with_index (dimensions_of known dims) index known)) dist;
-      stage =
-          stage_of (with_index (dimensions_of known dims) index known) stage;
-    }) is)
+    (map (λ index.
+    independent name index (map (outcome_of (with_index (dimensions_of known dims) index known)) dist)
+    (stage_of (with_index (dimensions_of known dims) index known) stage)) is)
 stochastics_made known name dims dist stage word [] = tt
 stochastics_made known name dims dist stage word (index ∷ is) = (word, stochastics_made known name dims dist stage word is)
 

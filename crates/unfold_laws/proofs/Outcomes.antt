@@ -14,7 +14,7 @@ use Rattle.sopl_ast.specs.Nonterminals as s
 use Rattle.sopl_ast.specs.PhraseLanguage.{terminal, ◌then◌, ◌before◌, ◌closed_by◌}
 use Rattle.sopl_ast.specs.RowSpelling.{IsDeepened, deepens, lacking_nested, AreRepeated, none_more, one_more, IsSpelled, SpelledInside, IsSpelledAt}
 use Rattle.sopl_ast.specs.Terminals.{a_name}
-use Rattle.sopl_ast.specs.Instances.{Stochastic}
+use Rattle.sopl_ast.specs.Instances.{Stochastic, distribution, independent}
 use Rattle.sopl_ast.specs.Arrays.{dimensions_of, indices, with_index}
 use Rattle.sopl_ast.specs.Declarations.{Declared, nothing_declared, outcome_of, stage_of, stochastics_of, behind, behind_all}
 use Rattle.sopl_ast.specs.Unfolding.{problem_of}
@@ -83,17 +83,13 @@ unfolding model_row
 model_drawn n ts whole r is = subst (λ (tree : ModelTree). AllByRecursion IsDrawn tree.decls) (sym is.1.1) (declarations_drawn n ts is.0.0 is.1.0.0 is.1.0.1.0)
 
 abbrev HasOutcome : Stochastic → Type 0
-HasOutcome s = 1 ≤ length s.outcomes
+HasOutcome s = 1 ≤ length (distribution s)
 
 made_drawn : (known : Known) (name : List ℕ) (dims : List DimTree) (dist : List (Tree × Tree)) (stage : Option Tree) → 1 ≤ length dist → (is : List (List ℤ))
     → AllByRecursion HasOutcome
-    (map (λ index. record {
-      name = name;
-      index = index;
-      outcomes = map (outcome_of (with_index (dimensions_of known dims) index known)) dist;
-      stage =
-          stage_of (with_index (dimensions_of known dims) index known) stage;
-    }) is)
+    (map (λ index.
+    independent name index (map (outcome_of (with_index (dimensions_of known dims) index known)) dist)
+    (stage_of (with_index (dimensions_of known dims) index known) stage)) is)
 made_drawn known name dims dist stage some [] = tt
 made_drawn known name dims dist stage some (index ∷ is) =
     (subst (λ n. 1 ≤ n) (sym (length-map dist (outcome_of (with_index (dimensions_of known dims) index known)))) some, made_drawn known name dims dist stage some is)

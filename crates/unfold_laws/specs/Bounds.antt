@@ -2,7 +2,7 @@
 use Rattle.std.specs.Prelude.{ℕ, ◌≤◌, ◌+◌, pos, ◌≤ℤ◌, map, length, IsTrue}
 use Rattle.std.specs.List.{AllByRecursion}
 use Rattle.sopl_ast.specs.Numbers.{count_between, all_distinct}
-use Rattle.sopl_ast.specs.Instances.{Decision, Outcome, Stochastic}
+use Rattle.sopl_ast.specs.Instances.{Decision, Outcome, Stochastic, distribution}
 use Rattle.sopl_ast.specs.Whole.{ModelTree}
 use Rattle.sopl_ast.specs.Unfolding.{problem_of, text_events}
 use Rattle.sopl_ast.specs.Origin.{IsFromTokens}
@@ -29,8 +29,8 @@ pub record IsBoundedOutcome (o : Outcome) : Type 0 where
 
 -- the outcomes are so, and no two have the same value
 pub record IsBoundedStochastic (s : Stochastic) : Type 0 where
-  pub outcomes : AllByRecursion IsBoundedOutcome s.outcomes
-  pub distinct : IsTrue (all_distinct (map (λ (o : Outcome). o.value) s.outcomes))
+  pub outcomes : AllByRecursion IsBoundedOutcome (distribution s)
+  pub distinct : IsTrue (all_distinct (map (λ (o : Outcome). o.value) (distribution s)))
   pub stage : IsStage s.stage
 
 -- the decisions of a text that passes
@@ -44,7 +44,7 @@ StochasticsAreBounded = (model : ModelTree) → NothingFails (text_events model)
 -- the stochastic variables of a text have an outcome each
 abbrev pub StochasticsHaveOutcomes : Type 0
 StochasticsHaveOutcomes =
-    (model : ModelTree) → IsFromTokens model → AllByRecursion (λ (s : Stochastic). 1 ≤ length s.outcomes) (problem_of model).stochastics
+    (model : ModelTree) → IsFromTokens model → AllByRecursion (λ (s : Stochastic). 1 ≤ length (distribution s)) (problem_of model).stochastics
 
 -- how many instances a text has in all, where nothing stops its unfolding
 abbrev pub InstancesAreCounted : Type 0

@@ -8,7 +8,7 @@ use Rattle.std.specs.Ordering.{int_cmp, int_eq}
 use Rattle.sopl_base.specs.declared.codes.TheConstants as codes
 use Rattle.sopl_base.specs.declared.limits.TheConstants as largest
 use Rattle.sopl_ast.specs.Tree.{Tree, Range, Named, Ends, place_of}
-use Rattle.sopl_ast.specs.Instances.{Outcome}
+use Rattle.sopl_ast.specs.Instances.{Outcome, independent}
 use Rattle.sopl_ast.specs.Known.{Known}
 use Rattle.sopl_ast.specs.Numbers.{natural, count_between}
 use Rattle.sopl_ast.specs.Constants.{value_or_zero}
@@ -118,7 +118,7 @@ agree_decision name range e known index =
 -- the stochastic variable at an index
 pub agree_stochastic : (name : List ℕ) (dist : List (Tree × Tree)) (e : Option Tree) (known : Known) (index : List ℤ)
     → Agrees (s.stochastic known name dist e index) (outcome_events known [] dist ++ stage_events known e)
-    (Some (record { name = name; index = index; outcomes = map (outcome_of known) dist; stage = stage_of known e }))
+    (Some (independent name index (map (outcome_of known) dist) (stage_of known e)))
 agree_stochastic name dist e known index =
     agree_next _ (map (outcome_of known) dist) (agree_outcomes dist known [] [] (λ q. refl) [])
-    (agree_last (λ k. record { name = name; index = index; outcomes = map (outcome_of known) dist; stage = k }) (agree_stage known e))
+    (agree_last (λ k. independent name index (map (outcome_of known) dist) k) (agree_stage known e))

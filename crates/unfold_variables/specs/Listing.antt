@@ -10,7 +10,7 @@ use Rattle.sopl_ast.specs.Tree.{Tree, Range, Named, Ends, place_of}
 use Rattle.sopl_ast.specs.Whole.{DimTree}
 use Rattle.sopl_ast.specs.Numbers.{natural, count_between}
 use Rattle.sopl_ast.specs.Known.{Known}
-use Rattle.sopl_ast.specs.Instances.{Decision, Outcome, Stochastic}
+use Rattle.sopl_ast.specs.Instances.{Decision, Outcome, Stochastic, independent}
 use Rattle.sopl_ast.specs.Arrays.{Dimension, dimensions_of, taking, dimension_events}
 use Rattle.sopl_ast.specs.Declarations.{domain_of}
 use Rattle.sopl_ast.specs.UnfoldEvents.{too_many}
@@ -79,7 +79,7 @@ decision known name range e index =
 -- the stochastic variable at an index
 abbrev pub stochastic : Known → List ℕ → List (Tree × Tree) → Option Tree → List ℤ → Step Stochastic
 stochastic known name dist e index =
-    outcomes known [] [] dist >>= (λ os. stage known e >>= (λ k. done (record { name = name; index = index; outcomes = os; stage = k })))
+    outcomes known [] [] dist >>= (λ os. stage known e >>= (λ k. done (independent name index os k)))
 
 -- what stands at each index that begins so, behind what was found; each is counted
 abbrev pub listed : {A : Type 0} → (Known → List ℤ → Step A) → Known → List Dimension → List ℤ → List A → Step (List A)

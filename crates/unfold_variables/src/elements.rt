@@ -1,6 +1,7 @@
 //! What stands at an index: a decision, or a stochastic variable.
 
 ghost use Rattle.std.specs.Prelude.{◌≡◌, IfOk};
+ghost use Rattle.sopl_ast.specs.Instances.{independent};
 ghost use Rattle.unfold_variables.specs.Listing as spec;
 
 use crate::arrays::Element;
@@ -93,12 +94,7 @@ fn stochastic(
     values: Weighted,
     stage: u32,
 ) -> Result<StochItem, AllocError>
-    ensures { IfOk result (λ item. item ≡ record {
-      name = name.now;
-      index = prefix.now.index.items;
-      outcomes = values;
-      stage = stage;
-    }) }
+    ensures { IfOk result (λ item. item ≡ independent name.now prefix.now.index.items values stage) }
 {
     let name = name.copy(prefix.alloc)?;
     let index = Index::from_slice(prefix.alloc, prefix.index.as_slice())?;

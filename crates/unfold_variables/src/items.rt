@@ -1,6 +1,7 @@
 //! Decisions and stochastic variables as values of the program.
 
 ghost use Rattle.std.specs.Prelude.{◌≡◌, ◌∷◌, ◌++◌, [], OnOk, OnErr, IfOk, map};
+ghost use Rattle.sopl_ast.specs.Instances.{distribution};
 ghost use Rattle.unfold_variables.specs.Pairs.{outcome_in};
 
 use smallvec::SmallVec;
@@ -129,9 +130,18 @@ pub struct StochItem {
 }
 
 impl Model for StochItem {
-    ghost use Rattle.sopl_ast.specs.Instances.{Stochastic};
+    ghost use Rattle.sopl_ast.specs.Instances.{Stochastic, independent};
 
     ghost Value = { Stochastic };
 
-    ghost view = { λ s. record { name = s.name; index = s.index; outcomes = s.values; stage = s.stage } };
+    ghost view = { λ s. independent s.name s.index s.values s.stage };
+}
+
+impl StochItem {
+    /// The outcomes as they are written, as a slice of pairs.
+    pub fn distribution(&self) -> &[(i64, i64)]
+        ensures items { map outcome_in result.now ≡ distribution self.now }
+    {
+        self.values.as_slice()
+    }
 }
