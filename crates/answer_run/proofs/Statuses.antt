@@ -1,8 +1,7 @@
 -- What the outcome of a run says of the words and of the text, and what the sinks took.
 use Rattle.std.proofs.Common.{◌≡◌, ◌⊎◌, inl, inr, ℕ, ◌≤◌, List, [], Bool, true, false, Option, Some, None, Result, Err, IfSome, option_map, if◌then◌else◌, string_bytes, refl, sym, subst, ap, ◌∙◌}
 use Rattle.std.specs.Option.{option_and_then}
-use Rattle.std.specs.Io.KnownBytes.{IsAtEnd}
-use Rattle.std.proofs.KnownBytes.{Keeps-refl}
+use Rattle.std.specs.Io.KnownBytes.{IsAtEnd, Keeps}
 use Rattle.sopl_io.specs.Causes.{Rose}
 use Rattle.sopl_io.specs.Stock.{Stock, begun_stock, text_of}
 use Rattle.sopl_ast.specs.Instances.{Problem}
@@ -30,6 +29,7 @@ use Rattle.answer_run.specs.declared.commands.PairCommand.{PairCommand}
 use Rattle.answer_run.specs.declared.commands.PairCommand.TheVariants.{Check, Eval}
 use Rattle.model_gen.specs.Texts.{generated_text}
 use Rattle.answer_run.specs.declared.commands.DrawnCommand.TheVariants.{Gen, Demo}
+use Rattle.answer_run.specs.States.{RunState}
 use Rattle.answer_run.specs.Words.{Request, is_drawn, reads_files}
 use Rattle.answer_run.specs.Replies.{Asked, asked_by, asked_in, asked_text, asked_on, second_given, is_search, generated, demonstrated, IsModelText, AreSecondBytes, IsPairReply, IsReply, replied, replied_on_both, usage, read_fault, IsAnswered, Answers, whole, prefix, log_prefix, nothing}
 use Rattle.answer_run.specs.Replies.{EndedEarly, EndsJob, taking, EndsSoundly, EndsCompletely, SettlesInBudget, RefusedOnce, LimitedOnce}
@@ -291,13 +291,7 @@ module _ (wanted : Option Request) (stock : Option Stock) (before now : ℕ) whe
   not_written log status line (read_fault named rose) = λ e. cc
 
   module _ (old new : Option (List ℕ)) (answer_before answer_now : ℕ) (log_old log_new : SinkState) where
-    -- a reply that was written, or a prefix of it
-    pub run_written : (log_before log_now : ℕ) (reply : Reply) (status : Status) → Replied wanted stock before now log_old log_new reply
-        → IsWritten old new answer_before answer_now reply status
-        → Answers wanted stock before now old new answer_before answer_now log_old log_new log_before log_now status
-    run_written log_before log_now reply status is (all taken) = whole is.log reply.status (string_bytes reply.line) is.is taken is.logged
-    run_written log_before log_now reply status is (part rose taken) = prefix is.log reply.status (string_bytes reply.line) rose is.is taken is.logged
-
+    -- a status behind a reply that was written, or a prefix of it
     pub written_tells : PairsEndOnce → (reply : Reply) (status : Status) → Replied wanted stock before now log_old log_new reply → IsWritten old new answer_before answer_now reply status → Tells wanted stock before now status
     written_tells once reply status is (all taken) = reply_tells once is.log reply.status (string_bytes reply.line) is.is
     written_tells once reply status is (part rose taken) = write_tells
@@ -315,14 +309,6 @@ module _ (wanted : Option Request) (stock : Option Stock) (before now : ℕ) whe
         by_cause (inr rose) = rose
 
   -- where there is no reply
-  pub stop_answers : (taken : Option (List ℕ)) (faults : ℕ) (log_old log_new : SinkState) (log_before log_now : ℕ) (stop : SearchStop) (status : Status)
-      → status ≡ stop_status stop → (stop ≡ Write → Rose log_before log_now) → StopsWith wanted stock log_old log_new stop
-      → Answers wanted stock before now taken taken faults faults log_old log_new log_before log_now status
-  stop_answers taken faults log_old log_new log_before log_now Write status is rose cut =
-      subst (Answers wanted stock before now taken taken faults faults log_old log_new log_before log_now) (sym is) (log_prefix (rose refl) (Keeps-refl taken) cut)
-  stop_answers taken faults log_old log_new log_before log_now search.NoMemory status is rose stops =
-      subst (Answers wanted stock before now taken taken faults faults log_old log_new log_before log_now) (sym is) (nothing (Keeps-refl taken) stops)
-
   pub stop_tells : (stop : SearchStop) (status : Status) → status ≡ stop_status stop → Tells wanted stock before now status
   stop_tells Write status is = subst (Tells wanted stock before now) (sym is) write_tells
   stop_tells search.NoMemory status is = subst (Tells wanted stock before now) (sym is) memory_tells
@@ -335,3 +321,17 @@ stop_cause search.NoMemory status result one two stops rose is failed = cc
 pub stop_no_answer : (stop : SearchStop) (status : Status) (left : Option (List ℕ)) → status ≡ stop_status stop → IsAnswered status → IsAtEnd left
 stop_no_answer Write status left is answered = absurd (early_no_answer status (inr (inl is)) answered)
 stop_no_answer search.NoMemory status left is answered = absurd (early_no_answer status (inr (inr is)) answered)
+
+-- a reply that was written, or a prefix of it
+pub run_written : (wanted : Option Request) (old new : RunState) (reply : Reply) (status : Status)
+    → Replied wanted old.source.stock old.source.faults new.source.faults old.log.state new.log.state reply
+    → IsWritten old.answer.state.taken new.answer.state.taken old.answer.faults new.answer.faults reply status → Answers wanted old new status
+run_written wanted old new reply status is (all taken) = whole is.log reply.status (string_bytes reply.line) is.is taken is.logged
+run_written wanted old new reply status is (part rose taken) = prefix is.log reply.status (string_bytes reply.line) rose is.is taken is.logged
+
+-- what is taken where there is no reply
+pub stop_answers : (wanted : Option Request) (old new : RunState) (stop : SearchStop) (status : Status) → status ≡ stop_status stop
+    → (stop ≡ Write → Rose old.log.faults new.log.faults) → Keeps old.answer.state.taken new.answer.state.taken
+    → StopsWith wanted old.source.stock old.log.state new.log.state stop → Answers wanted old new status
+stop_answers wanted old new Write status is rose kept cut = subst (Answers wanted old new) (sym is) (log_prefix (rose refl) kept cut)
+stop_answers wanted old new search.NoMemory status is rose kept stops = subst (Answers wanted old new) (sym is) (nothing kept stops)

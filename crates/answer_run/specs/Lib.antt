@@ -1,7 +1,9 @@
 pub mod Words
 pub mod Shown
 pub mod Splits
+pub mod States
 pub mod Replies
+pub mod Promises
 pub mod Runs
 pub mod Bases
 pub mod Reads

@@ -26,6 +26,7 @@ use Rattle.answer_run.specs.declared.commands.Job.TheVariants.{Text, Pair, Drawn
 use Rattle.answer_run.specs.declared.commands.PairCommand.{PairCommand}
 use Rattle.answer_run.specs.declared.commands.PairCommand.TheVariants.{Check, Eval}
 use Rattle.answer_run.specs.declared.commands.DrawnCommand.TheVariants.{Gen, Demo}
+use Rattle.answer_run.specs.States.{RunState}
 use Rattle.answer_run.specs.Words.{Request, is_drawn, reads_files}
 
 -- this is asked for, and this is the text of the model's file: the one that the source's stock gives for it, where the stock is told
@@ -74,23 +75,25 @@ pub data IsCutOff (wanted : Option Request) (stock : Option Stock) (old new : Si
   demo_cut_off : (request : Request) → wanted ≡ Some request → request.job ≡ Drawn Demo
       → IsCut (generated_text request.stages request.seed) request.plan (Solve Summary) request.log old new → IsCutOff wanted stock old new
 
--- what the answer's sink took, what the log's sink took and was begun with, and the status after it; the counts of faults are the source's, the answer's sink's
--- and the log's sink's
-pub data Answers (wanted : Option Request) (stock : Option Stock) (before now : ℕ) (old new : Option (List ℕ)) (answer_before answer_now : ℕ)
-    (log_old log_new : SinkState) (log_before log_now : ℕ) : Status → Type 0 where
+-- what the answer's sink took, what the log's sink took and was begun with, and the status after it, by the states before and after the run
+pub data Answers (wanted : Option Request) (old new : RunState) : Status → Type 0 where
   -- the whole line of a reply with this status, and the log that goes with it
-  whole : (log : Option (List ℕ)) (status : Status) (line : List ℕ) → IsReply wanted stock before now log status line → Appends old new line
-      → Logged (log_name wanted) log log_old log_new → Answers wanted stock before now old new answer_before answer_now log_old log_new log_before log_now status
+  whole : (log : Option (List ℕ)) (status : Status) (line : List ℕ)
+      → IsReply wanted old.source.stock old.source.faults new.source.faults log status line
+      → Appends old.answer.state.taken new.answer.state.taken line → Logged (log_name wanted) log old.log.state new.log.state
+      → Answers wanted old new status
   -- a prefix of the line of some reply, where the answer's sink failed, and the log that goes with it
-  prefix : (log : Option (List ℕ)) (meant : Status) (line : List ℕ) → Rose answer_before answer_now → IsReply wanted stock before now log meant line
-      → AppendsPrefix old new line → Logged (log_name wanted) log log_old log_new
-      → Answers wanted stock before now old new answer_before answer_now log_old log_new log_before log_now WriteFault
+  prefix : (log : Option (List ℕ)) (meant : Status) (line : List ℕ) → Rose old.answer.faults new.answer.faults
+      → IsReply wanted old.source.stock old.source.faults new.source.faults log meant line
+      → AppendsPrefix old.answer.state.taken new.answer.state.taken line
+      → Logged (log_name wanted) log old.log.state new.log.state → Answers wanted old new WriteFault
   -- no answer, and a prefix of a log, where the log's sink failed
-  log_prefix : Rose log_before log_now → Keeps old new → IsCutOff wanted stock log_old log_new
-      → Answers wanted stock before now old new answer_before answer_now log_old log_new log_before log_now WriteFault
+  log_prefix : Rose old.log.faults new.log.faults → Keeps old.answer.state.taken new.answer.state.taken
+      → IsCutOff wanted old.source.stock old.log.state new.log.state → Answers wanted old new WriteFault
   -- no answer, and no log or a prefix of one, where memory ran out
-  nothing : Keeps old new → IsUnused log_old log_new ⊎ IsCutOff wanted stock log_old log_new
-      → Answers wanted stock before now old new answer_before answer_now log_old log_new log_before log_now NoMemory
+  nothing : Keeps old.answer.state.taken new.answer.state.taken
+      → IsUnused old.log.state new.log.state ⊎ IsCutOff wanted old.source.stock old.log.state new.log.state
+      → Answers wanted old new NoMemory
 
 -- what is done on what, the text of the model, the bytes of the second file, and how many nodes a search may finish
 pub record Asked : Type 0 where
@@ -196,17 +199,17 @@ abbrev pub AskedIsSolved : Asked → Type 0
 AskedIsSolved a = (problem : Problem) × SolvedText a.text problem
 
 -- the names with which the log's sink was begun before and after a run that ended with a status: once with the log's name, which is empty
--- where none is given, if a search is asked for and its text is solved; and else not. The counts are those of the source's faults
-pub data BeginsLog (wanted : Option Request) (stock : Option Stock) (before now : ℕ) (old new : Option (List (List ℕ)))
-    (status : Status) : Type 0 where
-  no_search : makes_search wanted ≡ false → new ≡ old → BeginsLog wanted stock before now old new status
+-- where none is given, if a search is asked for and its text is solved; and else not
+pub data BeginsLog (wanted : Option Request) (old new : RunState) (status : Status) : Type 0 where
+  no_search : makes_search wanted ≡ false → new.log.state.names ≡ old.log.state.names → BeginsLog wanted old new status
   -- the text, where it is told, is solved; there is an answer, a sink failed, or memory ran out
-  log_begun : makes_search wanted ≡ true → IfSome (asked_in stock wanted) AskedIsSolved → new ≡ with_name old (log_name wanted)
-      → IsAnswered status ⊎ (status ≡ WriteFault) ⊎ (status ≡ NoMemory) → BeginsLog wanted stock before now old new status
+  log_begun : makes_search wanted ≡ true → IfSome (asked_in old.source.stock wanted) AskedIsSolved
+      → new.log.state.names ≡ with_name old.log.state.names (log_name wanted)
+      → IsAnswered status ⊎ (status ≡ WriteFault) ⊎ (status ≡ NoMemory) → BeginsLog wanted old new status
   -- it is not, or the source failed, or memory ran out; and there is no answer
-  log_not_begun : makes_search wanted ≡ true → new ≡ old
-      → IfSome (asked_in stock wanted) (λ a. ¬ AskedIsSolved a) ⊎ Rose before now ⊎ (status ≡ NoMemory)
-      → IsTurnedAway status ⊎ EndedEarly status → BeginsLog wanted stock before now old new status
+  log_not_begun : makes_search wanted ≡ true → new.log.state.names ≡ old.log.state.names
+      → IfSome (asked_in old.source.stock wanted) (λ a. ¬ AskedIsSolved a) ⊎ Rose old.source.faults new.source.faults ⊎ (status ≡ NoMemory)
+      → IsTurnedAway status ⊎ EndedEarly status → BeginsLog wanted old new status
 
 -- a source gives what it gave before, and has not failed since: the bytes that are left, its stock, its count of faults
 abbrev pub IsUntouched : Option (List ℕ) → Option Stock → ℕ → Option (List ℕ) → Option Stock → ℕ → Type 0

@@ -1,18 +1,19 @@
 //! The top call: words, a source and two sinks in, a status out.
 
-ghost use Rattle.std.specs.Prelude.{◌≡◌, ◌⊎◌, ◌≤◌, true, false, map, option_map, Some, None, Err, IfOk, IfErr};
+ghost use Rattle.std.specs.Prelude.{◌+◌, ◌≡◌, ◌⊎◌, ◌≤◌, true, false, map, option_map, Some, Err, IfOk, IfErr};
 ghost use Rattle.std.specs.Io.KnownBytes.{IsAtEnd};
 ghost use Rattle.sopl_io.specs.Causes.{Rose};
 ghost use Rattle.sopl_base.specs.declared.stop.SearchStop.TheVariants as search;
 ghost use Rattle.sopl_ast.specs.Tokens.{max_length};
 ghost use Rattle.answer_texts.specs.Logs.{state_of};
-ghost use Rattle.answer_run.specs.Calls.{calls_of, EndsAtFailure, LineCalls, ReplyCalls};
+ghost use Rattle.answer_run.specs.Calls.{LineCalls, ReplyCalls};
 ghost use Rattle.sopl_search.specs.Schedules.{AreSeats, IsOrder};
 ghost use Rattle.answer_run.specs.Words.{asked_of, no_one_has, reads_files, request_with};
-ghost use Rattle.answer_run.specs.Replies.{asked_in, Answers, SettlesInBudget, EndsSoundly, EndsCompletely, IsAnswered, LimitedOnce, RefusedOnce};
-ghost use Rattle.answer_run.specs.Replies.{BeginsFiles, BeginsLog, IsUntouched};
+ghost use Rattle.answer_run.specs.Promises.{Promises};
+ghost use Rattle.answer_run.specs.Replies.{asked_in, Answers, BeginsFiles, IsAnswered, IsUntouched};
 ghost use Rattle.answer_run.specs.Reads.{TakesAtMost};
 ghost use Rattle.answer_run.specs.Shown.{request_shown, text_shown};
+ghost use Rattle.answer_run.specs.States.{run_state, sink_state, source_state};
 ghost use Rattle.answer_run.specs.Runs.{IsWritten, Replied, StopsWith, meant_status, stop_status};
 
 use crate::commands::Job;
@@ -40,67 +41,19 @@ pub fn run<S: Source, K: Sink>(
     log: &mut K,
     branchers: Vec<Box<dyn Brancher>>,
 ) -> Status
+    // What is answered: of a text that is solved, a policy that is admitted and that none betters, or that none is admitted.
     ensures answered { Answers (asked_of (map (λ b. (label b, rule b)) branchers.items) words.now)
-        (S.stock source.old) (S.faults source.old) (S.faults source.new)
-        (K.taken answer.old) (K.taken answer.new) (K.faults answer.old) (K.faults answer.new)
-        (state_of K.taken K.names log.old) (state_of K.taken K.names log.new) (K.faults log.old) (K.faults log.new) result }
+        (run_state (source_state S.left S.stock S.faults S.outcomes S.names source.old)
+        (sink_state K.taken K.faults K.outcomes K.names answer.old) (sink_state K.taken K.faults K.outcomes K.names log.old))
+        (run_state (source_state S.left S.stock S.faults S.outcomes S.names source.new)
+        (sink_state K.taken K.faults K.outcomes K.names answer.new) (sink_state K.taken K.faults K.outcomes K.names log.new)) result }
 
-    // Words that are not of the form, and no others, are answered so.
-    ensures usage { result ≡ Status.Usage → asked_of (map (λ b. (label b, rule b)) branchers.items) words.now ≡ None }
-    ensures usage_when { asked_of (map (λ b. (label b, rule b)) branchers.items) words.now ≡ None
-        → (result ≡ Status.Usage) ⊎ (result ≡ Status.WriteFault) ⊎ (result ≡ Status.NoMemory) }
-
-    // A run ends as its command ends on its text, on its text and its second file, or on the text that is drawn. A text that breaks a rule is refused; a text
-    // that passes a limit, itself or in its terms, ends so; each other one is answered: by `check` and `eval` as the second file
-    // deserves, and by `solve` with a bound where the search ends with as many nodes as the budget allows before it is done.
-    ensures ends { EndsSoundly (asked_in (S.stock source.old)
-        (asked_of (map (λ b. (label b, rule b)) branchers.items) words.now)) result }
-    ensures ends_when { EndsCompletely (asked_in (S.stock source.old)
-        (asked_of (map (λ b. (label b, rule b)) branchers.items) words.now)) result }
-    ensures enough { SettlesInBudget (asked_in (S.stock source.old)
-        (asked_of (map (λ b. (label b, rule b)) branchers.items) words.now)) result }
-
-    // A text is refused by one code at one place, and passes one limit.
-    ensures refused_once { RefusedOnce (asked_in (S.stock source.old)
-        (asked_of (map (λ b. (label b, rule b)) branchers.items) words.now)) }
-    ensures limited_once { LimitedOnce (asked_in (S.stock source.old)
-        (asked_of (map (λ b. (label b, rule b)) branchers.items) words.now)) }
-
-    // Where files are read, a text that is answered was read to its end, and so was a second file.
-    ensures ended { reads_files (asked_of (map (λ b. (label b, rule b)) branchers.items) words.now) ≡ true
-        → IsAnswered result → IsAtEnd (S.left source.new) }
-
-    // Of the model's text one byte more is taken than a text may have, at most; a second file has no limit.
-    ensures taken_at_most { TakesAtMost (max_length + 1) (asked_in (S.stock source.old)
-        (asked_of (map (λ b. (label b, rule b)) branchers.items) words.now)) (S.faults source.old) (S.faults source.new) (S.left source.new) }
-
-    // Faults have their causes.
-    ensures read { result ≡ Status.ReadFault → Rose (S.faults source.old) (S.faults source.new) }
-    ensures read_of_files { result ≡ Status.ReadFault → reads_files (asked_of (map (λ b. (label b, rule b)) branchers.items) words.now) ≡ true }
-    ensures write { result ≡ Status.WriteFault
-        → Rose (K.faults answer.old) (K.faults answer.new) ⊎ Rose (K.faults log.old) (K.faults log.new) }
-    ensures faults_grow { (S.faults source.old ≤ S.faults source.new) × (K.faults answer.old ≤ K.faults answer.new)
-        × (K.faults log.old ≤ K.faults log.new) }
-
-    // No call of the source or of a sink follows one that failed, but those that tell of a read that failed.
-    ensures outcomes { EndsAtFailure (calls_of (S.outcomes source.old) (K.outcomes log.old) (K.outcomes answer.old))
-        (calls_of (S.outcomes source.new) (K.outcomes log.new) (K.outcomes answer.new)) (K.taken answer.old) (K.taken answer.new) result }
-
-    // Where no files are read, since the words are not of the form or the text is drawn, the source stays as it was.
-    ensures untouched { reads_files (asked_of (map (λ b. (label b, rule b)) branchers.items) words.now) ≡ false
-        → IsUntouched (S.left source.old) (S.stock source.old) (S.faults source.old)
-        (S.left source.new) (S.stock source.new) (S.faults source.new) }
-
-    // Where files are read, the source is begun once with the file of the model; and, where the command has a second file and takes the text, once with
-    // that behind it, in each run that tells of that file. The answer's sink is not begun.
-    ensures names { BeginsFiles (S.stock source.old) (S.names source.old) (S.names source.new)
-        (asked_of (map (λ b. (label b, rule b)) branchers.items) words.now) result }
-    ensures answer_names { K.names answer.new ≡ K.names answer.old }
-
-    // The log's sink is begun once, with the name of the log, where a search is asked for and its text is solved, unless the source failed or
-    // memory ran out; in no other run is it begun.
-    ensures log_names { BeginsLog (asked_of (map (λ b. (label b, rule b)) branchers.items) words.now)
-        (S.stock source.old) (S.faults source.old) (S.faults source.new) (K.names log.old) (K.names log.new) result }
+    // All else that is promised: a named field of `Promises` for each fact, of what the words ask for, the states before and after, and the status.
+    ensures promises { Promises (asked_of (map (λ b. (label b, rule b)) branchers.items) words.now)
+        (run_state (source_state S.left S.stock S.faults S.outcomes S.names source.old)
+        (sink_state K.taken K.faults K.outcomes K.names answer.old) (sink_state K.taken K.faults K.outcomes K.names log.old))
+        (run_state (source_state S.left S.stock S.faults S.outcomes S.names source.new)
+        (sink_state K.taken K.faults K.outcomes K.names answer.new) (sink_state K.taken K.faults K.outcomes K.names log.new)) result }
 {
     checks_end_once();
     evals_end_once();

@@ -1,4 +1,4 @@
-use Rattle.std.proofs.Common.{rules, arith, ◌≡◌, Some, Err, option_map, refl, vec_len}
+use Rattle.std.proofs.Common.{◌+◌, rules, arith, ◌≡◌, Some, Err, option_map, refl, vec_len}
 use Rattle.sopl_io.specs.Causes.{Rose}
 use Rattle.sopl_io.specs.declared.transfer.ReadStop.TheVariants.{NoMemory}
 use Rattle.sopl_base.specs.declared.stop.SearchStop.TheVariants as search

@@ -1,4 +1,4 @@
-use Rattle.std.proofs.Common.{rules, ◌≡◌, ◌∙◌, true, false, Option, Some, IfOk, IfErr, map, option_map, sym, subst}
+use Rattle.std.proofs.Common.{◌+◌, rules, ◌≡◌, ◌∙◌, true, false, Option, Some, IfOk, IfErr, map, option_map, sym, subst}
 use Rattle.std.specs.Io.KnownBytes.{IsAtEnd}
 use Rattle.sopl_ast.specs.Tokens.{max_length}
 use Rattle.answer_texts.specs.Logs.{told}
